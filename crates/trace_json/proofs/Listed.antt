@@ -1,5 +1,5 @@
 -- Values in a list, made one after the other.
-use Rattle.trace_json.proofs.Vocabulary.{◌≡◌, ◌∙◌, ℕ, suc, ◌+◌, ◌-◌, ◌<◌, List, [], ◌∷◌, ◌++◌, map, sym, ap, append_assoc, append-nil, arith, rules, Global, Vec, Data, array, view, items_of, Value, the_lemmas, Litmus, core_of, Configuration, Running, registers_value, store_text, array_of_texts, set_json, sets_json, core_json, cores_json, core_parts, core_members, IsMachineOfTest}
+use Rattle.trace_json.proofs.Vocabulary.{◌≡◌, ◌∙◌, ℕ, suc, ◌+◌, ◌-◌, ◌<◌, List, [], ◌∷◌, ◌++◌, map, sym, ap, append_assoc, append-nil, arith, rules, Global, Vec, Data, array, view, items_of, Value, the_lemmas, Litmus, core_of, Configuration, Running, registers_value, store_text, array_of_texts, set_json, sets_json, core_json, cores_json, core_with, IsMachineOfTest}
 use Rattle.serde_json.specs.declared.value.Value.TheVariants.{Array}
 
 -- a list as a value
@@ -28,14 +28,14 @@ one-core m core cores values after whole within pushed so_far =
     let left : cores - core ≡ suc (cores - (core + 1)) = omega arith in
     listed values after (core_json m core) (cores_json m (core + 1) (cores - (core + 1))) (cores_json m core (cores - core)) whole pushed (ap (cores_json m core) left) so_far
 
--- the members of a core, from its parts
+-- a core from its parts
 pub core-made : (t : Litmus) (config : Configuration) (m : Running) (core place : ℕ) (buffer lines registers : Data) → IsMachineOfTest t config m
     → buffer ≡ array_of_texts (map (store_text t) (core_of m.state.flat core).pending)
     → lines ≡ array (items_of (sets_json m core 0 config.shape.sets)) → place ≡ (core_of m.state.flat core).place
-    → registers ≡ registers_value (core_of m.state.flat core).registers → core_parts buffer lines place registers ≡ core_members m core
+    → registers ≡ registers_value (core_of m.state.flat core).registers → core_with buffer lines place registers ≡ core_json m core
 core-made t config m core place buffer lines registers shown buffer_is lines_is place_is registers_is =
     let mine = core_of m.state.flat core in
     let buffer_same : buffer ≡ array_of_texts (map (store_text m.test) mine.pending) = buffer_is ∙ ap (λ u. array_of_texts (map (store_text u) mine.pending)) (sym shown.test) in
     let lines_same : lines ≡ array (items_of (sets_json m core 0 m.statistics.caches.shape.sets)) =
     lines_is ∙ sym (ap (λ (c : Configuration). array (items_of (sets_json m core 0 c.shape.sets))) shown.config) in
-    (λ i. core_parts (buffer_same i) (lines_same i) (place_is i) (registers_is i))
+    (λ i. core_with (buffer_same i) (lines_same i) (place_is i) (registers_is i))

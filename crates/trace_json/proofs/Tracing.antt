@@ -1,9 +1,10 @@
 -- The steps of a run, one after the other.
-use Rattle.trace_json.proofs.Vocabulary.{◌≡◌, ◌∙◌, ℕ, ◌+◌, Bool, true, false, if◌then◌else◌, List, [], ◌∷◌, ◌++◌, length, map, refl, sym, ap, append_assoc, append-nil, Option, option_map, slice_set, length-set, Data, array, items_of, view, Value, Litmus, memory_after, has_ended, Entry, Choice, Configuration, Running, machine_effect, machine_after, IsTraced, ShownStep, trace_step_of, own_words, words_per_line, machine_json, step_json, found_by, supplied_to, Sourced, sourced, sourced_by, alone, last_or, step_to, steps_json, Source, IsMachineOfTest, told_last, trace_from, last_from, trace_with}
+use Rattle.trace_json.proofs.Vocabulary.{◌≡◌, ◌∙◌, ℕ, ◌+◌, Bool, true, false, if◌then◌else◌, List, [], ◌∷◌, ◌++◌, length, map, refl, sym, ap, append_assoc, append-nil, Option, option_map, slice_set, length-set, Data, array, items_of, view, Value, Litmus, memory_after, has_ended, Entry, Choice, Configuration, Running, machine_effect, machine_after, IsTraced, ShownStep, trace_step_of, own_words, machine_json, found_by, supplied_to, Sourced, sourced, sourced_by, alone, last_or, step_to, steps_json, Source, IsMachineOfTest, told_last, trace_with}
 use Rattle.tso_model.specs.ProgramOrder.{is_write}
 use Rattle.simulator.specs.inner.Observed.{Watched, none_left, over, next, IsWatched}
-use Rattle.trace_json.specs.inner.Observing.{OpensTrace, AddsStep, OpensLast, KeepsLast, TellsLast}
-use Rattle.trace_json.specs.declared.trace.LastStep.{LastStep}
+use Rattle.trace_json.specs.inner.Observing.{told_as, told_by, told_from, Opens, Makes}
+use Rattle.trace_json.specs.declared.trace.Extent.{Extent}
+use Rattle.trace_json.specs.declared.trace.Extent.TheVariants.{Whole, LastStep}
 use Rattle.trace_json.specs.declared.trace.Tracer.{Tracer}
 
 steps-end : (m : Running) (memory : List ℕ) (cs : List Choice) → has_ended m.test m.state.flat ≡ true → steps_json m memory cs ≡ []
@@ -19,62 +20,56 @@ steps-next m memory c cs h = ap (λ b. if b
     then []
     else step_to (sourced_by m c) (machine_after m c) (own_words (machine_after m c) memory) ∷ steps_json (machine_after m c) (own_words (machine_after m c) memory) cs) h
 
--- what is told along choices is the steps
-steps-told : (o last : Tracer) (m left : Running) (number : ℕ) (choices : List Choice) → Watched AddsStep o m number choices last left
-    → (view last.start ≡ view o.start) × (map view last.steps.items ≡ map view o.steps.items ++ steps_json m o.follower.memory.items choices)
-steps-told o _ m _ _ _ (none_left _ _ _) = (refl, sym (append-nil (map view o.steps.items)))
-steps-told o _ m _ _ choices (over _ _ _ _ ended) =
-    (refl, sym (append-nil (map view o.steps.items)) ∙ sym (ap (λ l. map view o.steps.items ++ l) (steps-end m o.follower.memory.items choices ended)))
-steps-told o last m left number _ (next _ mid _ _ _ _ c rest live one w) =
+-- what is kept along choices, from one observer to another
+record Along (o last : Tracer) (m left : Running) (choices : List Choice) : Type 0 where
+  extent : last.extent ≡ o.extent
+  start_is : view last.start ≡ view o.start
+  steps_are : o.extent ≡ Whole → map view last.steps.items ≡ map view o.steps.items ++ steps_json m o.follower.memory.items choices
+  last_is : told_last (option_map sourced last.last) left last.follower.memory.items
+      ≡ last_or (told_last (option_map sourced o.last) m o.follower.memory.items) (steps_json m o.follower.memory.items choices)
+
+kept-along : (o last : Tracer) (m left : Running) (number : ℕ) (choices : List Choice) → Watched Makes o m number choices last left → Along o last m left choices
+kept-along o _ m _ _ _ (none_left _ _ _) = record { extent = refl; start_is = refl; steps_are = λ _. sym (append-nil (map view o.steps.items)); last_is = refl }
+kept-along o _ m _ _ choices (over _ _ _ _ ended) =
+    let none = sym (steps-end m o.follower.memory.items choices ended) in
+    record {
+      extent = refl;
+      start_is = refl;
+      steps_are = λ _. sym (append-nil (map view o.steps.items)) ∙ ap (λ l. map view o.steps.items ++ l) none;
+      last_is = ap (last_or (told_last (option_map sourced o.last) m o.follower.memory.items)) none;
+    }
+kept-along o last m left number _ (next _ mid _ _ _ _ c rest live one w) =
     let after = machine_after m c in
     let own = own_words after o.follower.memory.items in
     let step : List ℕ → Data = step_to (sourced_by m c) after in
-    let told = steps-told mid last after left (number + 1) rest w in (
-      told.0 ∙ one.start_is,
-      told.1 ∙ (ap (λ x. map view mid.steps.items ++ steps_json after x rest) one.memory
-          ∙ (ap (λ l. l ++ steps_json after own rest) (one.steps_are ∙ ap (λ x. map view o.steps.items ++ step x ∷ []) one.memory)
-          ∙ (append_assoc (map view o.steps.items) (step own ∷ []) (steps_json after own rest) ∙ sym (ap (λ l. map view o.steps.items ++ l) (steps-next m o.follower.memory.items c rest live))))),
-    )
+    let all = sym (steps-next m o.follower.memory.items c rest live) in
+    let later = kept-along mid last after left (number + 1) rest w in
+    record {
+      extent = later.extent ∙ one.extent;
+      start_is = later.start_is ∙ one.start_is;
+      steps_are = λ whole. later.steps_are (one.extent ∙ whole) ∙ (ap (λ x. map view mid.steps.items ++ steps_json after x rest) one.memory
+          ∙ (ap (λ l. l ++ steps_json after own rest) (one.steps_are whole ∙ ap (λ x. map view o.steps.items ++ step x ∷ []) one.memory)
+          ∙ (append_assoc (map view o.steps.items) (step own ∷ []) (steps_json after own rest) ∙ ap (λ l. map view o.steps.items ++ l) all)));
+      last_is = later.last_is ∙ (ap (λ t. last_or (told_last t after mid.follower.memory.items) (steps_json after mid.follower.memory.items rest)) one.last_is
+          ∙ (ap (λ x. last_or (step x) (steps_json after x rest)) one.memory ∙ ap (last_or (told_last (option_map sourced o.last) m o.follower.memory.items)) all));
+    }
 
-pub trace-whole : (m : Running) (old new : Tracer) (choices : List Choice) → IsWatched OpensTrace AddsStep (λ o m n. n ≡ o) old m choices new
-    → old.steps.items ≡ [] → old.follower.memory.items ≡ m.test.words
-    → trace_with (view new.start) (array (items_of (map view new.steps.items))) ≡ trace_from m choices
-trace-whole m old new choices w none words =
-    let told = steps-told w.begun w.driven m w.left 1 choices w.watched in
-    let start = told.0 ∙ (w.opens.start_is ∙ ap (λ x. machine_json m x) words) in
-    let steps = told.1 ∙ (ap (λ (l : List Value). map view l ++ steps_json m w.begun.follower.memory.items choices) (w.opens.steps_are ∙ none)
-    ∙ ap (λ x. steps_json m x choices) (w.opens.memory ∙ words)) in
-    ap (λ (n : Tracer). trace_with (view n.start) (array (items_of (map view n.steps.items)))) w.ends
-    ∙ (ap (λ d. trace_with d (array (items_of (map view w.driven.steps.items)))) start ∙ ap (λ l. trace_with (machine_json m m.test.words) (array (items_of l))) steps)
+by_extent : (extent : Extent) (start start' : Data) (steps steps' : List Data) (last last' : Data) → (extent ≡ Whole → start ≡ start') → (extent ≡ Whole → steps ≡ steps') → last ≡ last'
+    → told_as extent start steps last ≡ told_as extent start' steps' last'
+by_extent Whole start start' steps steps' last last' start_is steps_are last_is = (λ i. trace_with (start_is refl i) (array (items_of (steps_are refl i))))
+by_extent LastStep start start' steps steps' last last' start_is steps_are last_is = last_is
 
--- what is told last along choices is the last of the steps
-last-told : (o last : LastStep) (m left : Running) (number : ℕ) (choices : List Choice) → Watched KeepsLast o m number choices last left
-    → told_last (option_map sourced last.told) left last.follower.memory.items
-    ≡ last_or (told_last (option_map sourced o.told) m o.follower.memory.items) (steps_json m o.follower.memory.items choices)
-last-told o _ m _ _ _ (none_left _ _ _) = refl
-last-told o _ m _ _ choices (over _ _ _ _ ended) =
-    sym (ap (last_or (told_last (option_map sourced o.told) m o.follower.memory.items)) (steps-end m o.follower.memory.items choices ended))
-last-told o last m left number _ (next _ mid _ _ _ _ c rest live one w) =
-    let after = machine_after m c in
-    last-told mid last after left (number + 1) rest w
-    ∙ (ap (λ t. last_or (told_last t after mid.follower.memory.items) (steps_json after mid.follower.memory.items rest)) one.told_is
-    ∙ (ap (λ x. last_or (step_to (sourced_by m c) after x) (steps_json after x rest)) one.memory
-    ∙ sym (ap (last_or (told_last (option_map sourced o.told) m o.follower.memory.items)) (steps-next m o.follower.memory.items c rest live))))
-
-pub last-whole : (m : Running) (old new : LastStep) (choices : List Choice) → IsWatched OpensLast KeepsLast TellsLast old m choices new
-    → old.follower.memory.items ≡ m.test.words → view new.value ≡ last_from m choices
-last-whole m old new choices w words =
-    let memory = w.begun.follower.memory.items in
-    w.ends ∙ (last-told w.begun w.driven m w.left 1 choices w.watched
-    ∙ (ap (λ t. last_or (told_last t m memory) (steps_json m memory choices)) w.opens.told_is ∙ ap (λ x. last_or (alone m x) (steps_json m x choices)) (w.opens.memory ∙ words)))
-
--- a step's value with the machine after it
-pub one-step : (t : Litmus) (words : ℕ) (s told : Sourced) (later : Running) (own : List ℕ) (after d : Data)
-    → d ≡ step_json t words s.step s.supplied after → after ≡ machine_json later own → s ≡ told → later.test ≡ t → words_per_line later ≡ words → d ≡ step_to told later own
-one-step t words s told later own after d is after_is s_is test_is words_are =
-    is ∙ (ap (λ a. step_json t words s.step s.supplied a) after_is ∙ (ap (λ (x : Sourced). step_json t words x.step x.supplied (machine_json later own)) s_is
-    ∙ (ap (λ u. step_json u words told.step told.supplied (machine_json later own)) (sym test_is)
-    ∙ ap (λ n. step_json later.test n told.step told.supplied (machine_json later own)) (sym words_are))))
+pub told-whole : (extent : Extent) (m : Running) (old new : Tracer) (choices : List Choice) → IsWatched Opens Makes (λ o m n. view n.told ≡ told_by o m) old m choices new
+    → old.extent ≡ extent → old.steps.items ≡ [] → old.follower.memory.items ≡ m.test.words → view new.told ≡ told_from extent m choices
+told-whole extent m old new choices w extent_is none words =
+    let all = kept-along w.begun w.driven m w.left 1 choices w.watched in
+    let begun = w.opens.extent ∙ extent_is in
+    let memory = w.opens.memory ∙ words in
+    w.ends ∙ (ap (λ e. told_as e (view w.driven.start) (map view w.driven.steps.items) (told_last (option_map sourced w.driven.last) w.left w.driven.follower.memory.items)) (all.extent ∙ begun)
+    ∙ by_extent extent _ _ _ _ _ _ (λ whole. all.start_is ∙ (w.opens.start_is (extent_is ∙ whole) ∙ ap (λ x. machine_json m x) words))
+    (λ whole. all.steps_are (begun ∙ whole) ∙ (ap (λ (l : List Value). map view l ++ steps_json m w.begun.follower.memory.items choices) (w.opens.steps_are ∙ none) ∙ ap (λ x. steps_json m x choices) memory))
+    (all.last_is ∙ (ap (λ t. last_or (told_last t m w.begun.follower.memory.items) (steps_json m w.begun.follower.memory.items choices)) w.opens.last_is
+    ∙ ap (λ x. last_or (alone m x) (steps_json m x choices)) memory)))
 
 -- ---- the machine after a choice has its words, and is one that is shown
 

@@ -1,5 +1,5 @@
 -- The names that the proofs of this crate bring in from definitions and from crates below; each file takes its own from here.
-pub use Rattle.std.proofs.Common.{◌≡◌, ℕ, zero, suc, ◌+◌, Bool, true, false, ◌||◌, if◌then◌else◌, List, [], ◌∷◌, map, take, length, ◌/◌, Option, Some, None, refl, ◌∙◌, ◌-◌, ◌<◌, ◌++◌, option_map, slice_get, slice_index_or, sym, ap, arith, length-append, ◌*◌, ◌≤◌, min, drop, get_or, append_assoc, append-nil, ◌%◌, slice_index, inl, inr, subst, rules, String, Global, Vec, string_bytes, ◌&&◌, not, slice_set, ◌≢◌, All, IfSome, codes}
+pub use Rattle.std.proofs.Common.{◌≡◌, ℕ, zero, suc, ◌+◌, Bool, true, false, ◌||◌, if◌then◌else◌, List, [], ◌∷◌, map, take, length, ◌/◌, Option, Some, None, refl, ◌∙◌, ◌-◌, ◌<◌, ◌++◌, option_map, slice_get, slice_index_or, sym, ap, arith, length-append, ◌*◌, ◌≤◌, min, drop, get_or, append_assoc, append-nil, ◌%◌, slice_index, inl, inr, subst, rules, String, Global, Vec, string_bytes, ◌&&◌, not, slice_set, ◌≢◌, All, IfSome, codes, IfOk}
 pub use Rattle.std.specs.Ordering.{nat_cmp, match_ordering}
 pub use Rattle.std.specs.Cmp.Lexicographic.{slice_cmp}
 pub use Rattle.std.specs.declared.cmp.Ordering.{Ordering}
@@ -23,11 +23,11 @@ pub use Rattle.tso_report.specs.Json.{count, memory_members, memory_value, order
 pub use Rattle.trace_report.specs.Shown.{ShownStep, shown_step}
 pub use Rattle.trace_json.specs.Values.{array_of_numbers, text_or_null, array_of_texts}
 pub use Rattle.trace_json.specs.OwnWords.{own_words, is_newer_in, own_word, own_words_from, is_newer}
-pub use Rattle.trace_report.specs.Lines.{access_name, stall_name, line_name, names_in_line, store_text, printed_core, printed_move, printed_change, printed_request, transient_name, joined_by_plus}
+pub use Rattle.trace_report.specs.Lines.{access_name, stall_name, state_name, line_name, names_in_line, store_text, printed_core, printed_move, printed_change, printed_request, transient_name, joined_by_plus}
 pub use Rattle.trace_json.specs.MachineJson.{words_per_line, words_in_line, words_on_bus, copy_json, cached_lines_in, set_json, sets_json, core_json, cores_json, holder_json, bus_json, machine_json, core_with}
 pub use Rattle.trace_json.specs.StepJson.{stall_in, step_json}
 pub use Rattle.trace_json.specs.Supplied.{supplier_text, found_by, supplied_to, supplies, supplier_from, supplier_or_memory}
-pub use Rattle.trace_json.specs.TraceJson.{Sourced, sourced_by, last_or, last_step_json, step_to, steps_json, start_json, trace_json, alone, trace_from, last_from}
+pub use Rattle.trace_json.specs.TraceJson.{Sourced, sourced_by, last_or, last_step_json, step_to, steps_json, start_json, trace_json, alone}
 pub use Rattle.trace_json.specs.declared.supplied.Source.{Source}
 pub use Rattle.tso_model.specs.Condition.{Condition, condition_of}
 pub use Rattle.std.proofs.lemmas.Result.{on_ok_weaker}
@@ -42,13 +42,11 @@ pub use Rattle.std.proofs.lemmas.Option.{unwrap_or-slice_get}
 pub use Rattle.machine_core.specs.Caches.{Caches, at_access}
 pub use Rattle.trace_report.specs.Steps.{line_state, number_of_lines, trace_step_of, awaited_at, state_with}
 pub use Rattle.serde_json.specs.declared.value.Value.{Value, the_lemmas}
-pub use Rattle.trace_json.specs.inner.Looked.{IsMachineOfTest, told_last, sourced, HasMemory, trace_with, core_members, core_parts}
+pub use Rattle.trace_json.specs.inner.Looked.{IsMachineOfTest, told_last, sourced, HasMemory, trace_with}
 pub use Rattle.snoop_bus.specs.Geometry.{IsLineSize}
 pub use Rattle.trace_report.specs.Told.{IsTraced, IsTracedInStates}
 pub use Rattle.trace_report.specs.inner.Told.{IsLookedAt}
 pub use Rattle.trace_report.proofs.Whole.{some-word, looked-at}
 pub use Rattle.trace_json.specs.SupplyLaws.{copy_on, SourcesAreTold}
 pub use Rattle.trace_report.specs.Known.{IsLine, StepNamesExist}
-pub use Rattle.serde_json.proofs.Views.{view-Object}
-pub use Rattle.trace_json.specs.inner.Traced.{with_test}
 pub use Rattle.trace_json.specs.inner.Stepped.{with_parts}

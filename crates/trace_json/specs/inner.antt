@@ -3,7 +3,6 @@ pub mod Looked
 pub mod Limited
 pub mod Following
 pub mod Observing
-pub mod Brackets
 pub mod Stepped
 pub mod BusMemory
-pub mod Traced
+pub mod Objects

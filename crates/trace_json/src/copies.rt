@@ -1,23 +1,24 @@
 //! The lines of a core's cache as a value, set by set and the most recently used first: so one sees which line would give
 //! way next.
 
-ghost use Rattle.std.specs.Prelude.{◌≡◌, ◌<◌, ◌≤◌, [], IfOk, OnOk, length, take};
+ghost use Rattle.std.specs.Prelude.{◌≡◌, ◌<◌, ◌≤◌, IfOk, length};
 ghost use Rattle.serde_json.specs.Data.{array};
-ghost use Rattle.serde_json.specs.View.{view, members_view, items_of};
-ghost use Rattle.trace_report.specs.Lines.{line_name, names_in_line};
+ghost use Rattle.serde_json.specs.View.{view, items_of};
+ghost use Rattle.trace_report.specs.Lines.{names_in_line};
 ghost use Rattle.trace_json.specs.MachineJson.{copy_json, set_json, sets_json};
-ghost use Rattle.trace_json.specs.inner.Looked.{IsMachineOfTest, copy_members};
+ghost use Rattle.trace_json.specs.inner.Looked.{IsMachineOfTest};
 
 use crate::moment::Moment;
-use crate::texts::line_value;
+use crate::objects::Object;
+use crate::texts::{line_value, word_value};
 use machine_core::CachedLine;
 use protocol_tables::Protocol;
-use serde_json::{Map, Value, put};
+use serde_json::Value;
 use std::alloc::Global;
 use trace_report::names::state_name;
 use trace_report::states::line_state;
 use tso_model::{Core, NoMemory, Test};
-use tso_report::members::{numbers_value, push_made, put_made};
+use tso_report::members::{numbers_value, push_made};
 
 /// The lines of a core's cache, by set.
 ///
@@ -67,44 +68,16 @@ fn copy_value<P: Protocol>(
     requires core { core.0 < length moment.now.test.now.programs }
     ensures { IfOk result (λ value. view value ≡ copy_json moment.now.machine.now core.0 copy.now) }
 {
+    let test = moment.test;
     let words = moment.config.words();
     let holder = moment.machine.bus_holder();
-    let state = state_name(line_state(moment.machine, holder, words, core, copy.line));
-    let mut members = Map::new(alloc);
-    put_copy(&mut members, alloc, moment.test, words, copy, state)?;
-    Ok(Value::Object(members))
-}
-
-/// Puts what is told of a copy, where lines have so many words, by the name of what its line is in.
-fn put_copy(
-    members: &mut Map<String, Value>,
-    alloc: Global,
-    test: &Test,
-    words: u8,
-    copy: &CachedLine,
-    state: &str,
-) -> Result<(), NoMemory>
-    requires some { 0 < words }
-    requires line { words ≤ 4 }
-    requires empty { members.old.entries ≡ [] }
-    ensures { OnOk result (members_view members.new.entries
-        ≡ copy_members (line_name test.now words copy.now.line) state.now (take (length (names_in_line test.now.locations words copy.now.line)) copy.now.words)) }
-{
-    put_made(
-        members,
-        alloc,
-        "line",
-        line_value(alloc, test, words, copy.line),
-    )?;
-    let state = Value::try_from_str(alloc, state)?;
-    put(members, alloc, "state", state)?;
+    let state = line_state(moment.machine, holder, words, core, copy.line);
     let count = locations_in(test, words, copy.line);
-    put_made(
-        members,
-        alloc,
-        "words",
-        numbers_value(alloc, &copy.words[..count]),
-    )
+    Object::new(alloc)
+        .member("line", line_value(alloc, test, words, copy.line))
+        .member("state", word_value(alloc, state_name(state)))
+        .member("words", numbers_value(alloc, &copy.words[..count]))
+        .value()
 }
 
 /// How many locations a line has.

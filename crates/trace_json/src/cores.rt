@@ -1,23 +1,24 @@
 //! The cores of a machine as a value: place, registers, store buffer and cache of each, as one who draws them needs.
 
-ghost use Rattle.std.specs.Prelude.{◌≡◌, ◌<◌, [], IfOk, OnOk, length, map};
+ghost use Rattle.std.specs.Prelude.{◌≡◌, ◌<◌, IfOk, length, map};
 ghost use Rattle.serde_json.specs.Data.{array};
-ghost use Rattle.serde_json.specs.View.{view, members_view, items_of};
+ghost use Rattle.serde_json.specs.View.{view, items_of};
 ghost use Rattle.tso_model.specs.FlatMachine.{core_of};
 ghost use Rattle.trace_report.specs.Lines.{store_text};
 ghost use Rattle.trace_json.specs.Values.{array_of_texts};
 ghost use Rattle.trace_json.specs.MachineJson.{core_json, cores_json};
-ghost use Rattle.trace_json.specs.inner.Looked.{IsMachineOfTest, core_members};
+ghost use Rattle.trace_json.specs.inner.Looked.{IsMachineOfTest};
 
 use crate::copies::sets_value;
 use crate::moment::Moment;
+use crate::objects::Object;
 use crate::texts::store_value;
 use protocol_tables::Protocol;
-use serde_json::{Map, Value, put};
+use serde_json::Value;
 use std::alloc::Global;
 use tso_model::{Core, NoMemory};
 use tso_report::json::registers_value;
-use tso_report::members::{push_made, put_made};
+use tso_report::members::push_made;
 
 /// The cores of a machine.
 ///
@@ -47,34 +48,14 @@ fn core_value<P: Protocol>(
     requires core { core.0 < length moment.now.test.now.programs }
     ensures { IfOk result (λ value. view value ≡ core_json moment.now.machine.now core.0) }
 {
-    let mut members = Map::new(alloc);
-    put_core(&mut members, alloc, moment, core)?;
-    Ok(Value::Object(members))
-}
-
-/// Puts what is told of a core.
-fn put_core<P: Protocol>(
-    members: &mut Map<String, Value>,
-    alloc: Global,
-    moment: &Moment<'_, '_, P>,
-    core: Core,
-) -> Result<(), NoMemory>
-    requires shown { IsMachineOfTest moment.now.test.now moment.now.config moment.now.machine.now }
-    requires core { core.0 < length moment.now.test.now.programs }
-    requires empty { members.old.entries ≡ [] }
-    ensures { OnOk result (members_view members.new.entries ≡ core_members moment.now.machine.now core.0) }
-{
-    put_made(members, alloc, "buffer", buffer_value(alloc, moment, core))?;
-    put_made(members, alloc, "lines", sets_value(alloc, moment, core))?;
     let place = moment.machine.place(core).unwrap_or(0);
-    put(members, alloc, "place", Value::from(place))?;
     let registers = moment.machine.registers(core).unwrap_or([0, 0, 0, 0, 0, 0]);
-    put_made(
-        members,
-        alloc,
-        "registers",
-        registers_value(alloc, &registers),
-    )
+    Object::new(alloc)
+        .member("buffer", buffer_value(alloc, moment, core))
+        .member("lines", sets_value(alloc, moment, core))
+        .member("place", Ok(Value::from(place)))
+        .member("registers", registers_value(alloc, &registers))
+        .value()
 }
 
 /// A core's pending stores, the oldest first.

@@ -15,12 +15,13 @@ ghost use Rattle.trace_json.specs.inner.Following.{CanFollow, Follows};
 
 use crate::machine::machine_value;
 use crate::moment::Moment;
+use crate::objects::Object;
 use crate::own_words::own_words;
 use crate::step::step_value;
 use crate::supplied::{Source, found_by, supplied_to};
 use machine_core::{Choice, Config, Machine};
 use protocol_tables::Protocol;
-use serde_json::{Map, Value, put};
+use serde_json::Value;
 use std::alloc::Global;
 use trace_report::Step;
 use trace_report::states::{PlacedState, states_of};
@@ -53,7 +54,7 @@ impl<'t> Follower<'t> {
         ensures memory { IfOk result (λ f. f.memory.items ≡ test.now.words) }
     {
         test.know_limits();
-        let memory = words_of(alloc, test)?;
+        let memory = Vec::from_slice(alloc, test.initial_words())?;
         Ok(Follower {
             alloc,
             test,
@@ -112,15 +113,14 @@ impl<'t> Follower<'t> {
     {
         let after = self.machine(machine)?;
         let words = self.config.words();
-        let value = step_value(
+        step_value(
             self.alloc,
             self.test,
             words,
             &told.step,
             told.supplied,
             after,
-        )?;
-        Ok(value)
+        )
     }
 
     /// The machine as it now is.
@@ -142,19 +142,8 @@ impl<'t> Follower<'t> {
         requires { Follows self.now machine.now }
         ensures { IfOk result (λ value. view value ≡ alone machine.now self.now.memory.items) }
     {
-        let start = self.machine(machine)?;
-        let mut members = Map::new(self.alloc);
-        put(&mut members, self.alloc, "start", start)?;
-        Ok(Value::Object(members))
+        Object::new(self.alloc)
+            .member("start", self.machine(machine))
+            .value()
     }
-}
-
-/// The test's first words.
-fn words_of(alloc: Global, test: &Test) -> Result<Vec<u32>, NoMemory>
-    ensures words { IfOk result (λ words. words.items ≡ test.now.words) }
-    ensures each { IfOk result (λ words. length words.items ≡ length test.now.locations) }
-{
-    let mut words = Vec::new(alloc);
-    words.extend_from_slice(test.initial_words())?;
-    Ok(words)
 }

@@ -57,15 +57,13 @@ impl<O: Observer> Observer for Limited<O> {
         number: usize,
         choice: Choice,
     ) -> Result<Outcome, NoMemory> {
-        self.is_passed = self.is_passed || number > MAX_STEPS;
+        self.is_passed |= number > MAX_STEPS;
         let outcome = if self.is_passed {
             machine.choose(choice)?
         } else {
             self.observer.choose(machine, number, choice)?
         };
-        if let Outcome::Stalled(reason) = outcome {
-            self.stalls.note(choice, reason);
-        }
+        note_stall(&mut self.stalls, choice, outcome);
         Ok(outcome)
     }
 
@@ -75,5 +73,12 @@ impl<O: Observer> Observer for Limited<O> {
         } else {
             self.observer.end(machine)
         }
+    }
+}
+
+/// Notes a choice with this outcome, if it stalled.
+fn note_stall(stalls: &mut Stalls, choice: Choice, outcome: Outcome) {
+    if let Outcome::Stalled(reason) = outcome {
+        stalls.note(choice, reason);
     }
 }

@@ -7,6 +7,7 @@ use tso_model::Test;
 /// A machine between two choices, as it is told.
 #[derive(Drop)]
 pub struct Moment<'a, 't, P: Protocol> {
+    /// The machine.
     pub machine: &'a Machine<'t, P>,
     /// The test that the machine runs.
     pub test: &'a Test,

@@ -7,11 +7,11 @@ ghost use Rattle.tso_model.specs.Registers.{name_of};
 ghost use Rattle.tso_model.specs.Condition.{NamesExist};
 ghost use Rattle.tso_model.specs.Condition.{claim_of};
 ghost use Rattle.trace_json.specs.Proposition.{is_or, is_joined, bracketed_text, truth_word, proposition_text, proposition_value};
-ghost use Rattle.trace_json.specs.inner.Brackets.{opening, closing};
 
 use serde_json::Value;
 use std::alloc::Global;
 use tso_model::{Core, NoMemory, Prop, Reg, Test};
+use tso_report::pieces::write_characters;
 
 /// The proposition of the test's condition as a text, `0:EAX=0 /\ 1:EAX=0`; `null` where it has none.
 ///
@@ -23,55 +23,58 @@ pub fn proposition_value(alloc: Global, test: &Test) -> Result<Value, NoMemory>
         None => Ok(Value::Null),
         Some(cond) => {
             let mut text = String::new(alloc);
-            write_proposition(&mut text, test, &cond.prop, false)?;
+            write_proposition(&mut text, test, &cond.prop)?;
             Ok(Value::String(text))
         }
     }
 }
 
-/// Writes a proposition, in brackets where it is to have them.
+/// Writes a proposition.
 ///
 /// Errors: out of memory only; the text may have grown then.
-fn write_proposition(
-    text: &mut String,
-    test: &Test,
-    prop: &Prop,
-    in_brackets: bool,
-) -> Result<(), NoMemory>
+#[cycle(proposition)]
+fn write_proposition(text: &mut String, test: &Test, prop: &Prop) -> Result<(), NoMemory>
     requires { NamesExist (length test.now.programs) (length test.now.locations) (claim_of prop.now) }
-    ensures { OnOk result (string_bytes text.new ≡ string_bytes text.old ++ bracketed_text in_brackets (proposition_text test.now (claim_of prop.now))) }
+    ensures { OnOk result (string_bytes text.new ≡ string_bytes text.old ++ proposition_text test.now (claim_of prop.now)) }
 {
-    open(text, in_brackets)?;
     match prop {
-        Prop::Truth(truth) => {
-            text.push_str(truth_word(*truth))?;
-            close(text, in_brackets)
-        }
-        Prop::RegIs(core, reg, value) => {
-            write_register(text, *core, *reg, *value)?;
-            close(text, in_brackets)
-        }
-        Prop::LocIs(loc, value) => {
-            write_word(text, test.location_name(*loc), *value)?;
-            close(text, in_brackets)
-        }
+        Prop::Truth(truth) => write_characters(text, truth_word(*truth)),
+        Prop::RegIs(core, reg, value) => write_register(text, *core, *reg, *value),
+        Prop::LocIs(loc, value) => write_word(text, test.location_name(*loc), *value),
         Prop::Not(inner) => {
             text.push('~')?;
-            write_proposition(text, test, inner, is_joined(inner))?;
-            close(text, in_brackets)
+            write_part(text, test, inner, is_joined(inner))
         }
         Prop::And(left, right) => {
-            write_proposition(text, test, left, is_or(left))?;
+            write_part(text, test, left, is_or(left))?;
             text.push_str(" /\\ ")?;
-            write_proposition(text, test, right, is_joined(right))?;
-            close(text, in_brackets)
+            write_part(text, test, right, is_joined(right))
         }
         Prop::Or(left, right) => {
-            write_proposition(text, test, left, false)?;
+            write_proposition(text, test, left)?;
             text.push_str(" \\/ ")?;
-            write_proposition(text, test, right, is_or(right))?;
-            close(text, in_brackets)
+            write_part(text, test, right, is_or(right))
         }
+    }
+}
+
+/// Writes a part of a proposition, in brackets where it is to have them.
+#[cycle(proposition)]
+fn write_part(
+    text: &mut String,
+    test: &Test,
+    part: &Prop,
+    in_brackets: bool,
+) -> Result<(), NoMemory>
+    requires { NamesExist (length test.now.programs) (length test.now.locations) (claim_of part.now) }
+    ensures { OnOk result (string_bytes text.new ≡ string_bytes text.old ++ bracketed_text in_brackets (proposition_text test.now (claim_of part.now))) }
+{
+    if in_brackets {
+        text.push('(')?;
+        write_proposition(text, test, part)?;
+        write_characters(text, ")")
+    } else {
+        write_proposition(text, test, part)
     }
 }
 
@@ -90,24 +93,6 @@ fn write_word(text: &mut String, name: &str, value: u32) -> Result<(), NoMemory>
     ensures { OnOk result (string_bytes text.new ≡ string_bytes text.old ++ (name.now ++ (codes "=" ++ decimal value))) }
 {
     write!(text, "{name}={value}")?;
-    Ok(())
-}
-
-fn open(text: &mut String, in_brackets: bool) -> Result<(), NoMemory>
-    ensures { OnOk result (string_bytes text.new ≡ string_bytes text.old ++ opening in_brackets) }
-{
-    if in_brackets {
-        text.push('(')?;
-    }
-    Ok(())
-}
-
-fn close(text: &mut String, in_brackets: bool) -> Result<(), NoMemory>
-    ensures { OnOk result (string_bytes text.new ≡ string_bytes text.old ++ closing in_brackets) }
-{
-    if in_brackets {
-        text.push(')')?;
-    }
     Ok(())
 }
 

@@ -13,7 +13,7 @@ ghost use Rattle.trace_json.specs.StepJson.{outcome_word, stall_in, step_json};
 ghost use Rattle.trace_json.specs.inner.Stepped.{part_value, with_parts};
 
 use crate::supplied::{Source, source_value};
-use crate::texts::{choice_value, line_value, name_or_null, text_value};
+use crate::texts::{choice_value, core_name, line_value, name_or_null, text_value, word_value};
 use serde_json::{Map, Value, put};
 use snoop_bus::AccessKind;
 use std::alloc::Global;
@@ -140,7 +140,7 @@ fn part_value(alloc: Global, telling: &Telling<'_>, part: StepPart) -> Result<Va
         StepPart::Flush => flush_value(alloc, step.flushed),
         StepPart::Forwarded => Ok(Value::Bool(step.forwarded)),
         StepPart::Moved => move_value(alloc, step.moved),
-        StepPart::Outcome => outcome_value(alloc, step.outcome),
+        StepPart::Outcome => word_value(alloc, outcome_word(step.outcome)),
         StepPart::Stall => stall_value(alloc, step.outcome),
         StepPart::States => changes_value(alloc, test, words, &step.changes),
         StepPart::Supplied => source_value(alloc, telling.supplied),
@@ -161,7 +161,7 @@ fn flush_value(alloc: Global, flushed: Option<Core>) -> Result<Value, NoMemory>
 {
     match flushed {
         None => Ok(Value::Null),
-        Some(Core(core)) => text_value(alloc, &[Piece::Text("P"), Piece::Number(core as u64)]),
+        Some(core) => core_name(alloc, core),
     }
 }
 
@@ -182,12 +182,6 @@ fn move_value(alloc: Global, moved: Option<Moved>) -> Result<Value, NoMemory>
     }
 }
 
-fn outcome_value(alloc: Global, outcome: Outcome) -> Result<Value, NoMemory>
-    ensures { IfOk result (λ value. view value ≡ string (outcome_word outcome)) }
-{
-    Ok(Value::try_from_str(alloc, outcome_word(outcome))?)
-}
-
 /// The outcome's word.
 fn outcome_word(outcome: Outcome) -> &'static str
     ensures { result.now ≡ outcome_word outcome }
@@ -206,7 +200,7 @@ fn stall_value(alloc: Global, outcome: Outcome) -> Result<Value, NoMemory>
     ensures { IfOk result (λ value. view value ≡ text_or_null (option_map stall_name (stall_in outcome))) }
 {
     match outcome {
-        Outcome::Stalled(stall) => name_or_null(alloc, Some(stall_name(stall))),
+        Outcome::Stalled(stall) => word_value(alloc, stall_name(stall)),
         Outcome::Committed | Outcome::Buffered | Outcome::Moved | Outcome::Asked => Ok(Value::Null),
     }
 }

@@ -11,7 +11,7 @@ ghost use Rattle.trace_json.specs.Supplied.{found_at, found_by, is_asked, line_r
 ghost use Rattle.trace_json.specs.Supplied.{supplier_or_memory, supplies};
 ghost use Rattle.trace_json.specs.Values.{text_or_null};
 
-use crate::texts::text_value;
+use crate::texts::{core_name, word_value};
 use machine_core::{Machine, MemoryAccess};
 use protocol_tables::{Protocol, State};
 use serde_json::Value;
@@ -19,7 +19,6 @@ use std::alloc::Global;
 use trace_report::Step;
 use trace_report::step::core_of;
 use tso_model::{Choice, Core, NoMemory, Outcome, Test};
-use tso_report::pieces::Piece;
 
 /// Where a core finds a word that it reads.
 #[derive(Clone, Copy)]
@@ -32,6 +31,7 @@ pub enum Source {
     Other(Core),
     /// The bus, which keeps the words of the line that the core has asked for.
     Bus,
+    /// Memory, which has the line where no cache supplies it.
     Memory,
 }
 
@@ -143,12 +143,10 @@ pub fn source_value(alloc: Global, supplied: Option<Source>) -> Result<Value, No
 {
     match supplied {
         None => Ok(Value::Null),
-        Some(Source::Buffer) => text_value(alloc, &[Piece::Text("buffer")]),
-        Some(Source::Cache) => text_value(alloc, &[Piece::Text("cache")]),
-        Some(Source::Other(Core(core))) => {
-            text_value(alloc, &[Piece::Text("P"), Piece::Number(core as u64)])
-        }
-        Some(Source::Bus) => text_value(alloc, &[Piece::Text("bus")]),
-        Some(Source::Memory) => text_value(alloc, &[Piece::Text("memory")]),
+        Some(Source::Buffer) => word_value(alloc, "buffer"),
+        Some(Source::Cache) => word_value(alloc, "cache"),
+        Some(Source::Other(core)) => core_name(alloc, core),
+        Some(Source::Bus) => word_value(alloc, "bus"),
+        Some(Source::Memory) => word_value(alloc, "memory"),
     }
 }

@@ -6,7 +6,7 @@ ghost use Rattle.serde_json.specs.Data.{string};
 ghost use Rattle.serde_json.specs.View.{view};
 ghost use Rattle.scheduler.specs.Printed.{printed_choice};
 ghost use Rattle.tso_report.specs.inner.Pieces.{line_piece};
-ghost use Rattle.trace_report.specs.Lines.{line_name, store_text};
+ghost use Rattle.trace_report.specs.Lines.{line_name, printed_core, store_text};
 ghost use Rattle.trace_json.specs.Values.{text_or_null};
 
 use serde_json::Value;
@@ -34,8 +34,26 @@ pub fn name_or_null(alloc: Global, name: Option<&str>) -> Result<Value, NoMemory
 {
     match name {
         None => Ok(Value::Null),
-        Some(name) => Ok(Value::try_from_str(alloc, name)?),
+        Some(name) => word_value(alloc, name),
     }
+}
+
+/// A word.
+///
+/// Errors: out of memory only.
+pub fn word_value(alloc: Global, word: &str) -> Result<Value, NoMemory>
+    ensures { IfOk result (λ value. view value ≡ string word.now) }
+{
+    Ok(Value::try_from_str(alloc, word)?)
+}
+
+/// A core by its name, `P1`.
+///
+/// Errors: out of memory only.
+pub fn core_name(alloc: Global, core: Core) -> Result<Value, NoMemory>
+    ensures { IfOk result (λ value. view value ≡ string (printed_core core)) }
+{
+    text_value(alloc, &[Piece::Text("P"), Piece::Number(core.0 as u64)])
 }
 
 /// A choice, `0s` or `0d`.
@@ -44,14 +62,11 @@ pub fn name_or_null(alloc: Global, name: Option<&str>) -> Result<Value, NoMemory
 pub fn choice_value(alloc: Global, choice: Choice) -> Result<Value, NoMemory>
     ensures { IfOk result (λ value. view value ≡ string (printed_choice choice)) }
 {
-    match choice {
-        Choice::Step(Core(core)) => {
-            text_value(alloc, &[Piece::Number(core as u64), Piece::Text("s")])
-        }
-        Choice::Drain(Core(core)) => {
-            text_value(alloc, &[Piece::Number(core as u64), Piece::Text("d")])
-        }
-    }
+    let (core, letter) = match choice {
+        Choice::Step(core) => (core, "s"),
+        Choice::Drain(core) => (core, "d"),
+    };
+    text_value(alloc, &[Piece::Number(core.0 as u64), Piece::Text(letter)])
 }
 
 /// A line by the locations that it has, `x` or `x+y`, where lines have so many words. It is empty where the test

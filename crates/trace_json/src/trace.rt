@@ -1,24 +1,29 @@
-//! A run whose trace is kept as a value, or its last step alone: each is made by an observer of the run, while the run is made.
+//! A run whose trace is kept as a value, or its last step alone: it is made by an observer of the run, while the run is made.
 
-ghost use Rattle.std.specs.Prelude.{◌≡◌, ◌≤◌, IfOk, OnOk, length, option_map};
-ghost use Rattle.serde_json.specs.View.{view};
+ghost use Rattle.std.specs.Prelude.{◌≡◌, ◌≤◌, IfOk, OnOk, length, map, option_map};
+ghost use Rattle.serde_json.specs.Data.{array};
+ghost use Rattle.serde_json.specs.View.{items_of, view};
 ghost use Rattle.tso_model.specs.Runs.{CoresExist};
+ghost use Rattle.trace_report.specs.Known.{StepNamesExist};
+ghost use Rattle.trace_report.specs.Shown.{shown_step};
 ghost use Rattle.simulator.specs.Runs.{run_under, counts_under, AnswersFit};
 ghost use Rattle.simulator.specs.Simulation.{IsEndingOf, FitsEnding, HasCounts};
-ghost use Rattle.trace_json.specs.TraceJson.{last_step_json, trace_json};
+ghost use Rattle.trace_json.specs.TraceJson.{last_step_json, step_to, trace_json};
 ghost use Rattle.trace_json.specs.TracedRun.{most_steps};
 ghost use Rattle.trace_json.specs.inner.Looked.{sourced, told_last, trace_with};
 ghost use Rattle.trace_json.specs.inner.Following.{CanFollow, Follows};
-ghost use Rattle.trace_json.specs.inner.Observing.{OpensTrace, AddsStep, OpensLast, KeepsLast, TellsLast, KnowsLast};
+ghost use Rattle.trace_json.specs.inner.Observing.{AddsStep, KnowsLast, Makes, Opens, told_by, told_under};
 
 use crate::following::{Follower, SourcedStep};
 use crate::limited::Limited;
+use crate::objects::Object;
 use machine_core::{Choice, Machine, Outcome};
 use protocol_tables::Protocol;
 use scheduler::Stalls;
-use serde_json::{Map, Value, put};
+use serde_json::Value;
 use simulator::{Ending, Observer, Setup, simulate_observed};
 use std::alloc::Global;
+use std::mem::replace;
 use trace_report::told_runs::traces_tell_their_runs;
 use tso_model::NoMemory;
 use tso_report::members::push_made;
@@ -52,21 +57,7 @@ pub fn simulate_tracing(
     ensures answers { OnOk result (AnswersFit setup.now.test.now setup.now.protocol setup.now.config choices.now) }
     ensures counts { IfOk result (λ r. HasCounts (counts_under setup.now.test.now setup.now.protocol setup.now.config choices.now) r.ending) }
 {
-    traces_tell_their_runs();
-    let follower = Follower::new(alloc, setup.test, setup.config)?;
-    let mut limited = Limited::new(Tracer {
-        follower,
-        start: Value::Null,
-        steps: Vec::new(alloc),
-    });
-    let ending = simulate_observed(alloc, setup, choices, &mut limited)?;
-    let tracer = limited.observer;
-    let told = trace_of_parts(alloc, tracer.start, Value::Array(tracer.steps))?;
-    Ok(TracedRun {
-        ending,
-        told,
-        stalls: limited.stalls,
-    })
+    simulate_telling(alloc, setup, choices, Extent::Whole)
 }
 
 /// Runs a test under these choices as [`simulate_tracing`] does, and keeps of its trace the last step alone; where no choice
@@ -84,96 +75,90 @@ pub fn simulate_telling_last(
     ensures ending { IfOk result (λ r. IsEndingOf setup.now.test.now (run_under setup.now.test.now setup.now.protocol setup.now.config choices.now) r.ending) }
     ensures answers { OnOk result (AnswersFit setup.now.test.now setup.now.protocol setup.now.config choices.now) }
 {
+    simulate_telling(alloc, setup, choices, Extent::LastStep)
+}
+
+/// How much is told of a run.
+#[derive(Clone, Copy)]
+enum Extent {
+    /// The machine before the first choice, and each step.
+    Whole,
+    /// The last step alone; where there is none, the machine.
+    LastStep,
+}
+
+/// Runs a test under these choices, and keeps so much of its trace.
+fn simulate_telling(
+    alloc: Global,
+    setup: &Setup<'_>,
+    choices: &[Choice],
+    extent: Extent,
+) -> Result<TracedRun, NoMemory>
+    requires { CoresExist (length setup.now.test.now.programs) choices.now }
+    ensures told { IfOk result (λ r. (run_under setup.now.test.now setup.now.protocol setup.now.config choices.now).used ≤ most_steps
+        → view r.told ≡ told_under extent setup.now.test.now setup.now.protocol setup.now.config choices.now) }
+    ensures ending { IfOk result (λ r. IsEndingOf setup.now.test.now (run_under setup.now.test.now setup.now.protocol setup.now.config choices.now) r.ending) }
+    ensures fits { IfOk result (λ r. FitsEnding setup.now.test.now r.ending) }
+    ensures answers { OnOk result (AnswersFit setup.now.test.now setup.now.protocol setup.now.config choices.now) }
+    ensures counts { IfOk result (λ r. HasCounts (counts_under setup.now.test.now setup.now.protocol setup.now.config choices.now) r.ending) }
+{
     traces_tell_their_runs();
     let follower = Follower::new(alloc, setup.test, setup.config)?;
-    let mut last = Limited::new(LastStep {
+    let mut limited = Limited::new(Tracer {
+        alloc,
         follower,
-        told: None,
-        value: Value::Null,
+        extent,
+        start: Value::Null,
+        steps: Vec::new(alloc),
+        last: None,
+        told: Value::Null,
     });
-    let ending = simulate_observed(alloc, setup, choices, &mut last)?;
-    let step = last.observer;
+    let ending = simulate_observed(alloc, setup, choices, &mut limited)?;
+    let tracer = limited.observer;
     Ok(TracedRun {
         ending,
-        told: step.value,
-        stalls: last.stalls,
+        told: tracer.told,
+        stalls: limited.stalls,
     })
 }
 
-/// A trace from its parts.
-fn trace_of_parts(alloc: Global, start: Value, steps: Value) -> Result<Value, NoMemory>
-    ensures { IfOk result (λ value. view value ≡ trace_with (view start) (view steps)) }
-{
-    let mut members = Map::new(alloc);
-    put(&mut members, alloc, "start", start)?;
-    put(&mut members, alloc, "steps", steps)?;
-    Ok(Value::Object(members))
-}
-
-/// Makes a value of the machine before the first choice, and one of each choice.
+/// Keeps what a run is to be told by, and makes a value of it at the end.
 #[derive(Drop)]
 struct Tracer<'t> {
+    alloc: Global,
     follower: Follower<'t>,
+    extent: Extent,
+    /// The machine before the first choice, where all is told.
     start: Value,
+    /// The steps, where all are told.
     steps: Vec<Value>,
+    /// What the last choice did.
+    last: Option<SourcedStep>,
+    /// What is told, once the run is over.
+    told: Value,
 }
 
 impl<'t> Observer for Tracer<'t> {
     ghost begins = { λ o m. CanFollow o.follower m };
 
-    ghost opens = { OpensTrace };
-
-    ghost watches = { λ o m. Follows o.follower m };
-
-    ghost makes = { AddsStep };
-
-    ghost ends = { λ o m n. n ≡ o };
-
-    fn begin<P: Protocol>(&mut self, machine: &Machine<'_, P>) -> Result<(), NoMemory> {
-        self.follower.begin(machine)?;
-        self.start = self.follower.machine(machine)?;
-        Ok(())
-    }
-
-    fn choose<P: Protocol>(
-        &mut self,
-        machine: &mut Machine<'_, P>,
-        _number: usize,
-        choice: Choice,
-    ) -> Result<Outcome, NoMemory> {
-        let told = self.follower.tell(machine, choice)?;
-        let step = self.follower.step_to(machine, &told);
-        push_made(&mut self.steps, step)?;
-        Ok(told.step.outcome)
-    }
-
-    fn end<P: Protocol>(&mut self, _machine: &Machine<'_, P>) -> Result<(), NoMemory> {
-        Ok(())
-    }
-}
-
-/// Keeps what the last choice did, and makes a value of that alone.
-#[derive(Drop)]
-struct LastStep<'t> {
-    follower: Follower<'t>,
-    told: Option<SourcedStep>,
-    value: Value,
-}
-
-impl<'t> Observer for LastStep<'t> {
-    ghost begins = { λ o m. CanFollow o.follower m };
-
-    ghost opens = { OpensLast };
+    ghost opens = { Opens };
 
     ghost watches = { λ o m. Follows o.follower m × KnowsLast o };
 
-    ghost makes = { KeepsLast };
+    ghost makes = { Makes };
 
-    ghost ends = { TellsLast };
+    ghost ends = { λ o m n. view n.told ≡ told_by o m };
 
     fn begin<P: Protocol>(&mut self, machine: &Machine<'_, P>) -> Result<(), NoMemory> {
-        self.told = None;
-        self.follower.begin(machine)
+        self.last = None;
+        self.follower.begin(machine)?;
+        match self.extent {
+            Extent::Whole => {
+                self.start = self.follower.machine(machine)?;
+                Ok(())
+            }
+            Extent::LastStep => Ok(()),
+        }
     }
 
     fn choose<P: Protocol>(
@@ -184,26 +169,69 @@ impl<'t> Observer for LastStep<'t> {
     ) -> Result<Outcome, NoMemory> {
         let told = self.follower.tell(machine, choice)?;
         let outcome = told.step.outcome;
-        self.told = Some(told);
+        note_step(&mut self.steps, self.extent, &self.follower, machine, &told)?;
+        self.last = Some(told);
         Ok(outcome)
     }
 
     fn end<P: Protocol>(&mut self, machine: &Machine<'_, P>) -> Result<(), NoMemory> {
-        self.value = self.last(machine)?;
+        self.told = self.told(machine)?;
         Ok(())
     }
 }
 
-impl<'t> LastStep<'t> {
+impl<'t> Tracer<'t> {
+    /// What is told of the run, with the machine as it now is.
+    fn told<P: Protocol>(&mut self, machine: &Machine<'_, P>) -> Result<Value, NoMemory>
+        requires follows { Follows self.old.follower machine.now }
+        requires known { KnowsLast self.old }
+        ensures { IfOk result (λ value. view value ≡ told_by self.old machine.now) }
+    {
+        match self.extent {
+            Extent::Whole => self.trace(),
+            Extent::LastStep => self.last(machine),
+        }
+    }
+
+    /// The trace, of the machine before the first choice and the steps. It takes both.
+    fn trace(&mut self) -> Result<Value, NoMemory>
+        ensures { IfOk result (λ value. view value ≡ trace_with (view self.old.start) (array (items_of (map view self.old.steps.items)))) }
+    {
+        let start = replace(&mut self.start, Value::Null);
+        let steps = replace(&mut self.steps, Vec::new(self.alloc));
+        Object::new(self.alloc)
+            .member("start", Ok(start))
+            .member("steps", Ok(Value::Array(steps)))
+            .value()
+    }
+
     /// What is told last of the machine as it now is.
     fn last<P: Protocol>(&self, machine: &Machine<'_, P>) -> Result<Value, NoMemory>
         requires follows { Follows self.now.follower machine.now }
         requires known { KnowsLast self.now }
-        ensures { IfOk result (λ value. view value ≡ told_last (option_map sourced self.now.told) machine.now self.now.follower.memory.items) }
+        ensures { IfOk result (λ value. view value ≡ told_last (option_map sourced self.now.last) machine.now self.now.follower.memory.items) }
     {
-        match &self.told {
+        match &self.last {
             Some(told) => self.follower.step_to(machine, told),
             None => self.follower.alone(machine),
         }
+    }
+}
+
+/// Adds the value of a step to those of the steps before it, where all are told.
+fn note_step<P: Protocol>(
+    steps: &mut Vec<Value>,
+    extent: Extent,
+    follower: &Follower<'_>,
+    machine: &Machine<'_, P>,
+    step: &SourcedStep,
+) -> Result<(), NoMemory>
+    requires follows { Follows follower.now machine.now }
+    requires known { StepNamesExist follower.now.test.now follower.now.config.shape.words (shown_step step.now.step) }
+    ensures { OnOk result (AddsStep extent steps.old.items (step_to (sourced step.now) machine.now follower.now.memory.items) steps.new.items) }
+{
+    match extent {
+        Extent::Whole => push_made(steps, follower.step_to(machine, step)),
+        Extent::LastStep => Ok(()),
     }
 }

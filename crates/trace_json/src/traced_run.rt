@@ -1,7 +1,7 @@
 //! A run with its trace as JSON, for programs to read. It is one line, and its objects have their keys in the order of
 //! their bytes.
 
-ghost use Rattle.std.specs.Prelude.{◌≡◌, ◌<◌, ◌≤◌, List, IfOk, OnOk, IfSome, IsSome, None, false, length, string_bytes};
+ghost use Rattle.std.specs.Prelude.{◌≡◌, ◌<◌, ◌≤◌, List, IfOk, IfSome, IsSome, None, false, length, string_bytes};
 ghost use Rattle.serde_json.specs.View.{view, members_view};
 ghost use Rattle.serde_json.specs.Written.{has_float};
 ghost use Rattle.tso_model.specs.declared.choice.Choice.{Choice};
@@ -9,17 +9,16 @@ ghost use Rattle.scheduler.specs.Grammar.{SpellsChoices};
 ghost use Rattle.scheduler.specs.WordOfChoice.{IsWordOfChoice};
 ghost use Rattle.simulator.specs.Simulation.{FitsEnding};
 ghost use Rattle.trace_json.specs.TracedRun.{most_steps, line_with, ending_members};
-ghost use Rattle.trace_json.specs.inner.Traced.{with_test};
 
+use crate::objects::Object;
 use crate::programs::programs_value;
 use crate::proposition::proposition_value;
 use scheduler::word_of_choice;
-use serde_json::{Map, Value, put};
+use serde_json::{Map, Value};
 use simulator::{Ending, Setup};
 use std::alloc::Global;
-use tso_model::{NoMemory, Test};
+use tso_model::NoMemory;
 use tso_report::json::{line_of, run_members, unfinished_members};
-use tso_report::members::put_made;
 
 /// Maximum number of steps of a trace as JSON.
 pub const MAX_STEPS: usize = 1_000;
@@ -61,10 +60,12 @@ pub fn traced_json(
     requires trace { has_float (view trace) ≡ false }
     ensures { IfOk result (λ text. string_bytes text ≡ line_with setup.now.test.now (view trace) (ending_members setup.now.test.now setup.now.protocol setup.now.config ending.now)) }
 {
-    let mut members = ending_members(alloc, setup, ending)?;
-    put(&mut members, alloc, "trace", trace)?;
-    put_test(&mut members, alloc, setup.test)?;
-    line_of(alloc, &Value::Object(members))
+    let value = Object::from_made(alloc, ending_members(alloc, setup, ending))
+        .member("trace", Ok(trace))
+        .member("proposition", proposition_value(alloc, setup.test))
+        .member("programs", programs_value(alloc, setup.test))
+        .value()?;
+    line_of(alloc, &value)
 }
 
 /// What the report of a run has, or the line of one that didn't end.
@@ -80,17 +81,4 @@ fn ending_members(
         Ending::Ended(run) => run_members(alloc, setup.test, setup.protocol, setup.config, run),
         Ending::Unfinished { used, stalled } => unfinished_members(alloc, *used, *stalled),
     }
-}
-
-/// Puts the programs of a test, and its condition's proposition.
-fn put_test(members: &mut Map<String, Value>, alloc: Global, test: &Test) -> Result<(), NoMemory>
-    ensures { OnOk result (members_view members.new.entries ≡ with_test test.now (members_view members.old.entries)) }
-{
-    put_made(
-        members,
-        alloc,
-        "proposition",
-        proposition_value(alloc, test),
-    )?;
-    put_made(members, alloc, "programs", programs_value(alloc, test))
 }

@@ -1,5 +1,4 @@
-use Rattle.trace_json.proofs.Vocabulary.{◌≡◌, ◌∙◌, string_bytes, ap, subst, Data, object, put, view, has_float, view-Object, with_test}
-use Rattle.std.specs.Prelude.{IfOk, codes}
+use Rattle.trace_json.proofs.Vocabulary.{◌≡◌, ◌∙◌, string_bytes, ap, subst, refl, Data, view, has_float, IfOk}
 use Rattle.serde_json.specs.Written.{compact_text}
 use Rattle.tso_report.specs.Report.{line}
 use Rattle.trace_json.specs.TracedRun.{ending_members}
@@ -11,17 +10,12 @@ line_of-requires c =
     let t = c.args.setup.now.test.now in
     let kind = c.args.setup.now.protocol in
     let config = c.args.setup.now.config in
-    let trace = view c.args.trace in
     let ending = c.args.ending.now in
-    let put_is = c.in_ok-put_test.ensures ∙ ap (with_test t) (c.in_ok-put.ensures.ok ∙ ap (put (codes "trace") trace) c.in_ok-members.ensures) in
-    ap has_float (view-Object c.put_test.new.members ∙ ap object put_is)
-    ∙ more_has_no_float t trace (ending_members t kind config ending) c.requires.trace (ending_has_no_float t kind config ending)
+    ap has_float (c.in_ok-value.ensures _ (c.member-3.ensures _ _ (c.member-2.ensures _ _ (c.member.ensures _ (view c.args.trace) (c.from_made.ensures _ c.ending_members.ensures) refl) c.proposition_value.ensures) c.programs_value.ensures))
+    ∙ more_has_no_float t (view c.args.trace) (ending_members t kind config ending) c.requires.trace (ending_has_no_float t kind config ending)
 
 pub returns : goal.returns
 returns c =
-    let t = c.args.setup.now.test.now in
-    let kind = c.args.setup.now.protocol in
-    let config = c.args.setup.now.config in
-    let trace = view c.args.trace in
-    let put_is = c.in_ok-put_test.ensures ∙ ap (with_test t) (c.in_ok-put.ensures.ok ∙ ap (put (codes "trace") trace) c.in_ok-members.ensures) in
-    subst (λ (d : Data). IfOk c.line_of.result (λ text. string_bytes text ≡ line (compact_text d))) (view-Object c.put_test.new.members ∙ ap object put_is) c.line_of.ensures
+    subst (λ (d : Data). IfOk c.line_of.result (λ text. string_bytes text ≡ line (compact_text d)))
+    (c.in_ok-value.ensures _ (c.member-3.ensures _ _ (c.member-2.ensures _ _ (c.member.ensures _ (view c.args.trace) (c.from_made.ensures _ c.ending_members.ensures) refl) c.proposition_value.ensures) c.programs_value.ensures))
+    c.line_of.ensures

@@ -1,5 +1,4 @@
-use Rattle.trace_json.proofs.Vocabulary.{◌∙◌, ap, sym, subst, refl, Configuration, view, StepNamesExist, shown_step, some-word, sourced}
-use Rattle.trace_json.proofs.Tracing.{one-step}
+use Rattle.trace_json.proofs.Vocabulary.{◌≡◌, ◌∙◌, ap, sym, subst, Configuration, Data, IfOk, view, StepNamesExist, shown_step, some-word, sourced, step_json, words_per_line}
 use Rattle.trace_json.proofs.following.Follower.step_to.Goals as goal
 
 pub step_value-requires-clause-words : goal.step_value-requires-clause-words
@@ -10,7 +9,9 @@ step_value-requires-clause-known g c = subst (λ n. StepNamesExist c.args.self.n
 
 pub returns : goal.returns
 returns g c =
-    let follows = c.requires.follows.0.machine in
-    one-step c.args.self.now.test.now c.words-words.result (sourced c.args.told.now) (sourced c.args.told.now) c.args.machine.now c.args.self.now.memory.items (view c.in_ok-after.after) (view c.in_ok-value.value)
-    c.in_ok-value.ensures c.in_ok-after.ensures refl follows.test
-    (ap (λ (x : Configuration). x.shape.words) follows.config ∙ sym c.words-words.ensures.value)
+    let m = c.args.machine.now in
+    let told = sourced c.args.told.now in
+    let is = c.requires.follows.0.machine in
+    let t : c.args.self.now.test.now ≡ m.test = sym is.test in
+    let words : c.words-words.result ≡ words_per_line m = c.words-words.ensures.value ∙ sym (ap (λ (x : Configuration). x.shape.words) is.config) in
+    subst (λ (d : Data). IfOk c.step_value.result (λ value. view value ≡ d)) (λ i. step_json (t i) (words i) told.step told.supplied (c.in_ok-after.ensures i)) c.step_value.ensures

@@ -1,11 +1,10 @@
-use Rattle.trace_json.proofs.Vocabulary.{◌≡◌, ◌∙◌, [], ap, sym, subst, rules, new_machine, table_of, view, trace_with}
+use Rattle.trace_json.proofs.Vocabulary.{◌≡◌, ◌∙◌, [], ap, sym, subst, rules, new_machine, table_of, view}
 use Rattle.trace_json.specs.inner.Following.{CanFollow}
-use Rattle.trace_json.specs.inner.Observing.{OpensTrace, AddsStep}
+use Rattle.trace_json.specs.inner.Observing.{Opens, Makes, told_by}
 use Rattle.trace_json.specs.declared.trace.Tracer.{Tracer}
-use Rattle.trace_json.proofs.Listed.{view-list}
-use Rattle.trace_json.proofs.Tracing.{trace-whole}
+use Rattle.trace_json.proofs.Tracing.{told-whole}
 use Rattle.trace_json.proofs.Within.{few-steps, shown-whole}
-use Rattle.trace_json.proofs.trace.simulate_tracing.Goals as goal
+use Rattle.trace_json.proofs.trace.simulate_telling.Goals as goal
 
 pub simulate_observed-requires-clause-begins : goal.simulate_observed-requires-clause-begins
 simulate_observed-requires-clause-begins c = λ table.
@@ -18,10 +17,9 @@ returns-clause-told c = λ few.
     let config = c.args.setup.now.config in
     let choices = c.args.choices.now in
     let m = new_machine (table_of kind) config t in
-    let tracer = c.simulate_observed.new.observer.observer in
     let first = c.new-limited.ensures.observer in
     let none : c.new-2.result.items ≡ [] = search rules in
-    let watched = shown-whole (λ l. l.observer) (λ l. l.is_passed) OpensTrace AddsStep (λ o m n. n ≡ o) _ c.simulate_observed.new.observer m choices
+    let watched = shown-whole (λ l. l.observer) (λ l. l.is_passed) Opens Makes (λ o m n. view n.told ≡ told_by o m) _ c.simulate_observed.new.observer m choices
     c.in_ok-ending.ensures.watched c.new-limited.ensures.unpassed (few-steps c.traces_tell_their_runs.ensures kind config t choices few) in
-    c.in_ok-told.ensures ∙ (ap (λ d. trace_with (view tracer.start) d) (view-list tracer.steps) ∙ trace-whole m _ tracer choices watched
-    (ap (λ (o : Tracer). o.steps.items) first ∙ none) (ap (λ (o : Tracer). o.follower.memory.items) first ∙ c.in_ok-follower.ensures.memory))
+    told-whole c.args.extent m _ c.simulate_observed.new.observer.observer choices watched (ap (λ (o : Tracer). o.extent) first) (ap (λ (o : Tracer). o.steps.items) first ∙ none)
+    (ap (λ (o : Tracer). o.follower.memory.items) first ∙ c.in_ok-follower.ensures.memory)
