@@ -1,16 +1,12 @@
 -- The names that the proofs of this crate bring in from definitions and from crates below; each file takes its own from here.
-pub use Rattle.std.proofs.Common.{◌≡◌, ℕ, zero, suc, ◌+◌, Bool, true, false, ◌||◌, if◌then◌else◌, List, [], ◌∷◌, map, take, length, ◌/◌, Option, Some, None, refl, ◌∙◌, ◌-◌, ◌<◌, ◌++◌, option_map, slice_get, slice_index_or, sym, ap, arith, length-append, ◌*◌, ◌≤◌, min, drop, get_or, append_assoc, append-nil, ◌%◌, slice_index, inl, inr, subst, rules, String, Global, Vec, string_bytes, ◌&&◌, not, slice_set, ◌≢◌, All, IfSome, codes, IfOk}
-pub use Rattle.std.specs.Ordering.{nat_cmp, match_ordering}
-pub use Rattle.std.specs.Cmp.Lexicographic.{slice_cmp}
-pub use Rattle.std.specs.declared.cmp.Ordering.{Ordering}
-pub use Rattle.std.specs.declared.cmp.Ordering.TheVariants.{Less, Equal, Greater}
+pub use Rattle.std.proofs.Common.{◌≡◌, ℕ, zero, suc, ◌+◌, Bool, true, false, ◌||◌, if◌then◌else◌, List, [], ◌∷◌, map, take, length, ◌/◌, Option, Some, None, refl, ◌∙◌, ◌-◌, ◌<◌, ◌++◌, option_map, slice_get, slice_index_or, sym, ap, arith, length-append, ◌*◌, ◌≤◌, min, drop, get_or, append_assoc, append-nil, ◌%◌, slice_index, inl, inr, subst, rules, Global, Vec, string_bytes, slice_set, ◌≢◌, All, codes, IfOk}
 pub use Rattle.std.proofs.lemmas.Bool.{or_parts}
-pub use Rattle.serde_json.specs.Data.{Data, string, Members, no_members, member, put, array, object}
+pub use Rattle.serde_json.specs.Data.{Data, string, Members, no_members, put, array, object}
 pub use Rattle.serde_json.specs.View.{items_of, view, members_view}
 pub use Rattle.serde_json.specs.Written.{has_float, items_have_float, members_have_float}
 pub use Rattle.tso_model.specs.Litmus.{Litmus}
 pub use Rattle.tso_model.specs.FlatMachine.{core_of, CoreState, idle, memory_after, chosen}
-pub use Rattle.tso_model.specs.Runs.{has_ended, CoresExist}
+pub use Rattle.tso_model.specs.Runs.{has_ended}
 pub use Rattle.basic_laws.specs.Types.{Entry, Choice}
 pub use Rattle.order_builder.specs.PrintedOrder.{printed_entry, HasLocation}
 pub use Rattle.protocol_tables.specs.Tables.{table_of, Table}
@@ -19,7 +15,7 @@ pub use Rattle.snoop_bus.specs.declared.looking.CachedLine.{CachedLine}
 pub use Rattle.machine_core.specs.Configuration.{Configuration}
 pub use Rattle.machine_core.specs.Running.{Running, new_machine, machine_after, machine_effect}
 pub use Rattle.machine_core.specs.Looking.{bus_holder_of, bus_holder, bus_holder_as}
-pub use Rattle.tso_report.specs.Json.{count, memory_members, memory_value, order_value, run_members, unfinished_members, registers_value}
+pub use Rattle.tso_report.specs.Json.{count, memory_value, order_value, registers_value}
 pub use Rattle.trace_report.specs.Shown.{ShownStep, shown_step}
 pub use Rattle.trace_json.specs.Values.{array_of_numbers, text_or_null, array_of_texts}
 pub use Rattle.trace_json.specs.OwnWords.{own_words, is_newer_in, own_word, own_words_from, is_newer}
@@ -31,20 +27,19 @@ pub use Rattle.trace_json.specs.TraceJson.{Sourced, sourced_by, last_or, last_st
 pub use Rattle.trace_json.specs.declared.supplied.Source.{Source}
 pub use Rattle.tso_model.specs.Condition.{Condition, condition_of}
 pub use Rattle.std.proofs.lemmas.Result.{on_ok_weaker}
-pub use Rattle.trace_json.specs.Proposition.{proposition_value}
 pub use Rattle.scheduler.specs.Printed.{printed_choice}
 pub use Rattle.trace_json.specs.Programs.{instruction_text, program_value, programs_value}
-pub use Rattle.trace_json.specs.TracedRun.{most_steps, with_trace_value}
+pub use Rattle.trace_json.specs.TracedRun.{with_trace_value}
 pub use Rattle.std.specs.Option.{unwrap_or}
-pub use Rattle.std.proofs.lemmas.List.{drop_all, length-drop, length-map, length-take, drop_more, get_or_past, map-append, take_more, take_all}
-pub use Rattle.std.proofs.Math.ListN.{drop_of_length-le, length-set}
+pub use Rattle.std.proofs.lemmas.List.{drop-set-lt, take_more_set, with_items_is, drop_all, length-drop, length-map, length-take, drop_more, get_or_past, take_more, take_all}
+pub use Rattle.std.proofs.Math.ListN.{length-set}
 pub use Rattle.std.proofs.lemmas.Option.{unwrap_or-slice_get}
 pub use Rattle.machine_core.specs.Caches.{Caches, at_access}
 pub use Rattle.trace_report.specs.Steps.{line_state, number_of_lines, trace_step_of, awaited_at, state_with}
 pub use Rattle.serde_json.specs.declared.value.Value.{Value, the_lemmas}
-pub use Rattle.trace_json.specs.inner.Looked.{IsMachineOfTest, told_last, sourced, HasMemory, trace_with}
+pub use Rattle.trace_json.specs.inner.Looked.{IsMachineOfTest, told_last, sourced, trace_with}
 pub use Rattle.snoop_bus.specs.Geometry.{IsLineSize}
-pub use Rattle.trace_report.specs.Told.{IsTraced, IsTracedInStates}
+pub use Rattle.trace_report.specs.Told.{IsTraced}
 pub use Rattle.trace_report.specs.inner.Told.{IsLookedAt}
 pub use Rattle.trace_report.proofs.Whole.{some-word, looked-at}
 pub use Rattle.trace_json.specs.SupplyLaws.{copy_on, SourcesAreTold}

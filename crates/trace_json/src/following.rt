@@ -16,7 +16,7 @@ ghost use Rattle.trace_json.specs.inner.Following.{CanFollow, Follows};
 use crate::machine::machine_value;
 use crate::moment::Moment;
 use crate::objects::Object;
-use crate::own_words::own_words;
+use crate::own_words::follow_words;
 use crate::step::step_value;
 use crate::supplied::{Source, found_by, supplied_to};
 use machine_core::{Choice, Config, Machine};
@@ -96,8 +96,7 @@ impl<'t> Follower<'t> {
         let found = found_by(machine, test, words, choice);
         let step = tell(alloc, machine, &mut self.states, test, self.config, choice)?;
         let supplied = supplied_to(&step, found);
-        let own = own_words(alloc, machine, test, words, &self.memory)?;
-        self.memory = own;
+        follow_words(machine, test, words, &mut self.memory);
         Ok(SourcedStep { step, supplied })
     }
 

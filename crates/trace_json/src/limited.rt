@@ -58,11 +58,12 @@ impl<O: Observer> Observer for Limited<O> {
         choice: Choice,
     ) -> Result<Outcome, NoMemory> {
         self.is_passed |= number > MAX_STEPS;
-        let outcome = if self.is_passed {
-            machine.choose(choice)?
+        let made = if self.is_passed {
+            machine.choose(choice)
         } else {
-            self.observer.choose(machine, number, choice)?
+            self.observer.choose(machine, number, choice)
         };
+        let outcome = made?;
         note_stall(&mut self.stalls, choice, outcome);
         Ok(outcome)
     }

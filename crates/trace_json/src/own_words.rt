@@ -1,42 +1,32 @@
 //! Memory's own words along a run. They are stale while a copy is dirty, and a machine shows the words that are seen; so
 //! these are followed from step to step. (Primer, chapters 6 and 7.)
 
-ghost use Rattle.std.specs.Prelude.{◌≡◌, ◌<◌, if◌then◌else◌, IfOk, length};
+ghost use Rattle.std.specs.Prelude.{◌≡◌, ◌<◌, if◌then◌else◌, length};
 ghost use Rattle.machine_core.specs.Looking.{bus_holder_of};
 ghost use Rattle.trace_report.specs.inner.Told.{IsLookedAt};
 ghost use Rattle.trace_json.specs.OwnWords.{is_newer, is_newer_in, own_words};
 
 use machine_core::{BusHolder, Machine};
 use protocol_tables::{Protocol, State, Transient};
-use std::alloc::Global;
 use trace_report::LineState;
 use trace_report::states::line_state;
-use tso_model::{Core, Loc, NoMemory, Test};
+use tso_model::{Core, Loc, Test};
 
-/// Memory's own words on a machine after a choice, where it had these before it and lines have so many words.
-///
-/// Errors: out of memory only.
-pub fn own_words<P: Protocol>(
-    alloc: Global,
-    machine: &Machine<P>,
-    test: &Test,
-    words: u8,
-    before: &[u32],
-) -> Result<Vec<u32>, NoMemory>
+/// Leads memory's own words on a machine from those before a choice to those after it, where lines have so many words. The machine
+/// is the one after the choice.
+pub fn follow_words<P: Protocol>(machine: &Machine<P>, test: &Test, words: u8, memory: &mut [u32])
     requires looked { IsLookedAt test.now words machine.now }
-    requires before { length before.now ≡ length test.now.locations }
+    requires before { length memory.old ≡ length test.now.locations }
     requires each { length machine.now.state.flat.memory ≡ length test.now.locations }
-    ensures words { IfOk result (λ own. own.items ≡ own_words machine.now before.now) }
-    ensures each { IfOk result (λ own. length own.items ≡ length test.now.locations) }
+    ensures words { memory.new ≡ own_words machine.now memory.old }
+    ensures each { length memory.new ≡ length test.now.locations }
 {
     let holder = machine.bus_holder();
-    let mut own = Vec::new(alloc);
     for loc in 0..test.locations() {
         let seen = machine.seen(Loc(loc)).unwrap_or(0);
         let is_newer = is_newer_in(machine, holder, test, words, loc / words);
-        own.push(memory_word(is_newer, before[loc as usize], seen))?;
+        memory[loc as usize] = memory_word(is_newer, memory[loc as usize], seen);
     }
-    Ok(own)
 }
 
 /// The word that memory had before, where a copy may have a newer one; else the one that is seen.

@@ -8,6 +8,7 @@ ghost use Rattle.trace_report.specs.Known.{StepNamesExist};
 ghost use Rattle.trace_report.specs.Shown.{shown_step};
 ghost use Rattle.simulator.specs.Runs.{run_under, counts_under, AnswersFit};
 ghost use Rattle.simulator.specs.Simulation.{IsEndingOf, FitsEnding, HasCounts};
+ghost use Rattle.trace_json.specs.MachineJson.{machine_json};
 ghost use Rattle.trace_json.specs.TraceJson.{last_step_json, step_to, trace_json};
 ghost use Rattle.trace_json.specs.TracedRun.{most_steps};
 ghost use Rattle.trace_json.specs.inner.Looked.{sourced, told_last, trace_with};
@@ -114,10 +115,10 @@ fn simulate_telling(
         told: Value::Null,
     });
     let ending = simulate_observed(alloc, setup, choices, &mut limited)?;
-    let tracer = limited.observer;
+    let told = replace(&mut limited.observer.told, Value::Null);
     Ok(TracedRun {
         ending,
-        told: tracer.told,
+        told,
         stalls: limited.stalls,
     })
 }
@@ -152,13 +153,8 @@ impl<'t> Observer for Tracer<'t> {
     fn begin<P: Protocol>(&mut self, machine: &Machine<'_, P>) -> Result<(), NoMemory> {
         self.last = None;
         self.follower.begin(machine)?;
-        match self.extent {
-            Extent::Whole => {
-                self.start = self.follower.machine(machine)?;
-                Ok(())
-            }
-            Extent::LastStep => Ok(()),
-        }
+        self.start = start_of(self.extent, &self.follower, machine)?;
+        Ok(())
     }
 
     fn choose<P: Protocol>(
@@ -215,6 +211,21 @@ impl<'t> Tracer<'t> {
             Some(told) => self.follower.step_to(machine, told),
             None => self.follower.alone(machine),
         }
+    }
+}
+
+/// The machine before the first choice, where all is told.
+fn start_of<P: Protocol>(
+    extent: Extent,
+    follower: &Follower<'_>,
+    machine: &Machine<'_, P>,
+) -> Result<Value, NoMemory>
+    requires { Follows follower.now machine.now }
+    ensures { IfOk result (λ value. extent ≡ Extent.Whole → view value ≡ machine_json machine.now follower.now.memory.items) }
+{
+    match extent {
+        Extent::Whole => follower.machine(machine),
+        Extent::LastStep => Ok(Value::Null),
     }
 }
 

@@ -21,5 +21,6 @@ returns-clause-told c = λ few.
     let none : c.new-2.result.items ≡ [] = search rules in
     let watched = shown-whole (λ l. l.observer) (λ l. l.is_passed) Opens Makes (λ o m n. view n.told ≡ told_by o m) _ c.simulate_observed.new.observer m choices
     c.in_ok-ending.ensures.watched c.new-limited.ensures.unpassed (few-steps c.traces_tell_their_runs.ensures kind config t choices few) in
-    told-whole c.args.extent m _ c.simulate_observed.new.observer.observer choices watched (ap (λ (o : Tracer). o.extent) first) (ap (λ (o : Tracer). o.steps.items) first ∙ none)
+    ap view c.replace-told.ensures.value
+    ∙ told-whole c.args.extent m _ c.simulate_observed.new.observer.observer choices watched (ap (λ (o : Tracer). o.extent) first) (ap (λ (o : Tracer). o.steps.items) first ∙ none)
     (ap (λ (o : Tracer). o.follower.memory.items) first ∙ c.in_ok-follower.ensures.memory)
