@@ -23,7 +23,7 @@ steps-next m memory c cs h = ap (λ b. if b
 -- what is kept along choices, from one observer to another
 record Along (o last : Tracer) (m left : Running) (choices : List Choice) : Type 0 where
   extent : last.extent ≡ o.extent
-  start_is : view last.start ≡ view o.start
+  start_is : view last.told ≡ view o.told
   steps_are : o.extent ≡ Whole → map view last.steps.items ≡ map view o.steps.items ++ steps_json m o.follower.memory.items choices
   last_is : told_last (option_map sourced last.last) left last.follower.memory.items
       ≡ last_or (told_last (option_map sourced o.last) m o.follower.memory.items) (steps_json m o.follower.memory.items choices)
@@ -65,7 +65,7 @@ told-whole extent m old new choices w extent_is none words =
     let all = kept-along w.begun w.driven m w.left 1 choices w.watched in
     let begun = w.opens.extent ∙ extent_is in
     let memory = w.opens.memory ∙ words in
-    w.ends ∙ (ap (λ e. told_as e (view w.driven.start) (map view w.driven.steps.items) (told_last (option_map sourced w.driven.last) w.left w.driven.follower.memory.items)) (all.extent ∙ begun)
+    w.ends ∙ (ap (λ e. told_as e (view w.driven.told) (map view w.driven.steps.items) (told_last (option_map sourced w.driven.last) w.left w.driven.follower.memory.items)) (all.extent ∙ begun)
     ∙ by_extent extent _ _ _ _ _ _ (λ whole. all.start_is ∙ (w.opens.start_is (extent_is ∙ whole) ∙ ap (λ x. machine_json m x) words))
     (λ whole. all.steps_are (begun ∙ whole) ∙ (ap (λ (l : List Value). map view l ++ steps_json m w.begun.follower.memory.items choices) (w.opens.steps_are ∙ none) ∙ ap (λ x. steps_json m x choices) memory))
     (all.last_is ∙ (ap (λ t. last_or (told_last t m w.begun.follower.memory.items) (steps_json m w.begun.follower.memory.items choices)) w.opens.last_is

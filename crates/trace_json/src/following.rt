@@ -38,7 +38,7 @@ pub(crate) struct SourcedStep {
 /// Follows a machine.
 #[derive(Drop)]
 pub(crate) struct Follower<'t> {
-    alloc: Global,
+    pub(crate) alloc: Global,
     test: &'t Test,
     config: Config,
     /// What the machine's lines are in.

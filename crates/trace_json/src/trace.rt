@@ -1,6 +1,6 @@
 //! A run whose trace is kept as a value, or its last step alone: it is made by an observer of the run, while the run is made.
 
-ghost use Rattle.std.specs.Prelude.{◌≡◌, ◌≤◌, IfOk, OnOk, length, map, option_map};
+ghost use Rattle.std.specs.Prelude.{◌≡◌, ◌≤◌, IfOk, None, OnOk, length, map, option_map};
 ghost use Rattle.serde_json.specs.Data.{array};
 ghost use Rattle.serde_json.specs.View.{items_of, view};
 ghost use Rattle.tso_model.specs.Runs.{CoresExist};
@@ -106,13 +106,11 @@ fn simulate_telling(
     traces_tell_their_runs();
     let follower = Follower::new(alloc, setup.test, setup.config)?;
     let mut limited = Limited::new(Tracer {
-        alloc,
         follower,
         extent,
-        start: Value::Null,
+        told: Value::Null,
         steps: Vec::new(alloc),
         last: None,
-        told: Value::Null,
     });
     let ending = simulate_observed(alloc, setup, choices, &mut limited)?;
     let told = replace(&mut limited.observer.told, Value::Null);
@@ -126,21 +124,18 @@ fn simulate_telling(
 /// Keeps what a run is to be told by, and makes a value of it at the end.
 #[derive(Drop)]
 struct Tracer<'t> {
-    alloc: Global,
     follower: Follower<'t>,
     extent: Extent,
-    /// The machine before the first choice, where all is told.
-    start: Value,
+    /// What is told, once the run is over. Until then it is the machine before the first choice, where all is told.
+    told: Value,
     /// The steps, where all are told.
     steps: Vec<Value>,
     /// What the last choice did.
     last: Option<SourcedStep>,
-    /// What is told, once the run is over.
-    told: Value,
 }
 
 impl<'t> Observer for Tracer<'t> {
-    ghost begins = { λ o m. CanFollow o.follower m };
+    ghost begins = { λ o m. CanFollow o.follower m × (o.last ≡ None) };
 
     ghost opens = { Opens };
 
@@ -151,9 +146,8 @@ impl<'t> Observer for Tracer<'t> {
     ghost ends = { λ o m n. view n.told ≡ told_by o m };
 
     fn begin<P: Protocol>(&mut self, machine: &Machine<'_, P>) -> Result<(), NoMemory> {
-        self.last = None;
         self.follower.begin(machine)?;
-        self.start = start_of(self.extent, &self.follower, machine)?;
+        self.told = start_of(self.extent, &self.follower, machine)?;
         Ok(())
     }
 
@@ -191,11 +185,12 @@ impl<'t> Tracer<'t> {
 
     /// The trace, of the machine before the first choice and the steps. It takes both.
     fn trace(&mut self) -> Result<Value, NoMemory>
-        ensures { IfOk result (λ value. view value ≡ trace_with (view self.old.start) (array (items_of (map view self.old.steps.items)))) }
+        ensures { IfOk result (λ value. view value ≡ trace_with (view self.old.told) (array (items_of (map view self.old.steps.items)))) }
     {
-        let start = replace(&mut self.start, Value::Null);
-        let steps = replace(&mut self.steps, Vec::new(self.alloc));
-        Object::new(self.alloc)
+        let alloc = self.follower.alloc;
+        let start = replace(&mut self.told, Value::Null);
+        let steps = replace(&mut self.steps, Vec::new(alloc));
+        Object::new(alloc)
             .member("start", Ok(start))
             .member("steps", Ok(Value::Array(steps)))
             .value()

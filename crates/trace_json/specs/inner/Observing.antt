@@ -25,7 +25,7 @@ told_under extent t kind config choices = told_from extent (new_machine (table_o
 
 -- what an observer has to tell of the machine as it now is
 abbrev pub told_by : Tracer → Running → Data
-told_by o m = told_as o.extent (view o.start) (map view o.steps.items) (told_last (option_map sourced o.last) m o.follower.memory.items)
+told_by o m = told_as o.extent (view o.told) (map view o.steps.items) (told_last (option_map sourced o.last) m o.follower.memory.items)
 
 -- the test has the names of what the last choice did
 abbrev pub KnowsLast : Tracer → Type 0
@@ -35,7 +35,7 @@ KnowsLast o = IfSome o.last (λ told. StepNamesExist o.follower.test.now o.follo
 pub record Opens (old : Tracer) (m : Running) (new : Tracer) : Type 0 where
   pub extent : new.extent ≡ old.extent
   pub memory : new.follower.memory.items ≡ old.follower.memory.items
-  pub start_is : old.extent ≡ Whole → view new.start ≡ machine_json m old.follower.memory.items
+  pub start_is : old.extent ≡ Whole → view new.told ≡ machine_json m old.follower.memory.items
   pub steps_are : new.steps.items ≡ old.steps.items
   pub last_is : option_map sourced new.last ≡ None
 
@@ -46,6 +46,6 @@ AddsStep extent old step new = extent ≡ Whole → map view new ≡ map view ol
 pub record Makes (old : Tracer) (m : Running) (number : ℕ) (choice : Choice) (new : Tracer) : Type 0 where
   pub extent : new.extent ≡ old.extent
   pub memory : new.follower.memory.items ≡ own_words (machine_after m choice) old.follower.memory.items
-  pub start_is : view new.start ≡ view old.start
+  pub start_is : view new.told ≡ view old.told
   pub steps_are : AddsStep old.extent old.steps.items (step_to (sourced_by m choice) (machine_after m choice) new.follower.memory.items) new.steps.items
   pub last_is : option_map sourced new.last ≡ Some (sourced_by m choice)

@@ -7,8 +7,10 @@ use Rattle.trace_json.proofs.Within.{few-steps, shown-whole}
 use Rattle.trace_json.proofs.trace.simulate_telling.Goals as goal
 
 pub simulate_observed-requires-clause-begins : goal.simulate_observed-requires-clause-begins
-simulate_observed-requires-clause-begins c = λ table.
-    subst (λ (o : Tracer). CanFollow o.follower (new_machine table c.args.setup.now.config c.args.setup.now.test.now)) (sym c.new-limited.ensures.observer) (c.in_ok-follower.ensures.can table)
+simulate_observed-requires-clause-begins c = λ table. (
+  subst (λ (o : Tracer). CanFollow o.follower (new_machine table c.args.setup.now.config c.args.setup.now.test.now)) (sym c.new-limited.ensures.observer) (c.in_ok-follower.ensures.can table),
+  ap (λ (o : Tracer). o.last) c.new-limited.ensures.observer,
+)
 
 pub returns-clause-told : goal.returns-clause-told
 returns-clause-told c = λ few.
