@@ -185,12 +185,12 @@ fn left_behind<P: Protocol>(
     ensures left { IfOk result (IsLeftBy machine.now states.old.items made.choice made.outcome made.committed) }
     ensures states { OnOk result (states.new.items ≡ states_of machine.now) }
 {
-    let pending = pending_of(alloc, machine, core_of(made.choice))?;
-    let waited = waited_before(made.outcome, made.choice, pending.len());
-    let entries = entries_since(alloc, machine.committed(), made.committed, &pending, waited)?;
     let after = states_of(alloc, machine, test, config.words())?;
     let changes = changes_in(alloc, states, &after)?;
     *states = after;
+    let pending = pending_of(alloc, machine, core_of(made.choice))?;
+    let waited = waited_before(made.outcome, made.choice, pending.len());
+    let entries = entries_since(alloc, machine.committed(), made.committed, &pending, waited)?;
     Ok(Left {
         entries,
         changes,

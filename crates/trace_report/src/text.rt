@@ -121,16 +121,12 @@ fn write_word(text: &mut String, word: &str) -> Result<(), NoMemory>
 fn write_choice(text: &mut String, choice: Choice) -> Result<(), NoMemory>
     ensures { OnOk result (string_bytes text.new ≡ string_bytes text.old ++ printed_choice choice) }
 {
-    match choice {
-        Choice::Step(core) => {
-            write_number(text, usize::from(core.0))?;
-            write_word(text, "s")
-        }
-        Choice::Drain(core) => {
-            write_number(text, usize::from(core.0))?;
-            write_word(text, "d")
-        }
-    }
+    let (core, letter) = match choice {
+        Choice::Step(core) => (core, "s"),
+        Choice::Drain(core) => (core, "d"),
+    };
+    write_number(text, usize::from(core.0))?;
+    write_word(text, letter)
 }
 
 /// A number, in decimal. It goes past `write!`, which would take longer for it than the rest of a short line does.
