@@ -77,10 +77,11 @@ pub fn line_value(alloc: Global, test: &Test, words: u8, line: u8) -> Result<Val
     requires { 0 < words }
     ensures { IfOk result (λ value. view value ≡ string (line_name test.now words line)) }
 {
-    let mut name = String::new(alloc);
-    if usize::from(line) * usize::from(words) < usize::from(test.locations()) {
-        write_line_name(&mut name, test, words, line)?;
+    if usize::from(line) * usize::from(words) >= usize::from(test.locations()) {
+        return word_value(alloc, "");
     }
+    let mut name = String::new(alloc);
+    write_line_name(&mut name, test, words, line)?;
     Ok(Value::String(name))
 }
 
