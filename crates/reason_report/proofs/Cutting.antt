@@ -1,9 +1,8 @@
 -- The parts of a refutation's nodes, one by one.
-use Rattle.reason_report.proofs.Vocabulary.{filter, Bool, true, false, cond, ℕ, suc, zero, ◌+◌, ◌≡◌, ◌≤◌, ◌<◌, List, [], ◌∷◌, ◌++◌, length, drop, map, get_or, slice_index, refl, sym, ap, ◌∙◌, arith, subst, ◌⊎◌, inl, inr, ◌≢◌, set, length-set, get_or-set_same, get_or-set_other, append_assoc, drop_all, at_drop_more, Litmus, Known, asked_claim, Model, node_of, Part, grown, replies, branches_with, Reply, Refutation, parts_of_nodes_from, first_part, parts_of_refutation, branch_in, AreNext, IsNextPart, AreBelow, IsLayoutReady, drop-cons}
+use Rattle.reason_report.proofs.Vocabulary.{map_push, filter, Bool, true, false, cond, ℕ, suc, zero, ◌+◌, ◌≡◌, ◌≤◌, ◌<◌, List, [], ◌∷◌, ◌++◌, length, drop, map, get_or, slice_index, refl, sym, ap, ◌∙◌, arith, subst, ◌⊎◌, inl, inr, ◌≢◌, set, length-set, get_or-set_same, get_or-set_other, append_assoc, drop_all, at_drop_more, Litmus, Known, asked_claim, Model, node_of, Part, grown, replies, branches_with, Reply, Refutation, parts_of_nodes_from, first_part, parts_of_refutation, branch_in, AreNext, IsNextPart, AreBelow, IsLayoutReady, drop-cons}
 use Rattle.refutations.specs.declared.tree.Node.{Node}
 use Rattle.reason_report.specs.Steps as spec
 use Rattle.reason_report.specs.declared.replies.Branch.{Branch}
-use Rattle.reason_report.proofs.Lists.{map-push}
 
 pub cut : {X : Type 0} (xs : List X) (i : ℕ) → i < length xs → (x : X) × (drop i xs ≡ x ∷ drop (suc i) xs)
 cut [] i h = absurd (omega (arith, h))
@@ -96,7 +95,7 @@ module _ (tree : Refutation) (ready : IsLayoutReady tree) where
       → map (branch_in tree k) news ++ branches_with k (drop j answers) (parts_of_refutation tree n) ≡ whole
   branch-added from within answers i j d inside more n goes old news made k whole so =
       ap (λ bs. map (branch_in tree k) bs ++ branches_with k (drop j answers) (parts_of_refutation tree n)) made
-      ∙ (ap (λ bs. bs ++ branches_with k (drop j answers) (parts_of_refutation tree n)) (map-push (branch_in tree k) old (added from (get_or answers i d)))
+      ∙ (ap (λ bs. bs ++ branches_with k (drop j answers) (parts_of_refutation tree n)) (map_push (branch_in tree k) old (added from (get_or answers i d)))
       ∙ (append_assoc (map (branch_in tree k) old) (branch_in tree k (added from (get_or answers i d)) ∷ []) (branches_with k (drop j answers) (parts_of_refutation tree n))
       ∙ (ap (λ bs. map (branch_in tree k) old ++ bs)
       (sym (ap (λ rs. branches_with k rs (parts_of_refutation tree from)) here ∙ ap (λ ps. branches_with k (get_or answers i d ∷ drop j answers) ps) cons)) ∙ so)))

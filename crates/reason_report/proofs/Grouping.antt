@@ -1,8 +1,7 @@
 -- Cases that a leaf closes at once: those that one line closes together, and the groups that they make.
-use Rattle.reason_report.proofs.Vocabulary.{ℕ, suc, zero, ◌+◌, ◌-◌, ◌&&◌, ◌≡◌, ◌≤◌, ◌<◌, Bool, true, false, not, cond, List, [], ◌∷◌, ◌++◌, length, take, drop, get_or, map, refl, sym, ap, ◌∙◌, arith, subst, append_assoc, take_all, drop_all, length-drop, filter, flat_map, list_any, list_all, Litmus, Claim, Known, asked_claim, known_of, Named, looked_at, suffices, name_the_same, Branch, are_alike, groups, is_false_source, known_of_case, reason_step_of, Reply, Refutation, Closed, IsClosed, BranchesAreClosed, closed_branch, same_truths, alike, known_alike, rest_of, drop-cons}
+use Rattle.reason_report.proofs.Vocabulary.{map_push, map-map, ℕ, suc, zero, ◌+◌, ◌-◌, ◌&&◌, ◌≡◌, ◌≤◌, ◌<◌, Bool, true, false, not, cond, List, [], ◌∷◌, ◌++◌, length, take, drop, get_or, map, refl, sym, ap, ◌∙◌, arith, subst, append_assoc, take_all, drop_all, length-drop, filter, flat_map, list_any, list_all, Litmus, Claim, Known, asked_claim, known_of, Named, looked_at, suffices, name_the_same, Branch, are_alike, groups, is_false_source, known_of_case, reason_step_of, Reply, Refutation, Closed, IsClosed, BranchesAreClosed, closed_branch, same_truths, alike, known_alike, rest_of, drop-cons}
 use Rattle.reason_report.specs.Steps as spec
 use Rattle.reason_report.specs.declared.steps.Step as declared
-use Rattle.reason_report.proofs.Lists.{map-push, map-twice}
 
 -- ---- lists
 
@@ -98,7 +97,7 @@ module _ (tree : Refutation) (looked : tree.places.now ≡ looked_at tree.test.n
   unfolding rest_of
   known-is a ha bs hb =
       ap (λ zs. known_of a.leaf.given.answers ∷ zs)
-      (sym (map-twice (closed_branch tree) (λ (b : Branch). b.known) (filter (λ (c : Closed). alike a.leaf c.leaf) bs))
+      (sym (map-map (λ (b : Branch). b.known) (closed_branch tree) (filter (λ (c : Closed). alike a.leaf c.leaf) bs))
       ∙ ap (map (λ (b : Branch). b.known)) (filter-is a ha bs hb))
 
   pub replies-is : (a : Closed) → IsClosed tree a → (bs : List Closed) → BranchesAreClosed tree bs
@@ -107,7 +106,7 @@ module _ (tree : Refutation) (looked : tree.places.now ≡ looked_at tree.test.n
   unfolding rest_of
   replies-is a ha bs hb =
       ap (λ zs. a.reply ∷ zs)
-      (sym (map-twice (closed_branch tree) (λ (b : Branch). b.reply) (filter (λ (c : Closed). alike a.leaf c.leaf) bs))
+      (sym (map-map (λ (b : Branch). b.reply) (closed_branch tree) (filter (λ (c : Closed). alike a.leaf c.leaf) bs))
       ∙ ap (map (λ (b : Branch). b.reply)) (filter-is a ha bs hb))
 
   -- ---- groups
@@ -121,7 +120,7 @@ module _ (tree : Refutation) (looked : tree.places.now ≡ looked_at tree.test.n
 
     more : map (closed_branch tree) (take i cs) ++ (closed_branch tree a ∷ []) ≡ map (closed_branch tree) (take j cs)
     more =
-        sym (map-push (closed_branch tree) (take i cs) a)
+        sym (map_push (closed_branch tree) (take i cs) a)
         ∙ ap (map (closed_branch tree)) (ap (λ x. take i cs ++ (x ∷ [])) is ∙ (sym (take-at cs i a w) ∙ ap (λ n. take n cs) one-on))
 
     some : list_any (λ (c : Closed). alike a.leaf c.leaf) (take i cs)
@@ -179,7 +178,7 @@ pub case-added : (old mid : List declared.Step) (s : declared.Step) (x : spec.Re
 case-added old mid s x xs ys new more is same so =
     so
     ∙ (ap (λ ss. map reason_step_of ss ++ xs) more
-    ∙ (ap (λ ss. ss ++ xs) (map-push reason_step_of old s)
+    ∙ (ap (λ ss. ss ++ xs) (map_push reason_step_of old s)
     ∙ (append_assoc (map reason_step_of old) (reason_step_of s ∷ []) xs ∙ (ap (λ z. map reason_step_of old ++ (z ∷ xs)) is ∙ ap (λ zs. map reason_step_of old ++ (x ∷ zs)) same))))
 
 pub none-more : {X Y : Type 0} (f : X → List Y) (old new whole : List Y) (xs ys : List X) → new ≡ old → xs ≡ ys → old ++ flat_map f xs ≡ whole

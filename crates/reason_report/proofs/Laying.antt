@@ -1,5 +1,5 @@
 -- Tasks and the parts that they are for.
-use Rattle.reason_report.proofs.Vocabulary.{ℕ, suc, zero, ◌+◌, ◌-◌, ◌<◌, ◌==◌, get_or, Option, Some, None, ◌≡◌, ◌≤◌, Bool, true, false, not, cond, List, [], ◌∷◌, ◌++◌, length, drop, map, refl, sym, ap, ◌∙◌, arith, subst, append_assoc, append-nil, drop_all, filter, replicate, flat_map, Litmus, Claim, Known, Model, Part, Branch, ReasonStep, is_leaf, is_closed, branches_with, with_reply, so_steps, case_steps, rest_steps, closed_case, groups, leaf_steps, grown, Reply, reason_step_of, first_part, Task, Passed, Case, So, Endcases, task_of, tasks_of, branch_task, branch_tasks, end_of, as_branch, emit, depth_below, task_depth, TasksAreWithin, spec_wanted, with_wanted, ended_by, drop-cons}
+use Rattle.reason_report.proofs.Vocabulary.{map_push, ℕ, suc, zero, ◌+◌, ◌-◌, ◌<◌, ◌==◌, get_or, Option, Some, None, ◌≡◌, ◌≤◌, Bool, true, false, not, cond, List, [], ◌∷◌, ◌++◌, length, drop, map, refl, sym, ap, ◌∙◌, arith, subst, append_assoc, append-nil, drop_all, filter, replicate, flat_map, Litmus, Claim, Known, Model, Part, Branch, ReasonStep, is_leaf, is_closed, branches_with, with_reply, so_steps, case_steps, rest_steps, closed_case, groups, leaf_steps, grown, Reply, reason_step_of, first_part, Task, Passed, Case, So, Endcases, task_of, tasks_of, branch_task, branch_tasks, end_of, as_branch, emit, depth_below, task_depth, TasksAreWithin, spec_wanted, with_wanted, ended_by, drop-cons}
 use Rattle.std.proofs.lemmas.Bool.Decides.{nat_tests}
 use Rattle.refutation_laws.specs.Refutations as refutations
 use Rattle.reason_report.specs.Steps as spec
@@ -10,7 +10,6 @@ use Rattle.reason_report.specs.declared.layout.Wanted.{Wanted}
 use Rattle.reason_report.specs.declared.layout.Wanted.TheVariants as wanted
 use Rattle.reason_report.specs.declared.layout.Task as declared
 use Rattle.reason_report.specs.declared.layout.Task.TheVariants as code
-use Rattle.reason_report.proofs.Lists.{map-push}
 use Rattle.reason_report.proofs.Cutting.{shape}
 
 -- ---- the stack
@@ -175,7 +174,7 @@ pushed : (before after : List steps.Step) (s : steps.Step) (rest : List ReasonSt
     → map reason_step_of after ++ rest ≡ map reason_step_of before ++ (reason_step_of s ∷ rest)
 pushed before after s rest e =
     ap (λ ss. map reason_step_of ss ++ rest) e
-    ∙ (ap (λ ss. ss ++ rest) (map-push reason_step_of before s) ∙ append_assoc (map reason_step_of before) (reason_step_of s ∷ []) rest)
+    ∙ (ap (λ ss. ss ++ rest) (map_push reason_step_of before s) ∙ append_assoc (map reason_step_of before) (reason_step_of s ∷ []) rest)
 
 pub next-ended : (t : Litmus) (ps : List Part) (whole : List ReasonStep) (before after : List steps.Step) (old new : List declared.Task) (a : declared.Task) (d : ℕ)
     → old ≡ new ++ (a ∷ []) → a ≡ code.Endcases d → after ≡ before ++ (step.Endcases d ∷ [])

@@ -1,5 +1,4 @@
 pub mod Vocabulary
-pub mod Lists
 pub mod Cutting
 pub mod Grouping
 pub mod Growing

@@ -1,5 +1,5 @@
 -- The values that are printed have no float, so that their text is known.
-use Rattle.reason_report.proofs.Vocabulary.{filter, writes_to, Entry, printed_entry, Named, value_members, put, reason_step_of, outcomes_verdict_value, Reading, reading_value, coherence_members_by, with_coherence, ◌≡◌, ◌+◌, ℕ, Bool, true, false, List, [], ◌∷◌, map, Option, Some, None, refl, string, array, Members, items_of, has_float, items_have_float, members_have_float, Litmus, Condition, count, key_of, Place, Answer, From, Before, Closing, Uniproc, Cycle, Amid, False, ReasonStep, Leaf, source_text, edge_value, edges_value, answer_value, place_members, closing_value, step_value, asked_value}
+use Rattle.reason_report.proofs.Vocabulary.{filter, writes_to, Entry, printed_entry, Named, value_members, put, reason_step_of, outcomes_verdict_value, reading_value, coherence_members_by, with_coherence, ◌≡◌, ◌+◌, ℕ, Bool, false, List, [], ◌∷◌, map, Option, Some, None, refl, string, array, Members, items_of, has_float, items_have_float, members_have_float, Litmus, Condition, count, key_of, Place, Answer, From, Before, Closing, Uniproc, Cycle, Amid, False, ReasonStep, Leaf, source_text, edge_value, edges_value, answer_value, place_members, closing_value, step_value, asked_value}
 use Rattle.reason_report.specs.declared.steps.Edge.{Edge}
 use Rattle.reason_report.specs.Steps.{Case, So, Endcases}
 use Rattle.tso_report.proofs.NoFloats.{neither, one_more, each}

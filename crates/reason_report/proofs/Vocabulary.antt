@@ -1,7 +1,7 @@
 -- The names that the proofs of this crate bring in from definitions and from crates below; each file takes its own from here.
 pub use Rattle.std.specs.Prelude.{filter, replicate, All, slice_get, codes, slice_index_or}
 pub use Rattle.std.proofs.Common.{Bool, true, false, cond, ℕ, suc, zero, ◌+◌, ◌≡◌, ◌≤◌, ◌<◌, List, [], ◌∷◌, ◌++◌, length, drop, map, get_or, slice_index, refl, sym, ap, ◌∙◌, arith, subst, ◌⊎◌, inl, inr, ◌≢◌, set, length-set, get_or-set_same, get_or-set_other, append_assoc, ◌-◌, ◌&&◌, not, take, ◌==◌, Option, Some, None, ◌||◌, string_bytes, vec_len, drop-cons}
-pub use Rattle.std.proofs.lemmas.List.{drop_all, at_drop_more, take_all, length-drop, drop_more, append-nil}
+pub use Rattle.std.proofs.lemmas.List.{map_push, drop_all, at_drop_more, take_all, length-drop, drop_more, append-nil}
 pub use Rattle.tso_model.specs.Litmus.{Litmus}
 pub use Rattle.refutation_laws.specs.Known.{Known, nothing}
 pub use Rattle.refutation_laws.specs.Refutations.{asked_claim, sources_of}
@@ -45,4 +45,6 @@ pub use Rattle.tso_report.specs.Report.{line, test_line}
 unfoldable pub use Rattle.tso_report.specs.Report.{all_registers}
 pub use Rattle.tso_report.specs.inner.Tally.{NameExists}
 pub use Rattle.reason_report.specs.Printed.{allowed_in, ShowsExecution}
+pub use Rattle.std.proofs.lemmas.List.Folds.{flat_map-map}
+pub use Rattle.std.proofs.lemmas.Simd.{map-map}
 pub use Rattle.std.proofs.lemmas.Result.{IfOk-weaker, on_ok_weaker}

@@ -1,8 +1,8 @@
 //! A report as JSON, for programs to read. It is one line, and its objects have their keys in the order of their bytes.
 
 ghost use Rattle.std.specs.Prelude.{◌≡◌, ◌<◌, [], IfOk, OnOk, string_bytes, length, filter, map, slice_index_or};
-ghost use Rattle.serde_json.specs.Data.{object, array, no_members};
-ghost use Rattle.serde_json.specs.View.{view, members_view, items_of};
+ghost use Rattle.serde_json.specs.Data.{object, no_members};
+ghost use Rattle.serde_json.specs.View.{view, members_view};
 ghost use Rattle.serde_json.specs.Written.{compact_text};
 ghost use Rattle.tso_model.specs.ProgramOrder as program_order;
 ghost use Rattle.tso_report.specs.Report.{line};
@@ -14,6 +14,7 @@ ghost use Rattle.reason_report.specs.inner.Shown.{reading_value, coherence_membe
 use crate::as_text::has_write;
 use crate::asked::asked_value;
 use crate::fields::{never_sections, reading_fields, step_fields};
+use crate::items::{Valued, array_of};
 use crate::pieces::{Field, Piece, Section, Titled};
 use crate::pieces_json::{is_nothing, piece_value};
 use crate::readings::Reading;
@@ -26,6 +27,7 @@ use serde_json::{Map, Value, put};
 use std::alloc::Global;
 use tso_model::{Entry, Loc, NoMemory, Test};
 use tso_report::json::{line_of, unfinished_search_value};
+use tso_report::members::put_made;
 
 /// A report of these sections as JSON: one line.
 ///
@@ -47,7 +49,14 @@ fn sections_value(alloc: Global, test: &Test, sections: &[Titled<'_>]) -> Result
     ensures { IfOk result (λ value. view value ≡ object (with_sections test.now sections.now no_members)) }
 {
     let mut members = Map::new(alloc);
-    put_sections(&mut members, alloc, test, sections)?;
+    for (_before, key, section) in sections {
+        put_made(
+            &mut members,
+            alloc,
+            key,
+            section_value(alloc, test, *section),
+        )?;
+    }
     Ok(Value::Object(members))
 }
 
@@ -76,22 +85,6 @@ pub fn unfinished_reason_json(alloc: Global, test: &Test, limit: u32) -> Result<
     line_of(alloc, &value)
 }
 
-fn put_sections(
-    members: &mut Map<String, Value>,
-    alloc: Global,
-    test: &Test,
-    sections: &[Titled<'_>],
-) -> Result<(), NoMemory>
-    requires { SectionsAreKnown test.now sections.now }
-    ensures { OnOk result (members_view members.new.entries ≡ with_sections test.now sections.now (members_view members.old.entries)) }
-{
-    for (_before, key, section) in sections {
-        let value = section_value(alloc, test, *section)?;
-        put(members, alloc, key, value)?;
-    }
-    Ok(())
-}
-
 fn section_value(alloc: Global, test: &Test, section: Section<'_>) -> Result<Value, NoMemory>
     requires { IsKnown test.now section }
     ensures { IfOk result (λ value. view value ≡ section_value test.now section.entry) }
@@ -101,8 +94,8 @@ fn section_value(alloc: Global, test: &Test, section: Section<'_>) -> Result<Val
         Section::Number(number) => Ok(Value::from(number)),
         Section::Asked => asked_value(alloc, test),
         Section::Verdict(allowed) => outcomes_verdict_value(alloc, test, allowed),
-        Section::Steps(steps) => steps_value(alloc, test, steps),
-        Section::Readings(readings) => readings_value(alloc, test, readings),
+        Section::Steps(steps) => array_of(alloc, test, steps),
+        Section::Readings(readings) => array_of(alloc, test, readings),
         Section::Coherence(order) => coherence_value(alloc, test, order),
         Section::Choices(choices) => Ok(Value::String(choices_text(alloc, choices)?)),
         Section::Values(names, values) => values_value(alloc, test, names, values),
@@ -137,24 +130,20 @@ fn put_fields(
     Ok(())
 }
 
-fn steps_value(alloc: Global, test: &Test, steps: &[Step]) -> Result<Value, NoMemory>
-    ensures { IfOk result (λ value. view value ≡ array (items_of (map (spec.step_value test.now) (map reason_step_of steps.now)))) }
-{
-    let mut values = Vec::new(alloc);
-    for step in steps {
-        values.push(object_of(alloc, test, &step_fields(step))?)?;
+impl Valued for Step {
+    ghost valued = { λ t step. spec.step_value t (reason_step_of step) };
+
+    fn value(&self, alloc: Global, test: &Test) -> Result<Value, NoMemory> {
+        object_of(alloc, test, &step_fields(self))
     }
-    Ok(Value::Array(values))
 }
 
-fn readings_value(alloc: Global, test: &Test, readings: &[Reading]) -> Result<Value, NoMemory>
-    ensures { IfOk result (λ value. view value ≡ array (items_of (map (reading_value test.now) readings.now))) }
-{
-    let mut values = Vec::new(alloc);
-    for reading in readings {
-        values.push(object_of(alloc, test, &reading_fields(reading))?)?;
+impl Valued for Reading {
+    ghost valued = { reading_value };
+
+    fn value(&self, alloc: Global, test: &Test) -> Result<Value, NoMemory> {
+        object_of(alloc, test, &reading_fields(self))
     }
-    Ok(Value::Array(values))
 }
 
 fn coherence_value(alloc: Global, test: &Test, order: &[Entry]) -> Result<Value, NoMemory>

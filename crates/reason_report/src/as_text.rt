@@ -10,6 +10,7 @@ ghost use Rattle.reason_report.specs.inner.Shown.{reading_line, coherence_by};
 
 use crate::asked::write_asked;
 use crate::fields::{never_sections, reading_fields, step_fields};
+use crate::items::{Written, write_each};
 use crate::pieces::{Field, Piece, Section, Titled};
 use crate::pieces_text::write_piece;
 use crate::readings::Reading;
@@ -20,7 +21,7 @@ use refutations::events::writes_to;
 use scheduler::write_after;
 use std::alloc::Global;
 use tso_model::{Entry, Loc, NoMemory, Test};
-use tso_report::pieces::{Piece as Printed, write_pieces};
+use tso_report::pieces::{Piece as Printed, write_characters, write_pieces};
 use tso_report::printed_values::write_values;
 
 /// A report of these sections as lines of text.
@@ -35,7 +36,10 @@ pub fn sections_text(
     ensures { IfOk result (λ text. string_bytes text ≡ flat_map (titled_text test.now) sections.now) }
 {
     let mut text = String::new(alloc);
-    write_sections(&mut text, test, sections)?;
+    for (before, _key, section) in sections {
+        write_characters(&mut text, before)?;
+        write_section(&mut text, test, *section)?;
+    }
     Ok(text)
 }
 
@@ -71,29 +75,18 @@ pub fn unfinished_text(alloc: Global, limit: u32) -> Result<String, NoMemory>
     Ok(text)
 }
 
-fn write_sections(text: &mut String, test: &Test, sections: &[Titled<'_>]) -> Result<(), NoMemory>
-    requires { SectionsAreKnown test.now sections.now }
-    ensures { OnOk result (string_bytes text.new ≡ string_bytes text.old ++ flat_map (titled_text test.now) sections.now) }
-{
-    for (before, _key, section) in sections {
-        text.push_str(before)?;
-        write_section(text, test, *section)?;
-    }
-    Ok(())
-}
-
 fn write_section(text: &mut String, test: &Test, section: Section<'_>) -> Result<(), NoMemory>
     requires { IsKnown test.now section }
     ensures { OnOk result (string_bytes text.new ≡ string_bytes text.old ++ section_text test.now section.entry) }
 {
     match section {
-        Section::Text(characters) => Ok(text.push_str(characters)?),
+        Section::Text(characters) => write_characters(text, characters),
         Section::Answer(_) => Ok(()),
         Section::Number(number) => write_pieces(text, &[Printed::Number(number as u64)]),
         Section::Asked => write_asked(text, test),
         Section::Verdict(allowed) => write_verdict(text, test, allowed),
-        Section::Steps(steps) => write_steps(text, test, steps),
-        Section::Readings(readings) => write_readings(text, test, readings),
+        Section::Steps(steps) => write_each(text, test, "", steps),
+        Section::Readings(readings) => write_each(text, test, "", readings),
         Section::Coherence(order) => write_coherence(text, test, order),
         Section::Choices(choices) => write_after(text, choices),
         Section::Values(names, values) => write_values(text, test, names, values),
@@ -104,29 +97,35 @@ fn write_section(text: &mut String, test: &Test, section: Section<'_>) -> Result
 fn write_line(text: &mut String, test: &Test, fields: &[Field<'_>]) -> Result<(), NoMemory>
     ensures { OnOk result (string_bytes text.new ≡ string_bytes text.old ++ (flat_map (field_text test.now) fields.now ++ (10 ∷ []))) }
 {
-    for (before, _key, piece) in fields {
-        text.push_str(before)?;
-        write_piece(text, test, *piece)?;
-    }
-    Ok(text.push('\n')?)
+    write_each(text, test, "", fields)?;
+    write_characters(text, "\n")
 }
 
-fn write_steps(text: &mut String, test: &Test, steps: &[Step]) -> Result<(), NoMemory>
-    ensures { OnOk result (string_bytes text.new ≡ string_bytes text.old ++ flat_map (spec.reason_step_line test.now) (map reason_step_of steps.now)) }
-{
-    for step in steps {
-        write_line(text, test, &step_fields(step))?;
+/// A piece, after what stands before it.
+impl<'a> Written for (&'a str, &'a str, Piece<'a>) {
+    ghost written = { field_text };
+
+    fn write(&self, text: &mut String, test: &Test) -> Result<(), NoMemory> {
+        let (before, _key, piece) = self;
+        write_characters(text, before)?;
+        write_piece(text, test, *piece)
     }
-    Ok(())
 }
 
-fn write_readings(text: &mut String, test: &Test, readings: &[Reading]) -> Result<(), NoMemory>
-    ensures { OnOk result (string_bytes text.new ≡ string_bytes text.old ++ flat_map (reading_line test.now) readings.now) }
-{
-    for reading in readings {
-        write_line(text, test, &reading_fields(reading))?;
+impl Written for Step {
+    ghost written = { λ t step. spec.reason_step_line t (reason_step_of step) };
+
+    fn write(&self, text: &mut String, test: &Test) -> Result<(), NoMemory> {
+        write_line(text, test, &step_fields(self))
     }
-    Ok(())
+}
+
+impl Written for Reading {
+    ghost written = { reading_line };
+
+    fn write(&self, text: &mut String, test: &Test) -> Result<(), NoMemory> {
+        write_line(text, test, &reading_fields(self))
+    }
 }
 
 fn write_coherence(text: &mut String, test: &Test, order: &[Entry]) -> Result<(), NoMemory>

@@ -7,7 +7,7 @@ ghost use Rattle.tso_model.specs.Litmus.{Litmus};
 ghost use Rattle.reason_report.specs.ReasonText as text;
 ghost use Rattle.reason_report.specs.ReasonJson as json;
 ghost use Rattle.reason_report.specs.Views.{answer_of, closing_of, reason_step_of};
-ghost use Rattle.reason_report.specs.inner.Pieces.{field_text, titled_text, with_fields, with_sections, SectionsAreKnown};
+ghost use Rattle.reason_report.specs.inner.Pieces.{field_text, head_members, piece_text, titled_text, with_field, with_fields, with_sections, SectionsAreKnown};
 ghost use Rattle.reason_report.specs.inner.Shown.{reading_line, reading_value};
 
 use crate::asked::model_name;
@@ -16,6 +16,9 @@ use crate::readings::Reading;
 use crate::steps::{Answer, Closing, Step, leaves_in};
 use refutation_laws::Model;
 use tso_model::Test;
+
+/// Nothing more in a line, and no further key.
+const NOTHING: Field<'static> = ("", "", Piece::Nothing);
 
 /// What a step shows.
 pub fn step_fields(step: &Step) -> [Field<'_>; 5]
@@ -26,14 +29,41 @@ pub fn step_fields(step: &Step) -> [Field<'_>; 5]
         Step::Case(depth, answer) => answer_fields(*depth, "Case ", "case", answer),
         Step::So(depth, answer) => answer_fields(*depth, "So ", "so", answer),
         Step::Leaf(depth, closing) => closing_fields(*depth, closing),
-        Step::Endcases(depth) => [
-            ("", "depth", Piece::Depth(*depth)),
-            ("", "step", Piece::Word("Endcases", "endcases")),
-            ("", "", Piece::Nothing),
-            ("", "", Piece::Nothing),
-            ("", "", Piece::Nothing),
-        ],
+        Step::Endcases(depth) => short_row(*depth, "Endcases", "endcases", "", Piece::Nothing),
     }
+}
+
+/// How deep a step stands, its word, as a line has it and as an object has it, and up to three things more.
+fn row<'a>(
+    depth: usize,
+    word: &'a str,
+    step: &'a str,
+    first: Field<'a>,
+    second: Field<'a>,
+    third: Field<'a>,
+) -> [Field<'a>; 5]
+    ensures line { (t : Litmus) → flat_map (field_text t) result
+        ≡ text.blanks depth ++ (word.now ++ flat_map (field_text t) (first.entry ∷ (second.entry ∷ (third.entry ∷ [])))) }
+    ensures value { (t : Litmus) → with_fields t result no_members
+        ≡ with_fields t (first.entry ∷ (second.entry ∷ (third.entry ∷ []))) (head_members depth step.now) }
+{
+    let depth = ("", "depth", Piece::Depth(depth));
+    let word = ("", "step", Piece::Word(word, step));
+    [depth, word, first, second, third]
+}
+
+/// The same with one thing more at most.
+fn short_row<'a>(
+    depth: usize,
+    word: &'a str,
+    step: &'a str,
+    key: &'a str,
+    piece: Piece<'a>,
+) -> [Field<'a>; 5]
+    ensures line { (t : Litmus) → flat_map (field_text t) result ≡ text.blanks depth ++ (word.now ++ piece_text t piece.entry) }
+    ensures value { (t : Litmus) → with_fields t result no_members ≡ with_field t key.now piece.entry (head_members depth step.now) }
+{
+    row(depth, word, step, ("", key, piece), NOTHING, NOTHING)
 }
 
 /// `Case P1:0 R y=1 from P0:1 W y=1`, or `So P0:0 W x=1 before P1:0 W x=2`.
@@ -48,20 +78,16 @@ fn answer_fields<'a>(
     ensures value { (t : Litmus) → object (with_fields t result no_members) ≡ json.answer_value t step.now depth (answer_of answer.now) }
 {
     match answer {
-        Answer::From(read, writes) => [
-            ("", "depth", Piece::Depth(depth)),
-            ("", "step", Piece::Word(word, step)),
-            ("", "read", Piece::Event(read)),
-            (" from ", "from", Piece::Sources(writes)),
-            ("", "", Piece::Nothing),
-        ],
-        Answer::Before(first, second) => [
-            ("", "depth", Piece::Depth(depth)),
-            ("", "step", Piece::Word(word, step)),
-            ("", "first", Piece::Event(first)),
-            (" before ", "second", Piece::Event(second)),
-            ("", "", Piece::Nothing),
-        ],
+        Answer::From(read, writes) => {
+            let read = ("", "read", Piece::Event(read));
+            let from = (" from ", "from", Piece::Sources(writes));
+            row(depth, word, step, read, from, NOTHING)
+        }
+        Answer::Before(first, second) => {
+            let first = ("", "first", Piece::Event(first));
+            let second = (" before ", "second", Piece::Event(second));
+            row(depth, word, step, first, second, NOTHING)
+        }
     }
 }
 
@@ -71,34 +97,19 @@ fn closing_fields(depth: usize, closing: &Closing) -> [Field<'_>; 5]
     ensures value { (t : Litmus) → object (with_fields t result no_members) ≡ json.closing_value t depth (closing_of closing.now) }
 {
     match closing {
-        Closing::Uniproc(edges) => [
-            ("", "depth", Piece::Depth(depth)),
-            ("", "step", Piece::Word("Uniproc", "uniproc")),
-            ("", "cycle", Piece::Cycle(edges)),
-            ("", "", Piece::Nothing),
-            ("", "", Piece::Nothing),
-        ],
-        Closing::Cycle(edges) => [
-            ("", "depth", Piece::Depth(depth)),
-            ("", "step", Piece::Word("Cycle", "cycle")),
-            ("", "cycle", Piece::Cycle(edges)),
-            ("", "", Piece::Nothing),
-            ("", "", Piece::Nothing),
-        ],
-        Closing::Between(read, between, write) => [
-            ("", "depth", Piece::Depth(depth)),
-            ("", "step", Piece::Word("Between ", "between")),
-            ("", "read", Piece::Event(read)),
-            (" ", "between", Piece::Event(between)),
-            (" ", "write", Piece::Event(write)),
-        ],
-        Closing::False(places) => [
-            ("", "depth", Piece::Depth(depth)),
-            ("", "step", Piece::Word("False", "false")),
-            ("", "places", Piece::Places(places)),
-            ("", "", Piece::Nothing),
-            ("", "", Piece::Nothing),
-        ],
+        Closing::Uniproc(edges) => {
+            short_row(depth, "Uniproc", "uniproc", "cycle", Piece::Cycle(edges))
+        }
+        Closing::Cycle(edges) => short_row(depth, "Cycle", "cycle", "cycle", Piece::Cycle(edges)),
+        Closing::Between(read, between, write) => {
+            let read = ("", "read", Piece::Event(read));
+            let between = (" ", "between", Piece::Event(between));
+            let write = (" ", "write", Piece::Event(write));
+            row(depth, "Between ", "between", read, between, write)
+        }
+        Closing::False(places) => {
+            short_row(depth, "False", "false", "places", Piece::Places(places))
+        }
     }
 }
 

@@ -12,6 +12,7 @@ pub mod cases;
 pub mod closed;
 pub mod closing;
 pub mod fields;
+mod items;
 pub mod layout;
 pub mod leaves;
 pub mod parts;

@@ -10,6 +10,7 @@ ghost use Rattle.reason_report.specs.ReasonJson as spec;
 ghost use Rattle.reason_report.specs.inner.Pieces as pieces;
 ghost use Rattle.reason_report.specs.Views.{place_of};
 
+use crate::items::{Valued, array_of};
 use crate::pieces::Piece;
 use crate::pieces_text::{relation_text, write_piece};
 use crate::readings::event_of;
@@ -19,7 +20,7 @@ use refutations::events::writes_to;
 use serde_json::{Map, Value, put};
 use std::alloc::Global;
 use tso_model::{Entry, Loc, NoMemory, Test};
-use tso_report::members::numbers_value;
+use tso_report::members::{numbers_value, put_made};
 
 /// Whether a piece is nothing.
 pub fn is_nothing(piece: Piece<'_>) -> bool
@@ -38,22 +39,20 @@ pub fn piece_value(alloc: Global, test: &Test, piece: Piece<'_>) -> Result<Value
         Piece::Word(_, word) => Ok(Value::try_from_str(alloc, word)?),
         Piece::Depth(depth) => Ok(Value::from(depth)),
         Piece::Event(_) | Piece::Source(_) => text_value(alloc, test, piece),
-        Piece::Sources(writes) => sources_value(alloc, test, writes),
-        Piece::Cycle(edges) => edges_value(alloc, test, edges),
+        Piece::Sources(writes) => array_of(alloc, test, writes),
+        Piece::Cycle(edges) => array_of(alloc, test, edges),
         Piece::Places(places) => places_value(alloc, test, places),
         Piece::Writes(order, loc) => writes_value(alloc, test, order, loc),
         Piece::Nothing => Ok(Value::Null),
     }
 }
 
-fn sources_value(alloc: Global, test: &Test, writes: &[Option<Event>]) -> Result<Value, NoMemory>
-    ensures { IfOk result (λ value. view value ≡ array (items_of (map (λ w. string (text.source_text test.now w)) writes.now))) }
-{
-    let mut values = Vec::new(alloc);
-    for write in writes {
-        values.push(text_value(alloc, test, Piece::Source(write))?)?;
+impl Valued for Option<Event> {
+    ghost valued = { λ t write. string (text.source_text t write) };
+
+    fn value(&self, alloc: Global, test: &Test) -> Result<Value, NoMemory> {
+        text_value(alloc, test, Piece::Source(self))
     }
-    Ok(Value::Array(values))
 }
 
 fn writes_value(alloc: Global, test: &Test, order: &[Entry], loc: Loc) -> Result<Value, NoMemory>
@@ -79,44 +78,20 @@ fn text_value(alloc: Global, test: &Test, piece: Piece<'_>) -> Result<Value, NoM
     Ok(Value::String(text))
 }
 
-fn edges_value(alloc: Global, test: &Test, edges: &[Edge]) -> Result<Value, NoMemory>
-    ensures { IfOk result (λ value. view value ≡ spec.edges_value test.now edges.now) }
-{
-    let mut values = Vec::new(alloc);
-    for edge in edges {
-        values.push(edge_value(alloc, test, edge)?)?;
-    }
-    Ok(Value::Array(values))
-}
+impl Valued for Edge {
+    ghost valued = { spec.edge_value };
 
-fn edge_value(alloc: Global, test: &Test, edge: &Edge) -> Result<Value, NoMemory>
-    ensures { IfOk result (λ value. view value ≡ spec.edge_value test.now edge.now) }
-{
-    let relation = relation_text(edge.relation);
-    let texts = [
-        ("from", Piece::Event(&edge.source)),
-        ("relation", Piece::Word(relation, relation)),
-        ("to", Piece::Event(&edge.target)),
-    ];
-    let mut members = Map::new(alloc);
-    put_texts(&mut members, alloc, test, &texts)?;
-    Ok(Value::Object(members))
-}
-
-/// Puts pieces as they stand in a line under their keys.
-fn put_texts(
-    members: &mut Map<String, Value>,
-    alloc: Global,
-    test: &Test,
-    texts: &[(&str, Piece<'_>)],
-) -> Result<(), NoMemory>
-    ensures { OnOk result (members_view members.new.entries ≡ pieces.with_texts test.now texts.now (members_view members.old.entries)) }
-{
-    for (key, piece) in texts {
-        let value = text_value(alloc, test, *piece)?;
-        put(members, alloc, key, value)?;
+    fn value(&self, alloc: Global, test: &Test) -> Result<Value, NoMemory> {
+        let mut members = Map::new(alloc);
+        let source = text_value(alloc, test, Piece::Event(&self.source));
+        put_made(&mut members, alloc, "from", source)?;
+        let relation = relation_text(self.relation);
+        let relation = text_value(alloc, test, Piece::Word(relation, relation));
+        put_made(&mut members, alloc, "relation", relation)?;
+        let target = text_value(alloc, test, Piece::Event(&self.target));
+        put_made(&mut members, alloc, "to", target)?;
+        Ok(Value::Object(members))
     }
-    Ok(())
 }
 
 fn places_value(alloc: Global, test: &Test, places: &[Place]) -> Result<Value, NoMemory>

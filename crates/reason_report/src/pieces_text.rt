@@ -1,15 +1,16 @@
 //! Pieces of a line as text: events, cycles, places and the like.
 
-ghost use Rattle.std.specs.Prelude.{◌≡◌, ◌++◌, OnOk, codes, filter, map, string_bytes};
+ghost use Rattle.std.specs.Prelude.{◌≡◌, ◌++◌, OnOk, codes, filter, string_bytes};
+ghost use Rattle.std.specs.Fmt.{decimal};
 ghost use Rattle.std.specs.List.{flat_map};
 ghost use Rattle.tso_model.specs.ProgramOrder as program_order;
 ghost use Rattle.tso_model.specs.declared.execution.Entry as declared;
 ghost use Rattle.order_builder.specs.PrintedOrder.{printed_entry};
 ghost use Rattle.reason_report.specs.ReasonText as spec;
 ghost use Rattle.reason_report.specs.inner.Pieces.{piece_text};
-ghost use Rattle.reason_report.specs.inner.Views.{known_access};
-ghost use Rattle.reason_report.specs.Views.{place_of};
+ghost use Rattle.reason_report.specs.inner.Views.{hop_end, known_access, place_end};
 
+use crate::items::{Written, write_each, write_separated};
 use crate::pieces::Piece;
 use crate::readings::event_of;
 use crate::steps::{Edge, Event, Place};
@@ -18,7 +19,7 @@ use outcome_report::keys::{name_of, write_key};
 use refutation_laws::Relation;
 use refutations::events::writes_to;
 use tso_model::{Entry, Kind, Loc, NoMemory, Test};
-use tso_report::pieces::{Piece as Printed, write_pieces};
+use tso_report::pieces::{Piece as Printed, write_characters, write_pieces};
 
 /// Adds a piece to a line.
 ///
@@ -27,13 +28,13 @@ pub fn write_piece(text: &mut String, test: &Test, piece: Piece<'_>) -> Result<(
     ensures { OnOk result (string_bytes text.new ≡ string_bytes text.old ++ piece_text test.now piece.entry) }
 {
     match piece {
-        Piece::Word(characters, _) => Ok(text.push_str(characters)?),
+        Piece::Word(characters, _) => write_characters(text, characters),
         Piece::Depth(depth) => write_blanks(text, depth),
         Piece::Event(event) => write_event(text, test, event),
-        Piece::Source(write) => write_source(text, test, write),
-        Piece::Sources(writes) => write_sources(text, test, writes),
+        Piece::Source(write) => write.write(text, test),
+        Piece::Sources(writes) => write_separated(text, test, " or ", writes),
         Piece::Cycle(edges) => write_cycle(text, test, edges),
-        Piece::Places(places) => write_places(text, test, places),
+        Piece::Places(places) => write_each(text, test, " ", places),
         Piece::Writes(order, loc) => write_writes(text, test, order, loc),
         Piece::Nothing => Ok(()),
     }
@@ -43,38 +44,20 @@ fn write_blanks(text: &mut String, depth: usize) -> Result<(), NoMemory>
     ensures { OnOk result (string_bytes text.new ≡ string_bytes text.old ++ spec.blanks depth) }
 {
     for _deeper in 0..depth {
-        text.push(' ')?;
-    }
-    Ok(())
-}
-
-fn write_sources(text: &mut String, test: &Test, writes: &[Option<Event>]) -> Result<(), NoMemory>
-    ensures { OnOk result (string_bytes text.new ≡ string_bytes text.old ++ spec.sources_text test.now writes.now) }
-{
-    let Some((first, rest)) = writes.split_first() else {
-        return Ok(());
-    };
-    write_source(text, test, first)?;
-    write_further(text, test, rest)
-}
-
-fn write_further(text: &mut String, test: &Test, writes: &[Option<Event>]) -> Result<(), NoMemory>
-    ensures { OnOk result (string_bytes text.new ≡ string_bytes text.old ++ flat_map (spec.or_text test.now) writes.now) }
-{
-    for write in writes {
-        text.push_str(" or ")?;
-        write_source(text, test, write)?;
+        write_characters(text, " ")?;
     }
     Ok(())
 }
 
 /// A write, or `initial`.
-fn write_source(text: &mut String, test: &Test, write: &Option<Event>) -> Result<(), NoMemory>
-    ensures { OnOk result (string_bytes text.new ≡ string_bytes text.old ++ spec.source_text test.now write.now) }
-{
-    match write {
-        None => Ok(text.push_str("initial")?),
-        Some(event) => write_event(text, test, event),
+impl Written for Option<Event> {
+    ghost written = { spec.source_text };
+
+    fn write(&self, text: &mut String, test: &Test) -> Result<(), NoMemory> {
+        match self {
+            None => write_characters(text, "initial"),
+            Some(event) => write_event(text, test, event),
+        }
     }
 }
 
@@ -85,25 +68,20 @@ fn write_cycle(text: &mut String, test: &Test, edges: &[Edge]) -> Result<(), NoM
     let Some((first, _)) = edges.split_first() else {
         return Ok(());
     };
-    text.push(' ')?;
+    write_characters(text, " ")?;
     write_event(text, test, &first.source)?;
-    write_hops(text, test, edges)
+    write_each(text, test, " ", edges)
 }
 
-/// ` po P0:1 W y=1 ..`
-fn write_hops(text: &mut String, test: &Test, edges: &[Edge]) -> Result<(), NoMemory>
-    ensures { OnOk result (string_bytes text.new ≡ string_bytes text.old ++ flat_map (spec.hop_text test.now) edges.now) }
-{
-    for edge in edges {
-        let pieces = [
-            Printed::Text(" "),
-            Printed::Text(relation_text(edge.relation)),
-            Printed::Text(" "),
-        ];
-        write_pieces(text, &pieces)?;
-        write_event(text, test, &edge.target)?;
+/// `po P0:1 W y=1`
+impl Written for Edge {
+    ghost written = { hop_end };
+
+    fn write(&self, text: &mut String, test: &Test) -> Result<(), NoMemory> {
+        write_characters(text, relation_text(self.relation))?;
+        write_characters(text, " ")?;
+        write_event(text, test, &self.target)
     }
-    Ok(())
 }
 
 /// The name that a relation has between the events of a cycle. An edge of no relation has none.
@@ -121,36 +99,23 @@ pub fn relation_text(relation: Option<Relation>) -> &'static str
     }
 }
 
-/// ` 1:EAX=0 x=1|2 ..`
-fn write_places(text: &mut String, test: &Test, places: &[Place]) -> Result<(), NoMemory>
-    ensures { OnOk result (string_bytes text.new ≡ string_bytes text.old ++ flat_map (spec.place_text test.now) (map place_of places.now)) }
-{
-    for place in places {
-        text.push(' ')?;
-        write_key(text, test, place.named)?;
-        text.push('=')?;
-        write_words(text, &place.values)?;
+/// `1:EAX=0`, or `x=1|2`
+impl Written for Place {
+    ghost written = { place_end };
+
+    fn write(&self, text: &mut String, test: &Test) -> Result<(), NoMemory> {
+        write_key(text, test, self.named)?;
+        write_characters(text, "=")?;
+        write_separated(text, test, "|", &self.values)
     }
-    Ok(())
 }
 
-fn write_words(text: &mut String, values: &[u32]) -> Result<(), NoMemory>
-    ensures { OnOk result (string_bytes text.new ≡ string_bytes text.old ++ spec.words_text values.now) }
-{
-    let Some((first, rest)) = values.split_first() else {
-        return Ok(());
-    };
-    write_pieces(text, &[Printed::Number(*first as u64)])?;
-    write_bars(text, rest)
-}
+impl Written for u32 {
+    ghost written = { λ _ value. decimal value };
 
-fn write_bars(text: &mut String, values: &[u32]) -> Result<(), NoMemory>
-    ensures { OnOk result (string_bytes text.new ≡ string_bytes text.old ++ flat_map spec.bar_text values.now) }
-{
-    for value in values {
-        write_pieces(text, &[Printed::Text("|"), Printed::Number(*value as u64)])?;
+    fn write(&self, text: &mut String, _test: &Test) -> Result<(), NoMemory> {
+        write_pieces(text, &[Printed::Number(*self as u64)])
     }
-    Ok(())
 }
 
 /// ` P0:0 W x=1 ..`: the writes to a location among these entries.
@@ -160,7 +125,7 @@ fn write_writes(text: &mut String, test: &Test, order: &[Entry], loc: Loc) -> Re
 {
     for entry in order {
         if writes_to(loc.0, entry) {
-            text.push(' ')?;
+            write_characters(text, " ")?;
             write_event(text, test, &event_of(entry))?;
         }
     }

@@ -4,7 +4,7 @@ use Rattle.std.specs.Borrow.{Bor}
 use Rattle.std.specs.Fmt.{decimal}
 use Rattle.std.specs.List.{flat_map}
 use Rattle.scheduler.specs.Printed.{printed_after}
-use Rattle.reason_report.specs.Vocabulary.{array, Data, Entry, items_of, Litmus, Members, null, object, outcomes_verdict_value, printed_choices, printed_entry, put, string, value_members, verdict_line, writes_to}
+use Rattle.reason_report.specs.Vocabulary.{array, Data, Entry, items_of, Litmus, Members, no_members, null, object, outcomes_verdict_value, printed_choices, printed_entry, put, string, value_members, verdict_line, writes_to}
 use Rattle.tso_report.specs.Json.{count}
 use Rattle.tso_report.specs.Tally.{printed_values}
 use Rattle.tso_report.specs.inner.Tally.{NameExists}
@@ -43,28 +43,23 @@ piece_value t piece.Nothing = null
 
 abbrev pub is_nothing : Piece → Bool
 is_nothing piece.Nothing = true
-is_nothing (piece.Word text word) = false
-is_nothing (piece.Depth depth) = false
-is_nothing (piece.Event e) = false
-is_nothing (piece.Source write) = false
-is_nothing (piece.Sources writes) = false
-is_nothing (piece.Cycle edges) = false
-is_nothing (piece.Places places) = false
-is_nothing (piece.Writes order loc) = false
+is_nothing _ = false
 
 -- a piece behind what stands before it
 abbrev pub field_text : Litmus → Bor (List ℕ) × Bor (List ℕ) × Piece → List ℕ
 field_text t f = f.0.now ++ piece_text t f.2
 
--- these members, and one for each of these keys
+-- these members, and one for this key, or for each of these
+abbrev pub with_field : Litmus → List ℕ → Piece → Members → Members
+with_field t key piece members = if is_nothing piece then members else put key (piece_value t piece) members
+
 abbrev pub with_fields : Litmus → List (Bor (List ℕ) × Bor (List ℕ) × Piece) → Members → Members
 with_fields t [] members = members
-with_fields t (f ∷ fields) members = with_fields t fields (if is_nothing f.2 then members else put f.1.now (piece_value t f.2) members)
+with_fields t (f ∷ fields) members = with_fields t fields (with_field t f.1.now f.2 members)
 
--- these members, and each of these pieces as it stands in a line under its key
-abbrev pub with_texts : Litmus → List (Bor (List ℕ) × Piece) → Members → Members
-with_texts t [] members = members
-with_texts t (f ∷ texts) members = with_texts t texts (put f.0.now (string (piece_text t f.1)) members)
+-- how deep a step stands, and its word
+abbrev pub head_members : ℕ → List ℕ → Members
+head_members depth step = put (codes "step") (string step) (put (codes "depth") (count depth) no_members)
 
 -- ---- sections
 

@@ -1,9 +1,11 @@
 -- Steps as the code holds them, and the definitions' own that they stand for.
-use Rattle.std.specs.Prelude.{ℕ, ◌==◌, if◌then◌else◌, ◌++◌, List, [], ◌∷◌, Option, Some, None}
-use Rattle.std.specs.List.{list_any}
-use Rattle.reason_report.specs.Vocabulary.{Kind, Litmus, printed_access}
+use Rattle.std.specs.Prelude.{ℕ, ◌==◌, if◌then◌else◌, ◌++◌, List, [], ◌∷◌, Option, Some, None, codes}
+use Rattle.std.specs.List.{flat_map, list_any}
+use Rattle.reason_report.specs.Vocabulary.{key_of, Kind, Litmus, printed_access}
 use Rattle.reason_report.specs.declared.steps.Closing.{Closing}
-use Rattle.reason_report.specs.ReasonText.{location_text}
+use Rattle.reason_report.specs.declared.steps.Edge.{Edge}
+use Rattle.reason_report.specs.declared.steps.Place.{Place}
+use Rattle.reason_report.specs.ReasonText.{event_text, location_text, relation_text, words_text}
 use Rattle.reason_report.specs.Steps as spec
 use Rattle.reason_report.specs.Views.{closing_of}
 
@@ -11,6 +13,13 @@ use Rattle.reason_report.specs.Views.{closing_of}
 abbrev pub known_access : Litmus → Kind → ℕ → Option ℕ → List ℕ
 known_access t kind loc None = location_text t kind loc
 known_access t kind loc (Some value) = printed_access t kind loc value
+
+-- `po P0:1 W y=1`, and `1:EAX=0` or `x=1|2`: what stands in a line behind a blank
+abbrev pub hop_end : Litmus → Edge → List ℕ
+hop_end t e = relation_text e.relation ++ (codes " " ++ event_text t e.target)
+
+abbrev pub place_end : Litmus → Place → List ℕ
+place_end t p = key_of t p.named ++ (codes "=" ++ words_text p.values.items)
 
 -- the line of a leaf, if there is one
 abbrev pub leaf_of : ℕ → Option Closing → List spec.ReasonStep
@@ -20,3 +29,8 @@ leaf_of depth (Some c) = spec.Leaf depth (closing_of c) ∷ []
 -- one more word, if it doesn't stand there yet
 abbrev pub with_new_word : List ℕ → ℕ → List ℕ
 with_new_word values value = if list_any (λ v. v == value) values then values else values ++ (value ∷ [])
+
+-- what is made of each item, with this between them
+abbrev pub separated : {X : Type 0} → List ℕ → (X → List ℕ) → List X → List ℕ
+separated between f [] = []
+separated between f (x ∷ xs) = f x ++ flat_map (λ y. between ++ f y) xs

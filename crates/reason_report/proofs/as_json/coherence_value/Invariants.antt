@@ -1,4 +1,4 @@
-use Rattle.reason_report.proofs.Vocabulary.{◌≡◌, drop, map, members_view, coherence_members_by}
+use Rattle.reason_report.proofs.Vocabulary.{◌≡◌, drop, members_view, coherence_members_by}
 use Rattle.reason_report.proofs.as_json.coherence_value.Given as goal
 
 abbrev pub invariant-loop-loc : goal.invariant-loop-loc

@@ -1,8 +1,7 @@
-use Rattle.reason_report.proofs.Vocabulary.{◌∙◌, ◌+◌, ◌∷◌, ◌++◌, [], ap, sym, subst, refl, map, known_of, branch_in, BranchesAreClosed, closed_branch}
+use Rattle.reason_report.proofs.Vocabulary.{map_push, ◌∙◌, ◌+◌, ◌∷◌, ◌++◌, [], ap, sym, subst, refl, map, known_of, branch_in, BranchesAreClosed, closed_branch}
 use Rattle.reason_report.specs.Steps as spec
 use Rattle.reason_report.proofs.Cutting.{below-get, closed-more, closed-less}
 use Rattle.reason_report.proofs.Grouping.{closed-push}
-use Rattle.reason_report.proofs.Lists.{map-push}
 use Rattle.reason_report.proofs.closed.closed_among.Goals as goal
 use Rattle.reason_report.proofs.closed.closed_among.Goals.{then-is_leaf+in_ok-close+in_ok-push, else-is_leaf}
 
@@ -23,7 +22,7 @@ loop-branch-preserved c =
           record {
             branches = closed-more f c.args.branches.now c.loop-branch.branch-index (c.loop-branch.branch-index + 1) _ c.loop-branch-test.true refl c.is_leaf.result is
                 (map (closed_branch tree) c.loop-branch.all.items) (map (closed_branch tree) c.if-is_leaf.all.items) _ c.loop-branch.invariant.branches w.if-is_leaf.true
-                (ap (map (closed_branch tree)) items ∙ (map-push (closed_branch tree) c.loop-branch.all.items w.in_ok-close.field-0
+                (ap (map (closed_branch tree)) items ∙ (map_push (closed_branch tree) c.loop-branch.all.items w.in_ok-close.field-0
                 ∙ ap (λ b. map (closed_branch tree) c.loop-branch.all.items ++ (b ∷ [])) w.in_ok-close.ensures.branch));
             closed = subst (BranchesAreClosed tree) (sym items) (closed-push tree c.loop-branch.all.items w.in_ok-close.field-0 c.loop-branch.invariant.closed w.in_ok-close.ensures.closed);
           })

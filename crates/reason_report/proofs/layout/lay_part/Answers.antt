@@ -1,4 +1,4 @@
-use Rattle.reason_report.proofs.Vocabulary.{◌∙◌, ◌+◌, ◌∷◌, ◌++◌, Some, ap, sym, refl, subst, arith, map, length, on_ok_weaker, nothing, asked_claim, known_of, reason_step_of, parts_of_refutation, root_at, TasksAreWithin, tasks_of, with_wanted, emit}
+use Rattle.reason_report.proofs.Vocabulary.{◌∙◌, ◌+◌, ◌++◌, Some, ap, sym, refl, subst, arith, map, length, on_ok_weaker, nothing, asked_claim, known_of, reason_step_of, parts_of_refutation, root_at, TasksAreWithin, tasks_of, with_wanted, emit}
 use Rattle.reason_report.specs.Steps as spec
 use Rattle.reason_report.proofs.Cutting.{cut-part}
 use Rattle.reason_report.proofs.Laying.{part-passed, within-passed, within-more, wanted-within, answered-within}

@@ -1,8 +1,8 @@
 use Rattle.reason_report.proofs.Vocabulary.{◌≡◌, ◌++◌, drop, string_bytes, flat_map}
 use Rattle.reason_report.specs.inner.Pieces.{titled_text}
-use Rattle.reason_report.proofs.as_text.write_sections.Given as goal
+use Rattle.reason_report.proofs.as_text.sections_text.Given as goal
 
 abbrev pub invariant-loop-before : goal.invariant-loop-before
 invariant-loop-before l =
     string_bytes l.text ++ flat_map (titled_text l.test) (drop l.before-index l.sections)
-    ≡ string_bytes l.initial.text ++ flat_map (titled_text l.test) l.sections
+    ≡ flat_map (titled_text l.test) l.sections
