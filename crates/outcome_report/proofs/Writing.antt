@@ -1,5 +1,5 @@
 -- What is written of the states that are kept.
-use Rattle.outcome_report.proofs.Vocabulary.{◌≡◌, ◌∙◌, ℕ, Bool, Option, Some, codes, Condition, held_in, failed_in, true_in, printed_numbers, List, [], ◌∷◌, ◌++◌, map, length, Vec, Bor, refl, sym, ap, subst, append_assoc, append-nil, values_of, Global, length-map, map-append, All-head, All-tail, array, view, items_of, Litmus, FinalState, shown_value, Named, Outcome, outcome_of, shown_values, state_line, by_line, outcome_lines, outcomes_line, condition_lines, outcomes_text, holds_in, state_value, states_value, IsOutcomeOf, kept_of, AreShown, kept_lines, kept_values}
+use Rattle.outcome_report.proofs.Vocabulary.{◌≡◌, ◌∙◌, ℕ, Bool, Option, Some, codes, Condition, held_in, failed_in, true_in, printed_numbers, List, [], ◌∷◌, ◌++◌, map, length, Vec, Bor, refl, sym, ap, subst, append_assoc, append-nil, values_of, Global, length-map, All-head, All-tail, array, view, items_of, Litmus, FinalState, shown_value, Named, Outcome, outcome_of, shown_values, state_line, by_line, outcome_lines, outcomes_line, condition_lines, outcomes_text, holds_in, state_value, states_value, IsOutcomeOf, kept_of, AreShown, kept_lines, kept_values}
 use Rattle.serde_json.specs.declared.value.Value.{Value}
 use Rattle.tso_report.specs.Report.{line, test_line}
 use Rattle.tso_report.specs.Tally.{observed_line}
@@ -86,17 +86,17 @@ pub is-whole : (t : Litmus) (names : List Named) (done : List Value) (all rest e
 is-whole t names done all rest es v s steps made =
     (All-head (Is t names) (v.items, outcome_of s.now) (kept_of rest) (subst (λ entries. AreShown t names (kept_of entries)) steps made.1)).1
 
-pub one-made : (t : Litmus) (names : List Named) (done more : List Value) (all rest es : Entries) (v : Vec ℕ Global) (s : Bor FinalState) (values : List ℕ) (value : Value)
-    → all ≡ (v, s) ∷ rest → values ≡ v.items → view value ≡ state_value t names values s.now.choices.items (holds_in t.condition (outcome_of s.now)) → more ≡ done ++ value ∷ []
+pub one-made : (t : Litmus) (names : List Named) (done more : List Value) (all rest es : Entries) (v : Vec ℕ Global) (s : Bor FinalState) (values : List ℕ)
+    → all ≡ (v, s) ∷ rest → values ≡ v.items
+    → map view more ≡ map view done ++ state_value t names values s.now.choices.items (holds_in t.condition (outcome_of s.now)) ∷ []
     → Made t names done all es → Made t names more rest es
-one-made t names done more all rest es v s values value steps are_values is pushed made =
+one-made t names done more all rest es v s values steps are_values pushed made =
     let o = outcome_of s.now in
-    let one : view value ≡ state_value t names v.items o.choices (holds_in t.condition o) = is ∙ ap (λ x. state_value t names x o.choices (holds_in t.condition o)) are_values in
-    let moved : map view more ++ kept_values t names (kept_of rest) ≡ map view done ++ (view value ∷ kept_values t names (kept_of rest)) =
-    ap (λ x. map view x ++ kept_values t names (kept_of rest)) pushed
-    ∙ (ap (λ x. x ++ kept_values t names (kept_of rest)) (map-append view done (value ∷ [])) ∙ append_assoc (map view done) (view value ∷ []) (kept_values t names (kept_of rest))) in (
-      moved ∙ (ap (λ d. map view done ++ (d ∷ kept_values t names (kept_of rest))) one
-          ∙ (sym (ap (λ entries. map view done ++ kept_values t names (kept_of entries)) steps) ∙ made.0)),
+    let value = λ (x : List ℕ). state_value t names x o.choices (holds_in t.condition o) in
+    let others = kept_values t names (kept_of rest) in
+    let moved : map view more ++ others ≡ map view done ++ (value v.items ∷ others) =
+    ap (λ x. x ++ others) (pushed ∙ ap (λ x. map view done ++ (value x ∷ [])) are_values) ∙ append_assoc (map view done) (value v.items ∷ []) others in (
+      moved ∙ (sym (ap (λ entries. map view done ++ kept_values t names (kept_of entries)) steps) ∙ made.0),
       All-tail (Is t names) (v.items, o) (kept_of rest) (subst (λ entries. AreShown t names (kept_of entries)) steps made.1),
     )
 

@@ -23,7 +23,7 @@ use serde_json::{Map, Value, put};
 use std::alloc::Global;
 use tso_model::{NoMemory, Test, cond_holds};
 use tso_report::json::{line_of, unfinished_search_value};
-use tso_report::members::{Datum, object_of};
+use tso_report::members::{Datum, object_of, push_made, put_made};
 use tso_report::named::Named;
 use tso_report::observation::frequency;
 
@@ -113,8 +113,7 @@ fn put_parts(
         ≡ with_found found.now.test.now found.now.names.now found.now.depth (values_of (kept_of found.now.outcomes.now.entries)) parts.now (members_view members.old.entries)) }
 {
     for (key, part) in parts {
-        let value = found_value(alloc, found, *part)?;
-        put(members, alloc, key, value)?;
+        put_made(members, alloc, key, found_value(alloc, found, *part))?;
     }
     Ok(())
 }
@@ -172,7 +171,7 @@ fn states_value(
 {
     let mut states = Vec::new(alloc);
     for (values, state) in outcomes.iter() {
-        states.push(state_value(alloc, test, names, values, state)?)?;
+        push_made(&mut states, state_value(alloc, test, names, values, state))?;
     }
     Ok(Value::Array(states))
 }

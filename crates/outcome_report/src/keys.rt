@@ -6,7 +6,7 @@ ghost use Rattle.outcome_report.specs.OutcomesJson.{key_of};
 use std::alloc::Global;
 use tso_model::{Loc, NoMemory, Test};
 use tso_report::named::Named;
-use tso_report::pieces::{Piece, write_pieces};
+use tso_report::pieces::{Piece, write_characters, write_pieces};
 
 /// The name of a location; nothing, where the test doesn't have it.
 pub fn name_of(test: &Test, loc: Loc) -> &str
@@ -34,7 +34,7 @@ pub fn write_key(text: &mut String, test: &Test, named: Named) -> Result<(), NoM
             ];
             write_pieces(text, &pieces)
         }
-        Named::Location(loc) => Ok(text.push_str(name_of(test, loc))?),
+        Named::Location(loc) => write_characters(text, name_of(test, loc)),
     }
 }
 

@@ -50,12 +50,8 @@ fn sections_value(alloc: Global, test: &Test, sections: &[Titled<'_>]) -> Result
 {
     let mut members = Map::new(alloc);
     for (_before, key, section) in sections {
-        put_made(
-            &mut members,
-            alloc,
-            key,
-            section_value(alloc, test, *section),
-        )?;
+        let value = section_value(alloc, test, *section);
+        put_made(&mut members, alloc, key, value)?;
     }
     Ok(Value::Object(members))
 }

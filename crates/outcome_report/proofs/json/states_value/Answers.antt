@@ -15,9 +15,9 @@ state_value-requires-clause-state c =
 
 pub loop-values-preserved : goal.loop-values-preserved
 loop-values-preserved c =
-    one-made c.args.test.now c.args.names.now c.loop-values.states.items c.push.new.self.items c.loop-values.values-iterator c.next.new.self c.args.outcomes.now.entries
-    c.in-Some.values.now c.in-Some.state.now c.deref.result.now c.in_ok-state_value.field-0
-    c.in-Some.ensures.steps c.deref.ensures.value c.in_ok-state_value.ensures c.in_ok-push.ensures.items c.loop-values.invariant
+    one-made c.args.test.now c.args.names.now c.loop-values.states.items c.push_made.new.values.items c.loop-values.values-iterator c.next.new.self c.args.outcomes.now.entries
+    c.in-Some.values.now c.in-Some.state.now c.deref.result.now
+    c.in-Some.ensures.steps c.deref.ensures.value (c.in_ok-push_made.ensures _ c.state_value.ensures) c.loop-values.invariant
 
 pub returns : goal.returns
 returns c =

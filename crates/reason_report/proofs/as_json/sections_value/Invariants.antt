@@ -4,5 +4,4 @@ use Rattle.reason_report.proofs.as_json.sections_value.Given as goal
 
 abbrev pub invariant-loop-before : goal.invariant-loop-before
 invariant-loop-before l =
-    with_sections l.test (drop l._before-index l.sections) (members_view l.members.entries)
-    ≡ with_sections l.test l.sections no_members
+    with_sections l.test (drop l._before-index l.sections) (members_view l.members.entries) ≡ with_sections l.test l.sections no_members

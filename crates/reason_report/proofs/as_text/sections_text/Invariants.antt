@@ -4,5 +4,4 @@ use Rattle.reason_report.proofs.as_text.sections_text.Given as goal
 
 abbrev pub invariant-loop-before : goal.invariant-loop-before
 invariant-loop-before l =
-    string_bytes l.text ++ flat_map (titled_text l.test) (drop l.before-index l.sections)
-    ≡ flat_map (titled_text l.test) l.sections
+    string_bytes l.text ++ flat_map (titled_text l.test) (drop l.before-index l.sections) ≡ flat_map (titled_text l.test) l.sections
