@@ -11,7 +11,7 @@ one-more f xs i d made new y whole w e n h =
     ∙ (append_assoc made (y ∷ []) rest
     ∙ (ap (λ z. made ++ (z ∷ rest)) e ∙ (sym (ap (λ zs. made ++ map f zs) (drop_more xs i d w)) ∙ h)))
 
--- what is written of the next item stands behind what is written
+-- what is written of the next item stands after what is written
 pub written : {X : Type 0} (f : X → List ℕ) (xs : List X) (i : ℕ) (x : X) (old new whole : List ℕ) → i < length xs → x ≡ get_or xs i x → new ≡ old ++ f x
     → old ++ flat_map f (drop i xs) ≡ whole → new ++ flat_map f (drop (i + 1) xs) ≡ whole
 written f xs i x old new whole w is e h =

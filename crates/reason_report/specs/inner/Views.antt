@@ -14,7 +14,7 @@ abbrev pub known_access : Litmus → Kind → ℕ → Option ℕ → List ℕ
 known_access t kind loc None = location_text t kind loc
 known_access t kind loc (Some value) = printed_access t kind loc value
 
--- `po P0:1 W y=1`, and `1:EAX=0` or `x=1|2`: what stands in a line behind a blank
+-- `po P0:1 W y=1`, and `1:EAX=0` or `x=1|2`: what stands in a line after a blank
 abbrev pub hop_end : Litmus → Edge → List ℕ
 hop_end t e = relation_text e.relation ++ (codes " " ++ event_text t e.target)
 
