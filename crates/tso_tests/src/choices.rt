@@ -8,28 +8,24 @@ use scheduler::read_choices;
 use std::alloc::Global;
 use std::process::Abort;
 
-fn next_is(rt: &impl Abort, generator: &mut Lcg64Xsh32, word: u32) {
-    assert!(rt; generator.next_word() == word);
+/// The reference stream of the generator's authors.
+const REFERENCE: [u32; 6] = [
+    0xa15c02b7, 0x7b47f409, 0xba1d3330, 0x83d2f293, 0xbfa4784b, 0xcbed606e,
+];
+
+/// The number that its crate publishes of seed 0, 18195738587432868099, in two words, the low one first.
+const OF_SEED_0: [u32; 2] = [0x11cdd903, 0xfc843fd7];
+
+fn gives(rt: &impl Abort, mut generator: Lcg64Xsh32, words: &[u32]) {
+    for word in words {
+        assert!(rt; generator.next_word() == *word);
+    }
 }
 
-// The reference stream of the generator's authors.
 #[test]
 fn the_generator_gives_the_published_words(rt: HostRuntime) {
-    let mut reference = Lcg64Xsh32::new(42, 54);
-    for word in [
-        0xa15c02b7u32,
-        0x7b47f409,
-        0xba1d3330,
-        0x83d2f293,
-        0xbfa4784b,
-        0xcbed606e,
-    ] {
-        next_is(&rt, &mut reference, word);
-    }
-    // The number that its crate publishes of seed 0, 18195738587432868099, in two words, the low one first.
-    let mut seeded = Lcg64Xsh32::seed_from_u64(0);
-    next_is(&rt, &mut seeded, 0x11cdd903);
-    next_is(&rt, &mut seeded, 0xfc843fd7);
+    gives(&rt, Lcg64Xsh32::new(42, 54), &REFERENCE);
+    gives(&rt, Lcg64Xsh32::seed_from_u64(0), &OF_SEED_0);
 }
 
 /// Choices of seeds for so many cores, and the same one by one, worked out apart from this project from the published

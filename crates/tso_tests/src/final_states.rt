@@ -69,29 +69,26 @@ fn looked_at(rt: &impl Abort, alloc: Global, text: &[u8], hidden: &[[bool; 6]]) 
     searched(rt, alloc, text, 32, 10_000, hidden).expect(rt, MEMORY)
 }
 
-/// How many final states a test has at a depth, where a search may keep a thousand states.
-fn count(rt: &impl Abort, alloc: Global, text: &[u8], depth: u8) -> usize {
-    searched(rt, alloc, text, depth, 1000, &[])
-        .expect(rt, MEMORY)
-        .1
-}
-
 /// Whether a search that may keep so many states of the first test finds that they are more.
 fn are_too_many(rt: &impl Abort, alloc: Global, limit: usize) -> bool {
     searched(rt, alloc, SB, 32, limit, &[]) == Err(ExploreFault::TooMany)
 }
 
-#[test]
-fn tso_allows_as_many_final_states_as_are_published(rt: HostRuntime) {
-    holds(&rt, count(&rt, rt.alloc(), SB, 32) == 4);
-    holds(&rt, count(&rt, rt.alloc(), N6, 32) == 5);
-    holds(&rt, count(&rt, rt.alloc(), IRIW, 32) == 15);
-}
+/// A test, a depth, and how many final states are published: without buffers those of sequential consistency.
+const PUBLISHED: [(&[u8], u8, usize); 5] = [
+    (SB, 32, 4),
+    (N6, 32, 5),
+    (IRIW, 32, 15),
+    (SB, 0, 3),
+    (N6, 0, 4),
+];
 
 #[test]
-fn sequential_consistency_allows_fewer(rt: HostRuntime) {
-    holds(&rt, count(&rt, rt.alloc(), SB, 0) == 3);
-    holds(&rt, count(&rt, rt.alloc(), N6, 0) == 4);
+fn tests_have_as_many_final_states_as_are_published(rt: HostRuntime) {
+    for (text, depth, finals) in &PUBLISHED {
+        let (_, found) = searched(&rt, rt.alloc(), text, *depth, 1000, &[]).expect(&rt, MEMORY);
+        holds(&rt, found == *finals);
+    }
 }
 
 #[test]

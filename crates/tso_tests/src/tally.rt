@@ -7,9 +7,9 @@ use crate::named::{MEMORY, holds, test_of};
 use machine_core::{Bus, Config, Shape};
 use protocol_tables::ProtocolKind;
 use scheduler::{read_choices, spelled_cores_exist};
+use simulator::{Ending, simulate};
 use std::alloc::Global;
 use std::process::Abort;
-use tso_cli::{Ending, simulate};
 use tso_model::Test;
 use tso_report::Tally;
 
