@@ -2,7 +2,7 @@
 use Rattle.trace_json.proofs.Vocabulary.{◌≡◌, ◌∙◌, ℕ, ◌+◌, Bool, true, false, if◌then◌else◌, List, [], ◌∷◌, ◌++◌, length, map, refl, sym, ap, append_assoc, append-nil, Option, option_map, slice_set, length-set, Data, array, items_of, view, Value, Litmus, memory_after, has_ended, Entry, Choice, Configuration, Running, machine_effect, machine_after, IsTraced, ShownStep, trace_step_of, own_words, machine_json, found_by, supplied_to, Sourced, sourced, sourced_by, alone, last_or, step_to, steps_json, Source, IsMachineOfTest, told_last, trace_with}
 use Rattle.tso_model.specs.ProgramOrder.{is_write}
 use Rattle.simulator.specs.inner.Observed.{Watched, none_left, over, next, IsWatched}
-use Rattle.trace_json.specs.inner.Observing.{told_as, told_by, told_from, Opens, Makes}
+use Rattle.trace_json.specs.inner.Observing.{told_as, told_by, told_from, OpensTrace, MakesStep}
 use Rattle.trace_json.specs.declared.trace.Extent.{Extent}
 use Rattle.trace_json.specs.declared.trace.Extent.TheVariants.{Whole, LastStep}
 use Rattle.trace_json.specs.declared.trace.Tracer.{Tracer}
@@ -28,7 +28,7 @@ record Along (o last : Tracer) (m left : Running) (choices : List Choice) : Type
   last_is : told_last (option_map sourced last.last) left last.follower.memory.items
       ≡ last_or (told_last (option_map sourced o.last) m o.follower.memory.items) (steps_json m o.follower.memory.items choices)
 
-kept-along : (o last : Tracer) (m left : Running) (number : ℕ) (choices : List Choice) → Watched Makes o m number choices last left → Along o last m left choices
+kept-along : (o last : Tracer) (m left : Running) (number : ℕ) (choices : List Choice) → Watched MakesStep o m number choices last left → Along o last m left choices
 kept-along o _ m _ _ _ (none_left _ _ _) = record { extent = refl; start_is = refl; steps_are = λ _. sym (append-nil (map view o.steps.items)); last_is = refl }
 kept-along o _ m _ _ choices (over _ _ _ _ ended) =
     let none = sym (steps-end m o.follower.memory.items choices ended) in
@@ -59,7 +59,7 @@ by_extent : (extent : Extent) (start start' : Data) (steps steps' : List Data) (
 by_extent Whole start start' steps steps' last last' start_is steps_are last_is = (λ i. trace_with (start_is refl i) (array (items_of (steps_are refl i))))
 by_extent LastStep start start' steps steps' last last' start_is steps_are last_is = last_is
 
-pub told-whole : (extent : Extent) (m : Running) (old new : Tracer) (choices : List Choice) → IsWatched Opens Makes (λ o m n. view n.told ≡ told_by o m) old m choices new
+pub told-whole : (extent : Extent) (m : Running) (old new : Tracer) (choices : List Choice) → IsWatched OpensTrace MakesStep (λ o m n. view n.told ≡ told_by o m) old m choices new
     → old.extent ≡ extent → old.steps.items ≡ [] → old.follower.memory.items ≡ m.test.words → view new.told ≡ told_from extent m choices
 told-whole extent m old new choices w extent_is none words =
     let all = kept-along w.begun w.driven m w.left 1 choices w.watched in

@@ -13,7 +13,7 @@ ghost use Rattle.trace_json.specs.TraceJson.{last_step_json, step_to, trace_json
 ghost use Rattle.trace_json.specs.TracedRun.{most_steps};
 ghost use Rattle.trace_json.specs.inner.Looked.{sourced, told_last, trace_with};
 ghost use Rattle.trace_json.specs.inner.Following.{CanFollow, Follows};
-ghost use Rattle.trace_json.specs.inner.Observing.{AddsStep, KnowsLast, Makes, Opens, told_by, told_under};
+ghost use Rattle.trace_json.specs.inner.Observing.{AddsStep, KnowsLast, MakesStep, OpensTrace, told_by, told_under};
 
 use crate::following::{Follower, SourcedStep};
 use crate::limited::Limited;
@@ -137,11 +137,11 @@ struct Tracer<'t> {
 impl<'t> Observer for Tracer<'t> {
     ghost begins = { λ o m. CanFollow o.follower m × (o.last ≡ None) };
 
-    ghost opens = { Opens };
+    ghost opens = { OpensTrace };
 
     ghost watches = { λ o m. Follows o.follower m × KnowsLast o };
 
-    ghost makes = { Makes };
+    ghost makes = { MakesStep };
 
     ghost ends = { λ o m n. view n.told ≡ told_by o m };
 

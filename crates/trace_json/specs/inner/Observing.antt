@@ -32,7 +32,7 @@ abbrev pub KnowsLast : Tracer → Type 0
 KnowsLast o = IfSome o.last (λ told. StepNamesExist o.follower.test.now o.follower.config.shape.words (shown_step told.step))
 
 -- where all is told, it begins with the machine before the first choice
-pub record Opens (old : Tracer) (m : Running) (new : Tracer) : Type 0 where
+pub record OpensTrace (old : Tracer) (m : Running) (new : Tracer) : Type 0 where
   pub extent : new.extent ≡ old.extent
   pub memory : new.follower.memory.items ≡ old.follower.memory.items
   pub start_is : old.extent ≡ Whole → view new.told ≡ machine_json m old.follower.memory.items
@@ -43,7 +43,7 @@ pub record Opens (old : Tracer) (m : Running) (new : Tracer) : Type 0 where
 abbrev pub AddsStep : Extent → List Value → Data → List Value → Type 0
 AddsStep extent old step new = extent ≡ Whole → map view new ≡ map view old ++ step ∷ []
 
-pub record Makes (old : Tracer) (m : Running) (number : ℕ) (choice : Choice) (new : Tracer) : Type 0 where
+pub record MakesStep (old : Tracer) (m : Running) (number : ℕ) (choice : Choice) (new : Tracer) : Type 0 where
   pub extent : new.extent ≡ old.extent
   pub memory : new.follower.memory.items ≡ own_words (machine_after m choice) old.follower.memory.items
   pub start_is : view new.told ≡ view old.told

@@ -1,6 +1,6 @@
 use Rattle.trace_json.proofs.Vocabulary.{◌≡◌, ◌∙◌, [], ap, sym, subst, rules, new_machine, table_of, view}
 use Rattle.trace_json.specs.inner.Following.{CanFollow}
-use Rattle.trace_json.specs.inner.Observing.{Opens, Makes, told_by}
+use Rattle.trace_json.specs.inner.Observing.{OpensTrace, MakesStep, told_by}
 use Rattle.trace_json.specs.declared.trace.Tracer.{Tracer}
 use Rattle.trace_json.proofs.Tracing.{told-whole}
 use Rattle.trace_json.proofs.Within.{few-steps, shown-whole}
@@ -21,7 +21,7 @@ returns-clause-told c = λ few.
     let m = new_machine (table_of kind) config t in
     let first = c.new-limited.ensures.observer in
     let none : c.new-2.result.items ≡ [] = search rules in
-    let watched = shown-whole (λ l. l.observer) (λ l. l.is_passed) Opens Makes (λ o m n. view n.told ≡ told_by o m) _ c.simulate_observed.new.observer m choices
+    let watched = shown-whole (λ l. l.observer) (λ l. l.is_passed) OpensTrace MakesStep (λ o m n. view n.told ≡ told_by o m) _ c.simulate_observed.new.observer m choices
     c.in_ok-ending.ensures.watched c.new-limited.ensures.unpassed (few-steps c.traces_tell_their_runs.ensures kind config t choices few) in
     ap view c.replace-told.ensures.value
     ∙ told-whole c.args.extent m _ c.simulate_observed.new.observer.observer choices watched (ap (λ (o : Tracer). o.extent) first) (ap (λ (o : Tracer). o.steps.items) first ∙ none)
