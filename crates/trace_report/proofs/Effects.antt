@@ -1,6 +1,5 @@
 -- What a choice does to its core's pending stores, whatever holds the bus.
 use Rattle.trace_report.proofs.Vocabulary.{◌≡◌, ◌∙◌, ℕ, zero, suc, ◌+◌, nat_lt, List, [], ◌∷◌, ◌++◌, length, drop, Option, Some, None, refl, sym, ap, arith, length-append, Litmus, action_of, CoreState, State, Effect, is_none_pending, stored, effect_by, effect_of, core_of, chosen, next_of, Attempt, as_read, after_first, BusState, effect_on, Bus, Instr, Action, Store, Fence, Lock, Entry, Choice, Step, Drain, Outcome, Committed, Buffered, Stalled, Stall, committed_at, waited_before, if-by, effect-by, drain_with, step_of}
-use Rattle.tso_model.specs.declared.choice.Stall.TheVariants as stall
 
 -- nothing became pending, a store did, or the oldest was drained
 pub data Form (choice : Choice) (s : CoreState) (f : Effect) : Type 0 where

@@ -1,6 +1,5 @@
 -- Each location and line that a step names is one of the test's.
-use Rattle.trace_report.proofs.Vocabulary.{◌≡◌, ◌∙◌, ℕ, zero, suc, ◌+◌, ◌*◌, ◌/◌, ◌<◌, ◌≤◌, nat_lt, List, [], ◌∷◌, length, Option, Some, None, IfSome, All, slice_get, slice_index, slice_index_or, sym, subst, arith, inl, inr, div_ceil, div_ceil_times, div-mul-le_self, mul-le-mul_right, add-mul, All-nil, All-cons, All-head, All-tail, All-push, All-drop, Litmus, IsTest, IsProgram, KnownLocation, action_of, location_of, entry, fence, value_in, value_of, updated, CoreState, State, Effect, is_none_pending, stored, effect_by, effect_of, core_of, chosen, program_of, applied, start, MemoryAccess, NoAccess, Reads, Writes, Locks, access_of, next_of, access_by, step_access, load_access, locked_access, store_access, drain_access, filter, writes_to, Attempt, begins, load_part, as_read, BusState, effect_on, Bus, Instr, Loc, Action, Store, Load, Move, Fence, Lock, Entry, Kind, R, W, F, LR, LW, Choice, Step, Drain, HasLocation, IsLocationFor, core-cases, starts-idle, IsAt, IsLine, AreStoresKnown, if-by, effect-by, drain_with, load_value, step_of}
-use Rattle.tso_model.specs.declared.choice.Stall.TheVariants as stall
+use Rattle.trace_report.proofs.Vocabulary.{◌≡◌, ◌∙◌, ℕ, zero, suc, ◌+◌, ◌*◌, ◌/◌, ◌<◌, ◌≤◌, nat_lt, List, [], ◌∷◌, length, Option, Some, None, IfSome, All, slice_get, slice_index, slice_index_or, sym, subst, arith, inl, inr, div_ceil, div_ceil_times, div-mul-le_self, mul-le-mul_right, add-mul, All-nil, All-cons, All-head, All-tail, All-push, All-drop, Litmus, IsTest, IsProgram, KnownLocation, action_of, location_of, entry, fence, value_in, value_of, updated, CoreState, State, Effect, is_none_pending, stored, effect_by, effect_of, core_of, chosen, program_of, applied, start, MemoryAccess, NoAccess, Reads, Writes, Locks, access_of, next_of, access_by, step_access, load_access, locked_access, store_access, drain_access, filter, writes_to, Attempt, load_part, as_read, BusState, effect_on, Bus, Instr, Loc, Action, Store, Load, Move, Fence, Lock, Entry, Kind, R, W, F, LR, LW, Choice, Step, Drain, HasLocation, IsLocationFor, core-cases, starts-idle, IsAt, IsLine, AreStoresKnown, if-by, effect-by, drain_with, load_value, step_of}
 
 -- ---- entries
 
