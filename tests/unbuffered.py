@@ -80,8 +80,16 @@ def faults_of_outcome(program, bus, test):
     return [] if last and re.search(r" Never 0 %d$" % SEEDS, last[0]) else ["the sweep's last line is %s" % last]
 
 
-def rows(_):
+def examples():
+    """The names and the test of each example. Some differ in their choices alone, which aren't made here: such a test comes once."""
+    names = {}
     for name, test, _ in judging.tests_in(EXAMPLES):
+        names.setdefault(test, []).append(name)
+    return [(" and ".join(alike), test) for test, alike in names.items()]
+
+
+def rows(_):
+    for name, test in examples():
         for bus in BUSES:
             yield "%s, %s bus" % (name, bus), lambda program, bus=bus, test=test: faults_of_seeds(program, bus, test)
     for name, test, _ in judging.tests_in(GALLERY):
