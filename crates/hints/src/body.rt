@@ -21,19 +21,16 @@ pub fn body_of(text: &[u8]) -> &[u8] {
 pub fn ending_of<'a>(body: &'a [u8], tokens: &Tokens<'a>) -> &'a [u8] {
     match tokens.stop {
         Stop::BadToken(remaining) => after_square(last_bytes(body, remaining)),
-        Stop::End | Stop::Unclosed(_) => match last_quantifier(&tokens.items) {
-            Some(remaining) => last_bytes(body, remaining),
-            None => &[],
-        },
+        Stop::End | Stop::Unclosed(_) => last_bytes(body, last_quantifier(&tokens.items)),
     }
 }
 
-/// How many bytes stand from the last quantifier on.
-fn last_quantifier(tokens: &[Token<'_>]) -> Option<usize> {
-    let mut last = None;
+/// How many bytes stand from the last quantifier on; 0 where there is none.
+fn last_quantifier(tokens: &[Token<'_>]) -> usize {
+    let mut last = 0;
     for token in tokens {
         if is_name(token, b"exists") || is_name(token, b"forall") {
-            last = Some(token.remaining);
+            last = token.remaining;
         }
     }
     last

@@ -2,9 +2,10 @@
 //! input.
 
 use crate::orders::{from_line_at_fault, names_no_location};
+use crate::quotes::first_word;
 use crate::reader::Reader;
 use crate::search_end::SearchEnd;
-use crate::unended::{count_instructions, has_no_choices};
+use crate::unended::count_instructions;
 use crate::unused::unused_location;
 use litmus_reader::Fault;
 use order_builder::OrderFault;
@@ -112,19 +113,13 @@ impl Cause {
         test: &Test,
         text: &[u8],
     ) -> Result<Option<Cause>, NoMemory> {
-        Ok(match unused_location(alloc, test, text)? {
-            Some(named) => Some(Cause::UnusedLocation {
-                first: named.first,
-                length: named.length,
-            }),
-            None => None,
-        })
+        unused_location(alloc, test, text)
     }
 
     /// That the choices of this text end before the test, on a machine with store buffers or without. These of them
     /// stalled.
     pub fn of_unended_run(test: &Test, text: &[u8], is_buffered: bool, stalls: Stalls) -> Cause {
-        if has_no_choices(text) {
+        if first_word(text).is_empty() {
             return Cause::NoChoices;
         }
         let drains = if is_buffered {

@@ -9,7 +9,7 @@ use crate::numbers::bad_number;
 use crate::openings::{bad_init, bad_token, no_header, unclosed};
 use crate::place::Place;
 use crate::quotes::up_to;
-use crate::rows::{bad_header_row, too_large, wrong_cells};
+use crate::rows::{ROW_OF_CORES, too_large, wrong_cells};
 use crate::tables::{is_exactly_one_of, is_one_of};
 use litmus_reader::Why;
 use std::alloc::Global;
@@ -49,7 +49,7 @@ pub fn say_fault(
         Why::Unclosed => unclosed(line, asked, place),
         Why::BadToken => bad_token(line, place),
         Why::BadInit => bad_init(line, place),
-        Why::BadHeaderRow => bad_header_row(line, place),
+        Why::BadHeaderRow => unfit(line, place, "the test ends within a row", ROW_OF_CORES),
         Why::WrongCells => wrong_cells(line, place.rest),
         Why::BadInstruction => return bad_instruction(alloc, line, place.rest),
         Why::BadNumber => return bad_number(alloc, line, place.rest),
@@ -99,20 +99,25 @@ fn trailing(line: &mut Line, asked: Asked, place: &Place<'_>) {
     }
 }
 
-const FORM: &str =
+/// The form of conditions.
+const CONDITION: &str =
     ": a condition is exists, ~exists or forall, and then atoms as 0:EAX=1, x=1 or true, joined by /\\ and \\/";
 
 /// Says what doesn't fit in a condition.
 fn bad_condition(line: &mut Line, place: &Place<'_>) {
-    if says_foreign_form(line, place) || says_foreign_register(line, place) {
-        return;
+    if !says_foreign_form(line, place) && !says_foreign_register(line, place) {
+        unfit(line, place, "the test ends within its condition", CONDITION);
     }
+}
+
+/// Of what doesn't fit in a part of this form; or that the test ends in it, which is said so.
+fn unfit(line: &mut Line, place: &Place<'_>, end: &str, form: &str) {
     if place.rest.is_empty() {
-        line.say("the test ends within its condition");
+        line.say(end);
     } else {
         line.say_of("{} doesn't fit", place.token());
     }
-    line.say(FORM);
+    line.say(form);
 }
 
 /// Says of a number or a connective of another form, within a condition or after it. Whether one stands there.

@@ -15,8 +15,8 @@ use crate::place::Place;
 use crate::printing::printed;
 use crate::quotes::{first_bytes, last_bytes};
 use crate::search_end::search_ends;
-use crate::unended::{cases_end, choices_end, never_seen, no_choices, sweep_ends};
-use crate::unused::unused;
+use crate::unended::{MORE_CASES, NO_CHOICES, choices_end, never_seen, sweep_ends};
+use crate::unused::{UNUSED, say_named};
 use std::alloc::Global;
 use tso_model::NoMemory;
 
@@ -75,7 +75,7 @@ fn say_cause(alloc: Global, line: &mut Line, cause: &Cause, input: &[u8]) -> Res
                 *fault,
             );
         }
-        Cause::NoChoices => no_choices(line),
+        Cause::NoChoices => line.say(NO_CHOICES),
         Cause::TooFewChoices {
             steps,
             drains,
@@ -83,14 +83,16 @@ fn say_cause(alloc: Global, line: &mut Line, cause: &Cause, input: &[u8]) -> Res
         } => choices_end(line, *steps, *drains, stalls),
         Cause::ShortSeeds { length, none_ended } => sweep_ends(line, *length, *none_ended),
         Cause::NeverSeen { runs, depth } => never_seen(line, *runs, *depth),
-        Cause::UnusedLocation { first, length } => unused(line, input, *first, *length),
+        Cause::UnusedLocation { first, length } => {
+            say_named(line, UNUSED, input, *first, *length);
+        }
         Cause::LeftOut {
             first,
             length,
             is_register,
-        } => left_out(line, input, *first, *length, *is_register),
+        } => say_named(line, left_out(*is_register), input, *first, *length),
         Cause::TooManyStates(end) => search_ends(line, end),
-        Cause::TooManyCases { most } => cases_end(line, *most),
+        Cause::TooManyCases { most } => line.say_number(MORE_CASES, *most as usize),
     }
     Ok(())
 }

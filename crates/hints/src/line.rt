@@ -9,6 +9,9 @@ const MAX_WORDS: usize = 249;
 /// Maximum length of what is shown of one thing, in bytes.
 const MAX_SHOWN: usize = 32;
 
+/// The digits to base 16.
+const DIGITS: &[u8; 16] = b"0123456789ABCDEF";
+
 /// What stands in a gap of a sentence.
 #[derive(Clone, Copy)]
 pub enum Piece<'a> {
@@ -116,15 +119,8 @@ impl Line {
         for place in [5u32, 4, 3, 2, 1, 0] {
             let rest = code_point >> (4 * place);
             if place < 4 || rest > 0 {
-                self.push_digit(rest % 16);
+                self.push(&[DIGITS[(rest % 16) as usize]]);
             }
-        }
-    }
-
-    /// A digit to base 16.
-    fn push_digit(&mut self, digit: u32) {
-        if let Some(digit) = b"0123456789ABCDEF".get(digit as usize) {
-            self.push(&[*digit]);
         }
     }
 

@@ -43,7 +43,7 @@ fn say_line(line: &mut Line, words: &[&str]) {
 
 fn asks_for_help(words: &[&str]) -> bool {
     for word in words {
-        if *word == "--help" || *word == "-h" {
+        if matches!(*word, "--help" | "-h") {
             return true;
         }
     }

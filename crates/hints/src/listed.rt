@@ -2,8 +2,7 @@
 //! see it.
 
 use crate::body::{body_of, is_name};
-use crate::line::Line;
-use crate::unused::{NamedAt, location_named, say_named};
+use crate::unused::location_named;
 use litmus_tokens::{Lexeme, Symbol, Token, is_symbol, tokens_of, word};
 use std::alloc::Global;
 use tso_model::{Core, Loc, NoMemory, Reg, Test};
@@ -32,7 +31,10 @@ pub fn listed_in(alloc: Global, test: &Test, text: &[u8]) -> Result<Vec<Listed>,
     let tokens = tokens_of(alloc, body_of(text))?;
     let mut found = Vec::new(alloc);
     let mut core = None;
-    for token in list_of(&tokens.items) {
+    for token in after_opening(&tokens.items) {
+        if is_symbol(Symbol::CloseSquare, token) {
+            break;
+        }
         core = core_after(core, token);
         if let Some(listed) = listed_at(test, text, core, token) {
             found.push(listed)?;
@@ -41,18 +43,7 @@ pub fn listed_in(alloc: Global, test: &Test, text: &[u8]) -> Result<Vec<Listed>,
     Ok(found)
 }
 
-/// What stands in the brackets of `locations [..]`, or nothing where the test has no list.
-fn list_of<'a, 'b>(tokens: &'b [Token<'a>]) -> &'b [Token<'a>] {
-    let list = after_opening(tokens);
-    for end in 0..list.len() {
-        if is_symbol(Symbol::CloseSquare, &list[end]) {
-            return &list[..end];
-        }
-    }
-    list
-}
-
-/// What stands after `locations [`.
+/// What stands after `locations [`, or nothing where the test has no list.
 fn after_opening<'a, 'b>(tokens: &'b [Token<'a>]) -> &'b [Token<'a>] {
     for at in 1..tokens.len() {
         if is_name(&tokens[at - 1], b"locations") && is_symbol(Symbol::OpenSquare, &tokens[at]) {
@@ -96,12 +87,11 @@ fn register_named(test: &Test, core: u32, name: &[u8]) -> Option<ListedName> {
     }
 }
 
-/// Says of a register or a location that is listed there that no state shows it unless more is asked for.
-pub fn left_out(line: &mut Line, input: &[u8], first: usize, length: usize, is_register: bool) {
-    let sentence = if is_register {
+/// Of a register or a location that is listed there: no state shows it unless more is asked for.
+pub fn left_out(is_register: bool) -> &'static str {
+    if is_register {
         "line {}: locations lists {}, which the states leave out: --show registers shows it"
     } else {
         "line {}: locations lists {}, which the states leave out: --show all shows it"
-    };
-    say_named(line, input, NamedAt { first, length }, sentence);
+    }
 }

@@ -5,7 +5,6 @@ use crate::characters::{say_character, says_foreign};
 use crate::divider::{Asked, says_missing_divider};
 use crate::faults::{COMMENT, CONNECTIVES, DECIMAL, says_foreign_register};
 use crate::line::{Line, Piece};
-use crate::numbers::GREATEST;
 use crate::operands::percent;
 use crate::place::Place;
 use crate::quotes::{begins_with_letter, is_bare, up_to, word};
@@ -72,16 +71,18 @@ static OPENERS: [Alike; 4] = [
 ];
 
 /// What begins no token, and what is meant by it.
-static SIGNS: [Alike; 3] = [
+static SIGNS: [Alike; 5] = [
     Alike(
         &["--", ".."],
         "the dividing line between a test and its choices is ==== alone",
     ),
-    Alike(&["//"], COMMENT),
+    Alike(&["//", "#"], COMMENT),
     Alike(
         &["*)"],
         "*) ends no comment here: a comment ends at its first *) and can't contain another comment",
     ),
+    Alike(&["-"], "a number has no sign: values are 0 to 4294967295"),
+    Alike(&["&", "!", "/", "\\", "<", ">"], CONNECTIVES),
 ];
 
 /// Of a header line.
@@ -118,9 +119,7 @@ pub fn unclosed(line: &mut Line, asked: Asked, place: &Place<'_>) {
         line.say(
             "the test ends before its initial state: write { } between the first line and the row P0 | P1 ;",
         );
-    } else if let Some(said) = said_of_front(&OPENERS, place.rest) {
-        line.say(said);
-    } else if let Some(said) = said_of(&KEYWORDS, token) {
+    } else if let Some(said) = said_of_front(&OPENERS, place.rest).or(said_of(&KEYWORDS, token)) {
         line.say_of(said, token);
     } else if !says_missing_divider(line, asked, place.rest) {
         line.say_of("no ; ends the row that begins with {}", token);
@@ -144,7 +143,7 @@ pub fn bad_token(line: &mut Line, place: &Place<'_>) {
         );
     }
     match place.rest.first() {
-        Some(byte) if !begins_token(place.rest) => bad_byte(line, place, *byte),
+        Some(byte) if !begins_token(*byte, place.rest) => bad_byte(line, place, *byte),
         _ => line.say_of(
             "{} stands before the initial state { }: only \"..\", KEY=.. and comments may stand there",
             token,
@@ -162,30 +161,23 @@ fn no_brackets(line: &mut Line, token: &[u8]) {
     line.say_of(sentence, token);
 }
 
-fn begins_token(text: &[u8]) -> bool {
-    match text.first() {
-        Some(first) => {
-            continues_name(*first)
-                || b"=;:[]{}|,$~()".contains(first)
-                || text.starts_with(b"/\\")
-                || text.starts_with(b"\\/")
-        }
-        None => false,
-    }
+/// Whether a text begins with a token; this is its first byte.
+fn begins_token(first: u8, text: &[u8]) -> bool {
+    continues_name(first)
+        || b"=;:[]{}|,$~()".contains(&first)
+        || text.starts_with(b"/\\")
+        || text.starts_with(b"\\/")
 }
 
 fn bad_byte(line: &mut Line, place: &Place<'_>, byte: u8) {
+    if byte == b'#' && is_exactly_one_of(&[","], place.last_word()) {
+        return line.say("a value is written with $: MOV [x],$1");
+    }
     if let Some(said) = said_of_front(&SIGNS, place.rest) {
-        return line.say(said);
+        return line.say_of(said, place.token());
     }
     match byte {
-        b'-' => line.say_number("a number has no sign: values are 0 to {}", GREATEST),
-        b'#' if is_exactly_one_of(&[","], place.last_word()) => {
-            line.say("a value is written with $: MOV [x],$1");
-        }
-        b'#' => line.say(COMMENT),
         b'%' => percent(line, place.cell()),
-        b'&' | b'!' | b'/' | b'\\' | b'<' | b'>' => line.say_of(CONNECTIVES, place.token()),
         b'!'..=b'~' => line.say_of("{} can't stand here", place.token()),
         _ => say_character(line, place, byte),
     }

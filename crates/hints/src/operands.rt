@@ -46,18 +46,10 @@ pub fn percent(line: &mut Line, cell: &[u8]) {
         "a register is written without %: EAX"
     } else if cell.contains(&b'[') {
         BOTH_ORDERS
-    } else if has_address(cell) {
+    } else if after_byte(cell, b'(').starts_with(b"%") {
         IN_REGISTER
     } else {
         SOURCE_FIRST
     };
     line.say_of(sentence, cell);
-}
-
-/// Whether `%` follows the first `(`.
-fn has_address(cell: &[u8]) -> bool {
-    match after_byte(cell, b'(') {
-        Some(operand) => operand.starts_with(b"%"),
-        None => false,
-    }
 }

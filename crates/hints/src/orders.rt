@@ -45,10 +45,7 @@ fn no_order(line: &mut Line, word: &[u8]) {
 
 /// A line without a carriage return at its end.
 fn without_return(line: &[u8]) -> &[u8] {
-    match line.split_last() {
-        Some((last, front)) if *last == b'\r' => front,
-        _ => line,
-    }
+    line.strip_suffix(b"\r").unwrap_or(line)
 }
 
 /// The first line of a text, without a carriage return at its end.
@@ -109,11 +106,10 @@ fn bad_line(line: &mut Line, unknown_location: bool, entry: &[u8]) {
 fn number_out_of_range(entry: &[u8]) -> Option<&[u8]> {
     let digits = entry.strip_prefix(b"P")?;
     let core = up_to(digits, b':');
-    let place = up_to(after_byte(digits, b':')?, b' ');
-    if is_over_a_byte(core) {
-        Some(core)
-    } else if is_over_a_byte(place) {
-        Some(place)
+    let place = up_to(after_byte(digits, b':'), b' ');
+    let number = if is_over_a_byte(core) { core } else { place };
+    if digits.contains(&b':') && is_over_a_byte(number) {
+        Some(number)
     } else {
         None
     }
@@ -129,7 +125,7 @@ fn is_over_a_byte(digits: &[u8]) -> bool {
 
 /// What stands before `=` in the third of three pieces, which one space separates.
 fn location_in(entry: &[u8]) -> Option<&[u8]> {
-    let access = after_byte(after_byte(entry, b' ')?, b' ')?;
+    let access = after_byte(after_byte(entry, b' '), b' ');
     if access.contains(&b' ') || !access.contains(&b'=') {
         return None;
     }

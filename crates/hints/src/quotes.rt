@@ -31,21 +31,16 @@ pub fn is_bare(bytes: &[u8]) -> bool {
 
 /// The name or the digits at the front, as long as they go; or `/\` or `\/`; or else one byte.
 pub fn token(text: &[u8]) -> &[u8] {
-    first_bytes(text, token_len(text))
-}
-
-fn token_len(text: &[u8]) -> usize {
-    let Some(first) = text.first() else {
-        return 0;
-    };
-    if first.is_ascii_digit() {
-        digits(text).len()
-    } else if continues_name(*first) {
-        digits_and_letters(text).len()
+    let digits = digits(text);
+    let name = digits_and_letters(text);
+    if !digits.is_empty() {
+        digits
+    } else if !name.is_empty() {
+        name
     } else if text.starts_with(b"/\\") || text.starts_with(b"\\/") {
-        2
+        first_bytes(text, 2)
     } else {
-        1
+        first_bytes(text, 1)
     }
 }
 
@@ -113,11 +108,10 @@ pub fn after_last<'a>(text: &'a [u8], stops: &[u8]) -> &'a [u8] {
     last_bytes(text, count)
 }
 
-/// What stands after the first such byte.
-pub fn after_byte(text: &[u8], byte: u8) -> Option<&[u8]> {
-    let (_, rest) = text.split_at(up_to(text, byte).len().min(text.len()));
-    let (_, after) = rest.split_first()?;
-    Some(after)
+/// What stands after the first such byte, or no bytes where there is none.
+pub fn after_byte(text: &[u8], byte: u8) -> &[u8] {
+    let from_byte = text.len().saturating_sub(up_to(text, byte).len());
+    last_bytes(text, from_byte.saturating_sub(1))
 }
 
 /// The letters, digits and underscores that a text ends with, white space aside; or else its last byte.

@@ -13,15 +13,8 @@ use tso_model::limits::{
     MAX_ATOMS, MAX_CORES, MAX_INSTRUCTIONS, MAX_LOCATIONS, MAX_OPEN, MAX_TEST_NAME,
 };
 
-/// Of the row of cores.
-pub fn bad_header_row(line: &mut Line, place: &Place<'_>) {
-    if place.rest.is_empty() {
-        line.say("the test ends within a row");
-    } else {
-        line.say_of("{} doesn't fit", place.token());
-    }
-    line.say(": the row of cores is P0 | P1 | .. in order, ended by ;");
-}
+/// The form of the row of cores.
+pub const ROW_OF_CORES: &str = ": the row of cores is P0 | P1 | .. in order, ended by ;";
 
 /// Of the row with too many or too few cells at the front of a text.
 pub fn wrong_cells(line: &mut Line, rest: &[u8]) {
@@ -64,24 +57,25 @@ pub fn too_large(alloc: Global, line: &mut Line, place: &Place<'_>) -> Result<()
 }
 
 fn one_too_many(line: &mut Line, place: &Place<'_>, limit: Limit) {
-    let (sentence, most) = match limit {
-        Limit::Cores => ("{}: a test has at most {} cores", MAX_CORES),
+    // What stands before the end of a cell, of an item or of an atom.
+    let item = up_to_any(place.rest, b"|;}/\\)").trim_ascii_end();
+    let (sentence, named, most) = match limit {
+        Limit::Cores => ("{}: a test has at most {} cores", place.token(), MAX_CORES),
         Limit::Locations => (
             "{} is one too many: a test has at most {} locations",
+            item,
             MAX_LOCATIONS,
         ),
         Limit::Instructions => (
             "{} is one too many: a core has at most {} instructions",
+            item,
             MAX_INSTRUCTIONS,
         ),
         Limit::Atoms => (
             "{} is one too many: a condition has at most {} atoms",
+            item,
             MAX_ATOMS,
         ),
-    };
-    let named = match limit {
-        Limit::Cores => place.token(),
-        Limit::Locations | Limit::Instructions | Limit::Atoms => item(place.rest),
     };
     line.say_of_number(sentence, named, most);
 }
@@ -89,9 +83,4 @@ fn one_too_many(line: &mut Line, place: &Place<'_>, limit: Limit) {
 /// Whether nothing stands before a place but white space and comments.
 fn begins_text(place: &Place<'_>) -> bool {
     matches!(after_gap(place.text), Ok(rest) if rest.len() == place.rest.len())
-}
-
-/// What stands before the end of a cell, of an item or of an atom.
-fn item(text: &[u8]) -> &[u8] {
-    up_to_any(text, b"|;}/\\)").trim_ascii_end()
 }

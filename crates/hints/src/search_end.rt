@@ -46,13 +46,17 @@ pub struct SearchEnd {
 
 /// Of a search that ended at its limit.
 pub fn search_ends(line: &mut Line, end: &SearchEnd) {
+    let met = match end.finals {
+        0 => Piece::Text("no"),
+        finals => Piece::Number(finals),
+    };
     line.say_with(
         "the machine can reach more than {} states, {}{}; {} final {}",
         &[
             Piece::Number(end.most as usize),
             Piece::Text(limit_words(end.is_raisable, end.is_buffered)),
             Piece::Text(condition_words(&end.sighting)),
-            number_met(end.finals),
+            met,
             Piece::Text(met_words(end.finals, &end.sighting)),
         ],
     );
@@ -73,13 +77,6 @@ fn condition_words(sighting: &Sighting) -> &'static str {
         Sighting::None | Sighting::Met(_) => {
             "name fewer atoms in the condition; tso why needs no states"
         }
-    }
-}
-
-fn number_met<'a>(finals: usize) -> Piece<'a> {
-    match finals {
-        0 => Piece::Text("no"),
-        _ => Piece::Number(finals),
     }
 }
 

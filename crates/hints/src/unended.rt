@@ -2,9 +2,16 @@
 //! that never saw a state doesn't show that there is none.
 
 use crate::line::{Line, Piece};
-use crate::quotes::first_word;
 use scheduler::Stalls;
 use tso_model::{Choice, Core, Instr, Stall, Test};
+
+/// Of a run without choices.
+pub const NO_CHOICES: &str =
+    "no choices: give some after a line ====, or use sweep or outcomes, which take none";
+
+/// Of a search that may tell no more than so many cases apart.
+pub const MORE_CASES: &str =
+    "there are more cases to tell apart than {}, the limit of --cases: raise it, or use outcomes";
 
 /// Maximum number of seeds of a sweep.
 const MOST_SEEDS: u32 = 1000;
@@ -28,24 +35,6 @@ pub fn never_seen(line: &mut Line, runs: u32, depth: u8) {
     };
     let runs = Piece::Count(runs as usize, "run");
     line.say_with(sentence, &[runs, Piece::Number(usize::from(depth))]);
-}
-
-/// Of a search that may tell no more than so many cases apart.
-pub fn cases_end(line: &mut Line, most: u32) {
-    line.say_number(
-        "there are more cases to tell apart than {}, the limit of --cases: raise it, or use outcomes",
-        most as usize,
-    );
-}
-
-/// Whether nothing but white space stands where choices may.
-pub fn has_no_choices(choices: &[u8]) -> bool {
-    first_word(choices).is_empty()
-}
-
-/// Of a run without choices.
-pub fn no_choices(line: &mut Line) {
-    line.say("no choices: give some after a line ====, or use sweep or outcomes, which take none");
 }
 
 /// Of a run under choices that are too few, of which these stalled, of a test that takes at least so many steps and

@@ -2,6 +2,7 @@
 //! then 0 in every run, and the answer says nothing.
 
 use crate::body::{body_of, ending_of, is_name};
+use crate::cause::Cause;
 use crate::line::{Line, Piece};
 use crate::place::Place;
 use crate::quotes::first_bytes;
@@ -9,27 +10,14 @@ use litmus_tokens::{Symbol, Token, is_symbol, tokens_of};
 use std::alloc::Global;
 use tso_model::{Core, Instr, Loc, NoMemory, Test};
 
-/// Where a name stands in a text: after so many bytes, and how many it has.
-#[derive(Clone, Copy)]
-pub struct NamedAt {
-    pub first: usize,
-    pub length: usize,
-}
+/// Of a location that nothing but the condition names.
+pub const UNUSED: &str =
+    "line {}: the condition names {}, which no program uses and no initial state sets: it stays 0";
 
-/// Says of the location whose name is so many bytes of an input, after so many others, that nothing else uses it.
-pub fn unused(line: &mut Line, input: &[u8], first: usize, length: usize) {
-    say_named(
-        line,
-        input,
-        NamedAt { first, length },
-        "line {}: the condition names {}, which no program uses and no initial state sets: it stays 0",
-    );
-}
-
-/// Says a sentence of a name in an input, with its line.
-pub fn say_named(line: &mut Line, input: &[u8], at: NamedAt, sentence: &str) {
-    let place = Place::new(input, input.len().saturating_sub(at.first));
-    let name = first_bytes(place.rest, at.length);
+/// Says a sentence of a name, which is so many bytes of an input, after so many others, with its line.
+pub fn say_named(line: &mut Line, sentence: &str, input: &[u8], first: usize, length: usize) {
+    let place = Place::new(input, input.len().saturating_sub(first));
+    let name = first_bytes(place.rest, length);
     line.say_with(sentence, &[Piece::Number(place.line()), Piece::Named(name)]);
 }
 
@@ -47,11 +35,7 @@ pub fn location_named(test: &Test, name: &[u8]) -> Option<Loc> {
 /// names it, and where it does so in the test's text; `None` where there is none.
 ///
 /// Errors: out of memory only.
-pub fn unused_location(
-    alloc: Global,
-    test: &Test,
-    text: &[u8],
-) -> Result<Option<NamedAt>, NoMemory> {
+pub fn unused_location(alloc: Global, test: &Test, text: &[u8]) -> Result<Option<Cause>, NoMemory> {
     if uses_all_locations(test) {
         return Ok(None);
     }
@@ -67,7 +51,7 @@ fn first_unused(
     text: &[u8],
     body: &[Token<'_>],
     ending: &[Token<'_>],
-) -> Option<NamedAt> {
+) -> Option<Cause> {
     for loc in 0..test.locations() {
         let name = test.location_name(Loc(loc)).as_bytes();
         if !is_used(test, Loc(loc)) && !is_set(body, name) {
@@ -129,10 +113,10 @@ fn is_set(tokens: &[Token<'_>], name: &[u8]) -> bool {
 }
 
 /// Where a name stands first among the tokens of a text's end.
-fn named_in(text: &[u8], tokens: &[Token<'_>], name: &[u8]) -> Option<NamedAt> {
+fn named_in(text: &[u8], tokens: &[Token<'_>], name: &[u8]) -> Option<Cause> {
     for token in tokens {
         if is_name(token, name) {
-            return Some(NamedAt {
+            return Some(Cause::UnusedLocation {
                 first: text.len().saturating_sub(token.remaining),
                 length: name.len(),
             });
