@@ -9,10 +9,12 @@ use std::alloc::{AllocError, Global};
 /// The program for a command line of these words, whose first is its name. Where the second names a command, that command
 /// stands alone: no other can follow it, and nothing that is printed of it shows the others. Else all of them are there.
 pub fn command_line<'a>(alloc: Global, words: &[&str]) -> Result<Command<'a>, AllocError> {
-    match words.get(1).and_then(|word| Subcommand::named(word)) {
-        Some(called) => program_of(alloc, &[called]),
-        None => program_of(alloc, &SUBCOMMANDS),
+    if let [_, word, ..] = words
+        && let Some(called) = Subcommand::named(word)
+    {
+        return program_of(alloc, &[called]);
     }
+    program_of(alloc, &SUBCOMMANDS)
 }
 
 /// The program with these commands.

@@ -133,8 +133,8 @@ fn settings_named(name: &str, matches: &ArgMatches<'_>) -> Option<Settings>
     ensures { IfSome result HasDepth }
 {
     match Subcommand::named(name)? {
-        Subcommand::Run => run_settings(matches),
-        Subcommand::Trace => trace_settings(matches),
+        Subcommand::Run => run_settings(matches, false),
+        Subcommand::Trace => run_settings(matches, true),
         Subcommand::Sweep => sweep_settings(matches),
         Subcommand::Outcomes => outcomes_settings(matches),
         Subcommand::Why => why_settings(matches),
@@ -144,29 +144,25 @@ fn settings_named(name: &str, matches: &ArgMatches<'_>) -> Option<Settings>
     }
 }
 
-fn run_settings(matches: &ArgMatches<'_>) -> Option<Settings>
+/// The settings of a run, which is reported alone or with its trace.
+fn run_settings(matches: &ArgMatches<'_>, is_traced: bool) -> Option<Settings>
     ensures { IfSome result HasDepth }
 {
     let protocol = protocol_in(matches)?;
     let config = config_in(matches)?;
     let json = matches.get_flag("json");
-    Some(Settings::Run {
-        protocol,
-        config,
-        json,
-    })
-}
-
-fn trace_settings(matches: &ArgMatches<'_>) -> Option<Settings>
-    ensures { IfSome result HasDepth }
-{
-    let protocol = protocol_in(matches)?;
-    let config = config_in(matches)?;
-    let json = matches.get_flag("json");
-    Some(Settings::Trace {
-        protocol,
-        config,
-        json,
+    Some(if is_traced {
+        Settings::Trace {
+            protocol,
+            config,
+            json,
+        }
+    } else {
+        Settings::Run {
+            protocol,
+            config,
+            json,
+        }
     })
 }
 

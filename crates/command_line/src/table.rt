@@ -35,6 +35,15 @@ pub struct DeclaredOption {
     pub value: Value,
 }
 
+/// What is said of a command on command lines and in help.
+struct DeclaredCommand {
+    name: &'static str,
+    about: &'static str,
+    help: &'static str,
+    options: &'static [DeclaredOption],
+    further_options: &'static [DeclaredOption],
+}
+
 /// What value an option has.
 #[derive(Clone, Copy)]
 pub enum Value {
@@ -49,16 +58,7 @@ pub enum Value {
 impl Subcommand {
     /// The word for it on a command line.
     pub fn name<'a>(self) -> &'a str {
-        match self {
-            Subcommand::Run => "run",
-            Subcommand::Trace => "trace",
-            Subcommand::Sweep => "sweep",
-            Subcommand::Outcomes => "outcomes",
-            Subcommand::Why => "why",
-            Subcommand::Check => "check",
-            Subcommand::Witness => "witness",
-            Subcommand::Tables => "tables",
-        }
+        self.declared().name
     }
 
     /// The command with this name.
@@ -73,62 +73,22 @@ impl Subcommand {
 
     /// What it does, in one line.
     pub fn about<'a>(self) -> &'a str {
-        match self {
-            Subcommand::Run => {
-                "Runs a test under a list of choices, and reports the order that memory saw"
-            }
-            Subcommand::Trace => {
-                "Runs a test under a list of choices, and tells what each choice did"
-            }
-            Subcommand::Sweep => {
-                "Runs a test under the choices of many seeds, and counts its final states"
-            }
-            Subcommand::Outcomes => {
-                "Finds all final values of what the condition names, with choices that lead there"
-            }
-            Subcommand::Why => {
-                "Tells why no execution has what the condition asks for, or shows one that has it"
-            }
-            Subcommand::Check => "Judges an order of a test by the axioms of TSO",
-            Subcommand::Witness => "Finds choices that reach an order of a test",
-            Subcommand::Tables => "Prints the table of a coherence protocol",
-        }
+        self.declared().about
     }
 
     /// What its help says after its options.
     pub fn help<'a>(self) -> &'a str {
-        match self {
-            Subcommand::Run => help::RUN,
-            Subcommand::Trace => help::TRACE,
-            Subcommand::Sweep => help::SWEEP,
-            Subcommand::Outcomes => help::OUTCOMES,
-            Subcommand::Why => help::WHY,
-            Subcommand::Check => help::CHECK,
-            Subcommand::Witness => help::WITNESS,
-            Subcommand::Tables => help::TABLES,
-        }
+        self.declared().help
     }
 
     /// The options that say what is run, searched or judged.
     pub fn options(self) -> &'static [DeclaredOption] {
-        match self {
-            Subcommand::Run | Subcommand::Trace | Subcommand::Sweep => &MACHINE,
-            Subcommand::Outcomes => &SEARCH,
-            Subcommand::Why => &REASON,
-            Subcommand::Check => &[],
-            Subcommand::Witness => &WITNESS,
-            Subcommand::Tables => &TABLES,
-        }
+        self.declared().options
     }
 
     /// The options after these: of a sweep its seeds, of others the form of their answer.
     pub fn further_options(self) -> &'static [DeclaredOption] {
-        match self {
-            Subcommand::Run | Subcommand::Trace => &ANSWER,
-            Subcommand::Sweep => &PLAN,
-            Subcommand::Outcomes | Subcommand::Why => &VERDICT,
-            Subcommand::Check | Subcommand::Witness | Subcommand::Tables => &[],
-        }
+        self.declared().further_options
     }
 
     /// Its option of this name, which begins with `--`.
@@ -137,6 +97,19 @@ impl Subcommand {
         match named_in(self.options(), name) {
             Some(declared) => Some(declared),
             None => named_in(self.further_options(), name),
+        }
+    }
+
+    fn declared(self) -> &'static DeclaredCommand {
+        match self {
+            Subcommand::Run => &RUN,
+            Subcommand::Trace => &TRACE,
+            Subcommand::Sweep => &SWEEP,
+            Subcommand::Outcomes => &OUTCOMES,
+            Subcommand::Why => &WHY,
+            Subcommand::Check => &CHECK,
+            Subcommand::Witness => &WITNESS,
+            Subcommand::Tables => &TABLES,
         }
     }
 }
@@ -164,7 +137,7 @@ const SHOWN: &[&str] = &["condition", "registers", "all"];
 const MODELS: &[&str] = &["tso", "sc"];
 
 /// The options that a machine is built by.
-static MACHINE: [DeclaredOption; 6] = [
+const MACHINE: &[DeclaredOption] = &[
     DeclaredOption {
         name: "protocol",
         help: "Coherence protocol of the caches",
@@ -198,7 +171,7 @@ static MACHINE: [DeclaredOption; 6] = [
 ];
 
 /// The options that say which seeds are swept.
-static PLAN: [DeclaredOption; 3] = [
+const PLAN: &[DeclaredOption] = &[
     DeclaredOption {
         name: "from",
         help: "The first seed, 0 to 4294967295",
@@ -217,7 +190,7 @@ static PLAN: [DeclaredOption; 3] = [
 ];
 
 /// The options that say what is searched for.
-static SEARCH: [DeclaredOption; 3] = [
+const SEARCH: &[DeclaredOption] = &[
     DeclaredOption {
         name: "depth",
         help: "How many stores each core's buffer holds, 0 to 32; 32 gives all of TSO, 0 sequential consistency",
@@ -236,7 +209,7 @@ static SEARCH: [DeclaredOption; 3] = [
 ];
 
 /// The options that say of which model a reason is looked for.
-static REASON: [DeclaredOption; 2] = [
+const REASON: &[DeclaredOption] = &[
     DeclaredOption {
         name: "model",
         help: "Which model of memory: TSO (tso), or sequential consistency (sc)",
@@ -250,14 +223,14 @@ static REASON: [DeclaredOption; 2] = [
 ];
 
 /// The option of a witness.
-static WITNESS: [DeclaredOption; 1] = [DeclaredOption {
+const DEPTH: &[DeclaredOption] = &[DeclaredOption {
     name: "depth",
     help: "How many stores each core's buffer holds, 1 to 32",
     value: Value::Number(1, 32, "4"),
 }];
 
 /// The option of a table.
-static TABLES: [DeclaredOption; 1] = [DeclaredOption {
+const PROTOCOL: &[DeclaredOption] = &[DeclaredOption {
     name: "protocol",
     help: "Which protocol",
     value: Value::Named("NAME", PROTOCOLS, "msi"),
@@ -271,10 +244,10 @@ const JSON: DeclaredOption = DeclaredOption {
 };
 
 /// The options of a command whose answer has no verdict.
-static ANSWER: [DeclaredOption; 1] = [JSON];
+const ANSWER: &[DeclaredOption] = &[JSON];
 
 /// The options of a command whose answer has a verdict.
-static VERDICT: [DeclaredOption; 2] = [
+const VERDICT: &[DeclaredOption] = &[
     JSON,
     DeclaredOption {
         name: "assert",
@@ -282,3 +255,67 @@ static VERDICT: [DeclaredOption; 2] = [
         value: Value::Flag,
     },
 ];
+
+static RUN: DeclaredCommand = DeclaredCommand {
+    name: "run",
+    about: "Runs a test under a list of choices, and reports the order that memory saw",
+    help: help::RUN,
+    options: MACHINE,
+    further_options: ANSWER,
+};
+
+static TRACE: DeclaredCommand = DeclaredCommand {
+    name: "trace",
+    about: "Runs a test under a list of choices, and tells what each choice did",
+    help: help::TRACE,
+    options: MACHINE,
+    further_options: ANSWER,
+};
+
+static SWEEP: DeclaredCommand = DeclaredCommand {
+    name: "sweep",
+    about: "Runs a test under the choices of many seeds, and counts its final states",
+    help: help::SWEEP,
+    options: MACHINE,
+    further_options: PLAN,
+};
+
+static OUTCOMES: DeclaredCommand = DeclaredCommand {
+    name: "outcomes",
+    about: "Finds all final values of what the condition names, with choices that lead there",
+    help: help::OUTCOMES,
+    options: SEARCH,
+    further_options: VERDICT,
+};
+
+static WHY: DeclaredCommand = DeclaredCommand {
+    name: "why",
+    about: "Tells why no execution has what the condition asks for, or shows one that has it",
+    help: help::WHY,
+    options: REASON,
+    further_options: VERDICT,
+};
+
+static CHECK: DeclaredCommand = DeclaredCommand {
+    name: "check",
+    about: "Judges an order of a test by the axioms of TSO",
+    help: help::CHECK,
+    options: &[],
+    further_options: &[],
+};
+
+static WITNESS: DeclaredCommand = DeclaredCommand {
+    name: "witness",
+    about: "Finds choices that reach an order of a test",
+    help: help::WITNESS,
+    options: DEPTH,
+    further_options: &[],
+};
+
+static TABLES: DeclaredCommand = DeclaredCommand {
+    name: "tables",
+    about: "Prints the table of a coherence protocol",
+    help: help::TABLES,
+    options: PROTOCOL,
+    further_options: &[],
+};

@@ -59,7 +59,7 @@ pub fn say_fault(
         ),
         Why::NoSuchCore => line.say_of(
             "there is no core {}: the row P0 | P1 | .. names the cores",
-            place.token(),
+            place.token,
         ),
         Why::TooLarge => return too_large(alloc, line, place),
         Why::BadCondition => bad_condition(line, place),
@@ -83,7 +83,7 @@ fn foreign_line(place: &Place<'_>, why: Why) -> Option<&'static str> {
         None
     } else if place.from_line().starts_with(b";;") {
         Some(COMMENT)
-    } else if place.token().starts_with(b"X86") {
+    } else if place.token.starts_with(b"X86") {
         Some(ONE_TEST)
     } else {
         None
@@ -94,7 +94,7 @@ fn trailing(line: &mut Line, asked: Asked, place: &Place<'_>) {
     if !says_missing_divider(line, asked, place.rest) && !says_foreign_form(line, place) {
         line.say_of(
             "{} stands after the end of the test: leave it out",
-            place.token(),
+            place.token,
         );
     }
 }
@@ -115,7 +115,7 @@ fn unfit(line: &mut Line, place: &Place<'_>, end: &str, form: &str) {
     if place.rest.is_empty() {
         line.say(end);
     } else {
-        line.say_of("{} doesn't fit", place.token());
+        line.say_of("{} doesn't fit", place.token);
     }
     line.say(form);
 }
@@ -126,7 +126,7 @@ fn says_foreign_form(line: &mut Line, place: &Place<'_>) -> bool {
         line.say_of(DECIMAL, place.with_last_byte());
         true
     } else if is_connective(place) {
-        line.say_of(CONNECTIVES, place.token());
+        line.say_of(CONNECTIVES, place.token);
         true
     } else {
         false
@@ -134,18 +134,18 @@ fn says_foreign_form(line: &mut Line, place: &Place<'_>) -> bool {
 }
 
 fn is_connective(place: &Place<'_>) -> bool {
-    let token = place.token();
+    let token = place.token;
     is_one_of(&["|", "and", "or"], token)
-        || (is_exactly_one_of(&["="], token) && is_exactly_one_of(&["="], place.last_word()))
+        || (is_exactly_one_of(&["="], token) && is_exactly_one_of(&["="], place.last_word))
 }
 
 /// Says of a register of another form: of one that isn't read, or of the `P` of its core. Whether one stands there.
 pub fn says_foreign_register(line: &mut Line, place: &Place<'_>) -> bool {
-    let last = place.last_word();
+    let last = place.last_word;
     if place.is_register() {
         line.say_of(
             "{} is none of EAX, EBX, ECX, EDX, ESI, EDI, the registers of 32 bits: tools/import renames others, but not parts such as AL",
-            place.token(),
+            place.token,
         );
         true
     } else if place.rest.starts_with(b":") && last.starts_with(b"P") {

@@ -114,7 +114,7 @@ fn other_header(line: &mut Line, word: &[u8]) {
 
 /// Of what doesn't end.
 pub fn unclosed(line: &mut Line, asked: Asked, place: &Place<'_>) {
-    let token = place.token();
+    let token = place.token;
     if place.rest.is_empty() {
         line.say(
             "the test ends before its initial state: write { } between the first line and the row P0 | P1 ;",
@@ -128,8 +128,8 @@ pub fn unclosed(line: &mut Line, asked: Asked, place: &Place<'_>) {
 
 /// Of what begins no token, or stands where it can't before the initial state.
 pub fn bad_token(line: &mut Line, place: &Place<'_>) {
-    let token = place.token();
-    if is_exactly_one_of(&["locations"], place.last_word()) {
+    let token = place.token;
+    if is_exactly_one_of(&["locations"], place.last_word) {
         return no_brackets(line, token);
     }
     if token.len() > MAX_NAME && !token.starts_with(b"0") && is_bare(token) {
@@ -170,22 +170,22 @@ fn begins_token(first: u8, text: &[u8]) -> bool {
 }
 
 fn bad_byte(line: &mut Line, place: &Place<'_>, byte: u8) {
-    if byte == b'#' && is_exactly_one_of(&[","], place.last_word()) {
+    if byte == b'#' && is_exactly_one_of(&[","], place.last_word) {
         return line.say("a value is written with $: MOV [x],$1");
     }
     if let Some(said) = said_of_front(&SIGNS, place.rest) {
-        return line.say_of(said, place.token());
+        return line.say_of(said, place.token);
     }
     match byte {
         b'%' => percent(line, place.cell()),
-        b'!'..=b'~' => line.say_of("{} can't stand here", place.token()),
+        b'!'..=b'~' => line.say_of("{} can't stand here", place.token),
         _ => say_character(line, place, byte),
     }
 }
 
 /// Of an item of the initial state.
 pub fn bad_init(line: &mut Line, place: &Place<'_>) {
-    let last = place.last_word();
+    let last = place.last_word;
     if place.is_hexadecimal() {
         line.say_of(DECIMAL, place.with_last_byte());
     } else if is_type(last) {
@@ -195,7 +195,7 @@ pub fn bad_init(line: &mut Line, place: &Place<'_>) {
         );
     } else if !says_foreign_register(line, place) {
         let is_value = is_exactly_one_of(&["="], last);
-        unfit_item(line, is_value, place.token());
+        unfit_item(line, is_value, place.token);
     }
 }
 

@@ -15,13 +15,23 @@ pub struct Place<'a> {
     pub text: &'a [u8],
     pub before: &'a [u8],
     pub rest: &'a [u8],
+    /// The word or the byte that stands before it.
+    pub last_word: &'a [u8],
+    /// The token that stands there.
+    pub token: &'a [u8],
 }
 
 impl<'a> Place<'a> {
     /// The place from which so many bytes of a text stand.
     pub fn new(text: &'a [u8], remaining: usize) -> Place<'a> {
         let (before, rest) = text.split_at(text.len().saturating_sub(remaining));
-        Place { text, before, rest }
+        Place {
+            text,
+            before,
+            rest,
+            last_word: last_word(before),
+            token: token(rest),
+        }
     }
 
     /// The line on which it is, from 1.
@@ -68,19 +78,9 @@ impl<'a> Place<'a> {
         column
     }
 
-    /// The token that stands there.
-    pub fn token(&self) -> &'a [u8] {
-        token(self.rest)
-    }
-
     /// The name or the digits that begin with the byte before it.
     pub fn with_last_byte(&self) -> &'a [u8] {
         digits_and_letters(last_bytes(self.text, self.rest.len().saturating_add(1)))
-    }
-
-    /// The word or the byte that stands before it.
-    pub fn last_word(&self) -> &'a [u8] {
-        last_word(self.before)
     }
 
     /// Whether `x` follows a zero there, as in a hexadecimal number.
@@ -90,6 +90,6 @@ impl<'a> Place<'a> {
 
     /// Whether a letter follows a colon there, as that of a register does.
     pub fn is_register(&self) -> bool {
-        is_exactly_one_of(&[":"], self.last_word()) && begins_with_letter(self.rest)
+        is_exactly_one_of(&[":"], self.last_word) && begins_with_letter(self.rest)
     }
 }

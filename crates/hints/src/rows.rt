@@ -35,7 +35,7 @@ pub fn wrong_cells(line: &mut Line, rest: &[u8]) {
 ///
 /// Errors: out of memory only.
 pub fn too_large(alloc: Global, line: &mut Line, place: &Place<'_>) -> Result<(), NoMemory> {
-    let token = place.token();
+    let token = place.token;
     let length = place.text.len();
     if length > MAX_TEXT {
         line.say_with(
@@ -60,7 +60,7 @@ fn one_too_many(line: &mut Line, place: &Place<'_>, limit: Limit) {
     // What stands before the end of a cell, of an item or of an atom.
     let item = up_to_any(place.rest, b"|;}/\\)").trim_ascii_end();
     let (sentence, named, most) = match limit {
-        Limit::Cores => ("{}: a test has at most {} cores", place.token(), MAX_CORES),
+        Limit::Cores => ("{}: a test has at most {} cores", place.token, MAX_CORES),
         Limit::Locations => (
             "{} is one too many: a test has at most {} locations",
             item,
