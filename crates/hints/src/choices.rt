@@ -5,7 +5,7 @@ use crate::divider::begins_order;
 use crate::faults::ONE_TEST;
 use crate::hinting::NOTHING_KNOWN;
 use crate::line::{Line, Piece};
-use crate::quotes::{SPACES, is_all_digits};
+use crate::quotes::{SPACES, is_all_digits, split_at_any};
 use crate::tables::{is_exactly_one_of, is_one_of};
 use scheduler::{ChoiceFault, MAX_CHOICES};
 
@@ -59,7 +59,10 @@ enum Part {
 fn word_at(text: &[u8], number: usize) -> (&[u8], Part) {
     let mut part = Part::First;
     let mut place = 0usize;
-    for word in text.split(|byte| SPACES.contains(byte)) {
+    let mut rest = text;
+    // If there is one piece more than these, all are empty.
+    for _ in 0..text.len() {
+        let (word, after) = split_at_any(rest, SPACES);
         if !word.is_empty() {
             place = place.saturating_add(1);
             if place == number {
@@ -67,6 +70,7 @@ fn word_at(text: &[u8], number: usize) -> (&[u8], Part) {
             }
             part = part_after(part, word);
         }
+        rest = after;
     }
     (&[], part)
 }

@@ -42,12 +42,7 @@ fn say_line(line: &mut Line, words: &[&str]) {
 }
 
 fn asks_for_help(words: &[&str]) -> bool {
-    for word in words {
-        if matches!(*word, "--help" | "-h") {
-            return true;
-        }
-    }
-    false
+    words.contains(&"--help") || words.contains(&"-h")
 }
 
 /// Of a line whose first word is no command: it may name a file.

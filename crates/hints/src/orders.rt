@@ -3,7 +3,7 @@
 use crate::characters::says_foreign;
 use crate::hinting::NOTHING_KNOWN;
 use crate::line::Line;
-use crate::quotes::{after_byte, first_word, is_all_digits, is_choice, up_to};
+use crate::quotes::{after_byte, first_word, is_all_digits, is_choice, split_at_any, up_to};
 use crate::unused::location_named;
 use litmus_tokens::word as word_value;
 use order_builder::OrderFault;
@@ -63,19 +63,11 @@ pub fn from_line_at_fault(text: &[u8], fault: OrderFault) -> &[u8] {
 
 /// What stands from the line of this number on, from 1.
 fn from_line(text: &[u8], number: usize) -> &[u8] {
-    if number <= 1 {
-        return text;
+    let mut rest = text;
+    for _ in 1..number {
+        rest = after_byte(rest, b'\n');
     }
-    let mut line = 1usize;
-    for at in 0..text.len() {
-        if text[at] == b'\n' {
-            line = line.saturating_add(1);
-            if line == number {
-                return &text[at + 1..];
-            }
-        }
-    }
-    &[]
+    rest
 }
 
 fn bad_line(line: &mut Line, unknown_location: bool, entry: &[u8]) {
@@ -142,10 +134,11 @@ pub fn names_no_location(test: &Test, text: &[u8]) -> bool {
 
 /// Says of an order that its end is missing, or counts other entries.
 fn bad_count(line: &mut Line, text: &[u8]) {
-    let mut number = 0usize;
     let mut start = 0usize;
-    for entry in text.split(|byte| *byte == b'\n') {
-        number = number.saturating_add(1);
+    let mut rest = text;
+    // The number of a line of two bytes or more is below the length of its text.
+    for number in 1..text.len() {
+        let (entry, after) = split_at_any(rest, b"\n");
         if start == 0 {
             if without_return(entry) == b"Order".as_slice() {
                 start = number;
@@ -154,6 +147,7 @@ fn bad_count(line: &mut Line, text: &[u8]) {
             let entries = number.saturating_sub(start).saturating_sub(1);
             return counted(line, number, without_return(entry), entries);
         }
+        rest = after;
     }
     line.say("no line Endorder n ends the order, where n is the number of its entries");
 }

@@ -110,8 +110,15 @@ pub fn after_last<'a>(text: &'a [u8], stops: &[u8]) -> &'a [u8] {
 
 /// What stands after the first such byte, or no bytes where there is none.
 pub fn after_byte(text: &[u8], byte: u8) -> &[u8] {
-    let from_byte = text.len().saturating_sub(up_to(text, byte).len());
-    last_bytes(text, from_byte.saturating_sub(1))
+    let (_, after) = split_at_any(text, &[byte]);
+    after
+}
+
+/// What stands before the first of these bytes, and what stands after it; all and no bytes where there is none.
+pub fn split_at_any<'a>(text: &'a [u8], stops: &[u8]) -> (&'a [u8], &'a [u8]) {
+    let before = up_to_any(text, stops);
+    let from_stop = text.len().saturating_sub(before.len());
+    (before, last_bytes(text, from_stop.saturating_sub(1)))
 }
 
 /// The letters, digits and underscores that a text ends with, white space aside; or else its last byte.
