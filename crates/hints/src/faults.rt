@@ -110,7 +110,7 @@ fn bad_condition(line: &mut Line, place: &Place<'_>) {
     }
 }
 
-/// Of what doesn't fit in a part of this form; or that the test ends in it, which is said so.
+/// Of what doesn't fit in a part of a test, which has this form; `end` says that the test ends there.
 fn unfit(line: &mut Line, place: &Place<'_>, end: &str, form: &str) {
     if place.rest.is_empty() {
         line.say(end);

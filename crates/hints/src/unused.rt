@@ -31,8 +31,8 @@ pub fn location_named(test: &Test, name: &[u8]) -> Option<Loc> {
     None
 }
 
-/// The first location of a test that no program uses and no initial state sets, so that its condition alone
-/// names it, and where it does so in the test's text; `None` where there is none.
+/// That a test has a location that no program uses and no initial state sets, so that its condition alone
+/// names it: the first, and where it does so in the test's text. `None` where there is none.
 ///
 /// Errors: out of memory only.
 pub fn unused_location(alloc: Global, test: &Test, text: &[u8]) -> Result<Option<Cause>, NoMemory> {
@@ -112,7 +112,7 @@ fn is_set(tokens: &[Token<'_>], name: &[u8]) -> bool {
     false
 }
 
-/// Where a name stands first among the tokens of a text's end.
+/// That nothing else uses a name, where it stands first among the tokens of a text's end.
 fn named_in(text: &[u8], tokens: &[Token<'_>], name: &[u8]) -> Option<Cause> {
     for token in tokens {
         if is_name(token, name) {
