@@ -6,6 +6,7 @@ pub mod ActedLemmas
 pub mod Storing
 pub mod Acting
 pub mod Splitting
+pub mod NextChoices
 pub mod EitherBus
 pub mod Finishing
 pub mod Accessing
@@ -23,6 +24,7 @@ pub mod Stepping
 pub mod Beginning
 pub mod ChoiceEffects
 pub mod Undoing
+pub mod DoneCores
 pub mod Paired
 pub mod RunningLemmas
 pub mod Telling

@@ -1,5 +1,5 @@
 -- What the completion of a write access leaves: the core has the line in M, with the word that was seen.
-use Rattle.snoop_bus.proofs.Vocabulary.{cases_eq, ◌≡◌, ◌≢◌, ◌⊎◌, inl, inr, ℕ, ◌<◌, ◌&&◌, true, false, nat_eq, Option, Some, None, option_map, List, length, refl, sym, ap, ◌∙◌, slice_set, if◌then◌else◌, in_place, M, Transient, IsD, SmD, Line, copy_with, with_state, with_word, Words, state_of_copy, Sets, copy_at, cache_of, ways_of, current_words, AllCoherent, ChangesCopy, KeepsWords, SetsWord, Transaction, Write, with_counted_copy, AskedOf, Awaits}
+use Rattle.snoop_bus.proofs.Vocabulary.{cases_eq, ◌≡◌, ◌≢◌, ◌⊎◌, inl, inr, ℕ, ◌<◌, ◌&&◌, true, false, nat_eq, Option, Some, None, option_map, List, length, refl, sym, ap, ◌∙◌, slice_set, if◌then◌else◌, in_place, M, Transient, IsD, ImD, SmD, Line, copy_with, with_state, with_word, Words, state_of_copy, Sets, copy_at, cache_of, ways_of, current_words, AllCoherent, ChangesCopy, KeepsWords, SetsWord, Transaction, Write, with_counted_copy, AskedOf, Awaits}
 use Rattle.snoop_bus.proofs.Numbers.{differ, itself}
 use Rattle.snoop_bus.proofs.CurrentWords.{same-coherent, same-seen}
 use Rattle.snoop_bus.proofs.HeldLemmas.{counting-at, ways-counting}
@@ -58,6 +58,16 @@ upgrade_acquired c0 c2 m core line x h within some line_in asked to ways = (
 
     here : copy_at c2 core line ≡ Some x.copy
     here = rw (itself core, itself line) at (to core line) ∙ now
+
+-- a write access whose line is filled had no copy of it
+pub record AskedByMiss (x : Transaction) (own : Option Line) : Type 0 where
+  pub transient : x.transient ≡ ImD
+  pub absent : own ≡ None
+  pub state : x.copy.state ≡ M
+
+pub filled_asked : (x : Transaction) (own : Option Line) → Awaits Write (Some x) own → (x.transient ≡ IsD) ⊎ (x.transient ≡ ImD) → AskedByMiss x own
+filled_asked x own awaits (inl is) = absurd (awaits.0 is)
+filled_asked x own awaits (inr is) = let asked = rw is at awaits.1 in record { transient = is; absent = asked.0; state = asked.1 }
 
 -- a word is written to the copy that the core has then
 pub completed_written : (d0 c1 c2 : List Sets) (m0 m1 : List Words) (core line offset value : ℕ) (old : Words) → line < length m0 → offset < length (current_words d0 m0 line) → length m1 ≡ length m0 →

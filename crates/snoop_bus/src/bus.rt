@@ -16,7 +16,7 @@ ghost use Rattle.snoop_bus.specs.Accesses.{IsCurrentWord, LoadsAt, WritesAt, Ask
 ghost use Rattle.snoop_bus.specs.inner.Accesses.{MayGoOn, KeepsOut, IsOutOfMemory};
 
 use crate::access::{Access, Updated};
-use crate::cache::Cache;
+use crate::cache::empty_caches;
 use crate::hierarchy::Hierarchy;
 use crate::holding::{HeldBus, Stage, held_at};
 use crate::lines::lines_of;
@@ -84,11 +84,7 @@ impl<P: Protocol> SnoopBus<P> {
         ensures coherent { IfOk result (λ b. IsCoherent b) }
         ensures exact { IfOk result (λ b. b ≡ new_bus (P.table protocol) cores shape init.now) }
     {
-        let mut caches = Vec::new(alloc);
-        for _ in 0..cores {
-            let cache = Cache::new(alloc, shape)?;
-            caches.push(cache)?;
-        }
+        let caches = empty_caches(alloc, cores, shape)?;
         let memory = lines_of(alloc, shape, init)?;
         Ok(SnoopBus {
             protocol,

@@ -162,6 +162,18 @@ impl Cache {
     }
 }
 
+/// Empty caches of this shape, one for each core.
+pub fn empty_caches(alloc: Global, cores: u8, shape: Shape) -> Result<Vec<Cache>, NoMemory>
+    ensures { IfOk result (λ caches. caches.items ≡ replicate cores (replicate shape.sets (contents [] shape.ways))) }
+{
+    let mut caches = Vec::new(alloc);
+    for _ in 0..cores {
+        let cache = Cache::new(alloc, shape)?;
+        caches.push(cache)?;
+    }
+    Ok(caches)
+}
+
 /// A cache has a set, and each line lies in its own: so much is known of it from this call on, which has no effect.
 pub fn know_sets(cache: &Cache)
     ensures some { 0 < length cache.now }

@@ -1,23 +1,43 @@
-use Rattle.snoop_bus.proofs.Vocabulary.{rules, ◌≡◌, Some, None, true, false, sym, ◌∙◌, is_dirty, S, copy_in}
+use Rattle.snoop_bus.proofs.Vocabulary.{◌≡◌, Some, None, true, false, refl, sym, ap, ◌∙◌, is_dirty, S, copy_with, copy_in, line_in, words_if_dirty}
 use Rattle.snoop_bus.proofs.SettleLemmas.{clean_dirty, clean_same}
+use Rattle.snoop_bus.proofs.SettleSteps.{changed, unchanged, written}
 use Rattle.snoop_bus.proofs.SettleTags.{line_absent, line_clean, line_dirty}
 use Rattle.snoop_bus.proofs.cleaning.settle_line.Goals as goal
 
-pub returns-clause-tags : goal.returns-clause-tags
-returns-clause-tags g c =
-    let found : copy_in c.args.cache.now c.args.line ≡ Some c.in-Some.copy = cc (c.look.ensures.found, c.in-Some.ensures) in
-    let writes : c.evicts_dirty.result ≡ true = search rules in
-    let dirty : is_dirty c.in-Some.copy.state ≡ true = sym (g.met.P.Protocol.writes_back_dirty c.args.protocol.now c.in-Some.copy.state) ∙ sym c.evicts_dirty.ensures ∙ writes in
-    line_dirty c.args.cache.now c.set_state.new.self c.args.line c.in-Some.copy S c.look.ensures.home c.look.ensures.valid found (clean_dirty c.in-Some.copy.state dirty) c.set_state.ensures.exact
+pub returns : goal.returns
+returns g c =
+    let copy = c.in-Some.copy in
+    let line = c.args.line in
+    let found : copy_in c.args.cache.now line ≡ Some copy = sym c.look.ensures.found ∙ sym c.in-Some.ensures in
+    let dirty : is_dirty copy.state ≡ true = sym (g.met.P.Protocol.writes_back_dirty c.args.protocol.now copy.state) ∙ sym c.evicts_dirty.ensures ∙ c.if-not-evicts_dirty.false in
+    let cleans = clean_dirty copy.state dirty in
+    record {
+      tags = line_dirty c.args.cache.now c.set_state.new.self line copy S c.look.ensures.home c.look.ensures.valid found cleans c.set_state.ensures.exact;
+      copies = λ k. c.set_state.ensures.copies k ∙ changed line k _ _ _ (λ is. rw (is, found) (ap (λ s. Some (copy_with s copy.words)) cleans));
+      memory = λ k. rw c.from.ensures (written c.args.memory.now line k copy.words (words_if_dirty (copy_in c.args.cache.now k) (line_in c.args.memory.now k)) c.requires (λ is. rw (is, found, dirty) refl));
+      ways = c.set_state.ensures.ways;
+    }
 
-pub returns-then-not-evicts_dirty-clause-tags : goal.returns-then-not-evicts_dirty-clause-tags
-returns-then-not-evicts_dirty-clause-tags g c =
-    let found : copy_in c.args.cache.now c.args.line ≡ Some c.in-Some.copy = cc (c.look.ensures.found, c.in-Some.ensures) in
-    let leaves : c.evicts_dirty.result ≡ false = search rules in
-    let fresh : is_dirty c.in-Some.copy.state ≡ false = sym (g.met.P.Protocol.writes_back_dirty c.args.protocol.now c.in-Some.copy.state) ∙ sym c.evicts_dirty.ensures ∙ leaves in
-    line_clean c.args.cache.now c.args.line c.in-Some.copy c.look.ensures.home c.look.ensures.valid found (clean_same c.in-Some.copy.state fresh)
+pub returns-then-not-evicts_dirty : goal.returns-then-not-evicts_dirty
+returns-then-not-evicts_dirty g c =
+    let copy = c.in-Some.copy in
+    let line = c.args.line in
+    let found : copy_in c.args.cache.now line ≡ Some copy = sym c.look.ensures.found ∙ sym c.in-Some.ensures in
+    let fresh : is_dirty copy.state ≡ false = sym (g.met.P.Protocol.writes_back_dirty c.args.protocol.now copy.state) ∙ sym c.evicts_dirty.ensures ∙ c.if-not-evicts_dirty.true in
+    let stays = clean_same copy.state fresh in
+    record {
+      tags = line_clean c.args.cache.now line copy c.look.ensures.home c.look.ensures.valid found stays;
+      copies = λ k. unchanged line k _ _ (λ is. rw (is, found) (ap (λ s. Some (copy_with s copy.words)) (sym stays)));
+      memory = λ k. unchanged line k _ _ (λ is. rw (is, found, fresh) refl);
+      ways = refl;
+    }
 
-pub returns-in_default-clause-tags : goal.returns-in_default-clause-tags
-returns-in_default-clause-tags g c =
-    let absent : copy_in c.args.cache.now c.args.line ≡ None = cc (c.look.ensures.found, c.in_default.ensures) in
-    line_absent c.args.cache.now c.args.line c.look.ensures.home absent
+pub returns-in_default : goal.returns-in_default
+returns-in_default g c =
+    let absent : copy_in c.args.cache.now c.args.line ≡ None = sym c.look.ensures.found ∙ sym c.in_default.ensures in
+    record {
+      tags = line_absent c.args.cache.now c.args.line c.look.ensures.home absent;
+      copies = λ k. unchanged c.args.line k _ _ (λ is. rw (is, absent) refl);
+      memory = λ k. unchanged c.args.line k _ _ (λ is. rw (is, absent) refl);
+      ways = refl;
+    }

@@ -1,5 +1,5 @@
 use Rattle.snoop_bus.proofs.Vocabulary.{◌≡◌, Option, Some, None, IsSome, refl, in_place, M, Line, state_of_copy, copy_at}
-use Rattle.snoop_bus.proofs.AcquireAsked.{hit_acquired, kept_words, upgrade_acquired}
+use Rattle.snoop_bus.proofs.AcquireAsked.{filled_asked, hit_acquired, kept_words, own_acquired, upgrade_acquired}
 use Rattle.snoop_bus.proofs.hierarchy.Hierarchy.acquire_asked.Goals as goal
 
 -- a copy that is written in place is there
@@ -44,3 +44,31 @@ returns-in-SmD-clause-ok g c =
     let awaits = rw c.in-Some.is at c.requires.awaited.awaits in
     let asked = rw c.in-SmD.is at awaits.1 in
     rw (c.in-Some.is, c.in-SmD.is, asked.1) (record { access_is = c.quiet-in-SmD.ensures; tags = c.enter-in-SmD.ensures.tags; memory = c.enter-in-SmD.ensures.memory })
+
+pub fill_asked-access-requires : goal.fill_asked-access-requires
+fill_asked-access-requires g c =
+    let awaits = rw c.in-Some.is at c.requires.awaited.awaits in
+    record {
+      coherent = rw c.in-Some.is at c.requires.awaited.coherent;
+      core = c.requires.awaited.core_in;
+      some_set = c.requires.awaited.some_set;
+      line = c.requires.awaited.line_in;
+      absent = (filled_asked c.in-Some.transaction (copy_at c.args.self.now.caches.items c.args.core c.args.line) awaits c.in-IsD.is).absent;
+    }
+
+pub returns-in-IsD : goal.returns-in-IsD
+returns-in-IsD g c =
+    let awaits = rw c.in-Some.is at c.requires.awaited.awaits in
+    let coherent = rw c.in-Some.is at c.requires.awaited.coherent in
+    let held = c.requires.awaited in
+    let caches = c.args.self.now.caches.items in
+    let asked = filled_asked c.in-Some.transaction (copy_at caches c.args.core c.args.line) awaits c.in-IsD.is in
+    let filled = c.fill_asked-access.ensures in
+    record {
+      found = rw c.in-Some.is (kept_words caches c.args.self.now.memory.items c.args.core c.args.line c.in-Some.transaction.copy coherent held.core_in held.some_set held.line_in);
+      ok = rw (c.in-Some.is, asked.transient) (record { access_is = filled.access; tags = filled.tags; memory = filled.memory });
+      own = rw c.in-Some.is (own_acquired caches c.fill_asked-access.new.self.caches.items c.args.self.now.memory.items c.args.core c.args.line c.in-Some.transaction coherent held.core_in held.some_set held.line_in
+          asked.state filled.own);
+      words = rw c.in-Some.is filled.words;
+      ways = filled.ways;
+    }

@@ -1,3 +1,5 @@
+use Rattle.snoop_bus.proofs.Vocabulary.{ap, slice_index}
+use Rattle.snoop_bus.proofs.AcquireAsked.{kept_words}
 use Rattle.snoop_bus.proofs.hierarchy.Hierarchy.complete_load.Goals as goal
 
 pub fill_asked-access-requires : goal.fill_asked-access-requires
@@ -21,3 +23,10 @@ pub returns-clause-ok : goal.returns-clause-ok
 returns-clause-ok g c =
     let awaits = rw c.unwrap-transaction.ensures at c.requires.awaited.awaits in
     rw (c.unwrap-transaction.ensures, awaits.0) (record { access_is = c.fill_asked-access.ensures.access; tags = c.fill_asked-access.ensures.tags; memory = c.fill_asked-access.ensures.memory })
+
+pub returns-clause-word : goal.returns-clause-word
+returns-clause-word g c =
+    let held = c.requires.awaited in
+    rw (c.unwrap-transaction.ensures, c.from.ensures)
+    (ap (λ words. slice_index words c.args.target.offset)
+    (kept_words c.args.self.now.caches.items c.args.self.now.memory.items c.args.target.core c.args.target.line c.unwrap-transaction.result.copy (rw c.unwrap-transaction.ensures at held.coherent) held.core_in held.some_set held.line_in))
