@@ -170,3 +170,20 @@ driven-to-end old m all left used stalled laws s over =
       stalled = let u = s.stalls in let n = ap (λ (r : BusRun). r.run.stalled) rest.1 in omega arith;
       answers = s.answers (end-fits m.bus m.test m.depth m.state _ laws (end-is m.bus m.test m.depth m.commits m.state laws s.possible over));
     }
+
+-- or once no choice is left
+pub driven-through : (old m : Running) (all left : List Choice) (used stalled : ℕ) → SoFar old m all left used stalled → left ≡ [] → Drives old m all used stalled
+driven-through old m all left used stalled so_far none =
+    let s = subst (λ (l : List Choice). SoFar old m all l used stalled) none so_far in
+    record {
+      test = s.test;
+      bus = s.bus;
+      depth = s.depth;
+      failed = s.failed;
+      state = sym s.state;
+      commits = sym (s.commits ∙ append-nil m.commits);
+      statistics = sym s.statistics;
+      used = let u = s.uses in omega arith;
+      stalled = let u = s.stalls in omega arith;
+      answers = s.answers tt;
+    }

@@ -190,9 +190,7 @@ fn run_to_the_end<P: Protocol, O: Observer>(
     let mut choices = Listed::new(choices);
     let progress = drive_machine(&mut machine, observer, &mut choices)?;
     observer.end(&machine)?;
-    let unused = choices.left();
-    let ending = ending_of(alloc, machine, setup.test, progress, unused)?;
-    Ok(ending)
+    ending_of(alloc, machine, setup.test, progress, choices.left())
 }
 
 /// How a machine that was driven so far leaves its test, with so many of the choices unused.

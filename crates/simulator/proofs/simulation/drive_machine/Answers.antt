@@ -1,7 +1,7 @@
 use Rattle.simulator.proofs.Vocabulary.{arith, ◌≡◌, ◌+◌, List, length, refl, false, sym, ap, subst, ◌∙◌, has_ended, stall_count, CoresExist, Choice, machine_effect}
 use Rattle.tso_model.specs.declared.choice.Outcome.TheVariants.{Stalled}
 use Rattle.simulator.specs.inner.Observed.{Watched, none_left, over}
-use Rattle.simulator.proofs.DriveLemmas.{Laws, SoFar, one-more, watched-more, driven-to-end, no-stall, still-going}
+use Rattle.simulator.proofs.DriveLemmas.{Laws, SoFar, at-first, one-more, watched-more, driven-to-end, driven-through, no-stall, still-going}
 use Rattle.simulator.proofs.simulation.drive_machine.Goals as goal
 
 pub loop-ended-preserved : goal.loop-ended-preserved
@@ -81,3 +81,25 @@ returns-in_default-clause-watched g c =
     let number = c.loop-ended.used + 1 in
     c.loop-ended.invariant.watched.on o m
     (subst (λ (l : List Choice). Watched g.O.Observer.makes o m number l o m) (sym c.in_default.ensures.0) (none_left o m number))
+
+pub loop-ended-init : goal.loop-ended-init
+loop-ended-init g c = record {
+  left = omega arith;
+  cores = c.requires.cores;
+  fewer = omega arith;
+  over = c.is_ended-ended.ensures ∙ rw c.requires.fresh refl;
+  so_far = at-first c.args.machine.now (g.C.Choices.coming c.args.choices.now) c.requires.fresh c.requires.possible;
+  watches = c.requires.watches;
+  watched = record { on = λ last end watched. watched };
+}
+
+pub choose-requires-clause-core : goal.choose-requires-clause-core
+choose-requires-clause-core g c =
+    rw (sym c.loop-ended.invariant.so_far.test) at (subst (CoresExist (length c.args.machine.now.test.programs)) c.in-Some.ensures c.loop-ended.invariant.cores).0
+
+pub choose-requires-clause-watches : goal.choose-requires-clause-watches
+choose-requires-clause-watches g c = c.loop-ended.invariant.watches
+
+pub returns-in_default-clause-drives : goal.returns-in_default-clause-drives
+returns-in_default-clause-drives g c =
+    driven-through c.args.machine.now c.loop-ended.machine (g.C.Choices.coming c.args.choices.now) (g.C.Choices.coming c.loop-ended.choices) c.loop-ended.used c.loop-ended.stalled c.loop-ended.invariant.so_far c.in_default.ensures.0

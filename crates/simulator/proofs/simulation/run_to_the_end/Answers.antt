@@ -1,9 +1,10 @@
-use Rattle.simulator.proofs.Vocabulary.{arith, ap, ◌∙◌, length, subst, sym, AnswersFitBy, Drives}
+use Rattle.simulator.proofs.Vocabulary.{◌≡◌, ◌-◌, arith, ap, ◌∙◌, length, subst, sym, AnswersFitBy, Drives}
+use Rattle.machine_core.proofs.RunningLemmas.{on-ok, if-ok}
 use Rattle.simulator.specs.inner.Observed.{Watched}
 use Rattle.simulator.proofs.SimulationLemmas.{IsDriven, answers-fit}
-use Rattle.simulator.proofs.Endings.{Laws, IsLeftOf, ending-is, ending-fits, ending-counts}
+use Rattle.simulator.proofs.Endings.{Laws, ending-is, ending-fits, ending-counts}
 use Rattle.simulator.proofs.simulation.run_to_the_end.Goals as goal
-use Rattle.simulator.proofs.simulation.run_to_the_end.Goals.{In_ok-ending}
+use Rattle.simulator.proofs.simulation.run_to_the_end.Goals.{After-ending_of}
 
 pub begin-requires : goal.begin-requires
 begin-requires g c = subst (g.O.Observer.begins c.args.observer.now) (sym c.in_ok-machine.ensures) (c.requires.begins (g.P.Protocol.table c.args.protocol))
@@ -14,7 +15,7 @@ drive_machine-requires-clause-possible g c = rw c.in_ok-machine.ensures (c.attem
 pub ending_of-requires : goal.ending_of-requires
 ending_of-requires g c = c.in_ok-progress.ensures.drives.test ∙ ap (λ m. m.test) c.in_ok-machine.ensures
 
-laws : (g : _) (c : In_ok-ending g) → Laws
+laws : (g : _) (c : After-ending_of g) → Laws
 laws g c = record {
   runs = record { atomic = c.atomic_runs_are_flat_runs.ensures; stops = c.runs_on_either_bus_stop_where_they_end.ensures };
   executions = c.ended_runs_of_machines_are_executions.ensures.executions;
@@ -22,39 +23,43 @@ laws g c = record {
 }
 
 -- the new machine was driven
-driven : (g : _) (c : In_ok-ending g) → IsDriven (g.P.Protocol.table c.args.protocol) c.args.setup.now.config c.args.setup.now.test.now c.in_ok-machine.machine c.drive_machine.new.machine c.args.choices.now c.in_ok-progress.progress.used c.in_ok-progress.progress.stalled
+driven : (g : _) (c : After-ending_of g) → IsDriven (g.P.Protocol.table c.args.protocol) c.args.setup.now.config c.args.setup.now.test.now c.in_ok-machine.machine c.drive_machine.new.machine c.args.choices.now c.in_ok-progress.progress.used c.in_ok-progress.progress.stalled
 driven g c = (
   c.in_ok-machine.ensures,
   subst (λ cs. Drives c.in_ok-machine.machine c.drive_machine.new.machine cs c.in_ok-progress.progress.used c.in_ok-progress.progress.stalled) c.new-choices.ensures c.in_ok-progress.ensures.drives,
 )
 
--- how it is left
-left : (g : _) (c : In_ok-ending g) → IsLeftOf (g.P.Protocol.table c.args.protocol) c.args.setup.now.config c.args.setup.now.test.now c.in_ok-machine.machine c.drive_machine.new.machine c.args.choices.now c.in_ok-progress.progress.used c.in_ok-progress.progress.stalled c.left-unused.result c.in_ok-ending.ending
-left g c = record {
-  driven = driven g c;
-  unused_are = omega (arith, c.left-unused.ensures, c.in_ok-progress.ensures.left, ap length c.new-choices.ensures);
-  left = c.in_ok-ending.ensures;
-}
+-- what is left over is what wasn't used
+unused-are : (g : _) (c : After-ending_of g) → c.left.result ≡ length c.args.choices.now - c.in_ok-progress.progress.used
+unused-are g c = omega (arith, c.left.ensures, c.in_ok-progress.ensures.left, ap length c.new-choices.ensures)
 
-fit : (g : _) (c : In_ok-ending g) → AnswersFitBy (g.P.Protocol.table c.args.protocol) c.args.setup.now.config c.args.setup.now.test.now c.args.choices.now
+fit : (g : _) (c : After-ending_of g) → AnswersFitBy (g.P.Protocol.table c.args.protocol) c.args.setup.now.config c.args.setup.now.test.now c.args.choices.now
 fit g c = answers-fit (g.P.Protocol.table c.args.protocol) c.args.setup.now.config c.args.setup.now.test.now c.in_ok-machine.machine c.drive_machine.new.machine c.args.choices.now _ _ (driven g c)
 
 pub returns-clause-ending : goal.returns-clause-ending
-returns-clause-ending g c = ending-is (g.P.Protocol.table c.args.protocol) c.args.setup.now.config c.args.setup.now.test.now _ _ c.args.choices.now _ _ _ _ (laws g c) (left g c)
+returns-clause-ending g c = if-ok c.ending_of.result _ _
+    (λ e left. ending-is (g.P.Protocol.table c.args.protocol) c.args.setup.now.config c.args.setup.now.test.now _ _ c.args.choices.now _ _ _ e (laws g c)
+    (record { driven = driven g c; unused_are = unused-are g c; left = left }))
+    c.ending_of.ensures
 
 pub returns-clause-fits : goal.returns-clause-fits
-returns-clause-fits g c =
-    ending-fits (g.P.Protocol.table c.args.protocol) c.args.setup.now.config c.args.setup.now.test.now _ _ c.args.choices.now _ _ _ _ (laws g c) c.know_limits.ensures (fit g c)
-    (c.in_ok-progress.ensures.drives.test ∙ ap (λ m. m.test) c.in_ok-machine.ensures) (left g c)
-
-pub returns-clause-answers : goal.returns-clause-answers
-returns-clause-answers g c = fit g c
+returns-clause-fits g c = if-ok c.ending_of.result _ _
+    (λ e left. ending-fits (g.P.Protocol.table c.args.protocol) c.args.setup.now.config c.args.setup.now.test.now _ _ c.args.choices.now _ _ _ e (laws g c) c.know_limits.ensures (fit g c)
+    (c.in_ok-progress.ensures.drives.test ∙ ap (λ m. m.test) c.in_ok-machine.ensures)
+    (record { driven = driven g c; unused_are = unused-are g c; left = left }))
+    c.ending_of.ensures
 
 pub returns-clause-counts : goal.returns-clause-counts
-returns-clause-counts g c = ending-counts (g.P.Protocol.table c.args.protocol) c.args.setup.now.config c.args.setup.now.test.now _ _ c.args.choices.now _ _ _ _ (left g c)
+returns-clause-counts g c = if-ok c.ending_of.result _ _
+    (λ e left. ending-counts (g.P.Protocol.table c.args.protocol) c.args.setup.now.config c.args.setup.now.test.now _ _ c.args.choices.now _ _ _ e
+    (record { driven = driven g c; unused_are = unused-are g c; left = left }))
+    c.ending_of.ensures
+
+pub returns-clause-answers : goal.returns-clause-answers
+returns-clause-answers g c = on-ok c.ending_of.result _ (fit g c)
 
 pub returns-clause-watched : goal.returns-clause-watched
-returns-clause-watched g c = record {
+returns-clause-watched g c = on-ok c.ending_of.result _ (record {
   begun = c.begin.new.self;
   driven = c.drive_machine.new.observer;
   left = c.drive_machine.new.machine;
@@ -63,4 +68,4 @@ returns-clause-watched g c = record {
       (subst (λ cs. Watched g.O.Observer.makes c.begin.new.self c.in_ok-machine.machine 1 cs c.drive_machine.new.observer c.drive_machine.new.machine) c.new-choices.ensures
       c.in_ok-progress.ensures.watched);
   ends = c.in_ok-end.ensures;
-}
+})
