@@ -4,7 +4,7 @@ use Rattle.std.proofs.lemmas.Bool.Decides.{eqb_tells}
 use Rattle.std.proofs.lemmas.List.{get_or-set_same, get_or-set_other, get_or_past, length-set}
 use Rattle.basic_laws.specs.Types.{Step, Drain, Stall}
 use Rattle.sweeper.specs.declared.stalling.Stalling.{Stalling}
-use Rattle.sweeper.specs.inner.Stalling.{place_of_choice, noted_at, Stalls, AllStall}
+use Rattle.sweeper.specs.inner.Stalling.{place_of_choice, reason_at, noted_at, Stalls, AllStall}
 
 within-or : (n k : ℕ) → (k < n) ⊎ (n ≤ k)
 within-or n k = grind arith
@@ -30,6 +30,10 @@ same-choice (Step a) (Step b) e = let same : a.0 ≡ b.0 = omega arith in ap (λ
 same-choice (Step a) (Drain b) e = absurd (let z : ⊥ = omega arith in z)
 same-choice (Drain a) (Step b) e = absurd (let z : ⊥ = omega arith in z)
 same-choice (Drain a) (Drain b) e = let same : a.0 ≡ b.0 = omega arith in ap (λ (n : ℕ). Drain (record { 0 = n })) same
+
+-- where none is noted, none has to stall
+pub none-noted : (s : Stalling) (m : Running) → ((choice : Choice) → reason_at choice s ≡ None) → AllStall s m
+none-noted s m none choice reason noted = absurd (let never : None ≡ Some reason = sym (none choice) ∙ noted in let z : ⊥ = cc in z)
 
 -- a choice that stalled is noted
 pub noted-stall : (s : Stalling) (m : Running) (c : Choice) (why : Stall) → AllStall s m → Stalls m c why → AllStall (noted_at c why s) m

@@ -1,6 +1,8 @@
-use Rattle.sweeper.proofs.Vocabulary.{ℕ, List, ap, sym, subst, ◌∙◌, refl, Litmus, Running, table_in, configuration_of, RunCounts, with_state_counted, with_verdict, values_in, machine_run, verdict, with_one_run, RunLaws, from-new, unfinished-is}
+use Rattle.sweeper.proofs.Vocabulary.{ℕ, List, length, ap, sym, subst, ◌∙◌, refl, Litmus, Running, table_in, configuration_of, RunCounts, with_state_counted, with_verdict, values_in, machine_run, verdict, with_one_run, RunLaws, from-new, unfinished-is}
+use Rattle.tso_model.specs.Runs.{CoresExist}
 use Rattle.split_laws.specs.BusChoices.{IsPossibleOn}
 use Rattle.sweeper.proofs.SweptRuns.{goes-back, as-before, counted-ended, counted-unfinished}
+use Rattle.sweeper.proofs.StallsAgain.{none-noted}
 use Rattle.sweeper.proofs.counting.MachineRunnerRunner.count_run.Goals as goal
 
 pub drive_machine-requires-clause-fresh : goal.drive_machine-requires-clause-fresh
@@ -71,3 +73,31 @@ pub returns-clause-again : goal.returns-clause-again
 returns-clause-again g c =
     let ready = as-before c.args.self.now.machine _ c.args.test.now (c.in_ok-state.ensures.restarted ∙ goes-back c.args.self.now.machine _ _ _ _ c.in_ok-drive_machine.ensures.drives ∙ sym c.requires.runs.0) c.requires.runs in
     record { again = ready.0; same = ready.1; fit = ready.2 }
+
+pub drive_machine-requires-clause-cores : goal.drive_machine-requires-clause-cores
+drive_machine-requires-clause-cores g c = subst (λ (t : Litmus). CoresExist (length t.programs) (g.C.Choices.coming c.args.choices.now)) (sym c.requires.runs.1) c.requires.cores
+
+pub drive_machine-requires-clause-watches : goal.drive_machine-requires-clause-watches
+drive_machine-requires-clause-watches g c = none-noted c.nothing.result c.args.self.now.machine c.nothing.ensures
+
+pub end_run-requires : goal.end_run-requires
+end_run-requires g c = sym c.is_ended.ensures ∙ c.if-not-is_ended.false
+
+pub count_state-requires : goal.count_state-requires
+count_state-requires g c =
+    let same = c.in_ok-drive_machine.ensures.drives.test ∙ c.requires.runs.1 in
+    record {
+      tally = c.requires.tally;
+      cores = ap length c.deref.ensures.value ∙ c.in_ok-state.ensures.cores ∙ ap (λ (t : Litmus). length t.programs) same;
+      locations = ap length c.deref-2.ensures.value ∙ c.in_ok-state.ensures.locations ∙ ap (λ (t : Litmus). length t.locations) same;
+      room = c.requires.room;
+    }
+
+pub add_unfinished-requires : goal.add_unfinished-requires
+add_unfinished-requires g c = c.requires.room
+
+pub returns-clause-test : goal.returns-clause-test
+returns-clause-test g c = c.count_state.ensures.test
+
+pub returns-then-not-is_ended-clause-test : goal.returns-then-not-is_ended-clause-test
+returns-then-not-is_ended-clause-test g c = c.add_unfinished.ensures.test

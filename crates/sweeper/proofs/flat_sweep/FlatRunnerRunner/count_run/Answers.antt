@@ -1,4 +1,5 @@
-use Rattle.sweeper.proofs.Vocabulary.{◌≡◌, List, ℕ, map, ap, sym, ◌∙◌, refl, State, Run, run, run_from, RunCounts, with_state_counted, with_verdict, values_in, state_of_snapshot, verdict}
+use Rattle.sweeper.proofs.Vocabulary.{◌≡◌, length, List, ℕ, map, ap, sym, ◌∙◌, refl, State, Run, run, run_from, RunCounts, with_state_counted, with_verdict, values_in, state_of_snapshot, verdict}
+use Rattle.std.proofs.lemmas.List.{length-map}
 use Rattle.sweeper.proofs.FlatSweeps.{registers-left, counted}
 use Rattle.sweeper.proofs.SweptRuns.{counted-unfinished}
 use Rattle.sweeper.proofs.flat_sweep.FlatRunnerRunner.count_run.Goals as goal
@@ -32,3 +33,34 @@ returns-clause-counts g c =
     c.in_ok-count_state.ensures.counts
     ∙ ap (λ g. count g c.deref-3.result.now) c.deref-2.ensures.value ∙ ap (λ w. count registers w) c.deref-3.ensures.value
     ∙ counted t r (state_of_snapshot left) registers left.memory.items (verdict t registers left.memory.items) c.args.tally.now.counts (returns-clause-ended g c) state registers_are refl refl
+
+pub overwrite-requires : goal.overwrite-requires
+overwrite-requires g c = c.requires.runs.2 ∙ sym c.requires.runs.1
+
+pub drive-requires : goal.drive-requires
+drive-requires g c = record { cores = c.in_ok-overwrite.ensures.cores ∙ c.requires.runs.1; chosen = c.requires.cores }
+
+pub count_state-requires-clause-tally : goal.count_state-requires-clause-tally
+count_state-requires-clause-tally g c = c.requires.tally
+
+pub count_state-requires-clause-cores : goal.count_state-requires-clause-cores
+count_state-requires-clause-cores g c =
+    ap length (c.deref-2.ensures.value ∙ c.in_ok-write_registers.ensures) ∙ length-map c.deref.result.now (λ p. p.registers) ∙ ap length c.deref.ensures.value ∙ c.in_ok-ended.ensures.cores
+
+pub count_state-requires-clause-room : goal.count_state-requires-clause-room
+count_state-requires-clause-room g c = c.requires.room
+
+pub add_unfinished-requires : goal.add_unfinished-requires
+add_unfinished-requires g c = c.requires.room
+
+pub returns-clause-again : goal.returns-clause-again
+returns-clause-again g c = record { again = (c.requires.runs.0, c.requires.runs.1, c.in_ok-ended.ensures.cores); same = λ cs. refl; fit = λ cs fits. tt }
+
+pub returns-then-not-ended-clause-again : goal.returns-then-not-ended-clause-again
+returns-then-not-ended-clause-again g c = record { again = (c.requires.runs.0, c.requires.runs.1, c.in_ok-ended.ensures.cores); same = λ cs. refl; fit = λ cs fits. tt }
+
+pub returns-clause-test : goal.returns-clause-test
+returns-clause-test g c = c.count_state.ensures.test
+
+pub returns-then-not-ended-clause-test : goal.returns-then-not-ended-clause-test
+returns-then-not-ended-clause-test g c = c.add_unfinished.ensures.test

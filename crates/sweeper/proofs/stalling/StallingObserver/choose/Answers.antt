@@ -2,7 +2,7 @@ use Rattle.sweeper.proofs.Vocabulary.{sym, subst, ap, ◌∙◌, Ok, Running}
 use Rattle.tso_model.specs.declared.choice.Outcome.{Outcome}
 use Rattle.sweeper.specs.declared.stalling.Stalling.{Stalling}
 use Rattle.sweeper.specs.inner.Stalling.{AllStall, Stalls}
-use Rattle.sweeper.proofs.StallsAgain.{noted-stall}
+use Rattle.sweeper.proofs.StallsAgain.{none-noted, noted-stall}
 use Rattle.sweeper.proofs.stalling.StallingObserver.choose.Goals as goal
 
 pub returns-in-Some-clause-outcome : goal.returns-in-Some-clause-outcome
@@ -18,3 +18,21 @@ returns-in-Stalled-clause-watches g c =
     } in
     let noted = noted-stall c.args.self.now c.args.machine.now c.args.choice c.in-Stalled.reason c.requires.watches this in
     subst (λ (m : Running). AllStall c.note.new.self m) (sym same) (subst (λ (s : Stalling). AllStall s c.args.machine.now) (sym c.note.ensures) noted)
+
+pub choose-requires : goal.choose-requires
+choose-requires g c = c.requires.core
+
+pub returns-in-Some-clause-after : goal.returns-in-Some-clause-after
+returns-in-Some-clause-after g c = sym (c.requires.watches c.args.choice c.in-Some.reason (sym c.reason.ensures ∙ c.in-Some.is)).same
+
+pub returns-in-Some-clause-answer : goal.returns-in-Some-clause-answer
+returns-in-Some-clause-answer g c = (c.requires.watches c.args.choice c.in-Some.reason (sym c.reason.ensures ∙ c.in-Some.is)).answer
+
+pub returns-in-Some-clause-watches : goal.returns-in-Some-clause-watches
+returns-in-Some-clause-watches g c = c.requires.watches
+
+pub returns-in-Committed-clause-watches : goal.returns-in-Committed-clause-watches
+returns-in-Committed-clause-watches g c = none-noted c.nothing.result c.choose.new.self c.nothing.ensures
+
+pub returns-in-Stalled-clause-after : goal.returns-in-Stalled-clause-after
+returns-in-Stalled-clause-after g c = c.in_ok-outcome.ensures.after
