@@ -11,11 +11,11 @@ done-next core programs program ps p done within there reads is tells =
     rw (left, cores, tells, reads, sym is) refl
 
 -- after the last one none is left
+pub all-dropped : {X : Type 0} (core : ℕ) (xs : List X) → length xs ≤ core → drop core xs ≡ []
+all-dropped zero [] past = refl
+all-dropped (suc core) [] past = refl
+all-dropped zero (x ∷ xs) past = absurd (let z : ⊥ = omega (arith, past) in z)
+all-dropped (suc core) (x ∷ xs) past = all-dropped core xs (omega (arith, past))
+
 pub none-left : (core : ℕ) (programs : List (List Instr)) (ps : List Processor) → length ps ≤ core → true ≡ all_done (drop core programs) (core_states core (drop core ps))
 none-left core programs ps past = ap (λ left. all_done (drop core programs) (core_states core left)) (sym (all-dropped core ps past))
-  where
-    all-dropped : (core : ℕ) (ps : List Processor) → length ps ≤ core → drop core ps ≡ []
-    all-dropped zero [] past = refl
-    all-dropped (suc core) [] past = refl
-    all-dropped zero (p ∷ ps) past = absurd (let z : ⊥ = omega (arith, past) in z)
-    all-dropped (suc core) (p ∷ ps) past = all-dropped core ps (omega (arith, past))

@@ -1,4 +1,4 @@
-use Rattle.machine_core.proofs.Vocabulary.{◌≡◌, arith, sym, ◌∙◌, ap, length}
+use Rattle.machine_core.proofs.Vocabulary.{◌≡◌, arith, refl, sym, ◌∙◌, ap, length}
 use Rattle.machine_core.proofs.TallyLemmas.{flusher-next, few-next, tallied-next}
 use Rattle.machine_core.proofs.hardware.make_choice.Goals as goal
 
@@ -27,3 +27,34 @@ tally-requires-clause-core g c =
 pub returns-in_err-outcome-clause-tallied : goal.returns-in_err-outcome-clause-tallied
 returns-in_err-outcome-clause-tallied g c =
     rw (c.in_err-outcome.ensures.err.state, c.in_err-outcome.ensures.err.bus, c.act_on_bus.ensures.keeps.counts) c.requires.tallied
+
+pub act_on_bus-requires : goal.act_on_bus-requires
+act_on_bus-requires g c = record { core = c.requires.core; consistent = c.requires.consistent }
+
+pub returns-clause-ok : goal.returns-clause-ok
+returns-clause-ok g c =
+    let made = c.in_ok-outcome.ensures.makes.ok in
+    record { outcome = made.outcome; flat = made.flat; holder = made.holder; commits = made.commits }
+
+pub returns-clause-how : goal.returns-clause-how
+returns-clause-how g c = c.in_ok-outcome.ensures.makes.caches.how_is
+
+pub returns-clause-answer : goal.returns-clause-answer
+returns-clause-answer g c = c.act_on_bus.ensures.answer
+
+pub returns-clause-succeeds : goal.returns-clause-succeeds
+returns-clause-succeeds g c = λ _. refl
+
+pub returns-clause-config : goal.returns-clause-config
+returns-clause-config g c = c.act_on_bus.ensures.keeps.config
+
+pub returns-clause-of_test : goal.returns-clause-of_test
+returns-clause-of_test g c =
+    let kept = c.act_on_bus.ensures.of_test in
+    record { fits = record { cores = kept.fits.cores; on_bus = kept.fits.on_bus; words = kept.fits.words; each = kept.fits.each }; held = kept.held }
+
+pub returns-in_err-outcome-clause-answer : goal.returns-in_err-outcome-clause-answer
+returns-in_err-outcome-clause-answer g c = c.act_on_bus.ensures.answer
+
+pub returns-in_err-outcome-clause-of_test : goal.returns-in_err-outcome-clause-of_test
+returns-in_err-outcome-clause-of_test g c = c.act_on_bus.ensures.of_test

@@ -1,5 +1,6 @@
-use Rattle.machine_core.proofs.Vocabulary.{◌+◌, ◌∷◌, [], ap, sym, ◌∙◌, refl, subst, length, length-append, arith, drop, All, ◌++◌, started, core_states, IsCore, Processor}
+use Rattle.machine_core.proofs.Vocabulary.{◌≡◌, ◌+◌, append-nil, ◌∷◌, [], ap, sym, ◌∙◌, refl, subst, length, length-append, arith, drop, All, ◌++◌, started, core_states, IsCore, Processor}
 use Rattle.machine_core.proofs.CoreLemmas.{started-next, IsCore-new, All-one_more}
+use Rattle.machine_core.proofs.DoneCores.{all-dropped}
 use Rattle.machine_core.proofs.hardware.processors_of.Goals as goal
 
 begun : goal.In_ok-push → Processor
@@ -23,3 +24,24 @@ loop-core-preserved c = record {
 
 pub initial_registers-registers-requires : goal.initial_registers-registers-requires
 initial_registers-registers-requires c = omega (arith, c.cores-core-end.ensures.value, c.loop-core-test.true)
+
+pub loop-core-init : goal.loop-core-init
+loop-core-init c = record {
+  states = ap (λ ps. core_states 0 ps ++ started 0 c.args.test.now.programs c.args.test.now.registers) c.new-processors.ensures.items;
+  depths = λ locations.
+      subst (λ ps. All (IsCore c.args.depth locations) ps) (sym c.new-processors.ensures.items) (λ k d within. absurd (let z : ⊥ = omega (arith, within) in z));
+  size = ap length c.new-processors.ensures.items;
+}
+
+pub returns : goal.returns
+returns c =
+    let core = c.loop-core.core in
+    let programs = c.args.test.now.programs in
+    let all : core ≡ length programs = omega (arith, c.loop-core-test.false, c.loop-core.auto.core-end, c.cores-core-end.ensures.value) in
+    record {
+      states = sym (append-nil (core_states 0 c.loop-core.processors.items))
+          ∙ ap (λ left. core_states 0 c.loop-core.processors.items ++ started core left c.args.test.now.registers) (sym (all-dropped core programs (omega (arith, all))))
+          ∙ c.loop-core.invariant.states;
+      depths = c.loop-core.invariant.depths;
+      count = c.loop-core.invariant.size ∙ all;
+    }

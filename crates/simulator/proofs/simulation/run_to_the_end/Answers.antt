@@ -1,4 +1,4 @@
-use Rattle.simulator.proofs.Vocabulary.{◌≡◌, ◌-◌, arith, ap, ◌∙◌, length, subst, sym, AnswersFitBy, Drives}
+use Rattle.simulator.proofs.Vocabulary.{◌≡◌, ◌-◌, arith, ap, ◌∙◌, length, subst, sym, Litmus, CoresExist, AnswersFitBy, Drives}
 use Rattle.machine_core.proofs.RunningLemmas.{on-ok, if-ok}
 use Rattle.simulator.specs.inner.Observed.{Watched}
 use Rattle.simulator.proofs.SimulationLemmas.{IsDriven, answers-fit}
@@ -11,6 +11,20 @@ begin-requires g c = subst (g.O.Observer.begins c.args.observer.now) (sym c.in_o
 
 pub drive_machine-requires-clause-possible : goal.drive_machine-requires-clause-possible
 drive_machine-requires-clause-possible g c = rw c.in_ok-machine.ensures (c.attempts_lead_from_state_to_state.ensures.first c.args.setup.now.config.bus c.args.setup.now.test.now c.args.setup.now.config.depth)
+
+pub drive_machine-requires-clause-fresh : goal.drive_machine-requires-clause-fresh
+drive_machine-requires-clause-fresh g c = ap (λ m. m.failed) c.in_ok-machine.ensures
+
+pub drive_machine-requires-clause-cores : goal.drive_machine-requires-clause-cores
+drive_machine-requires-clause-cores g c =
+    subst (λ cs. CoresExist (length c.in_ok-machine.machine.test.programs) cs) (sym c.new-choices.ensures)
+    (subst (λ (t : Litmus). CoresExist (length t.programs) c.args.choices.now) (sym (ap (λ m. m.test) c.in_ok-machine.ensures)) c.requires.cores)
+
+pub drive_machine-requires-clause-watches : goal.drive_machine-requires-clause-watches
+drive_machine-requires-clause-watches g c = c.in_ok-begin.ensures.watches
+
+pub end-requires : goal.end-requires
+end-requires g c = c.in_ok-progress.ensures.watches
 
 pub ending_of-requires : goal.ending_of-requires
 ending_of-requires g c = c.in_ok-progress.ensures.drives.test ∙ ap (λ m. m.test) c.in_ok-machine.ensures

@@ -1,4 +1,4 @@
-use Rattle.snoop_bus.proofs.Vocabulary.{Some, ap, Write}
+use Rattle.snoop_bus.proofs.Vocabulary.{Some, refl, ap, Write}
 use Rattle.snoop_bus.proofs.Completed.{word_due, words_beside, locked, same_machine, completes}
 use Rattle.snoop_bus.proofs.bus.SnoopBus.complete_read.Goals as goal
 
@@ -32,3 +32,6 @@ returns-clause-done g c = completes (g.P.Protocol.table c.self.inside.protocol) 
 
 pub returns-clause-holds : goal.returns-clause-holds
 returns-clause-holds g c = ap (λ held. Some held.holder) c.held_at.ensures
+
+pub returns-clause-awaited : goal.returns-clause-awaited
+returns-clause-awaited g c = rw c.held_at.ensures refl

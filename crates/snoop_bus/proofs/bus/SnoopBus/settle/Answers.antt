@@ -31,3 +31,15 @@ returns-clause-coherent g c =
     let free = free-held c.self.inside.held (rw (← c.self.view_is) at c.requires.free) in
     let keeps = c.settle.ensures.words in
     rw (free) keeps.coherent
+
+pub settle-requires-clause-coherent : goal.settle-requires-clause-coherent
+settle-requires-clause-coherent g c = rw (free-held c.self.inside.held (rw (← c.self.view_is) at c.requires.free)) at c.self.invariant.coherent
+
+pub settle-requires-clause-few : goal.settle-requires-clause-few
+settle-requires-clause-few g c = c.self.invariant.few_lines
+
+pub returns-clause-contents : goal.returns-clause-contents
+returns-clause-contents g c = rw (← c.self.view_is) c.settle.ensures.tags
+
+pub returns-clause-free : goal.returns-clause-free
+returns-clause-free g c = rw (← c.self.view_is) at c.requires.free
