@@ -1,4 +1,4 @@
-use Rattle.machine_core.proofs.Vocabulary.{◌++◌, [], ◌∷◌, refl, sym, ap, ◌∙◌, subst, length, All, chosen, completes, Write, IsCore, state_in, memory_access_in}
+use Rattle.machine_core.proofs.Vocabulary.{◌++◌, [], ◌∷◌, refl, sym, ap, ◌∙◌, subst, length, All, chosen, completes, Locks, Write, IsCore, held_as, held_for, core_in, state_in, memory_access_in}
 use Rattle.machine_core.proofs.ChoiceEffects.{within-cores}
 use Rattle.machine_core.proofs.Completions.{performs-first, uses-first}
 use Rattle.machine_core.proofs.Splitting.{held-with}
@@ -37,3 +37,29 @@ pub returns-in_err-entry-in-Lock-clause-commits_at_once : goal.returns-in_err-en
 returns-in_err-entry-in-Lock-clause-commits_at_once g c =
     let m = c.args.hardware.now in
     ap (λ access. (completes c.args.test.now m.config.depth (state_in m).flat c.args.choice access).effect.outcome) (sym c.access_of.ensures.value ∙ ap memory_access_in c.in-Lock.is)
+
+pub access_of-requires : goal.access_of-requires
+access_of-requires g c = record { core = c.requires.core; fits = c.requires.consistent.fits }
+
+pub read_first-requires : goal.read_first-requires
+read_first-requires g c =
+    let m = c.args.hardware.now in
+    record {
+      asked = c.requires.consistent.held ∙ ap (held_as c.args.test.now m.config.depth (state_in m).flat) c.requires.asked
+          ∙ ap (held_for (core_in c.args.choice)) (sym c.access_of.ensures.value ∙ ap memory_access_in c.in-Lock.is) ∙ ap (λ core. held_for core (Locks c.in-Lock.loc)) (sym c.core_of-core.ensures.core);
+    }
+
+pub act-requires-clause-core : goal.act-requires-clause-core
+act-requires-clause-core g c = c.requires.core
+
+pub act-requires-clause-fits : goal.act-requires-clause-fits
+act-requires-clause-fits g c = c.requires.consistent.fits
+
+pub returns-in_err-entry-in-Lock-clause-of_test : goal.returns-in_err-entry-in-Lock-clause-of_test
+returns-in_err-entry-in-Lock-clause-of_test g c =
+    let fits = c.requires.consistent.fits in
+    let same = c.in_err-entry-in-Lock.ensures.err_bus in
+    record { fits = record { cores = fits.cores; on_bus = rw same fits.on_bus; words = rw same fits.words; each = rw same fits.each }; held = rw same c.requires.consistent.held }
+
+pub returns-in_ok-entry-in-Lock-clause-keeps : goal.returns-in_ok-entry-in-Lock-clause-keeps
+returns-in_ok-entry-in-Lock-clause-keeps g c = record { config = refl; counts = refl }
