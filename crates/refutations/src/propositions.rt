@@ -192,22 +192,13 @@ pub fn allows(
             word_can_be(branch, facts, *loc, wanted)
         }
         Prop::Not(inner) => allows(test, events, answers, facts, inner, !truth),
-        Prop::And(left, right) => {
-            if truth {
-                allows(test, events, answers, facts, left, true)
-                    && allows(test, events, answers, facts, right, true)
+        Prop::And(left, right) | Prop::Or(left, right) => {
+            let needs_both = matches!(prop, Prop::And(..)) == truth;
+            let first = allows(test, events, answers, facts, left, truth);
+            if first == needs_both {
+                allows(test, events, answers, facts, right, truth)
             } else {
-                allows(test, events, answers, facts, left, false)
-                    || allows(test, events, answers, facts, right, false)
-            }
-        }
-        Prop::Or(left, right) => {
-            if truth {
-                allows(test, events, answers, facts, left, true)
-                    || allows(test, events, answers, facts, right, true)
-            } else {
-                allows(test, events, answers, facts, left, false)
-                    && allows(test, events, answers, facts, right, false)
+                first
             }
         }
     }
@@ -223,9 +214,6 @@ pub fn can_be_met(test: &Test, events: &[Entry], answers: &Answers, facts: &Fact
     let Some(cond) = test.cond() else {
         return true;
     };
-    match cond.quantifier {
-        Quantifier::Exists => allows(test, events, answers, facts, &cond.prop, true),
-        Quantifier::NotExists => allows(test, events, answers, facts, &cond.prop, true),
-        Quantifier::Forall => allows(test, events, answers, facts, &cond.prop, false),
-    }
+    let truth = !matches!(cond.quantifier, Quantifier::Forall);
+    allows(test, events, answers, facts, &cond.prop, truth)
 }

@@ -3,11 +3,3 @@ use Rattle.refutations.proofs.propositions.can_be_met.Goals as goal
 
 pub allows-requires-clause-names : goal.allows-requires-clause-names
 allows-requires-clause-names c = condition-names c.args.test.now c.in-Some.cond.now c.in-Some.ensures.test c.in-Some.ensures.value
-
-pub allows-requires-in-NotExists-clause-names : goal.allows-requires-in-NotExists-clause-names
-allows-requires-in-NotExists-clause-names c =
-    condition-names c.args.test.now c.in-Some.cond.now c.in-Some.ensures.test c.in-Some.ensures.value
-
-pub allows-requires-in-Forall-clause-names : goal.allows-requires-in-Forall-clause-names
-allows-requires-in-Forall-clause-names c =
-    condition-names c.args.test.now c.in-Some.cond.now c.in-Some.ensures.test c.in-Some.ensures.value
