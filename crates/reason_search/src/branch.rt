@@ -2,7 +2,7 @@
 
 use crate::facts::{Answer, Edge, Fact, NO_EDGE, NO_FACT};
 use crate::lists::{List, NONE};
-use crate::problem::{Problem, Relations};
+use crate::problem::{Problem, RELEVANT, Relations};
 use crate::rows::Rows;
 use std::alloc::Global;
 
@@ -46,7 +46,7 @@ const NEVER: Moment = Moment {
 #[derive(Clone, Copy)]
 pub struct Mark {
     trail: usize,
-    facts: usize,
+    pub facts: usize,
     edges: usize,
 }
 
@@ -57,10 +57,24 @@ pub const START: Mark = Mark {
     edges: 0,
 };
 
+/// The events that are to be looked at.
+pub const DIRTY: usize = 0;
+/// The reads whose sources are to be tested for their values then.
+pub const UNTESTED: usize = 1;
+/// For the read in hand, writes to its location that are known to come before it, or before its store part.
+pub const EARLIER: usize = 2;
+/// All that are known to come before those.
+pub const PARTED: usize = 3;
+/// The reads whose values are noted.
+pub const VALUED: usize = 4;
+/// The reads whose values are needed for the leaf in hand.
+pub const NEEDED: usize = 5;
+
 /// A branch.
 #[derive(Drop)]
 pub struct Branch {
-    pub problem: Problem,
+    /// How many events there are.
+    pub size: usize,
     /// What is after each event in each of the relations, what is before it, and the sources that each read may still have.
     pub rows: Rows,
     pub trail: List<Change>,
@@ -74,37 +88,38 @@ pub struct Branch {
     pub values: List<usize>,
     /// When it was told that the first one of two writes is before the other one, or a source was taken from a read.
     moments: List<Moment>,
-    /// Two rows: the events that are to be looked at, and the reads whose sources are to be tested for their values then.
-    pub dirty: Rows,
-    /// Two rows for the read in hand: writes to its location that are known to come before it, or before its store part, and all
-    /// that are known to come before those.
-    pub earlier: Rows,
+    /// Sets of events, a row for each of those that are named above.
+    pub sets: Rows,
     pub claim_is_dirty: bool,
     pub conflict: Conflict,
 }
 
 impl Branch {
+    /// The row of what is after an event.
+    pub fn row(&self, relations: Relations, a: usize) -> usize {
+        relations.row(self.size, a)
+    }
+
     /// The row of what is before an event.
     pub fn before(&self, relations: Relations, a: usize) -> usize {
-        self.problem
-            .size
+        self.size
             .wrapping_mul(3)
-            .wrapping_add(self.problem.row(relations, a))
+            .wrapping_add(self.row(relations, a))
     }
 
     /// The row of the sources that a read may still have.
     pub fn candidates(&self, r: usize) -> usize {
-        self.problem.size.wrapping_mul(6).wrapping_add(r)
+        self.size.wrapping_mul(6).wrapping_add(r)
     }
 
     /// Whether one event is known to be before another one.
     pub fn is_known(&self, relations: Relations, a: usize, b: usize) -> bool {
-        self.rows.has(self.problem.row(relations, a), b)
+        self.rows.has(self.row(relations, a), b)
     }
 
     /// A word of what is after an event.
     pub fn word_after(&self, relations: Relations, a: usize, k: usize) -> u64 {
-        self.rows.word(self.problem.row(relations, a), k)
+        self.rows.word(self.row(relations, a), k)
     }
 
     /// A word of what is before an event.
@@ -113,20 +128,19 @@ impl Branch {
     }
 
     /// Where an event and a write to its location have their place in a table.
-    fn cell(&self, a: usize, w: usize) -> usize {
-        let places = self.problem.most_writes.wrapping_add(1);
-        a.wrapping_mul(places)
-            .wrapping_add(self.problem.ranks.at(w))
+    fn cell(&self, problem: &Problem, a: usize, w: usize) -> usize {
+        let places = problem.most_writes.wrapping_add(1);
+        a.wrapping_mul(places).wrapping_add(problem.ranks.at(w))
     }
 
     /// The fact that says that one write is before another one.
-    pub fn pair(&self, a: usize, b: usize) -> usize {
-        self.moments.at(self.cell(a, b)).facts
+    pub fn pair(&self, problem: &Problem, a: usize, b: usize) -> usize {
+        self.moments.at(self.cell(problem, a, b)).facts
     }
 
     /// When the source was taken from the read; `NEVER` where it wasn't.
-    pub fn removed_at(&self, r: usize, s: usize) -> Moment {
-        self.moments.at(self.cell(r, s))
+    pub fn removed_at(&self, problem: &Problem, r: usize, s: usize) -> Moment {
+        self.moments.at(self.cell(problem, r, s))
     }
 
     /// The write that a read is known to read from.
@@ -139,8 +153,7 @@ impl Branch {
 
     /// Whether memory was refused.
     pub fn is_refused(&self) -> bool {
-        self.problem.is_refused()
-            | self.rows.words.is_refused
+        self.rows.words.is_refused
             | self.trail.is_refused
             | self.facts.is_refused
             | self.edges.is_refused
@@ -148,26 +161,25 @@ impl Branch {
             | self.source.is_refused
             | self.values.is_refused
             | self.moments.is_refused
-            | self.dirty.words.is_refused
-            | self.earlier.words.is_refused
+            | self.sets.words.is_refused
     }
 }
 
 /// Marks all as to be looked at.
 pub fn look_at_all(branch: &mut Branch) {
-    for a in 0..branch.problem.size {
-        branch.dirty.add(0, a);
+    for a in 0..branch.size {
+        branch.sets.add(DIRTY, a);
     }
     branch.claim_is_dirty = true;
 }
 
 /// A branch with no answer.
-pub fn make_branch(alloc: Global, problem: Problem) -> Branch {
+pub fn make_branch(alloc: Global, problem: &Problem) -> Branch {
     let size = problem.size;
     let cells = size.wrapping_mul(problem.most_writes.wrapping_add(1));
     let mut branch = Branch {
+        size,
         rows: Rows::new(alloc, size.wrapping_mul(7), size),
-        problem,
         trail: List::new(alloc, Change::Moment(NONE)),
         facts: List::new(alloc, NO_FACT),
         edges: List::new(alloc, NO_EDGE),
@@ -175,12 +187,12 @@ pub fn make_branch(alloc: Global, problem: Problem) -> Branch {
         source: List::filled(alloc, size, NONE),
         values: List::filled(alloc, size, NONE),
         moments: List::filled(alloc, cells, NEVER),
-        dirty: Rows::new(alloc, 2, size),
-        earlier: Rows::new(alloc, 2, size),
+        sets: Rows::new(alloc, 6, size),
         claim_is_dirty: true,
         conflict: Conflict::Open,
     };
     look_at_all(&mut branch);
+    branch.sets.join(VALUED, &problem.reads, RELEVANT);
     branch
 }
 
@@ -205,7 +217,7 @@ pub fn undo(branch: &mut Branch, mark: &Mark) {
     }
     branch.facts.cut(mark.facts);
     branch.edges.cut(mark.edges);
-    branch.dirty.clear(0);
+    branch.sets.clear(DIRTY);
     branch.claim_is_dirty = true;
     branch.conflict = Conflict::Open;
 }
@@ -231,8 +243,8 @@ pub fn add_fact(branch: &mut Branch, answer: Answer, tried: bool) -> usize {
 
 /// Notes for an event and a write where the branch stands now: the event can't read from the write, or the next fact says that it is
 /// before the write.
-pub fn put_moment(branch: &mut Branch, a: usize, w: usize) {
-    let place = branch.cell(a, w);
+pub fn put_moment(problem: &Problem, branch: &mut Branch, a: usize, w: usize) {
+    let place = branch.cell(problem, a, w);
     let now = Moment {
         facts: branch.facts.len(),
         edges: branch.edges.len(),

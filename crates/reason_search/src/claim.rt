@@ -1,7 +1,7 @@
 //! What is asked of the final state, as a list of parts. A part that is made of two stands before them, the first one right behind it.
 
 use crate::lists::{List, NONE};
-use crate::problem::{Problem, Term, add_reads, register_place};
+use crate::problem::{Problem, RELEVANT, STORED, Term, add_reads, register_place};
 use crate::rows::bit;
 use std::alloc::Global;
 use tso_model::{Loc, Prop, Quantifier, Test};
@@ -128,17 +128,17 @@ pub fn parts_of(
 
 /// Marks the locations of what is marked, and the reads on which the values hang that those may get. Whether any is new.
 fn mark_more(problem: &mut Problem) -> bool {
-    let before = problem.relevant.count(0);
+    let before = problem.reads.count(RELEVANT);
     for a in 0..problem.size {
         let loc = problem.location(a);
-        if problem.relevant.has(0, a) {
-            problem.relevant.add(0, loc);
+        if problem.reads.has(RELEVANT, a) {
+            problem.reads.add(RELEVANT, loc);
         }
-        if problem.relevant.has(0, loc) && problem.is_write_to(loc, a) {
-            add_reads(&mut problem.relevant, problem.terms.at(a));
+        if problem.reads.has(RELEVANT, loc) && problem.is_write_to(loc, a) {
+            add_reads(&mut problem.reads, RELEVANT, problem.terms.at(a));
         }
     }
-    problem.relevant.count(0) != before
+    problem.reads.count(RELEVANT) != before
 }
 
 /// Marks the locations and reads that what is asked names, and those on whose values theirs may hang.
@@ -150,7 +150,7 @@ pub fn mark_relevant(problem: &mut Problem) {
             Part::Value(r, _) => {
                 other = problem.parts_on.at(r);
                 problem.parts_on.put(r, i);
-                problem.relevant.add(0, r);
+                problem.reads.add(RELEVANT, r);
             }
             Part::Either(_) => has_choice = true,
             Part::Both(_) | Part::Fixed(_) => {}
@@ -158,7 +158,7 @@ pub fn mark_relevant(problem: &mut Problem) {
         problem.other_parts.push(other);
     }
     if has_choice {
-        problem.stored.join(0, &problem.relevant, 0);
+        problem.reads.join_own(STORED, RELEVANT);
     }
     for _round in 0..problem.size {
         if !mark_more(problem) {

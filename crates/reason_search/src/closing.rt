@@ -5,7 +5,7 @@ use crate::evidence::{Closing, reset, use_facts};
 use crate::facts::Turned;
 use crate::growing::{Growth, add_cycle, add_node, put_branch};
 use crate::offers::{Desk, show_order};
-use crate::problem::Relations;
+use crate::problem::{Problem, Relations};
 
 /// The question which of two writes comes first, with the tree of the other order and of this one.
 pub fn ask_order(desk: &mut Desk, a: usize, b: usize, other: usize, tree: usize) -> usize {
@@ -22,11 +22,11 @@ pub fn add_trial(desk: &mut Desk, relations: Relations) -> usize {
 }
 
 /// Whether an answer above says that one write is before another one; it is used then.
-fn is_used(branch: &Branch, desk: &mut Desk, a: usize, b: usize) -> bool {
-    if branch.problem.is_initial(a) {
+fn is_used(problem: &Problem, branch: &Branch, desk: &mut Desk, a: usize, b: usize) -> bool {
+    if problem.is_initial(a) {
         return true;
     }
-    let fact = branch.pair(a, b);
+    let fact = branch.pair(problem, a, b);
     if fact >= desk.above {
         return false;
     }
@@ -44,6 +44,7 @@ struct Pair {
 /// A tree that goes by an order. Where no answer says it, and it isn't the one that is turned, it follows from a chain: then the
 /// question stands above the tree, and the other order is a cycle.
 fn add_pair_above(
+    problem: &Problem,
     branch: &Branch,
     desk: &mut Desk,
     turned: Turned,
@@ -51,19 +52,27 @@ fn add_pair_above(
     tree: usize,
 ) -> usize {
     let Pair { first, second } = pair;
-    if first == turned.second && second == turned.first || is_used(branch, desk, first, second) {
+    if first == turned.second && second == turned.first
+        || is_used(problem, branch, desk, first, second)
+    {
         return tree;
     }
     reset(&mut desk.trial, Closing::Cycle(Relations::OnLocation));
     desk.trial.cycle.push(first);
-    show_order(branch, desk, first, second, turned.edges);
+    show_order(problem, branch, desk, first, second, turned.edges);
     desk.trial.cycle.push(second);
     let cycle = add_trial(desk, Relations::OnLocation);
     ask_order(desk, first, second, cycle, tree)
 }
 
 /// The tree of a write between two parts, the first of which reads from `s`, with the pairs that only follow from chains.
-fn add_between_tree(branch: &Branch, desk: &mut Desk, s: usize, turned: Turned) -> usize {
+fn add_between_tree(
+    problem: &Problem,
+    branch: &Branch,
+    desk: &mut Desk,
+    s: usize,
+    turned: Turned,
+) -> usize {
     let r = desk.best.cycle.at(0);
     let v = desk.best.cycle.at(1);
     let own = desk.best.cycle.at(2);
@@ -76,17 +85,23 @@ fn add_between_tree(branch: &Branch, desk: &mut Desk, s: usize, turned: Turned) 
         first: s,
         second: v,
     };
-    let tree = add_pair_above(branch, desk, turned, later, leaf);
-    add_pair_above(branch, desk, turned, earlier, tree)
+    let tree = add_pair_above(problem, branch, desk, turned, later, leaf);
+    add_pair_above(problem, branch, desk, turned, earlier, tree)
 }
 
 /// The tree of the best reason, for a read of `s`, or where this order is supposed to be turned; what it uses is used then. Where
 /// there is no reason, all answers are used.
-pub fn add_best(branch: &Branch, desk: &mut Desk, s: usize, turned: Turned) -> usize {
+pub fn add_best(
+    problem: &Problem,
+    branch: &Branch,
+    desk: &mut Desk,
+    s: usize,
+    turned: Turned,
+) -> usize {
     use_facts(&desk.best, &mut desk.used);
     match desk.best.closing {
         Closing::Cycle(relations) => add_cycle(&mut desk.trees, relations, &desk.best.cycle),
-        Closing::Between => add_between_tree(branch, desk, s, turned),
+        Closing::Between => add_between_tree(problem, branch, desk, s, turned),
         Closing::False => add_node(&mut desk.trees, Growth::False, 1),
         Closing::None => add_false(desk),
     }

@@ -22,24 +22,21 @@ pub struct Evidence {
     pub cycle: List<usize>,
     pub facts: List<usize>,
     pub cost: usize,
-    /// One row: the reads whose values are needed.
-    pub needed: Rows,
 }
 
 /// No leaf yet.
-pub fn make_evidence(alloc: Global, size: usize) -> Evidence {
+pub fn make_evidence(alloc: Global) -> Evidence {
     Evidence {
         closing: Closing::None,
         cycle: List::new(alloc, NONE),
         facts: List::new(alloc, NONE),
         cost: NONE,
-        needed: Rows::new(alloc, 1, size),
     }
 }
 
 /// Whether memory was refused for a leaf.
 pub fn lacks_memory(evidence: &Evidence) -> bool {
-    evidence.cycle.is_refused | evidence.facts.is_refused | evidence.needed.words.is_refused
+    evidence.cycle.is_refused | evidence.facts.is_refused
 }
 
 /// Begins a leaf anew.
@@ -48,6 +45,15 @@ pub fn reset(evidence: &mut Evidence, closing: Closing) {
     evidence.cycle.cut(0);
     evidence.facts.cut(0);
     evidence.cost = NONE;
+}
+
+/// Makes the leaf one of a write between the parts of a locked instruction.
+pub fn put_between(evidence: &mut Evidence, load: usize, between: usize, store: usize) {
+    evidence.closing = Closing::Between;
+    evidence.cycle.cut(0);
+    evidence.cycle.push(load);
+    evidence.cycle.push(between);
+    evidence.cycle.push(store);
 }
 
 /// Adds a fact that the leaf uses.

@@ -4,6 +4,7 @@ use crate::lists::{List, NONE};
 use crate::problem::{NO_EVENT, Problem, Relations};
 use refutations::Node;
 use std::alloc::Global;
+use std::mem::swap;
 use tso_model::{Entry, NoMemory};
 
 /// What stands at a node.
@@ -44,6 +45,12 @@ pub fn no_trees(alloc: Global) -> Trees {
         twigs: List::new(alloc, NO_TWIG),
         events: List::new(alloc, NONE),
     }
+}
+
+/// Takes all nodes away.
+pub fn clear(trees: &mut Trees) {
+    trees.twigs.cut(0);
+    trees.events.cut(0);
 }
 
 /// Adds a node with no branch yet: a question, which has no leaves then, or a leaf.
@@ -150,6 +157,19 @@ pub struct Proposal {
 /// Whether memory was refused for a proposal.
 pub fn is_short(proposal: &Proposal) -> bool {
     proposal.trees.twigs.is_refused | proposal.trees.events.is_refused | proposal.open.is_refused
+}
+
+/// Proposes the tree that starts here, if it has fewer leaves than so many. How many leaves the tree has that is proposed then.
+pub fn offer_tree(proposal: &mut Proposal, trees: &mut Trees, root: usize, leaves: usize) -> usize {
+    let fewer = trees.twigs.at(root).leaves;
+    if fewer >= leaves {
+        return leaves;
+    }
+    // The trees that were proposed stand there from now on.
+    swap(&mut proposal.trees, trees);
+    proposal.open.cut(0);
+    proposal.open.push(root);
+    fewer
 }
 
 /// Takes a node, and opens those that stand behind it.

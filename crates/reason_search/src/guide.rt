@@ -1,13 +1,13 @@
 //! What a search proposes: nodes of a tree, from the root on, or the order of an execution.
 
-use crate::growing::{Proposal, is_short, next_node, no_trees};
+use crate::growing::{Proposal, is_short, next_node, no_trees, offer_tree};
 use crate::hunting::{Find, Hunt, hunt_again, hunt_for, is_refused, make_hunt};
 use crate::lists::{List, NONE};
 use crate::ordering::make_order;
+use crate::problem::{Problem, make_problem};
 use refutation_laws::Model;
 use refutations::Node;
 use std::alloc::Global;
-use std::mem::swap;
 use tso_model::{Entry, Execution, NoMemory, Test};
 
 /// How many cases a search looks at before it gives up.
@@ -19,43 +19,35 @@ const MOST_TRIES: usize = 8;
 /// A search, and the tree that it proposes.
 #[derive(Drop)]
 pub struct Guide {
+    problem: Problem,
     hunt: Hunt,
     is_allowed: bool,
     proposal: Proposal,
 }
 
-/// Proposes the tree that starts here, if it has fewer leaves than so many. How many leaves the tree has that is proposed then.
-fn offer_tree(guide: &mut Guide, root: usize, leaves: usize) -> usize {
-    let trees = &mut guide.hunt.desk.trees;
-    let fewer = trees.twigs.at(root).leaves;
-    if fewer >= leaves {
-        return leaves;
-    }
-    // The trees that were proposed stand there from now on.
-    swap(&mut guide.proposal.trees, trees);
-    guide.proposal.open.cut(0);
-    guide.proposal.open.push(root);
-    fewer
-}
-
 /// Looks for smaller trees than this one, a few times, each time at no more cases than that took.
-fn look_for_smaller(guide: &mut Guide, root: usize) {
-    let effort = guide.hunt.cases.wrapping_add(20);
-    let mut leaves = offer_tree(guide, root, NONE);
+fn look_for_smaller(problem: &Problem, hunt: &mut Hunt, proposal: &mut Proposal, root: usize) {
+    let effort = hunt.cases.wrapping_add(20);
+    let mut leaves = offer_tree(proposal, &mut hunt.desk.trees, root, NONE);
     for tries in 0..MOST_TRIES {
-        if leaves < 3 || tries.wrapping_mul(effort) > 4_000 || is_refused(&guide.hunt) {
+        if leaves < 3 || tries.wrapping_mul(effort) > 4_000 || is_refused(hunt) {
             break;
         }
-        if let Find::Refuted(other) = hunt_again(&mut guide.hunt, effort) {
-            leaves = offer_tree(guide, other, leaves);
+        if let Find::Refuted(other) = hunt_again(problem, hunt, effort) {
+            leaves = offer_tree(proposal, &mut hunt.desk.trees, other, leaves);
         }
     }
 }
 
 /// Searches. Where all is closed, a tree is proposed.
 fn search(guide: &mut Guide) {
-    match hunt_for(&mut guide.hunt, MOST_CASES) {
-        Find::Refuted(root) => look_for_smaller(guide, root),
+    if guide.problem.is_refused() {
+        return;
+    }
+    match hunt_for(&guide.problem, &mut guide.hunt, MOST_CASES) {
+        Find::Refuted(root) => {
+            look_for_smaller(&guide.problem, &mut guide.hunt, &mut guide.proposal, root);
+        }
         Find::Allowed => guide.is_allowed = true,
         Find::Paused => {}
     }
@@ -64,8 +56,10 @@ fn search(guide: &mut Guide) {
 /// Searches: a tree, or a branch that is open to the end, or neither. Where memory is refused, the search ends, and `proposed_order`
 /// tells it.
 pub fn make_guide(alloc: Global, test: &Test, events: &[Entry], model: Model) -> Guide {
+    let problem = make_problem(alloc, test, events, model);
     let mut guide = Guide {
-        hunt: make_hunt(alloc, test, events, model),
+        hunt: make_hunt(alloc, &problem),
+        problem,
         is_allowed: false,
         proposal: Proposal {
             trees: no_trees(alloc),
@@ -80,13 +74,13 @@ pub fn make_guide(alloc: Global, test: &Test, events: &[Entry], model: Model) ->
 ///
 /// Errors: out of memory only, for this or for the search.
 pub fn proposed_order(alloc: Global, guide: &Guide) -> Result<Option<Execution>, NoMemory> {
-    if is_refused(&guide.hunt) | is_short(&guide.proposal) {
+    if guide.problem.is_refused() | is_refused(&guide.hunt) | is_short(&guide.proposal) {
         return Err(NoMemory);
     }
     if !guide.is_allowed {
         return Ok(None);
     }
-    let order = make_order(alloc, &guide.hunt.branch)?;
+    let order = make_order(alloc, &guide.problem, &guide.hunt.branch)?;
     Ok(Some(Execution { order }))
 }
 
@@ -94,7 +88,7 @@ pub fn proposed_order(alloc: Global, guide: &Guide) -> Result<Option<Execution>,
 ///
 /// Errors: out of memory only.
 pub fn propose(alloc: Global, guide: &mut Guide) -> Result<Option<Node>, NoMemory> {
-    next_node(alloc, &guide.hunt.branch.problem, &mut guide.proposal)
+    next_node(alloc, &guide.problem, &mut guide.proposal)
 }
 
 /// Forgets what was proposed and isn't taken yet.

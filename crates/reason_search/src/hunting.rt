@@ -1,20 +1,19 @@
 //! The search: questions are asked, what follows is noted, and where a branch is closed its tree is made and the next answer tried.
 //! An answer that its tree doesn't use is no question: the tree stands in its place.
 
-use crate::branch::{Branch, Mark, look_at_all, make_branch, mark_here, undo};
+use crate::branch::{Branch, DIRTY, Mark, VALUED, look_at_all, make_branch, mark_here, undo};
 use crate::chance::{Chance, FIRST_CHANCE};
 use crate::choosing::{Ask, choose};
 use crate::edges::{put_before, put_program};
+use crate::growing::clear;
 use crate::lists::NONE;
 use crate::looking::{deduce, put_source};
 use crate::offers::{Desk, make_desk};
-use crate::problem::make_problem;
+use crate::problem::Problem;
 use crate::questions::{Frame, NO_FRAME, Questions, begin};
 use crate::reasoning::{add_conflict, add_source_question, add_tried_order, wrap};
 use crate::values::{find_values, known_facts};
-use refutation_laws::Model;
 use std::alloc::Global;
-use tso_model::{Entry, Test};
 
 /// A search.
 #[derive(Drop)]
@@ -43,13 +42,12 @@ pub enum Find {
 }
 
 /// A search that hasn't begun.
-pub fn make_hunt(alloc: Global, test: &Test, events: &[Entry], model: Model) -> Hunt {
-    let problem = make_problem(alloc, test, events, model);
+pub fn make_hunt(alloc: Global, problem: &Problem) -> Hunt {
     let size = problem.size;
     // So many facts a branch may have at most: a read has one source, and a write is before others.
     let most_facts = size.wrapping_mul(problem.most_writes.wrapping_add(2));
     let mut branch = make_branch(alloc, problem);
-    put_program(&mut branch);
+    put_program(problem, &mut branch);
     Hunt {
         start: mark_here(&branch),
         branch,
@@ -68,14 +66,14 @@ pub fn is_refused(hunt: &Hunt) -> bool {
 }
 
 /// Puts an answer on the branch. False where that closes it.
-fn put_answer(branch: &mut Branch, ask: Ask, answer: usize) -> bool {
+fn put_answer(problem: &Problem, branch: &mut Branch, ask: Ask, answer: usize) -> bool {
     match ask {
-        Ask::Source(r) => put_source(branch, r, answer, true),
+        Ask::Source(r) => put_source(problem, branch, r, answer, true),
         Ask::Order(a, b) => {
             if answer == 0 {
-                put_before(branch, b, a, true)
+                put_before(problem, branch, b, a, true)
             } else {
-                put_before(branch, a, b, true)
+                put_before(problem, branch, a, b, true)
             }
         }
         Ask::Nothing => true,
@@ -91,11 +89,11 @@ enum Next {
 }
 
 /// Tries the next answer of the last question.
-fn try_next(hunt: &mut Hunt, frame: &Frame) -> Next {
-    let answer = hunt.questions.next_answer(frame, hunt.branch.facts.len());
+fn try_next(problem: &Problem, hunt: &mut Hunt, frame: &Frame) -> Next {
+    let answer = hunt.questions.next_answer(frame);
     if answer == NONE {
         Next::None
-    } else if put_answer(&mut hunt.branch, frame.ask, answer) {
+    } else if put_answer(problem, &mut hunt.branch, frame.ask, answer) {
         Next::Open
     } else {
         Next::Closed
@@ -103,7 +101,7 @@ fn try_next(hunt: &mut Hunt, frame: &Frame) -> Next {
 }
 
 /// The tree of a question all of whose answers are closed.
-fn finish(hunt: &mut Hunt, frame: &Frame) -> usize {
+fn finish(problem: &Problem, hunt: &mut Hunt, frame: &Frame) -> usize {
     let desk = &mut hunt.desk;
     desk.used.clear(0);
     hunt.questions.use_again(frame, &mut desk.used);
@@ -111,42 +109,42 @@ fn finish(hunt: &mut Hunt, frame: &Frame) -> usize {
     hunt.questions.take_back(frame);
     desk.above = hunt.branch.facts.len();
     match frame.ask {
-        Ask::Source(r) => add_source_question(&mut hunt.branch, desk, r),
+        Ask::Source(r) => add_source_question(problem, &mut hunt.branch, desk, r),
         Ask::Order(a, b) => add_tried_order(desk, a, b),
         Ask::Nothing => NONE,
     }
 }
 
 /// Goes back to the last question with the tree of its answer. The question's tree, where that is known; else `NONE`.
-fn go_back_one(hunt: &mut Hunt, frame: &Frame, tree: usize) -> usize {
+fn go_back_one(problem: &Problem, hunt: &mut Hunt, frame: &Frame, tree: usize) -> usize {
     undo(&mut hunt.branch, &frame.mark);
-    if !hunt.desk.used.has(0, frame.fact) {
+    if !hunt.desk.used.has(0, frame.mark.facts) {
         // The tree doesn't use the answer, and closes the question.
         hunt.questions.take_back(frame);
         return tree;
     }
     hunt.questions.keep(frame, tree, &hunt.desk.used);
-    match try_next(hunt, frame) {
+    match try_next(problem, hunt, frame) {
         Next::Open => NONE,
-        Next::Closed => add_conflict(&mut hunt.branch, &mut hunt.desk),
-        Next::None => finish(hunt, frame),
+        Next::Closed => add_conflict(problem, &mut hunt.branch, &mut hunt.desk),
+        Next::None => finish(problem, hunt, frame),
     }
 }
 
 /// Goes back from a closed branch to the next answer that is open. The tree where there is none.
-fn go_back(hunt: &mut Hunt) -> usize {
-    let mut tree = add_conflict(&mut hunt.branch, &mut hunt.desk);
+fn go_back(problem: &Problem, hunt: &mut Hunt) -> usize {
+    let mut tree = add_conflict(problem, &mut hunt.branch, &mut hunt.desk);
     for _step in 0..u64::MAX {
         if is_refused(hunt) {
             return NONE;
         }
         if hunt.questions.frames.len() == 0 {
-            return wrap(&mut hunt.branch, &mut hunt.desk, 0, tree);
+            return wrap(problem, &mut hunt.branch, &mut hunt.desk, 0, tree);
         }
         let frame = hunt.questions.frames.from_end(0);
-        let next = frame.fact.wrapping_add(1);
-        tree = wrap(&mut hunt.branch, &mut hunt.desk, next, tree);
-        tree = go_back_one(hunt, &frame, tree);
+        let next = frame.mark.facts.wrapping_add(1);
+        tree = wrap(problem, &mut hunt.branch, &mut hunt.desk, next, tree);
+        tree = go_back_one(problem, hunt, &frame, tree);
         if tree == NONE {
             return NONE;
         }
@@ -155,52 +153,50 @@ fn go_back(hunt: &mut Hunt) -> usize {
 }
 
 /// Asks the next question, and tries its first answer. What came of it; none where no question is open.
-fn ask_next(hunt: &mut Hunt) -> Next {
-    let ask = choose(&hunt.branch, &hunt.desk.weights, hunt.round);
+fn ask_next(problem: &Problem, hunt: &mut Hunt) -> Next {
+    let ask = choose(problem, &hunt.branch, &hunt.desk.weights, hunt.round);
     if matches!(ask, Ask::Nothing) {
         return Next::None;
     }
     let by_chance = hunt.round != 0;
     let frame = begin(
+        problem,
         &hunt.branch,
         &mut hunt.questions,
         &mut hunt.chance,
         ask,
         by_chance,
     );
-    try_next(hunt, &frame)
+    try_next(problem, hunt, &frame)
 }
 
 /// Notes what every read returns, as the order of an execution has it.
-fn find_all_values(branch: &mut Branch) {
-    for loc in 0..branch.problem.locations {
-        branch
-            .problem
-            .relevant
-            .join(0, &branch.problem.readers_of, loc);
+fn find_all_values(problem: &Problem, branch: &mut Branch) {
+    for loc in 0..problem.locations {
+        branch.sets.join(VALUED, &problem.readers_of, loc);
     }
     let known = known_facts(branch.facts.len());
-    find_values(branch, known);
+    find_values(problem, branch, known);
 }
 
 /// Searches until all is closed, or a branch is open to the end, or it pauses.
-fn search(hunt: &mut Hunt) -> Find {
+fn search(problem: &Problem, hunt: &mut Hunt) -> Find {
     for _case in 0..u64::MAX {
         hunt.cases = hunt.cases.wrapping_add(1);
         if hunt.cases > hunt.pause || is_refused(hunt) {
             return Find::Paused;
         }
-        if deduce(&mut hunt.branch) {
-            match ask_next(hunt) {
+        if deduce(problem, &mut hunt.branch) {
+            match ask_next(problem, hunt) {
                 Next::Open => continue,
                 Next::None => {
-                    find_all_values(&mut hunt.branch);
+                    find_all_values(problem, &mut hunt.branch);
                     return Find::Allowed;
                 }
                 Next::Closed => {}
             }
         }
-        let tree = go_back(hunt);
+        let tree = go_back(problem, hunt);
         if tree != NONE {
             return Find::Refuted(tree);
         }
@@ -213,17 +209,16 @@ pub fn start_anew(hunt: &mut Hunt) {
     undo(&mut hunt.branch, &hunt.start);
     look_at_all(&mut hunt.branch);
     hunt.questions.take_back(&NO_FRAME);
-    hunt.desk.trees.twigs.cut(0);
-    hunt.desk.trees.events.cut(0);
+    clear(&mut hunt.desk.trees);
     hunt.round = hunt.round.wrapping_add(1);
 }
 
 /// Searches with pauses, after each of which it begins anew with what it learnt of which questions matter: at most so many cases.
-pub fn hunt_for(hunt: &mut Hunt, most: usize) -> Find {
+pub fn hunt_for(problem: &Problem, hunt: &mut Hunt, most: usize) -> Find {
     let mut step = 400usize;
     for _round in 0..u64::MAX {
         hunt.pause = hunt.cases.wrapping_add(step);
-        let found = search(hunt);
+        let found = search(problem, hunt);
         if !matches!(found, Find::Paused) || hunt.cases > most || is_refused(hunt) {
             return found;
         }
@@ -234,11 +229,11 @@ pub fn hunt_for(hunt: &mut Hunt, most: usize) -> Find {
 }
 
 /// Looks at one event after the other in an order of chance, with all that follows. False where that closes the branch.
-fn look_by_chance(branch: &mut Branch, chance: &mut Chance) -> bool {
-    branch.dirty.clear(0);
-    for _event in 0..branch.problem.size {
-        branch.dirty.add(0, chance.below(branch.problem.size));
-        if !deduce(branch) {
+fn look_by_chance(problem: &Problem, branch: &mut Branch, chance: &mut Chance) -> bool {
+    branch.sets.clear(DIRTY);
+    for _event in 0..problem.size {
+        branch.sets.add(DIRTY, chance.below(problem.size));
+        if !deduce(problem, branch) {
             return false;
         }
     }
@@ -247,13 +242,13 @@ fn look_by_chance(branch: &mut Branch, chance: &mut Chance) -> bool {
 }
 
 /// Begins anew, with another order in which things follow, and looks at so many cases at most: it may find a smaller tree.
-pub fn hunt_again(hunt: &mut Hunt, most: usize) -> Find {
+pub fn hunt_again(problem: &Problem, hunt: &mut Hunt, most: usize) -> Find {
     start_anew(hunt);
     hunt.pause = hunt.cases.wrapping_add(most);
-    if look_by_chance(&mut hunt.branch, &mut hunt.chance) {
-        return search(hunt);
+    if look_by_chance(problem, &mut hunt.branch, &mut hunt.chance) {
+        return search(problem, hunt);
     }
-    let tree = go_back(hunt);
+    let tree = go_back(problem, hunt);
     if tree == NONE {
         return Find::Paused;
     }

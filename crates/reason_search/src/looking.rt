@@ -1,55 +1,50 @@
 //! What follows at a write, at a read and at a location, and all that follows in a branch.
 
-use crate::branch::{Branch, Change, Conflict, add_fact, change_word, put_moment};
+use crate::branch::{
+    Branch, Change, Conflict, DIRTY, EARLIER, PARTED, UNTESTED, add_fact, change_word, put_moment,
+};
 use crate::edges::{add_edge, add_edges, put_before};
 use crate::facts::{Answer, Link};
 use crate::lists::NONE;
-use crate::problem::Relations;
+use crate::problem::{Problem, RELEVANT, Relations, STORED};
 use crate::rows::{bit, lowest};
 use crate::values::{find_values, is_false, is_wrong_source, is_wrong_value, known_facts};
 
-/// Whether a read from this write is an edge of the global relations.
-pub fn is_global_source(branch: &Branch, w: usize, r: usize) -> bool {
-    branch.problem.sequential || branch.problem.core(w) != branch.problem.core(r)
-}
-
 /// Marks what may have as its source a write whose value hangs on a read.
-fn look_at_dependents(branch: &mut Branch, r: usize) {
-    for w in branch.problem.locations..branch.problem.size {
-        let term = branch.problem.terms.at(w);
-        let event = branch.problem.events.at(w);
+fn look_at_dependents(problem: &Problem, branch: &mut Branch, r: usize) {
+    for w in problem.locations..problem.size {
+        let term = problem.terms.at(w);
+        let event = problem.events.at(w);
         if event.writes && (term.first == r || term.second == r) {
-            branch
-                .dirty
-                .join(0, &branch.problem.readers_of, event.location);
+            branch.sets.join(DIRTY, &problem.readers_of, event.location);
         }
     }
 }
 
 /// Marks the reads with no source on whose values what is asked may hang as to be looked at.
-fn look_at_relevant(branch: &mut Branch) {
-    for r in branch.problem.locations..branch.problem.size {
-        if branch.problem.relevant.has(0, r) && branch.source.at(r) == NONE {
-            branch.dirty.add(0, r);
+fn look_at_relevant(problem: &Problem, branch: &mut Branch) {
+    for r in problem.locations..problem.size {
+        if problem.reads.has(RELEVANT, r) && branch.source.at(r) == NONE {
+            branch.sets.add(DIRTY, r);
         }
     }
 }
 
 /// Marks what the value of a read may change, which has this source now.
-fn look_at_value(branch: &mut Branch, r: usize, w: usize) {
-    if branch.problem.stored.has(0, r) {
-        look_at_dependents(branch, r);
+fn look_at_value(problem: &Problem, branch: &mut Branch, r: usize, w: usize) {
+    if problem.reads.has(STORED, r) {
+        look_at_dependents(problem, branch, r);
     }
-    let hangs = branch.problem.terms.at(w).first != NONE;
-    if hangs && branch.problem.relevant.has(0, r) {
-        look_at_relevant(branch);
+    let hangs = problem.terms.at(w).first != NONE;
+    if hangs && problem.reads.has(RELEVANT, r) {
+        look_at_relevant(problem, branch);
     }
     // What no other value hangs on was tested as a source.
-    branch.claim_is_dirty |= hangs || branch.problem.stored.has(0, r);
+    branch.claim_is_dirty |= hangs || problem.reads.has(STORED, r);
 }
 
 /// A read has this source. False where that closes a cycle.
-pub fn put_source(branch: &mut Branch, r: usize, w: usize, tried: bool) -> bool {
+pub fn put_source(problem: &Problem, branch: &mut Branch, r: usize, w: usize, tried: bool) -> bool {
     let fact = add_fact(branch, Answer::Source(r, w), tried);
     let link = Link {
         from: w,
@@ -59,10 +54,10 @@ pub fn put_source(branch: &mut Branch, r: usize, w: usize, tried: bool) -> bool 
     };
     branch.trail.push(Change::Source(r));
     branch.source.put(r, fact);
-    branch.dirty.add(0, r);
-    look_at_value(branch, r, w);
-    add_edge(branch, Relations::OnLocation, link)
-        && (!is_global_source(branch, w, r) || add_edge(branch, Relations::Global, link))
+    branch.sets.add(DIRTY, r);
+    look_at_value(problem, branch, r, w);
+    add_edge(problem, branch, Relations::OnLocation, link)
+        && (!problem.is_global_source(w, r) || add_edge(problem, branch, Relations::Global, link))
 }
 
 /// Where each of some writes is put.
@@ -76,10 +71,10 @@ enum Put {
     FromRead(usize),
 }
 
-fn put_one(branch: &mut Branch, put: Put, v: usize) -> bool {
+fn put_one(problem: &Problem, branch: &mut Branch, put: Put, v: usize) -> bool {
     match put {
-        Put::Before(w) => v == w || put_before(branch, v, w, false),
-        Put::After(w) => v == w || put_before(branch, w, v, false),
+        Put::Before(w) => v == w || put_before(problem, branch, v, w, false),
+        Put::After(w) => v == w || put_before(problem, branch, w, v, false),
         Put::FromRead(r) => {
             let link = Link {
                 from: r,
@@ -87,13 +82,13 @@ fn put_one(branch: &mut Branch, put: Put, v: usize) -> bool {
                 fact: branch.source.at(r),
                 is_from_read: true,
             };
-            add_edges(branch, link)
+            add_edges(problem, branch, link)
         }
     }
 }
 
 /// Puts each write of a word in its place. False where that closes the branch.
-fn put_each(branch: &mut Branch, put: Put, k: usize, some: u64) -> bool {
+fn put_each(problem: &Problem, branch: &mut Branch, put: Put, k: usize, some: u64) -> bool {
     let mut left = some;
     for _write in 0..64u8 {
         if left == 0 {
@@ -101,7 +96,7 @@ fn put_each(branch: &mut Branch, put: Put, k: usize, some: u64) -> bool {
         }
         let v = lowest(k, left);
         left &= left.wrapping_sub(1);
-        if !put_one(branch, put, v) {
+        if !put_one(problem, branch, put, v) {
             return false;
         }
     }
@@ -114,14 +109,14 @@ fn word_earlier(branch: &Branch, a: usize, k: usize) -> u64 {
 }
 
 /// Writes that are after this one by one of the relations are after it in coherence.
-fn look_at_write(branch: &mut Branch, a: usize) -> bool {
-    let loc = branch.problem.location(a);
-    for k in 0..branch.problem.width {
+fn look_at_write(problem: &Problem, branch: &mut Branch, a: usize) -> bool {
+    let loc = problem.location(a);
+    for k in 0..branch.rows.width {
         let later = branch.word_after(Relations::OnLocation, a, k)
             | branch.word_after(Relations::Global, a, k);
-        let them = branch.problem.writes_to.word(loc, k);
+        let them = problem.writes_to.word(loc, k);
         let known = branch.word_after(Relations::Coherence, a, k);
-        if !put_each(branch, Put::After(a), k, later & them & !known) {
+        if !put_each(problem, branch, Put::After(a), k, later & them & !known) {
             return false;
         }
     }
@@ -129,13 +124,27 @@ fn look_at_write(branch: &mut Branch, a: usize) -> bool {
 }
 
 /// No write comes between the source of a load part and its store part.
-fn keep_together(branch: &mut Branch, s: usize, own: usize, k: usize, them: u64) -> bool {
+fn keep_together(
+    problem: &Problem,
+    branch: &mut Branch,
+    s: usize,
+    own: usize,
+    k: usize,
+    them: u64,
+) -> bool {
     let later = branch.word_after(Relations::Coherence, s, k);
     let own_later = branch.word_after(Relations::Coherence, own, k);
-    if !put_each(branch, Put::After(own), k, later & them & !own_later) {
+    if !put_each(
+        problem,
+        branch,
+        Put::After(own),
+        k,
+        later & them & !own_later,
+    ) {
         return false;
     }
     put_before_source(
+        problem,
         branch,
         s,
         branch.word_before(Relations::Coherence, own, k),
@@ -145,28 +154,42 @@ fn keep_together(branch: &mut Branch, s: usize, own: usize, k: usize, them: u64)
 }
 
 /// These writes are before a source, unless it is the initial write.
-fn put_before_source(branch: &mut Branch, s: usize, earlier: u64, k: usize, them: u64) -> bool {
+fn put_before_source(
+    problem: &Problem,
+    branch: &mut Branch,
+    s: usize,
+    earlier: u64,
+    k: usize,
+    them: u64,
+) -> bool {
     let known = branch.word_before(Relations::Coherence, s, k);
-    branch.problem.is_initial(s) || put_each(branch, Put::Before(s), k, earlier & them & !known)
+    problem.is_initial(s) || put_each(problem, branch, Put::Before(s), k, earlier & them & !known)
 }
 
 /// What follows for the writes of a word at a read whose source is known.
-fn look_at_writes(branch: &mut Branch, r: usize, s: usize, own: usize, k: usize) -> bool {
-    let loc = branch.problem.location(r);
-    let them = branch.problem.writes_to.word(loc, k);
+fn look_at_writes(
+    problem: &Problem,
+    branch: &mut Branch,
+    r: usize,
+    s: usize,
+    own: usize,
+    k: usize,
+) -> bool {
+    let loc = problem.location(r);
+    let them = problem.writes_to.word(loc, k);
     let later = branch.word_after(Relations::Coherence, s, k);
     let passed = branch.word_after(Relations::OnLocation, r, k)
         & branch.word_after(Relations::Global, r, k);
-    put_each(branch, Put::FromRead(r), k, later & !passed & them)
-        && put_before_source(branch, s, word_earlier(branch, r, k), k, them)
-        && (own == NONE || keep_together(branch, s, own, k, them))
+    put_each(problem, branch, Put::FromRead(r), k, later & !passed & them)
+        && put_before_source(problem, branch, s, word_earlier(branch, r, k), k, them)
+        && (own == NONE || keep_together(problem, branch, s, own, k, them))
 }
 
 /// What follows at a read whose source is known.
-fn look_at_known(branch: &mut Branch, r: usize, s: usize) -> bool {
-    let own = branch.problem.partner(r);
-    for k in 0..branch.problem.width {
-        if !look_at_writes(branch, r, s, own, k) {
+fn look_at_known(problem: &Problem, branch: &mut Branch, r: usize, s: usize) -> bool {
+    let own = problem.partner(r);
+    for k in 0..branch.rows.width {
+        if !look_at_writes(problem, branch, r, s, own, k) {
             return false;
         }
     }
@@ -174,48 +197,48 @@ fn look_at_known(branch: &mut Branch, r: usize, s: usize) -> bool {
 }
 
 /// Notes the writes to its location that are known to come before a read, or its store part.
-fn note_earlier(branch: &mut Branch, r: usize) {
-    let loc = branch.problem.location(r);
-    let own = branch.problem.partner(r);
-    for k in 0..branch.problem.width {
+fn note_earlier(problem: &Problem, branch: &mut Branch, r: usize) {
+    let loc = problem.location(r);
+    let own = problem.partner(r);
+    for k in 0..branch.rows.width {
         let mut earlier = word_earlier(branch, r, k);
         if own != NONE {
             earlier |= branch.word_before(Relations::Coherence, own, k);
         }
-        let writes = branch.problem.writes_to.word(loc, k);
-        branch.earlier.put_word(0, k, earlier & writes);
+        let writes = problem.writes_to.word(loc, k);
+        branch.sets.put_word(EARLIER, k, earlier & writes);
     }
 }
 
 /// Notes the writes after which another one is known to come before a read, or its store part.
-fn note_parted(branch: &mut Branch, r: usize) {
-    note_earlier(branch, r);
-    branch.earlier.clear(1);
-    let mut w = branch.earlier.next(0, 0);
-    for _write in 0..branch.problem.size {
+fn note_parted(problem: &Problem, branch: &mut Branch, r: usize) {
+    note_earlier(problem, branch, r);
+    branch.sets.clear(PARTED);
+    let mut w = branch.sets.next(EARLIER, 0);
+    for _write in 0..problem.size {
         if w == NONE {
             break;
         }
         let before = branch.before(Relations::Coherence, w);
-        branch.earlier.join(1, &branch.rows, before);
-        w = branch.earlier.next(0, w.wrapping_add(1));
+        branch.sets.join(PARTED, &branch.rows, before);
+        w = branch.sets.next(EARLIER, w.wrapping_add(1));
     }
 }
 
 /// A word of what a read can't read from, since it is known to be before it.
-fn word_too_late(branch: &Branch, r: usize, k: usize) -> u64 {
-    let own = if branch.problem.sequential {
+fn word_too_late(problem: &Problem, branch: &Branch, r: usize, k: usize) -> u64 {
+    let own = if problem.sequential {
         0
     } else {
-        let core = usize::from(branch.problem.core(r));
-        branch.problem.events_of.word(core, k)
+        let core = usize::from(problem.core(r));
+        problem.events_of.word(core, k)
     };
     branch.word_after(Relations::OnLocation, r, k)
         | branch.word_after(Relations::Global, r, k) & !own
 }
 
 /// Takes sources of a word from a read.
-fn take_sources(branch: &mut Branch, r: usize, k: usize, taken: u64) {
+fn take_sources(problem: &Problem, branch: &mut Branch, r: usize, k: usize, taken: u64) {
     let row = branch.candidates(r);
     let bits = branch.rows.word(row, k) & !taken;
     change_word(branch, row, k, bits);
@@ -224,13 +247,13 @@ fn take_sources(branch: &mut Branch, r: usize, k: usize, taken: u64) {
         if left == 0 {
             break;
         }
-        put_moment(branch, r, lowest(k, left));
+        put_moment(problem, branch, r, lowest(k, left));
         left &= left.wrapping_sub(1);
     }
 }
 
 /// Takes from a read those sources of a word that it can't have for their values.
-fn take_by_value(branch: &mut Branch, r: usize, k: usize) {
+fn take_by_value(problem: &Problem, branch: &mut Branch, r: usize, k: usize) {
     let mut left = branch.rows.word(branch.candidates(r), k);
     for _source in 0..64u8 {
         if left == 0 {
@@ -238,32 +261,32 @@ fn take_by_value(branch: &mut Branch, r: usize, k: usize) {
         }
         let s = lowest(k, left);
         left &= left.wrapping_sub(1);
-        if is_wrong_source(branch, r, s) {
-            take_sources(branch, r, k, bit(s));
+        if is_wrong_source(problem, branch, r, s) {
+            take_sources(problem, branch, r, k, bit(s));
         }
     }
 }
 
 /// Takes from a read all sources that it can't have, for what is known of the order, and for their values.
-fn take_all(branch: &mut Branch, r: usize) {
-    note_parted(branch, r);
-    let is_tested = !branch.dirty.has(1, r);
-    for k in 0..branch.problem.width {
-        let barred = word_too_late(branch, r, k) | branch.earlier.word(1, k);
+fn take_all(problem: &Problem, branch: &mut Branch, r: usize) {
+    note_parted(problem, branch, r);
+    let is_tested = !branch.sets.has(UNTESTED, r);
+    for k in 0..branch.rows.width {
+        let barred = word_too_late(problem, branch, r, k) | branch.sets.word(PARTED, k);
         let taken = branch.rows.word(branch.candidates(r), k) & barred;
         if taken != 0 {
-            take_sources(branch, r, k, taken);
+            take_sources(problem, branch, r, k, taken);
         }
         if !is_tested {
-            take_by_value(branch, r, k);
+            take_by_value(problem, branch, r, k);
         }
     }
-    branch.dirty.remove(1, r);
+    branch.sets.remove(UNTESTED, r);
 }
 
 /// What follows at a read whose source is open.
-fn look_at_open(branch: &mut Branch, r: usize) -> bool {
-    take_all(branch, r);
+fn look_at_open(problem: &Problem, branch: &mut Branch, r: usize) -> bool {
+    take_all(problem, branch, r);
     let row = branch.candidates(r);
     match branch.rows.count(row) {
         0 => {
@@ -272,21 +295,18 @@ fn look_at_open(branch: &mut Branch, r: usize) -> bool {
         }
         1 => {
             let only = branch.rows.next(row, 0);
-            put_source(branch, r, only, false)
+            put_source(problem, branch, r, only, false)
         }
         _ => true,
     }
 }
 
 /// The next write to a location, from a number on, that can be its last one; `NONE` where there is none.
-pub fn next_last(branch: &Branch, loc: usize, from: usize) -> usize {
-    for a in from..branch.problem.size {
-        if branch.problem.is_write_to(loc, a)
-            && branch
-                .rows
-                .next(branch.problem.row(Relations::Coherence, a), 0)
-                == NONE
-            && !is_wrong_value(branch, loc, a)
+pub fn next_last(problem: &Problem, branch: &Branch, loc: usize, from: usize) -> usize {
+    for a in from..problem.size {
+        if problem.is_write_to(loc, a)
+            && branch.rows.next(problem.row(Relations::Coherence, a), 0) == NONE
+            && !is_wrong_value(problem, branch, loc, a)
         {
             return a;
         }
@@ -295,65 +315,73 @@ pub fn next_last(branch: &Branch, loc: usize, from: usize) -> usize {
 }
 
 /// What follows at a location of which something is asked, where only one write can be its last one.
-fn look_at_last(branch: &mut Branch, loc: usize) -> bool {
-    let only = next_last(branch, loc, 0);
+fn look_at_last(problem: &Problem, branch: &mut Branch, loc: usize) -> bool {
+    let only = next_last(problem, branch, loc, 0);
     branch.claim_is_dirty = true;
-    if only == NONE || next_last(branch, loc, only.wrapping_add(1)) != NONE {
+    if only == NONE || next_last(problem, branch, loc, only.wrapping_add(1)) != NONE {
         return true;
     }
-    for k in 0..branch.problem.width {
+    for k in 0..branch.rows.width {
         let known = branch.word_before(Relations::Coherence, only, k);
-        let others = branch.problem.writes_to.word(loc, k) & !known;
-        if !put_each(branch, Put::Before(only), k, others) {
+        let others = problem.writes_to.word(loc, k) & !known;
+        if !put_each(problem, branch, Put::Before(only), k, others) {
             return false;
         }
     }
     true
 }
 
-fn look_at_one(branch: &mut Branch, a: usize) -> bool {
-    if branch.problem.is_initial(a) {
-        return !branch.problem.is_asked(a) || look_at_last(branch, a);
+fn look_at_one(problem: &Problem, branch: &mut Branch, a: usize) -> bool {
+    if problem.is_initial(a) {
+        return !problem.is_asked(a) || look_at_last(problem, branch, a);
     }
-    let event = branch.problem.events.at(a);
+    let event = problem.events.at(a);
     if event.writes {
-        return look_at_write(branch, a);
+        return look_at_write(problem, branch, a);
     }
     if !event.reads {
         return true;
     }
     let s = branch.source_of(a);
     if s != NONE {
-        look_at_known(branch, a, s)
+        look_at_known(problem, branch, a, s)
     } else {
-        look_at_open(branch, a)
+        look_at_open(problem, branch, a)
     }
 }
 
+/// Notes the values that are known. False where what is asked is false by them.
+fn look_at_claim(problem: &Problem, branch: &mut Branch) -> bool {
+    branch.claim_is_dirty = false;
+    let known = known_facts(branch.facts.len());
+    find_values(problem, branch, known);
+    branch.sets.join(UNTESTED, &problem.reads, RELEVANT);
+    let is_false = is_false(problem, branch, known);
+    if is_false {
+        branch.conflict = Conflict::False;
+    }
+    !is_false
+}
+
 /// Notes all that follows. False where the branch is closed.
-pub fn deduce(branch: &mut Branch) -> bool {
+pub fn deduce(problem: &Problem, branch: &mut Branch) -> bool {
     for _step in 0..u64::MAX {
         if branch.facts.is_refused {
             // What follows can't be noted any more, so it would follow again and again.
             return true;
         }
         if branch.claim_is_dirty {
-            branch.claim_is_dirty = false;
-            let known = known_facts(branch.facts.len());
-            find_values(branch, known);
-            branch.dirty.join(1, &branch.problem.relevant, 0);
-            if is_false(branch, known) {
-                branch.conflict = Conflict::False;
+            if !look_at_claim(problem, branch) {
                 return false;
             }
             continue;
         }
-        let next = branch.dirty.next(0, 0);
+        let next = branch.sets.next(DIRTY, 0);
         if next == NONE {
             return true;
         }
-        branch.dirty.remove(0, next);
-        if !look_at_one(branch, next) {
+        branch.sets.remove(DIRTY, next);
+        if !look_at_one(problem, branch, next) {
             return false;
         }
     }

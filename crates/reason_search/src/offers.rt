@@ -2,15 +2,16 @@
 //! answers.
 
 use crate::branch::Branch;
-use crate::evidence::{Closing, Evidence, lacks_memory, make_evidence, need, reset, weigh};
+use crate::evidence::{
+    Closing, Evidence, lacks_memory, make_evidence, need, put_between, reset, weigh,
+};
 use crate::facts::{Edge, Link, Turned};
 use crate::growing::{Trees, no_trees};
 use crate::lists::{List, NONE};
-use crate::looking::is_global_source;
 use crate::paths::{
-    Edges, Paths, begin, find, lack_memory, make_paths, start_from, start_from_later,
+    Edges, Paths, STARTS, begin, find, lack_memory, make_paths, start_from, start_from_later,
 };
-use crate::problem::Relations;
+use crate::problem::{Problem, Relations};
 use crate::rows::Rows;
 use crate::values::{Known, known_facts, need_falsity};
 use crate::weights::Weights;
@@ -54,8 +55,8 @@ pub fn make_desk(alloc: Global, size: usize, facts: usize) -> Desk {
     Desk {
         paths: make_paths(alloc, size),
         inner: make_paths(alloc, size),
-        best: make_evidence(alloc, size),
-        trial: make_evidence(alloc, size),
+        best: make_evidence(alloc),
+        trial: make_evidence(alloc),
         trees: no_trees(alloc),
         used: Rows::new(alloc, 1, facts),
         above: 0,
@@ -82,14 +83,21 @@ struct Parting {
 }
 
 /// Adds to the leaf in hand the facts that one write comes before another one.
-fn need_order(branch: &Branch, desk: &mut Desk, a: usize, b: usize, limit: usize) {
+fn need_order(
+    problem: &Problem,
+    branch: &Branch,
+    desk: &mut Desk,
+    a: usize,
+    b: usize,
+    limit: usize,
+) {
     let edges = Edges {
         relations: Relations::Coherence,
         limit,
     };
     begin(&mut desk.inner);
     start_from(&mut desk.inner, a);
-    if find(branch, &mut desk.inner, edges, b) {
+    if find(problem, branch, &mut desk.inner, edges, b) {
         for i in 0..desk.inner.path.len() {
             let edge = branch.edges.at(desk.inner.path.at(i).edge);
             need(&mut desk.trial, edge.link.fact);
@@ -98,36 +106,43 @@ fn need_order(branch: &Branch, desk: &mut Desk, a: usize, b: usize, limit: usize
 }
 
 /// The same, and adds to the cycle the writes that stand between them.
-pub fn show_order(branch: &Branch, desk: &mut Desk, a: usize, b: usize, limit: usize) {
-    need_order(branch, desk, a, b, limit);
+pub fn show_order(
+    problem: &Problem,
+    branch: &Branch,
+    desk: &mut Desk,
+    a: usize,
+    b: usize,
+    limit: usize,
+) {
+    need_order(problem, branch, desk, a, b, limit);
     for i in 1..desk.inner.path.len() {
         desk.trial.cycle.push(desk.inner.path.from_end(i).from);
     }
 }
 
 /// Adds the facts of an edge; after its first event the writes are shown that stand between a read's source and what it is before.
-fn need_edge(branch: &Branch, desk: &mut Desk, edge: Edge, limit: usize) {
+fn need_edge(problem: &Problem, branch: &Branch, desk: &mut Desk, edge: Edge, limit: usize) {
     need(&mut desk.trial, edge.link.fact);
     if edge.link.is_from_read {
         let s = branch.source_of(edge.link.from);
-        show_order(branch, desk, s, edge.link.to, limit);
+        show_order(problem, branch, desk, s, edge.link.to, limit);
     }
 }
 
 /// Adds the path that was found.
-fn follow(branch: &Branch, desk: &mut Desk, to: usize) {
+fn follow(problem: &Problem, branch: &Branch, desk: &mut Desk, to: usize) {
     for i in 0..desk.paths.path.len() {
         let step = desk.paths.path.from_end(i);
         desk.trial.cycle.push(step.from);
         if step.edge != NONE {
-            need_edge(branch, desk, branch.edges.at(step.edge), step.edge);
+            need_edge(problem, branch, desk, branch.edges.at(step.edge), step.edge);
         }
     }
     desk.trial.cycle.push(to);
 }
 
 /// Takes in hand the leaf of a cycle that an edge closes.
-pub fn close_cycle(branch: &Branch, desk: &mut Desk, edge: Edge) {
+pub fn close_cycle(problem: &Problem, branch: &Branch, desk: &mut Desk, edge: Edge) {
     let limit = branch.edges.len();
     let relations = edge.relations;
     let Link { from, to, .. } = edge.link;
@@ -139,10 +154,10 @@ pub fn close_cycle(branch: &Branch, desk: &mut Desk, edge: Edge) {
     if to == from {
         reset(&mut desk.trial, Closing::Cycle(relations));
         desk.trial.cycle.push(from);
-    } else if !take_path(branch, desk, back) {
+    } else if !take_path(problem, branch, desk, back) {
         return;
     }
-    need_edge(branch, desk, edge, limit);
+    need_edge(problem, branch, desk, edge, limit);
 }
 
 /// Offers the leaf in hand: the better one is the best then.
@@ -154,35 +169,37 @@ fn offer(desk: &mut Desk) {
 }
 
 /// Takes in hand the cycle of a path to `to`, and of an edge back. False where there is no path.
-fn take_cycle(branch: &Branch, desk: &mut Desk, edges: Edges, to: usize) -> bool {
-    if !find(branch, &mut desk.paths, edges, to) {
+fn take_cycle(
+    problem: &Problem,
+    branch: &Branch,
+    desk: &mut Desk,
+    edges: Edges,
+    to: usize,
+) -> bool {
+    if !find(problem, branch, &mut desk.paths, edges, to) {
         return false;
     }
     reset(&mut desk.trial, Closing::Cycle(edges.relations));
-    follow(branch, desk, to);
+    follow(problem, branch, desk, to);
     true
 }
 
 /// Takes in hand the cycle of a path from one event to another one, and of an edge back.
-fn take_path(branch: &Branch, desk: &mut Desk, way: Way) -> bool {
+fn take_path(problem: &Problem, branch: &Branch, desk: &mut Desk, way: Way) -> bool {
     begin(&mut desk.paths);
     start_from(&mut desk.paths, way.from);
-    take_cycle(branch, desk, way.edges, way.to)
+    take_cycle(problem, branch, desk, way.edges, way.to)
 }
 
 /// Makes the leaf in hand one of a write between two parts, and offers it.
-fn offer_write_between(branch: &Branch, desk: &mut Desk, r: usize, v: usize) {
-    desk.trial.closing = Closing::Between;
-    desk.trial.cycle.cut(0);
-    desk.trial.cycle.push(r);
-    desk.trial.cycle.push(v);
-    desk.trial.cycle.push(branch.problem.partner(r));
+fn offer_write_between(problem: &Problem, desk: &mut Desk, r: usize, v: usize) {
+    put_between(&mut desk.trial, r, v, problem.partner(r));
     offer(desk);
 }
 
 /// Offers the cycle of a path between two events, and of the edge back, which a fact tells, or which is supposed.
-fn offer_path(branch: &Branch, desk: &mut Desk, way: Way, fact: usize) {
-    if take_path(branch, desk, way) {
+fn offer_path(problem: &Problem, branch: &Branch, desk: &mut Desk, way: Way, fact: usize) {
+    if take_path(problem, branch, desk, way) {
         need(&mut desk.trial, fact);
         offer(desk);
     }
@@ -190,59 +207,73 @@ fn offer_path(branch: &Branch, desk: &mut Desk, way: Way, fact: usize) {
 
 /// Offers the reasons by the order of one relation why a read can't have a source: it is before the source, or after a write that is
 /// after the source.
-fn offer_orders(branch: &Branch, desk: &mut Desk, edges: Edges, r: usize, s: usize) {
+fn offer_orders(
+    problem: &Problem,
+    branch: &Branch,
+    desk: &mut Desk,
+    edges: Edges,
+    r: usize,
+    s: usize,
+) {
     let is_edge = matches!(edges.relations, Relations::OnLocation)
-        || is_global_source(branch, s, r);
+        || problem.is_global_source(s, r);
     if is_edge && branch.is_known(edges.relations, r, s) {
         let way = Way {
             edges,
             from: r,
             to: s,
         };
-        offer_path(branch, desk, way, NONE);
+        offer_path(problem, branch, desk, way, NONE);
     }
-    start_from_later(branch, &mut desk.paths, s, edges.limit);
-    if take_cycle(branch, desk, edges, r) {
+    start_from_later(problem, branch, &mut desk.paths, s, edges.limit);
+    if take_cycle(problem, branch, desk, edges, r) {
         let first = desk.trial.cycle.at(0);
-        show_order(branch, desk, s, first, edges.limit);
+        show_order(problem, branch, desk, s, first, edges.limit);
         offer(desk);
     }
 }
 
 /// Offers a write of another core between the source of a load part and its store part.
-fn offer_between(branch: &Branch, desk: &mut Desk, r: usize, s: usize, limit: usize) {
-    let own = branch.problem.partner(r);
+fn offer_between(
+    problem: &Problem,
+    branch: &Branch,
+    desk: &mut Desk,
+    r: usize,
+    s: usize,
+    limit: usize,
+) {
+    let own = problem.partner(r);
     let edges = Edges {
         relations: Relations::Coherence,
         limit,
     };
-    start_from_later(branch, &mut desk.inner, s, limit);
+    start_from_later(problem, branch, &mut desk.inner, s, limit);
     begin(&mut desk.paths);
-    for x in branch.problem.locations..branch.problem.size {
-        if desk.inner.starts.has(0, x)
-            && branch.problem.core(x) != branch.problem.core(r)
+    for x in problem.locations..problem.size {
+        if desk.inner.events.has(STARTS, x)
+            && problem.core(x) != problem.core(r)
             && branch.is_known(Relations::Coherence, x, own)
         {
             start_from(&mut desk.paths, x);
         }
     }
-    if take_cycle(branch, desk, edges, own) {
+    if take_cycle(problem, branch, desk, edges, own) {
         let x = desk.trial.cycle.at(0);
-        need_order(branch, desk, s, x, limit);
-        offer_write_between(branch, desk, r, x);
+        need_order(problem, branch, desk, s, x, limit);
+        offer_write_between(problem, desk, r, x);
     }
 }
 
 /// Offers that what is asked is false by the values that are known.
-fn offer_false(branch: &mut Branch, desk: &mut Desk, known: Known) {
-    if need_falsity(branch, known, &mut desk.trial) {
+fn offer_false(problem: &Problem, branch: &mut Branch, desk: &mut Desk, known: Known) {
+    if need_falsity(problem, branch, known, &mut desk.trial) {
         offer(desk);
     }
 }
 
 /// Finds the best reason why a read can't have a source.
-pub fn find_why_not(branch: &mut Branch, desk: &mut Desk, r: usize, s: usize) {
-    let removed = branch.removed_at(r, s);
+pub fn find_why_not(problem: &Problem, branch: &mut Branch, desk: &mut Desk, r: usize, s: usize) {
+    let removed = branch.removed_at(problem, r, s);
     let limit = removed.edges;
     let known = Known {
         read: r,
@@ -258,16 +289,23 @@ pub fn find_why_not(branch: &mut Branch, desk: &mut Desk, r: usize, s: usize) {
         limit,
     };
     reset(&mut desk.best, Closing::None);
-    offer_false(branch, desk, known);
-    offer_orders(branch, desk, on_location, r, s);
-    offer_orders(branch, desk, global, r, s);
-    if branch.problem.partner(r) != NONE {
-        offer_between(branch, desk, r, s, limit);
+    offer_false(problem, branch, desk, known);
+    offer_orders(problem, branch, desk, on_location, r, s);
+    offer_orders(problem, branch, desk, global, r, s);
+    if problem.partner(r) != NONE {
+        offer_between(problem, branch, desk, r, s, limit);
     }
 }
 
 /// Offers a cycle of each relation: the path from the first one of two writes to an event, and the edge back.
-fn offer_paths(branch: &Branch, desk: &mut Desk, turned: Turned, to: usize, fact: usize) {
+fn offer_paths(
+    problem: &Problem,
+    branch: &Branch,
+    desk: &mut Desk,
+    turned: Turned,
+    to: usize,
+    fact: usize,
+) {
     let on_location = Way {
         edges: Edges {
             relations: Relations::OnLocation,
@@ -283,37 +321,37 @@ fn offer_paths(branch: &Branch, desk: &mut Desk, turned: Turned, to: usize, fact
         },
         ..on_location
     };
-    offer_path(branch, desk, on_location, fact);
-    offer_path(branch, desk, global, fact);
+    offer_path(problem, branch, desk, on_location, fact);
+    offer_path(problem, branch, desk, global, fact);
 }
 
 /// Finds the best reason why an order that a fact tells can't be turned.
-pub fn find_why_before(branch: &mut Branch, desk: &mut Desk, turned: Turned) {
-    let loc = branch.problem.location(turned.first);
+pub fn find_why_before(problem: &Problem, branch: &mut Branch, desk: &mut Desk, turned: Turned) {
+    let loc = problem.location(turned.first);
     reset(&mut desk.best, Closing::None);
-    offer_paths(branch, desk, turned, turned.second, NONE);
-    if branch.problem.is_asked(loc) {
+    offer_paths(problem, branch, desk, turned, turned.second, NONE);
+    if problem.is_asked(loc) {
         let known = Known {
             first: turned.second,
             ..known_facts(turned.fact)
         };
-        offer_false(branch, desk, known);
+        offer_false(problem, branch, desk, known);
     }
-    for r in branch.problem.locations..branch.problem.size {
-        if branch.source.at(r) < turned.fact && branch.problem.location(r) == loc {
-            offer_read(branch, desk, turned, r);
+    for r in problem.locations..problem.size {
+        if branch.source.at(r) < turned.fact && problem.location(r) == loc {
+            offer_read(problem, branch, desk, turned, r);
         }
     }
 }
 
 /// Offers the reasons by a read of their location why an order can't be turned.
-fn offer_read(branch: &Branch, desk: &mut Desk, turned: Turned, r: usize) {
+fn offer_read(problem: &Problem, branch: &Branch, desk: &mut Desk, turned: Turned, r: usize) {
     let (a, b) = (turned.first, turned.second);
-    let own = branch.problem.partner(r);
+    let own = problem.partner(r);
     let s = branch.source_of(r);
     if s == b {
         // b before a: r is before a
-        offer_paths(branch, desk, turned, r, branch.source.at(r));
+        offer_paths(problem, branch, desk, turned, r, branch.source.at(r));
         if own != NONE && own != a {
             let parting = Parting {
                 load: r,
@@ -321,7 +359,7 @@ fn offer_read(branch: &Branch, desk: &mut Desk, turned: Turned, r: usize) {
                 first: a,
                 second: own,
             };
-            offer_parting(branch, desk, turned.edges, parting);
+            offer_parting(problem, branch, desk, turned.edges, parting);
         }
     } else if own == a {
         let parting = Parting {
@@ -330,12 +368,18 @@ fn offer_read(branch: &Branch, desk: &mut Desk, turned: Turned, r: usize) {
             first: s,
             second: b,
         };
-        offer_parting(branch, desk, turned.edges, parting);
+        offer_parting(problem, branch, desk, turned.edges, parting);
     }
 }
 
 /// Offers a write of another core between the parts of a locked instruction, where the order of the two writes is known.
-fn offer_parting(branch: &Branch, desk: &mut Desk, limit: usize, parting: Parting) {
+fn offer_parting(
+    problem: &Problem,
+    branch: &Branch,
+    desk: &mut Desk,
+    limit: usize,
+    parting: Parting,
+) {
     let Parting { load, between, .. } = parting;
     let way = Way {
         edges: Edges {
@@ -346,10 +390,10 @@ fn offer_parting(branch: &Branch, desk: &mut Desk, limit: usize, parting: Partin
         to: parting.second,
     };
     if branch.is_known(Relations::Coherence, way.from, way.to)
-        && branch.problem.core(between) != branch.problem.core(load)
-        && take_path(branch, desk, way)
+        && problem.core(between) != problem.core(load)
+        && take_path(problem, branch, desk, way)
     {
         need(&mut desk.trial, branch.source.at(load));
-        offer_write_between(branch, desk, load, between);
+        offer_write_between(problem, desk, load, between);
     }
 }

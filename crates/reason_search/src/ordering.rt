@@ -2,7 +2,7 @@
 
 use crate::branch::Branch;
 use crate::lists::{List, NONE};
-use crate::problem::{NO_EVENT, Relations};
+use crate::problem::{NO_EVENT, Problem, Relations};
 use crate::rows::{Rows, lowest};
 use crate::values::written;
 use std::alloc::Global;
@@ -17,15 +17,13 @@ struct Placing {
 }
 
 /// Whether a fence stands between an event and one that stands before it in its program and is still to come, or is one of them.
-fn is_fenced(branch: &Branch, placing: &Placing, a: usize) -> bool {
-    let mut is_fenced = branch.problem.is_fence(a);
-    let mut b = a;
-    for _event in 0..a {
-        b = b.wrapping_sub(1);
-        if branch.problem.core(b) != branch.problem.core(a) {
+fn is_fenced(problem: &Problem, placing: &Placing, a: usize) -> bool {
+    let mut is_fenced = problem.is_fence(a);
+    for b in (0..a).rev() {
+        if problem.core(b) != problem.core(a) {
             break;
         }
-        is_fenced |= branch.problem.is_fence(b);
+        is_fenced |= problem.is_fence(b);
         if is_fenced && placing.left.has(0, b) {
             return true;
         }
@@ -34,23 +32,23 @@ fn is_fenced(branch: &Branch, placing: &Placing, a: usize) -> bool {
 }
 
 /// Whether an event waits for one that is still to come, other than its other part.
-fn is_waiting(branch: &Branch, placing: &Placing, a: usize) -> bool {
-    let partner = branch.problem.partner(a);
-    for k in 0..branch.problem.width {
+fn is_waiting(problem: &Problem, branch: &Branch, placing: &Placing, a: usize) -> bool {
+    let partner = problem.partner(a);
+    for k in 0..branch.rows.width {
         let left = branch.word_before(Relations::Global, a, k) & placing.left.word(0, k);
         if left != 0 && (left & left.wrapping_sub(1) != 0 || lowest(k, left) != partner) {
             return true;
         }
     }
-    is_fenced(branch, placing, a)
+    is_fenced(problem, placing, a)
 }
 
 /// The value of an event. A fence has 0.
-fn event_value(branch: &Branch, a: usize) -> u32 {
-    let value = if branch.problem.events.at(a).reads {
+fn event_value(problem: &Problem, branch: &Branch, a: usize) -> u32 {
+    let value = if problem.events.at(a).reads {
         branch.values.at(a)
     } else {
-        written(branch, a)
+        written(problem, branch, a)
     };
     if value == NONE {
         0
@@ -59,38 +57,38 @@ fn event_value(branch: &Branch, a: usize) -> u32 {
     }
 }
 
-fn place(branch: &Branch, placing: &mut Placing, a: usize) {
+fn place(problem: &Problem, branch: &Branch, placing: &mut Placing, a: usize) {
     placing.left.remove(0, a);
     placing.order.push(Entry {
-        value: event_value(branch, a),
-        ..branch.problem.entry(a)
+        value: event_value(problem, branch, a),
+        ..problem.entry(a)
     });
 }
 
 /// Places an event if it waits for none; both parts of a locked instruction side by side.
-fn place_ready(branch: &Branch, placing: &mut Placing, a: usize) {
+fn place_ready(problem: &Problem, branch: &Branch, placing: &mut Placing, a: usize) {
     if !placing.left.has(0, a) {
         return;
     }
-    let event = branch.problem.events.at(a);
+    let event = problem.events.at(a);
     let is_second = matches!(event.entry.kind, Kind::LW);
-    if is_second || is_waiting(branch, placing, a) {
+    if is_second || is_waiting(problem, branch, placing, a) {
         return;
     }
     if event.partner == NONE {
-        place(branch, placing, a);
-    } else if !is_waiting(branch, placing, event.partner) {
-        place(branch, placing, a);
-        place(branch, placing, event.partner);
+        place(problem, branch, placing, a);
+    } else if !is_waiting(problem, branch, placing, event.partner) {
+        place(problem, branch, placing, a);
+        place(problem, branch, placing, event.partner);
     }
 }
 
 /// Places all events that can be placed, round by round.
-fn place_all(branch: &Branch, placing: &mut Placing) {
-    for _round in 0..branch.problem.size {
+fn place_all(problem: &Problem, branch: &Branch, placing: &mut Placing) {
+    for _round in 0..problem.size {
         let placed = placing.order.len();
-        for a in branch.problem.locations..branch.problem.size {
-            place_ready(branch, placing, a);
+        for a in problem.locations..problem.size {
+            place_ready(problem, branch, placing, a);
         }
         if placing.order.len() == placed {
             break;
@@ -101,16 +99,20 @@ fn place_all(branch: &Branch, placing: &mut Placing) {
 /// The order of an execution, from a branch on which each question has an answer. Where there is none, what could be placed.
 ///
 /// Errors: out of memory only.
-pub fn make_order(alloc: Global, branch: &Branch) -> Result<Vec<Entry>, NoMemory> {
-    let size = branch.problem.size;
+pub fn make_order(
+    alloc: Global,
+    problem: &Problem,
+    branch: &Branch,
+) -> Result<Vec<Entry>, NoMemory> {
+    let size = problem.size;
     let mut placing = Placing {
         left: Rows::new(alloc, 1, size),
         order: List::new(alloc, NO_EVENT.entry),
     };
-    for a in branch.problem.locations..size {
+    for a in problem.locations..size {
         placing.left.add(0, a);
     }
-    place_all(branch, &mut placing);
+    place_all(problem, branch, &mut placing);
     placing.order.is_refused |= placing.left.words.is_refused;
     placing.order.into_items()
 }

@@ -2,7 +2,7 @@
 
 use crate::branch::Branch;
 use crate::lists::{List, NONE};
-use crate::problem::Relations;
+use crate::problem::{Problem, Relations};
 use crate::rows::{Rows, lowest};
 use std::alloc::Global;
 
@@ -25,6 +25,11 @@ const NO_STEP: Step = Step {
     edge: NONE,
 };
 
+/// The events that were reached.
+const SEEN: usize = 0;
+/// The events from which paths begin.
+pub const STARTS: usize = 1;
+
 /// A search for paths: by which step each event was reached, and the path that was found.
 #[derive(Drop)]
 pub struct Paths {
@@ -32,10 +37,8 @@ pub struct Paths {
     queue: List<usize>,
     /// Where in the queue the next event stands.
     next: usize,
-    /// One row: the events that were reached.
-    seen: Rows,
-    /// One row: the events from which paths begin.
-    pub starts: Rows,
+    /// Sets of events, a row for each of those that are named above.
+    pub events: Rows,
     /// The steps of the path that was found, backwards.
     pub path: List<Step>,
 }
@@ -46,8 +49,7 @@ pub fn make_paths(alloc: Global, size: usize) -> Paths {
         steps: List::filled(alloc, size, NO_STEP),
         queue: List::new(alloc, NONE),
         next: 0,
-        seen: Rows::new(alloc, 1, size),
-        starts: Rows::new(alloc, 1, size),
+        events: Rows::new(alloc, 2, size),
         path: List::new(alloc, NO_STEP),
     }
 }
@@ -56,15 +58,14 @@ pub fn make_paths(alloc: Global, size: usize) -> Paths {
 pub fn lack_memory(paths: &Paths) -> bool {
     paths.steps.is_refused
         | paths.queue.is_refused
-        | paths.seen.words.is_refused
-        | paths.starts.words.is_refused
+        | paths.events.words.is_refused
         | paths.path.is_refused
 }
 
 /// Begins a search for paths with no start.
 pub fn begin(paths: &mut Paths) {
-    paths.starts.clear(0);
-    paths.seen.clear(0);
+    paths.events.clear(STARTS);
+    paths.events.clear(SEEN);
     paths.queue.cut(0);
     paths.next = 0;
     paths.path.cut(0);
@@ -72,27 +73,27 @@ pub fn begin(paths: &mut Paths) {
 
 /// Adds an event from which paths begin.
 pub fn start_from(paths: &mut Paths, a: usize) {
-    paths.starts.add(0, a);
-    paths.seen.add(0, a);
+    paths.events.add(STARTS, a);
+    paths.events.add(SEEN, a);
     paths.queue.push(a);
 }
 
 fn reach(paths: &mut Paths, step: Step, to: usize) {
-    if !paths.seen.has(0, to) {
-        paths.seen.add(0, to);
+    if !paths.events.has(SEEN, to) {
+        paths.events.add(SEEN, to);
         paths.steps.put(to, step);
         paths.queue.push(to);
     }
 }
 
-fn reach_by_program(branch: &Branch, paths: &mut Paths, relations: Relations, a: usize) {
-    let row = branch.problem.row(relations, a);
+fn reach_by_program(problem: &Problem, paths: &mut Paths, relations: Relations, a: usize) {
+    let row = problem.row(relations, a);
     let step = Step {
         from: a,
         edge: NONE,
     };
-    for k in 0..branch.problem.width {
-        let mut left = branch.problem.program.word(row, k) & !paths.seen.word(0, k);
+    for k in 0..paths.events.width {
+        let mut left = problem.program.word(row, k) & !paths.events.word(SEEN, k);
         for _event in 0..64u8 {
             if left == 0 {
                 break;
@@ -104,7 +105,7 @@ fn reach_by_program(branch: &Branch, paths: &mut Paths, relations: Relations, a:
 }
 
 fn reach_by_answers(branch: &Branch, paths: &mut Paths, edges: Edges, a: usize) {
-    let mut number = branch.heads.at(branch.problem.row(edges.relations, a));
+    let mut number = branch.heads.at(branch.row(edges.relations, a));
     for _edge in 0..branch.edges.len() {
         if number == NONE {
             break;
@@ -122,16 +123,22 @@ fn reach_by_answers(branch: &Branch, paths: &mut Paths, edges: Edges, a: usize) 
 }
 
 /// Reaches events one after the other until this one is reached. False where it isn't.
-fn reach_all(branch: &Branch, paths: &mut Paths, edges: Edges, to: usize) -> bool {
-    for _event in 0..branch.problem.size {
+fn reach_all(
+    problem: &Problem,
+    branch: &Branch,
+    paths: &mut Paths,
+    edges: Edges,
+    to: usize,
+) -> bool {
+    for _event in 0..problem.size {
         if paths.next >= paths.queue.len() {
             break;
         }
         let a = paths.queue.at(paths.next);
         paths.next = paths.next.wrapping_add(1);
-        reach_by_program(branch, paths, edges.relations, a);
+        reach_by_program(problem, paths, edges.relations, a);
         reach_by_answers(branch, paths, edges, a);
-        if paths.seen.has(0, to) {
+        if paths.events.has(SEEN, to) {
             return true;
         }
     }
@@ -139,17 +146,23 @@ fn reach_all(branch: &Branch, paths: &mut Paths, edges: Edges, to: usize) -> boo
 }
 
 /// Finds a shortest path from one of the starts to an event. No start is its end.
-pub fn find(branch: &Branch, paths: &mut Paths, edges: Edges, to: usize) -> bool {
-    if !reach_all(branch, paths, edges, to) {
+pub fn find(
+    problem: &Problem,
+    branch: &Branch,
+    paths: &mut Paths,
+    edges: Edges,
+    to: usize,
+) -> bool {
+    if !reach_all(problem, branch, paths, edges, to) {
         return false;
     }
     paths.path.cut(0);
     let mut a = to;
-    for _event in 0..branch.problem.size {
+    for _event in 0..problem.size {
         let step = paths.steps.at(a);
         paths.path.push(step);
         a = step.from;
-        if paths.starts.has(0, a) {
+        if paths.events.has(STARTS, a) {
             break;
         }
     }
@@ -157,14 +170,20 @@ pub fn find(branch: &Branch, paths: &mut Paths, edges: Edges, to: usize) -> bool
 }
 
 /// Begins with all writes that are known to come after a write, by the first so many edges.
-pub fn start_from_later(branch: &Branch, paths: &mut Paths, s: usize, limit: usize) {
+pub fn start_from_later(
+    problem: &Problem,
+    branch: &Branch,
+    paths: &mut Paths,
+    s: usize,
+    limit: usize,
+) {
     begin(paths);
     paths.queue.push(s);
     let edges = Edges {
         relations: Relations::Coherence,
         limit,
     };
-    let _all = reach_all(branch, paths, edges, NONE);
-    paths.starts.join(0, &paths.seen, 0);
+    let _all = reach_all(problem, branch, paths, edges, NONE);
+    paths.events.join_own(STARTS, SEEN);
     paths.next = 1;
 }

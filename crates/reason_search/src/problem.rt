@@ -58,13 +58,23 @@ pub enum Relations {
     Coherence,
 }
 
+impl Relations {
+    /// The row of an event among those of all relations, where there are so many events.
+    pub fn row(self, size: usize, a: usize) -> usize {
+        (self as usize).wrapping_mul(size).wrapping_add(a)
+    }
+}
+
+/// The reads on whose values hangs what writes write, or which other values may be asked of others.
+pub const STORED: usize = 0;
+/// The reads on whose values what is asked may hang, and their locations.
+pub const RELEVANT: usize = 1;
+
 /// What a search works on.
 #[derive(Drop)]
 pub struct Problem {
     /// How many events there are, with the initial writes.
     pub size: usize,
-    /// How many words a row of events has.
-    pub width: usize,
     pub locations: usize,
     pub sequential: bool,
     pub events: List<Event>,
@@ -85,10 +95,8 @@ pub struct Problem {
     /// The last part that asks something of a read or location, and for each part another one that asks of the same.
     pub parts_on: List<usize>,
     pub other_parts: List<usize>,
-    /// One row: the reads on whose values hangs what writes write, or which other values may be asked of others.
-    pub stored: Rows,
-    /// One row: the reads on whose values what is asked may hang, and their locations.
-    pub relevant: Rows,
+    /// Sets of reads, a row for each of those that are named above.
+    pub reads: Rows,
 }
 
 impl Problem {
@@ -132,9 +140,14 @@ impl Problem {
         self.writes_to.has(loc, i)
     }
 
+    /// Whether a read from this write is an edge of the global relations.
+    pub fn is_global_source(&self, w: usize, r: usize) -> bool {
+        self.sequential || self.core(w) != self.core(r)
+    }
+
     /// The row of what is after an event.
     pub fn row(&self, relations: Relations, a: usize) -> usize {
-        (relations as usize).wrapping_mul(self.size).wrapping_add(a)
+        relations.row(self.size, a)
     }
 
     /// Adds an edge that the program tells.
@@ -153,8 +166,7 @@ impl Problem {
             | self.readers_of.words.is_refused
             | self.events_of.words.is_refused
             | self.program.words.is_refused
-            | self.stored.words.is_refused
-            | self.relevant.words.is_refused
+            | self.reads.words.is_refused
             | self.parts_on.is_refused
             | self.other_parts.is_refused
     }
@@ -170,9 +182,9 @@ pub fn bare_number(value: u32) -> Term {
 }
 
 /// Adds to a row the reads on which a term hangs.
-pub fn add_reads(rows: &mut Rows, term: Term) {
-    rows.add(0, term.first);
-    rows.add(0, term.second);
+pub fn add_reads(rows: &mut Rows, row: usize, term: Term) {
+    rows.add(row, term.first);
+    rows.add(row, term.second);
 }
 
 /// The event with this number.
@@ -216,7 +228,7 @@ fn add_accesses(problem: &mut Problem) {
             problem.add_edge(Relations::OnLocation, loc, a);
             problem.add_edge(Relations::Global, loc, a);
             problem.add_edge(Relations::Coherence, loc, a);
-            add_reads(&mut problem.stored, problem.terms.at(a));
+            add_reads(&mut problem.reads, STORED, problem.terms.at(a));
         }
         if event.reads || problem.is_initial(a) {
             problem.readers_of.add(loc, a);
@@ -302,7 +314,6 @@ fn bare_problem(alloc: Global, locations: usize, events: usize, model: Model) ->
     let size = locations.wrapping_add(events);
     Problem {
         size,
-        width: size / 64 + 1,
         locations,
         sequential: matches!(model, Model::Sequential),
         events: List::new(alloc, NO_EVENT),
@@ -316,8 +327,7 @@ fn bare_problem(alloc: Global, locations: usize, events: usize, model: Model) ->
         claim: List::new(alloc, Part::Fixed(true)),
         parts_on: List::filled(alloc, size, NONE),
         other_parts: List::new(alloc, NONE),
-        stored: Rows::new(alloc, 1, size),
-        relevant: Rows::new(alloc, 1, size),
+        reads: Rows::new(alloc, 2, size),
     }
 }
 

@@ -8,28 +8,27 @@ use crate::facts::{Answer, Fact, Turned};
 use crate::growing::{Growth, add_node, put_branch};
 use crate::lists::NONE;
 use crate::offers::{Desk, close_cycle, find_why_before, find_why_not};
+use crate::problem::Problem;
 use crate::values::{known_facts, need_falsity};
 
 /// Makes a tree for a source, where there is none, since the read can't have it.
-fn close_source(branch: &mut Branch, desk: &mut Desk, r: usize, s: usize) {
+fn close_source(problem: &Problem, branch: &mut Branch, desk: &mut Desk, r: usize, s: usize) {
     if desk.branches.at(s) == NONE {
-        find_why_not(branch, desk, r, s);
+        find_why_not(problem, branch, desk, r, s);
         let nothing = Turned {
             first: NONE,
             second: NONE,
             fact: NONE,
-            edges: branch.removed_at(r, s).edges,
+            edges: branch.removed_at(problem, r, s).edges,
         };
-        let tree = add_best(branch, desk, s, nothing);
+        let tree = add_best(problem, branch, desk, s, nothing);
         desk.branches.put(s, tree);
     }
 }
 
 /// Puts the trees of all sources below a question.
 fn put_branches(desk: &mut Desk, question: usize, size: usize) {
-    let mut s = size;
-    for _event in 0..size {
-        s = s.wrapping_sub(1);
+    for s in (0..size).rev() {
         let tree = desk.branches.at(s);
         if tree != NONE {
             desk.branches.put(s, NONE);
@@ -39,17 +38,22 @@ fn put_branches(desk: &mut Desk, question: usize, size: usize) {
 }
 
 /// The question what a read reads from: some sources have their trees in `branches`, the others are closed.
-pub fn add_source_question(branch: &mut Branch, desk: &mut Desk, r: usize) -> usize {
-    let loc = branch.problem.location(r);
-    for s in branch.problem.locations..branch.problem.size {
-        if branch.problem.is_write_to(loc, s) {
-            close_source(branch, desk, r, s);
+pub fn add_source_question(
+    problem: &Problem,
+    branch: &mut Branch,
+    desk: &mut Desk,
+    r: usize,
+) -> usize {
+    let loc = problem.location(r);
+    for s in problem.locations..problem.size {
+        if problem.is_write_to(loc, s) {
+            close_source(problem, branch, desk, r, s);
         }
     }
-    close_source(branch, desk, r, loc);
+    close_source(problem, branch, desk, r, loc);
     desk.weights.heed(r);
     let question = add_node(&mut desk.trees, Growth::ReadsFrom(r), 0);
-    put_branches(desk, question, branch.problem.size);
+    put_branches(desk, question, problem.size);
     question
 }
 
@@ -70,20 +74,25 @@ pub fn add_tried_order(desk: &mut Desk, a: usize, b: usize) -> usize {
 }
 
 /// The tree where the order that a fact tells is turned.
-fn add_other(branch: &mut Branch, desk: &mut Desk, turned: Turned) -> usize {
-    find_why_before(branch, desk, turned);
+fn add_other(problem: &Problem, branch: &mut Branch, desk: &mut Desk, turned: Turned) -> usize {
+    find_why_before(problem, branch, desk, turned);
     let s = branch.source_of(desk.best.cycle.at(0));
-    add_best(branch, desk, s, turned)
+    add_best(problem, branch, desk, s, turned)
 }
 
 /// The tree where the edge with this number closes a cycle. Where its order follows, and an answer says the other one: why that can't
 /// be.
-fn add_closed_cycle(branch: &mut Branch, desk: &mut Desk, clash: usize) -> usize {
+fn add_closed_cycle(
+    problem: &Problem,
+    branch: &mut Branch,
+    desk: &mut Desk,
+    clash: usize,
+) -> usize {
     let edge = branch.edges.at(clash);
     let number = edge.link.fact;
     let fact = branch.facts.at(number);
     if let Answer::Before(first, second) = fact.answer {
-        let known = branch.pair(second, first);
+        let known = branch.pair(problem, second, first);
         if known != NONE && !fact.tried {
             let turned = Turned {
                 first,
@@ -91,19 +100,19 @@ fn add_closed_cycle(branch: &mut Branch, desk: &mut Desk, clash: usize) -> usize
                 fact: number,
                 edges: fact.edges,
             };
-            let tree = add_other(branch, desk, turned);
+            let tree = add_other(problem, branch, desk, turned);
             desk.used.add(0, known);
             return tree;
         }
     }
-    close_cycle(branch, desk, edge);
+    close_cycle(problem, branch, desk, edge);
     add_trial(desk, edge.relations)
 }
 
 /// The leaf where what is asked is false by the values that answers tell.
-fn add_falsity(branch: &mut Branch, desk: &mut Desk) -> usize {
+fn add_falsity(problem: &Problem, branch: &mut Branch, desk: &mut Desk) -> usize {
     let known = known_facts(branch.facts.len());
-    if !need_falsity(branch, known, &mut desk.trial) {
+    if !need_falsity(problem, branch, known, &mut desk.trial) {
         return add_false(desk);
     }
     use_facts(&desk.trial, &mut desk.used);
@@ -111,26 +120,33 @@ fn add_falsity(branch: &mut Branch, desk: &mut Desk) -> usize {
 }
 
 /// The tree of a branch that is closed. What it uses is used then, and nothing else.
-pub fn add_conflict(branch: &mut Branch, desk: &mut Desk) -> usize {
+pub fn add_conflict(problem: &Problem, branch: &mut Branch, desk: &mut Desk) -> usize {
     desk.used.clear(0);
     desk.weights.move_on();
     desk.above = branch.facts.len();
     match branch.conflict {
-        Conflict::Cycle(edge) => add_closed_cycle(branch, desk, edge),
-        Conflict::NoSource(r) => add_source_question(branch, desk, r),
-        Conflict::False => add_falsity(branch, desk),
+        Conflict::Cycle(edge) => add_closed_cycle(problem, branch, desk, edge),
+        Conflict::NoSource(r) => add_source_question(problem, branch, desk, r),
+        Conflict::False => add_falsity(problem, branch, desk),
         Conflict::Open => add_false(desk),
     }
 }
 
 /// Puts a fact above a tree that uses it.
-fn wrap_one(branch: &mut Branch, desk: &mut Desk, number: usize, fact: Fact, tree: usize) -> usize {
+fn wrap_one(
+    problem: &Problem,
+    branch: &mut Branch,
+    desk: &mut Desk,
+    number: usize,
+    fact: Fact,
+    tree: usize,
+) -> usize {
     desk.above = number;
     desk.used.remove(0, number);
     match fact.answer {
         Answer::Source(r, s) => {
             desk.branches.put(s, tree);
-            add_source_question(branch, desk, r)
+            add_source_question(problem, branch, desk, r)
         }
         Answer::Before(first, second) => {
             let turned = Turned {
@@ -139,21 +155,25 @@ fn wrap_one(branch: &mut Branch, desk: &mut Desk, number: usize, fact: Fact, tre
                 fact: number,
                 edges: fact.edges,
             };
-            let other = add_other(branch, desk, turned);
+            let other = add_other(problem, branch, desk, turned);
             add_order_question(desk, first, second, tree, other)
         }
     }
 }
 
 /// Puts the facts that the tree uses, and that followed since this one, above it.
-pub fn wrap(branch: &mut Branch, desk: &mut Desk, from: usize, tree: usize) -> usize {
+pub fn wrap(
+    problem: &Problem,
+    branch: &mut Branch,
+    desk: &mut Desk,
+    from: usize,
+    tree: usize,
+) -> usize {
     let mut whole = tree;
-    let mut number = branch.facts.len();
-    for _fact in from..branch.facts.len() {
-        number = number.wrapping_sub(1);
+    for number in (from..branch.facts.len()).rev() {
         let fact = branch.facts.at(number);
         if desk.used.has(0, number) && !fact.tried {
-            whole = wrap_one(branch, desk, number, fact, whole);
+            whole = wrap_one(problem, branch, desk, number, fact, whole);
         }
     }
     whole

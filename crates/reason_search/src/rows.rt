@@ -7,7 +7,7 @@ use std::alloc::Global;
 #[derive(Drop)]
 pub struct Rows {
     pub words: List<u64>,
-    width: usize,
+    pub width: usize,
 }
 
 /// The word in which a number's bit stands alone.
@@ -92,6 +92,13 @@ impl Rows {
     pub fn clear(&mut self, row: usize) {
         for k in 0..self.width {
             self.put_word(row, k, 0);
+        }
+    }
+
+    /// Adds to a row all of another one.
+    pub fn join_own(&mut self, row: usize, other: usize) {
+        for k in 0..self.width {
+            self.put_word(row, k, self.word(row, k) | self.word(other, k));
         }
     }
 

@@ -1,10 +1,10 @@
 //! Values that answers tell, read by read: and whether what is asked is false by them, with the answers by which it is.
 
-use crate::branch::Branch;
+use crate::branch::{Branch, NEEDED, VALUED};
 use crate::claim::{Demand, Part, Parts, can_be};
 use crate::evidence::{Closing, Evidence, need, reset};
 use crate::lists::NONE;
-use crate::problem::add_reads;
+use crate::problem::{Problem, STORED, add_reads};
 
 /// What is taken as known: the first so many facts, and what is supposed, that a read has a source, or that a write comes before
 /// another one. `NONE` is no such read or write.
@@ -40,8 +40,8 @@ fn plus_returned(branch: &Branch, number: usize, r: usize) -> usize {
 }
 
 /// What an event writes, as far as it is known.
-pub fn written(branch: &Branch, w: usize) -> usize {
-    let term = branch.problem.terms.at(w);
+pub fn written(problem: &Problem, branch: &Branch, w: usize) -> usize {
+    let term = problem.terms.at(w);
     let first = plus_returned(branch, term.number as usize, term.first);
     plus_returned(branch, first, term.second)
 }
@@ -58,54 +58,60 @@ fn source(branch: &Branch, known: Known, r: usize) -> usize {
 }
 
 /// Notes the values that hang on those that are noted. Whether others may hang on a new one.
-fn find_more_values(branch: &mut Branch, known: Known) -> bool {
+fn find_more_values(problem: &Problem, branch: &mut Branch, known: Known) -> bool {
     let mut changed = false;
-    let mut r = branch.problem.relevant.next(0, branch.problem.locations);
-    for _read in 0..branch.problem.size {
+    let mut r = branch.sets.next(VALUED, problem.locations);
+    for _read in 0..problem.size {
         if r == NONE {
             break;
         }
         let s = source(branch, known, r);
         if s != NONE && branch.values.at(r) == NONE {
-            let value = written(branch, s);
+            let value = written(problem, branch, s);
             branch.values.put(r, value);
-            changed |= value != NONE && branch.problem.stored.has(0, r);
+            changed |= value != NONE && problem.reads.has(STORED, r);
         }
-        r = branch.problem.relevant.next(0, r.wrapping_add(1));
+        r = branch.sets.next(VALUED, r.wrapping_add(1));
     }
     changed
 }
 
 /// Notes what each read returns that matters to what is asked, by what is known: they hang on one another alone.
-pub fn find_values(branch: &mut Branch, known: Known) {
+pub fn find_values(problem: &Problem, branch: &mut Branch, known: Known) {
     branch.values.blank();
-    for _round in 0..branch.problem.size {
-        if !find_more_values(branch, known) {
+    for _round in 0..problem.size {
+        if !find_more_values(problem, branch, known) {
             break;
         }
     }
 }
 
 /// The fact that a write comes before another one, `limit` where it is supposed, and `NONE` where there is none.
-fn overwriting(branch: &Branch, known: Known, w: usize) -> usize {
+fn overwriting(problem: &Problem, branch: &Branch, known: Known, w: usize) -> usize {
     if known.first == w {
         return known.limit;
     }
-    let loc = branch.problem.location(w);
-    for v in branch.problem.locations..branch.problem.size {
-        if branch.problem.is_write_to(loc, v) && branch.pair(w, v) < known.limit {
-            return branch.pair(w, v);
+    let loc = problem.location(w);
+    for v in problem.locations..problem.size {
+        if problem.is_write_to(loc, v) && branch.pair(problem, w, v) < known.limit {
+            return branch.pair(problem, w, v);
         }
     }
     NONE
 }
 
 /// Whether a location can have such a word at the end.
-fn word_can_be(branch: &Branch, known: Known, loc: usize, demand: Demand) -> bool {
-    for w in branch.problem.locations..branch.problem.size {
-        if branch.problem.is_write_to(loc, w)
-            && can_be(demand, written(branch, w))
-            && overwriting(branch, known, w) == NONE
+fn word_can_be(
+    problem: &Problem,
+    branch: &Branch,
+    known: Known,
+    loc: usize,
+    demand: Demand,
+) -> bool {
+    for w in problem.locations..problem.size {
+        if problem.is_write_to(loc, w)
+            && can_be(demand, written(problem, branch, w))
+            && overwriting(problem, branch, known, w) == NONE
         {
             return true;
         }
@@ -126,13 +132,20 @@ const NOTHING: Supposed = Supposed {
 };
 
 /// Whether a part can be so where it is known which of the parts behind it can be.
-fn part_can_be(branch: &Branch, known: Known, supposed: Supposed, parts: &Parts, i: usize) -> bool {
-    match branch.problem.claim.at(i) {
+fn part_can_be(
+    problem: &Problem,
+    branch: &Branch,
+    known: Known,
+    supposed: Supposed,
+    parts: &Parts,
+    i: usize,
+) -> bool {
+    match problem.claim.at(i) {
         Part::Value(r, demand) => {
             if r == supposed.place {
                 can_be(demand, supposed.value)
-            } else if branch.problem.is_initial(r) {
-                word_can_be(branch, known, r, demand)
+            } else if problem.is_initial(r) {
+                word_can_be(problem, branch, known, r, demand)
             } else {
                 can_be(demand, branch.values.at(r))
             }
@@ -144,32 +157,36 @@ fn part_can_be(branch: &Branch, known: Known, supposed: Supposed, parts: &Parts,
 }
 
 /// The parts of what is asked that can be so.
-fn parts_that_can_be(branch: &Branch, known: Known, supposed: Supposed) -> Parts {
+fn parts_that_can_be(
+    problem: &Problem,
+    branch: &Branch,
+    known: Known,
+    supposed: Supposed,
+) -> Parts {
     let mut parts = Parts::none();
-    let mut i = branch.problem.claim.len();
-    for _part in 0..branch.problem.claim.len() {
-        i = i.wrapping_sub(1);
-        let can = part_can_be(branch, known, supposed, &parts, i);
+    for i in (0..problem.claim.len()).rev() {
+        let can = part_can_be(problem, branch, known, supposed, &parts, i);
         parts.add(i, can);
     }
     parts
 }
 
 /// Whether what is asked is false by the values that are noted.
-pub fn is_false(branch: &Branch, known: Known) -> bool {
-    branch.problem.claim.len() != 0 && !parts_that_can_be(branch, known, NOTHING).has(0)
+pub fn is_false(problem: &Problem, branch: &Branch, known: Known) -> bool {
+    problem.claim.len() != 0 && !parts_that_can_be(problem, branch, known, NOTHING).has(0)
 }
 
 /// Whether what is asked is false where a read has this source.
-pub fn is_wrong_source(branch: &mut Branch, r: usize, s: usize) -> bool {
-    if is_wrong_value(branch, r, s) {
+pub fn is_wrong_source(problem: &Problem, branch: &mut Branch, r: usize, s: usize) -> bool {
+    if is_wrong_value(problem, branch, r, s) {
         return true;
     }
-    if !branch.problem.stored.has(0, r) || written(branch, s) == NONE {
+    if !problem.reads.has(STORED, r) || written(problem, branch, s) == NONE {
         return false;
     }
     let facts = known_facts(branch.facts.len());
     find_values(
+        problem,
         branch,
         Known {
             read: r,
@@ -177,34 +194,34 @@ pub fn is_wrong_source(branch: &mut Branch, r: usize, s: usize) -> bool {
             ..facts
         },
     );
-    let is_wrong = is_false(branch, facts);
-    find_values(branch, facts);
+    let is_wrong = is_false(problem, branch, facts);
+    find_values(problem, branch, facts);
     is_wrong
 }
 
 /// Whether what is asked is false where a read, or a location at the end, has the value of this write.
-pub fn is_wrong_value(branch: &Branch, place: usize, w: usize) -> bool {
-    if !branch.problem.is_asked(place) {
+pub fn is_wrong_value(problem: &Problem, branch: &Branch, place: usize, w: usize) -> bool {
+    if !problem.is_asked(place) {
         return false;
     }
-    let value = written(branch, w);
-    if !branch.problem.stored.has(0, place) {
-        return is_barred(branch, place, value);
+    let value = written(problem, branch, w);
+    if !problem.reads.has(STORED, place) {
+        return is_barred(problem, place, value);
     }
     let known = known_facts(branch.facts.len());
-    value != NONE && !parts_that_can_be(branch, known, Supposed { place, value }).has(0)
+    value != NONE && !parts_that_can_be(problem, branch, known, Supposed { place, value }).has(0)
 }
 
 /// Whether a part of what is asked bars a value, as far as it is known.
-fn is_barred(branch: &Branch, place: usize, value: usize) -> bool {
-    let mut i = branch.problem.parts_on.at(place);
-    for _part in 0..branch.problem.claim.len() {
-        if let Part::Value(_, demand) = branch.problem.claim.at(i) {
+fn is_barred(problem: &Problem, place: usize, value: usize) -> bool {
+    let mut i = problem.parts_on.at(place);
+    for _part in 0..problem.claim.len() {
+        if let Part::Value(_, demand) = problem.claim.at(i) {
             if !can_be(demand, value) {
                 return true;
             }
         }
-        i = branch.problem.other_parts.at(i);
+        i = problem.other_parts.at(i);
         if i == NONE {
             break;
         }
@@ -213,16 +230,23 @@ fn is_barred(branch: &Branch, place: usize, value: usize) -> bool {
 }
 
 /// Notes by what a location doesn't have such a word at the end.
-fn need_word(branch: &Branch, known: Known, evidence: &mut Evidence, loc: usize, demand: Demand) {
-    for w in branch.problem.locations..branch.problem.size {
-        if branch.problem.is_write_to(loc, w) {
-            if can_be(demand, written(branch, w)) {
-                let fact = overwriting(branch, known, w);
+fn need_word(
+    problem: &Problem,
+    branch: &mut Branch,
+    known: Known,
+    evidence: &mut Evidence,
+    loc: usize,
+    demand: Demand,
+) {
+    for w in problem.locations..problem.size {
+        if problem.is_write_to(loc, w) {
+            if can_be(demand, written(problem, branch, w)) {
+                let fact = overwriting(problem, branch, known, w);
                 if fact < known.limit {
                     need(evidence, fact);
                 }
             } else {
-                add_reads(&mut evidence.needed, branch.problem.terms.at(w));
+                add_reads(&mut branch.sets, NEEDED, problem.terms.at(w));
             }
         }
     }
@@ -237,19 +261,20 @@ struct Falsity {
 
 /// Notes by what a part is false, and adds to those that are false on which this hangs.
 fn need_part(
-    branch: &Branch,
+    problem: &Problem,
+    branch: &mut Branch,
     known: Known,
     evidence: &mut Evidence,
     falsity: &mut Falsity,
     i: usize,
 ) {
     let first = i.wrapping_add(1);
-    match branch.problem.claim.at(i) {
+    match problem.claim.at(i) {
         Part::Value(r, demand) => {
-            if branch.problem.is_initial(r) {
-                need_word(branch, known, evidence, r, demand);
+            if problem.is_initial(r) {
+                need_word(problem, branch, known, evidence, r, demand);
             } else {
-                evidence.needed.add(0, r);
+                branch.sets.add(NEEDED, r);
             }
         }
         Part::Both(second) => {
@@ -265,11 +290,36 @@ fn need_part(
     }
 }
 
+/// Notes by which of its parts what is asked is false, where it is known which can be so.
+fn need_parts(
+    problem: &Problem,
+    branch: &mut Branch,
+    known: Known,
+    evidence: &mut Evidence,
+    can: Parts,
+) {
+    let mut falsity = Falsity {
+        can,
+        wrong: Parts::none(),
+    };
+    falsity.wrong.add(0, true);
+    for i in 0..problem.claim.len() {
+        if falsity.wrong.has(i) {
+            need_part(problem, branch, known, evidence, &mut falsity, i);
+        }
+    }
+}
+
 /// Adds the sources from which needed values come, each once: its value is forgotten. Whether any hangs on another one.
-fn need_more_sources(branch: &mut Branch, known: Known, evidence: &mut Evidence) -> bool {
+fn need_more_sources(
+    problem: &Problem,
+    branch: &mut Branch,
+    known: Known,
+    evidence: &mut Evidence,
+) -> bool {
     let mut changed = false;
-    let mut r = evidence.needed.next(0, 0);
-    for _read in 0..branch.problem.size {
+    let mut r = branch.sets.next(NEEDED, 0);
+    for _read in 0..problem.size {
         if r == NONE {
             break;
         }
@@ -278,36 +328,32 @@ fn need_more_sources(branch: &mut Branch, known: Known, evidence: &mut Evidence)
             if r != known.read {
                 need(evidence, branch.source.at(r));
             }
-            let term = branch.problem.terms.at(source(branch, known, r));
-            add_reads(&mut evidence.needed, term);
+            let term = problem.terms.at(source(branch, known, r));
+            add_reads(&mut branch.sets, NEEDED, term);
             changed |= term.first != NONE;
         }
-        r = evidence.needed.next(0, r.wrapping_add(1));
+        r = branch.sets.next(NEEDED, r.wrapping_add(1));
     }
     changed
 }
 
 /// Whether what is asked is false by what is known. Adds the facts by which it is.
-pub fn need_falsity(branch: &mut Branch, known: Known, evidence: &mut Evidence) -> bool {
-    find_values(branch, known);
-    let can = parts_that_can_be(branch, known, NOTHING);
-    if branch.problem.claim.len() == 0 || can.has(0) {
+pub fn need_falsity(
+    problem: &Problem,
+    branch: &mut Branch,
+    known: Known,
+    evidence: &mut Evidence,
+) -> bool {
+    find_values(problem, branch, known);
+    let can = parts_that_can_be(problem, branch, known, NOTHING);
+    if problem.claim.len() == 0 || can.has(0) {
         return false;
     }
     reset(evidence, Closing::False);
-    evidence.needed.clear(0);
-    let mut falsity = Falsity {
-        can,
-        wrong: Parts::none(),
-    };
-    falsity.wrong.add(0, true);
-    for i in 0..branch.problem.claim.len() {
-        if falsity.wrong.has(i) {
-            need_part(branch, known, evidence, &mut falsity, i);
-        }
-    }
-    for _round in 0..branch.problem.size {
-        if !need_more_sources(branch, known, evidence) {
+    branch.sets.clear(NEEDED);
+    need_parts(problem, branch, known, evidence, can);
+    for _round in 0..problem.size {
+        if !need_more_sources(problem, branch, known, evidence) {
             break;
         }
     }
