@@ -1,5 +1,5 @@
 -- The names that the proofs of this crate bring in from definitions and from crates below; each file takes its own from here.
-pub use Rattle.std.proofs.Common.{◌≡◌, ◌∙◌, Bool, true, false, cond, List, [], ◌∷◌, Option, Some, None, is_some, Less, Equal, Contains, refl, ap, subst, ℕ, ◌<◌, map, length, drop, slice_index_or, ◌+◌, Vec, Bor, All, sym, suc, ◌-◌, not, arith, ◌≤◌, if◌then◌else◌, ◌++◌, codes, append_assoc, append-nil, ◌||◌, ◌⊎◌, inl, inr, zero, filter, ⊎_elim, ◌==◌, ◌&&◌, slice_index, take, slice_get, slice_set, ◌≢◌, string_bytes, ◌^◌}
+pub use Rattle.std.proofs.Common.{◌≡◌, ◌∙◌, Bool, true, false, cond, List, [], ◌∷◌, Option, Some, None, is_some, Less, Equal, Contains, refl, ap, subst, ℕ, ◌<◌, map, length, drop, slice_index_or, ◌+◌, Vec, Bor, All, sym, suc, ◌-◌, not, arith, ◌≤◌, if◌then◌else◌, ◌++◌, codes, append_assoc, append-nil, ◌||◌, ◌⊎◌, inl, inr, zero, filter, ⊎_elim, ◌==◌, ◌&&◌, slice_index, take, slice_get, slice_set, ◌≢◌, string_bytes, ◌^◌, IfOk, rules}
 pub use Rattle.std.specs.List.{AllByRecursion}
 unfoldable pub use Rattle.std.specs.List.Sorted.{IsStrictlySortedBy}
 pub use Rattle.std.specs.Ordering.{is_eq, nat_cmp, ordering_reverse, match_ordering}
@@ -17,15 +17,16 @@ pub use Rattle.tso_model.specs.Litmus.{Litmus, IsTest, IsCondition}
 pub use Rattle.explorer.specs.declared.final_states.FinalState.{FinalState}
 pub use Rattle.tso_report.specs.Tally.{shown_value, claim_names_register, claim_names_location, is_looked_at, named_register, named_location, named_registers, named_locations}
 pub use Rattle.tso_report.specs.declared.named.Named.{Named}
+pub use Rattle.tso_report.specs.Json.{count}
 pub use Rattle.outcome_report.specs.Outcomes.{Outcome, outcome_of, shown_values, ArePrinted, held_in, failed_in, true_from, true_in, printed_numbers, state_line, by_line, outcome_lines, outcomes_line, condition_lines, outcomes_text, is_met_in}
 pub use Rattle.outcome_report.specs.inner.Shown.{IsOutcomeOf, is_kept, kept_of, with_outcome, kept_after, AreShown, outcomes_at, AllHave}
 pub use Rattle.std.specs.Prelude.{count_by}
 pub use Rattle.std.proofs.lemmas.List.Sums.{sum_by-cons}
 pub use Rattle.tso_model.specs.Condition.{Claim, NamesExist, truth_of, claim_of, condition_of, Condition, TruthClaim, RegClaim, LocClaim, NotClaim, AndClaim, OrClaim}
-pub use Rattle.serde_json.specs.Data.{array, Members, no_members, member, put, object}
+pub use Rattle.serde_json.specs.Data.{array, boolean, Data, string, Members, no_members, member, put, object}
 pub use Rattle.serde_json.specs.View.{view, items_of, members_view}
 pub use Rattle.outcome_report.specs.OutcomesJson.{holds_in, state_value, states_value, key_of, value_members, with_holds, observation_value, outcomes_value}
-pub use Rattle.outcome_report.specs.inner.Written.{kept_lines, kept_values, with_found}
+pub use Rattle.outcome_report.specs.inner.Written.{kept_lines, kept_values}
 pub use Rattle.serde_json.specs.Written.{has_float, members_have_float}
 pub use Rattle.outcome_report.specs.Verdict.{outcomes_verdict_value, is_as_claimed}
 pub use Rattle.std.proofs.lemmas.Option.{slice_get-get_or, slice_get_within, get_or_from_slice_get}
@@ -41,3 +42,5 @@ pub use Rattle.eager_laws.specs.Dead.{cleared, hidden_of, seen_from, seen, none_
 pub use Rattle.tso_report.specs.declared.named.Named.TheVariants.{Register, Location}
 pub use Rattle.outcome_report.specs.inner.Hidden.{IsNotHidden}
 pub use Rattle.std.proofs.lemmas.Result.{on_ok_weaker}
+pub use Rattle.serde_json.specs.declared.value.Value.{the_lemmas}
+pub use Rattle.scheduler.specs.Printed.{printed_choices}

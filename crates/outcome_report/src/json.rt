@@ -1,17 +1,17 @@
 //! The final states of a test as JSON, for programs to read. It is one line, and its objects have their keys in the
 //! order of their bytes.
 
-ghost use Rattle.std.specs.Prelude.{◌≡◌, IfOk, OnOk, All, string_bytes, length};
+ghost use Rattle.std.specs.Prelude.{◌≡◌, IfOk, All, string_bytes, length};
 ghost use Rattle.std.specs.Map.{values_of};
-ghost use Rattle.serde_json.specs.Data.{object};
+ghost use Rattle.serde_json.specs.Data.{object, string};
 ghost use Rattle.serde_json.specs.View.{view, members_view};
+ghost use Rattle.scheduler.specs.Printed.{printed_choices};
 ghost use Rattle.explorer.specs.declared.final_states.FinalState.{FinalState};
 ghost use Rattle.tso_report.specs.inner.Tally.{NameExists};
 ghost use Rattle.outcome_report.specs.Outcomes.{outcome_of};
 ghost use Rattle.outcome_report.specs.OutcomesJson.{value_members, state_value, states_value, holds_in};
-ghost use Rattle.outcome_report.specs.OutcomesJson.{observation_value, outcomes_value, outcomes_json, unfinished_outcomes_json};
+ghost use Rattle.outcome_report.specs.OutcomesJson.{observation_value, outcomes_json, unfinished_outcomes_json};
 ghost use Rattle.outcome_report.specs.inner.Shown.{AreNamesOf, IsOutcomeOf, kept_of, AreShown};
-ghost use Rattle.outcome_report.specs.inner.Written.{found_value, put_holds, with_found};
 
 use crate::counting::counts_of;
 use crate::keys::key_text;
@@ -21,10 +21,11 @@ use explorer::FinalState;
 use scheduler::choices_text;
 use serde_json::{Map, Value, put};
 use std::alloc::Global;
-use tso_model::{NoMemory, Test, cond_holds};
-use tso_report::json::{line_of, unfinished_search_value};
-use tso_report::members::{Datum, object_of, push_made, put_made};
+use tso_model::{Choice, NoMemory, Test, cond_holds};
+use tso_report::json::unfinished_search_json;
+use tso_report::members::{Datum, object_of, push_made, word_value};
 use tso_report::named::Named;
+use tso_report::objects::Object;
 use tso_report::observation::frequency;
 
 /// The final states of a search that are printed.
@@ -37,30 +38,6 @@ pub struct Found<'a, 'b> {
     pub outcomes: &'a Outcomes<'b>,
 }
 
-/// What stands under a key of final states.
-#[derive(Clone, Copy)]
-pub(crate) enum FoundPart {
-    /// The depth of the search.
-    Depth,
-    /// In how many states the condition's proposition is true, and in how many false.
-    Observation,
-    /// The states.
-    States,
-    /// The test's name.
-    Test,
-    /// Whether the condition is as it claims.
-    Verdict,
-}
-
-/// What the final states of a test have, by its keys.
-const FOUND_PARTS: [(&str, FoundPart); 5] = [
-    ("depth", FoundPart::Depth),
-    ("observation", FoundPart::Observation),
-    ("states", FoundPart::States),
-    ("test", FoundPart::Test),
-    ("verdict", FoundPart::Verdict),
-];
-
 /// The final states of a test as JSON: an object of the depth, the observation, the states, the test
 /// and the verdict, printed compact, and a line feed.
 ///
@@ -71,8 +48,23 @@ pub fn outcomes_json(alloc: Global, found: &Found<'_, '_>) -> Result<String, NoM
     ensures { IfOk result (λ text. string_bytes text
         ≡ outcomes_json found.now.test.now found.now.names.now found.now.depth (values_of (kept_of found.now.outcomes.now.entries))) }
 {
-    let value = outcomes_value(alloc, found)?;
-    line_of(alloc, &value)
+    let Found {
+        test,
+        depth,
+        names,
+        outcomes,
+    } = *found;
+    let is_met = is_met_in(test, names, outcomes);
+    Object::new(alloc)
+        .member("depth", Ok(Value::from(depth)))
+        .member(
+            "observation",
+            observation_value(alloc, test, names, outcomes),
+        )
+        .member("states", states_value(alloc, test, names, outcomes))
+        .member("test", word_value(alloc, test.name()))
+        .member("verdict", outcomes_verdict_value(alloc, test, is_met))
+        .line()
 }
 
 /// The line of a search that met its limit, as JSON: the test, and how many states that is.
@@ -85,55 +77,7 @@ pub fn unfinished_outcomes_json(
 ) -> Result<String, NoMemory>
     ensures { IfOk result (λ text. string_bytes text ≡ unfinished_outcomes_json test.now limit) }
 {
-    let value = unfinished_search_value(alloc, test, "states", limit as u64)?;
-    line_of(alloc, &value)
-}
-
-fn outcomes_value(alloc: Global, found: &Found<'_, '_>) -> Result<Value, NoMemory>
-    requires names { AreNamesOf found.now.test.now found.now.names.now }
-    requires shown { AreShown found.now.test.now found.now.names.now (kept_of found.now.outcomes.now.entries) }
-    ensures { IfOk result (λ value. view value
-        ≡ outcomes_value found.now.test.now found.now.names.now found.now.depth (values_of (kept_of found.now.outcomes.now.entries))) }
-{
-    let mut members = Map::new(alloc);
-    put_parts(&mut members, alloc, found, &FOUND_PARTS)?;
-    Ok(Value::Object(members))
-}
-
-/// Puts what stands under each of these keys.
-fn put_parts(
-    members: &mut Map<String, Value>,
-    alloc: Global,
-    found: &Found<'_, '_>,
-    parts: &[(&str, FoundPart)],
-) -> Result<(), NoMemory>
-    requires names { AreNamesOf found.now.test.now found.now.names.now }
-    requires shown { AreShown found.now.test.now found.now.names.now (kept_of found.now.outcomes.now.entries) }
-    ensures { OnOk result (members_view members.new.entries
-        ≡ with_found found.now.test.now found.now.names.now found.now.depth (values_of (kept_of found.now.outcomes.now.entries)) parts.now (members_view members.old.entries)) }
-{
-    for (key, part) in parts {
-        put_made(members, alloc, key, found_value(alloc, found, *part))?;
-    }
-    Ok(())
-}
-
-fn found_value(alloc: Global, found: &Found<'_, '_>, part: FoundPart) -> Result<Value, NoMemory>
-    requires names { AreNamesOf found.now.test.now found.now.names.now }
-    requires shown { AreShown found.now.test.now found.now.names.now (kept_of found.now.outcomes.now.entries) }
-    ensures { IfOk result (λ value. view value
-        ≡ found_value found.now.test.now found.now.names.now found.now.depth (values_of (kept_of found.now.outcomes.now.entries)) part) }
-{
-    let test = found.test;
-    let names = found.names;
-    let outcomes = found.outcomes;
-    match part {
-        FoundPart::Depth => Ok(Value::from(found.depth)),
-        FoundPart::Observation => observation_value(alloc, test, names, outcomes),
-        FoundPart::States => states_value(alloc, test, names, outcomes),
-        FoundPart::Test => Ok(Value::try_from_str(alloc, test.name())?),
-        FoundPart::Verdict => outcomes_verdict_value(alloc, test, is_met_in(test, names, outcomes)),
-    }
+    unfinished_search_json(alloc, test, "states", limit as u64)
 }
 
 fn observation_value(
@@ -189,31 +133,25 @@ fn state_value(
     ensures { IfOk result (λ value. view value
         ≡ state_value test.now names.now values.now state.now.choices.items (holds_in test.now.condition (outcome_of state.now))) }
 {
-    let shown = values_value(alloc, test, names, values)?;
-    let mut members = Map::new(alloc);
-    put(&mut members, alloc, "values", shown)?;
-    put_holds(&mut members, alloc, test, state)?;
-    let choices = choices_text(alloc, &state.choices)?;
-    put(&mut members, alloc, "choices", Value::String(choices))?;
-    Ok(Value::Object(members))
+    let state_values = Object::new(alloc)
+        .member("choices", choices_value(alloc, &state.choices))
+        .member("values", values_value(alloc, test, names, values));
+    match test.cond() {
+        None => state_values.value(),
+        Some(cond) => {
+            let holds = cond_holds(cond, &state.registers, &state.memory);
+            state_values.member("holds", Ok(Value::Bool(holds))).value()
+        }
+    }
 }
 
-/// Whether the condition's proposition is true in the state, where the test has a condition.
-fn put_holds(
-    members: &mut Map<String, Value>,
-    alloc: Global,
-    test: &Test,
-    state: &FinalState,
-) -> Result<(), NoMemory>
-    requires { IsOutcomeOf test.now (outcome_of state.now) }
-    ensures { OnOk result (members_view members.new.entries
-        ≡ put_holds (holds_in test.now.condition (outcome_of state.now)) (members_view members.old.entries)) }
+/// Choices as one text.
+///
+/// Errors: out of memory only.
+pub fn choices_value(alloc: Global, choices: &[Choice]) -> Result<Value, NoMemory>
+    ensures { IfOk result (λ value. view value ≡ string (printed_choices choices.now)) }
 {
-    if let Some(cond) = test.cond() {
-        let holds = cond_holds(cond, &state.registers, &state.memory);
-        put(members, alloc, "holds", Value::Bool(holds))?;
-    }
-    Ok(())
+    Ok(Value::String(choices_text(alloc, choices)?))
 }
 
 /// The values of these registers and locations, each under its name.

@@ -12,6 +12,7 @@ use crate::outcomes::Outcomes;
 use serde_json::Value;
 use std::alloc::Global;
 use tso_model::{NoMemory, Quantifier, Test};
+use tso_report::members::word_value;
 use tso_report::named::Named;
 use tso_report::pieces::{Piece, write_pieces};
 
@@ -98,6 +99,6 @@ pub fn outcomes_verdict_value(alloc: Global, test: &Test, allowed: bool) -> Resu
 {
     match test.cond() {
         None => Ok(Value::Null),
-        Some(cond) => Ok(Value::try_from_str(alloc, verdict_word(cond.quantifier, allowed))?),
+        Some(cond) => word_value(alloc, verdict_word(cond.quantifier, allowed)),
     }
 }

@@ -1,6 +1,6 @@
 -- The names that the proofs of this crate bring in from definitions and from crates below; each file takes its own from here.
 pub use Rattle.std.specs.Prelude.{filter, replicate, All, slice_get, codes, slice_index_or}
-pub use Rattle.std.proofs.Common.{Bool, true, false, cond, ℕ, suc, zero, ◌+◌, ◌≡◌, ◌≤◌, ◌<◌, List, [], ◌∷◌, ◌++◌, length, drop, map, get_or, slice_index, refl, sym, ap, ◌∙◌, arith, subst, ◌⊎◌, inl, inr, ◌≢◌, set, length-set, get_or-set_same, get_or-set_other, append_assoc, ◌-◌, ◌&&◌, not, take, ◌==◌, Option, Some, None, ◌||◌, string_bytes, vec_len, drop-cons}
+pub use Rattle.std.proofs.Common.{IfOk, Bool, true, false, cond, ℕ, suc, zero, ◌+◌, ◌≡◌, ◌≤◌, ◌<◌, List, [], ◌∷◌, ◌++◌, length, drop, map, get_or, slice_index, refl, sym, ap, ◌∙◌, arith, subst, ◌⊎◌, inl, inr, ◌≢◌, set, length-set, get_or-set_same, get_or-set_other, append_assoc, ◌-◌, ◌&&◌, not, take, ◌==◌, Option, Some, None, ◌||◌, string_bytes, vec_len, drop-cons}
 pub use Rattle.std.proofs.lemmas.List.{map_push, drop_all, at_drop_more, take_all, length-drop, drop_more, append-nil}
 pub use Rattle.tso_model.specs.Litmus.{Litmus}
 pub use Rattle.refutation_laws.specs.Known.{Known, nothing}

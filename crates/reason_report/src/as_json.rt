@@ -19,15 +19,15 @@ use crate::pieces::{Field, Piece, Section, Titled};
 use crate::pieces_json::{is_nothing, piece_value};
 use crate::readings::Reading;
 use crate::steps::Step;
-use outcome_report::json::values_value;
+use outcome_report::json::{choices_value, values_value};
 use outcome_report::verdict::outcomes_verdict_value;
 use refutation_laws::Model;
-use scheduler::choices_text;
-use serde_json::{Map, Value, put};
+use serde_json::{Map, Value};
 use std::alloc::Global;
 use tso_model::{Entry, Loc, NoMemory, Test};
-use tso_report::json::{line_of, unfinished_search_value};
-use tso_report::members::put_made;
+use tso_report::json::unfinished_search_json;
+use tso_report::members::{put_made, word_value};
+use tso_report::objects::Object;
 
 /// A report of these sections as JSON: one line.
 ///
@@ -40,20 +40,24 @@ pub fn sections_json(
     requires { SectionsAreKnown test.now sections.now }
     ensures { IfOk result (λ text. string_bytes text ≡ line (compact_text (object (with_sections test.now sections.now no_members)))) }
 {
-    let value = sections_value(alloc, test, sections)?;
-    line_of(alloc, &value)
+    Object::from_made(alloc, section_members(alloc, test, sections)).line()
 }
 
-fn sections_value(alloc: Global, test: &Test, sections: &[Titled<'_>]) -> Result<Value, NoMemory>
+/// What stands under the sections' keys.
+fn section_members(
+    alloc: Global,
+    test: &Test,
+    sections: &[Titled<'_>],
+) -> Result<Map<String, Value>, NoMemory>
     requires { SectionsAreKnown test.now sections.now }
-    ensures { IfOk result (λ value. view value ≡ object (with_sections test.now sections.now no_members)) }
+    ensures { IfOk result (λ members. members_view members.entries ≡ with_sections test.now sections.now no_members) }
 {
     let mut members = Map::new(alloc);
     for (_before, key, section) in sections {
         let value = section_value(alloc, test, *section);
         put_made(&mut members, alloc, key, value)?;
     }
-    Ok(Value::Object(members))
+    Ok(members)
 }
 
 /// A refutation of what the test asks, as JSON: one line.
@@ -77,8 +81,7 @@ pub fn never_json(
 pub fn unfinished_reason_json(alloc: Global, test: &Test, limit: u32) -> Result<String, NoMemory>
     ensures { IfOk result (λ line. string_bytes line ≡ spec.unfinished_reason_json test.now limit) }
 {
-    let value = unfinished_search_value(alloc, test, "cases", limit as u64)?;
-    line_of(alloc, &value)
+    unfinished_search_json(alloc, test, "cases", limit as u64)
 }
 
 fn section_value(alloc: Global, test: &Test, section: Section<'_>) -> Result<Value, NoMemory>
@@ -86,14 +89,14 @@ fn section_value(alloc: Global, test: &Test, section: Section<'_>) -> Result<Val
     ensures { IfOk result (λ value. view value ≡ section_value test.now section.entry) }
 {
     match section {
-        Section::Text(word) | Section::Answer(word) => Ok(Value::try_from_str(alloc, word)?),
+        Section::Text(word) | Section::Answer(word) => word_value(alloc, word),
         Section::Number(number) => Ok(Value::from(number)),
         Section::Asked => asked_value(alloc, test),
         Section::Verdict(allowed) => outcomes_verdict_value(alloc, test, allowed),
         Section::Steps(steps) => array_of(alloc, test, steps),
         Section::Readings(readings) => array_of(alloc, test, readings),
         Section::Coherence(order) => coherence_value(alloc, test, order),
-        Section::Choices(choices) => Ok(Value::String(choices_text(alloc, choices)?)),
+        Section::Choices(choices) => choices_value(alloc, choices),
         Section::Values(names, values) => values_value(alloc, test, names, values),
     }
 }
@@ -119,8 +122,7 @@ fn put_fields(
 {
     for (_before, key, piece) in fields {
         if !is_nothing(*piece) {
-            let value = piece_value(alloc, test, *piece)?;
-            put(members, alloc, key, value)?;
+            put_made(members, alloc, key, piece_value(alloc, test, *piece))?;
         }
     }
     Ok(())

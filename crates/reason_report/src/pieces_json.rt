@@ -17,10 +17,11 @@ use crate::readings::event_of;
 use crate::steps::{Edge, Event, Place};
 use outcome_report::keys::key_text;
 use refutations::events::writes_to;
-use serde_json::{Map, Value, put};
+use serde_json::{Map, Value};
 use std::alloc::Global;
 use tso_model::{Entry, Loc, NoMemory, Test};
-use tso_report::members::{numbers_value, put_made};
+use tso_report::members::{numbers_value, put_made, word_value};
+use tso_report::objects::Object;
 
 /// Whether a piece is nothing.
 pub fn is_nothing(piece: Piece<'_>) -> bool
@@ -36,7 +37,7 @@ pub fn piece_value(alloc: Global, test: &Test, piece: Piece<'_>) -> Result<Value
     ensures { IfOk result (λ value. view value ≡ pieces.piece_value test.now piece.entry) }
 {
     match piece {
-        Piece::Word(_, word) => Ok(Value::try_from_str(alloc, word)?),
+        Piece::Word(_, word) => word_value(alloc, word),
         Piece::Depth(depth) => Ok(Value::from(depth)),
         Piece::Event(_) | Piece::Source(_) => text_value(alloc, test, piece),
         Piece::Sources(writes) => array_of(alloc, test, writes),
@@ -82,15 +83,13 @@ impl Valued for Edge {
     ghost valued = { spec.edge_value };
 
     fn value(&self, alloc: Global, test: &Test) -> Result<Value, NoMemory> {
-        let mut members = Map::new(alloc);
-        let source = text_value(alloc, test, Piece::Event(&self.source));
-        put_made(&mut members, alloc, "from", source)?;
         let relation = relation_text(self.relation);
-        let relation = text_value(alloc, test, Piece::Word(relation, relation));
-        put_made(&mut members, alloc, "relation", relation)?;
-        let target = text_value(alloc, test, Piece::Event(&self.target));
-        put_made(&mut members, alloc, "to", target)?;
-        Ok(Value::Object(members))
+        let relation = Piece::Word(relation, relation);
+        Object::new(alloc)
+            .member("from", text_value(alloc, test, Piece::Event(&self.source)))
+            .member("relation", text_value(alloc, test, relation))
+            .member("to", text_value(alloc, test, Piece::Event(&self.target)))
+            .value()
     }
 }
 
@@ -101,8 +100,8 @@ fn places_value(alloc: Global, test: &Test, places: &[Place]) -> Result<Value, N
     for at in (0..places.len()).rev() {
         let place = &places[at];
         let key = key_text(alloc, test, place.named)?;
-        let words = numbers_value(alloc, &place.values)?;
-        put(&mut members, alloc, &key, words)?;
+        let words = numbers_value(alloc, &place.values);
+        put_made(&mut members, alloc, &key, words)?;
     }
     Ok(Value::Object(members))
 }

@@ -1,7 +1,7 @@
 -- The names that the proofs of this crate bring in from definitions and from crates below; each file takes its own from here.
 pub use Rattle.std.proofs.Common.{◌≡◌, ℕ, zero, suc, ◌+◌, Bool, true, false, ◌||◌, if◌then◌else◌, List, [], ◌∷◌, map, take, length, ◌/◌, Option, Some, None, refl, ◌∙◌, ◌-◌, ◌<◌, ◌++◌, option_map, slice_get, slice_index_or, sym, ap, arith, length-append, ◌*◌, ◌≤◌, min, drop, get_or, append_assoc, append-nil, ◌%◌, slice_index, inl, inr, subst, rules, Global, Vec, string_bytes, slice_set, ◌≢◌, All, codes, IfOk}
 pub use Rattle.std.proofs.lemmas.Bool.{or_parts}
-pub use Rattle.serde_json.specs.Data.{Data, string, Members, no_members, put, array, object}
+pub use Rattle.serde_json.specs.Data.{Data, boolean, string, Members, no_members, put, array, object}
 pub use Rattle.serde_json.specs.View.{items_of, view, members_view}
 pub use Rattle.serde_json.specs.Written.{has_float, items_have_float, members_have_float}
 pub use Rattle.tso_model.specs.Litmus.{Litmus}
@@ -21,7 +21,7 @@ pub use Rattle.trace_json.specs.Values.{array_of_numbers, text_or_null, array_of
 pub use Rattle.trace_json.specs.OwnWords.{own_words, is_newer_in, own_word, own_words_from, is_newer}
 pub use Rattle.trace_report.specs.Lines.{access_name, stall_name, state_name, line_name, names_in_line, store_text, printed_core, printed_move, printed_change, printed_request, transient_name, joined_by_plus}
 pub use Rattle.trace_json.specs.MachineJson.{words_per_line, words_in_line, words_on_bus, copy_json, cached_lines_in, set_json, sets_json, core_json, cores_json, holder_json, bus_json, machine_json, core_with}
-pub use Rattle.trace_json.specs.StepJson.{stall_in, step_json}
+pub use Rattle.trace_json.specs.StepJson.{outcome_word, stall_in, step_json}
 pub use Rattle.trace_json.specs.Supplied.{supplier_text, found_by, supplied_to, supplies, supplier_from, supplier_or_memory}
 pub use Rattle.trace_json.specs.TraceJson.{Sourced, sourced_by, last_or, last_step_json, step_to, steps_json, start_json, trace_json, alone}
 pub use Rattle.trace_json.specs.declared.supplied.Source.{Source}
@@ -44,4 +44,3 @@ pub use Rattle.trace_report.specs.inner.Told.{IsLookedAt}
 pub use Rattle.trace_report.proofs.Whole.{some-word, looked-at}
 pub use Rattle.trace_json.specs.SupplyLaws.{copy_on, SourcesAreTold}
 pub use Rattle.trace_report.specs.Known.{IsLine, StepNamesExist}
-pub use Rattle.trace_json.specs.inner.Stepped.{with_parts}

@@ -3,6 +3,4 @@ pub mod Looked
 pub mod Limited
 pub mod Following
 pub mod Observing
-pub mod Stepped
 pub mod BusMemory
-pub mod Objects

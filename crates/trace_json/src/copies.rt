@@ -9,8 +9,7 @@ ghost use Rattle.trace_json.specs.MachineJson.{copy_json, set_json, sets_json};
 ghost use Rattle.trace_json.specs.inner.Looked.{IsMachineOfTest};
 
 use crate::moment::Moment;
-use crate::objects::Object;
-use crate::texts::{line_value, word_value};
+use crate::texts::line_value;
 use machine_core::CachedLine;
 use protocol_tables::Protocol;
 use serde_json::Value;
@@ -18,7 +17,8 @@ use std::alloc::Global;
 use trace_report::names::state_name;
 use trace_report::states::line_state;
 use tso_model::{Core, NoMemory, Test};
-use tso_report::members::{numbers_value, push_made};
+use tso_report::members::{numbers_value, push_made, word_value};
+use tso_report::objects::Object;
 
 /// The lines of a core's cache, by set.
 ///

@@ -11,7 +11,6 @@ ghost use Rattle.trace_json.specs.inner.Looked.{IsMachineOfTest};
 
 use crate::copies::sets_value;
 use crate::moment::Moment;
-use crate::objects::Object;
 use crate::texts::store_value;
 use protocol_tables::Protocol;
 use serde_json::Value;
@@ -19,6 +18,7 @@ use std::alloc::Global;
 use tso_model::{Core, NoMemory};
 use tso_report::json::registers_value;
 use tso_report::members::push_made;
+use tso_report::objects::Object;
 
 /// The cores of a machine.
 ///

@@ -15,7 +15,6 @@ ghost use Rattle.trace_json.specs.inner.Following.{CanFollow, Follows};
 
 use crate::machine::machine_value;
 use crate::moment::Moment;
-use crate::objects::Object;
 use crate::own_words::follow_words;
 use crate::step::step_value;
 use crate::supplied::{Source, found_by, supplied_to};
@@ -27,6 +26,7 @@ use trace_report::Step;
 use trace_report::states::{PlacedState, states_of};
 use trace_report::telling::tell;
 use tso_model::{NoMemory, Test};
+use tso_report::objects::Object;
 
 /// What a choice did, and where the word is found that it read.
 #[derive(Drop)]
@@ -110,8 +110,8 @@ impl<'t> Follower<'t> {
         requires known { StepNamesExist self.now.test.now self.now.config.shape.words (shown_step told.now.step) }
         ensures { IfOk result (λ value. view value ≡ step_to (sourced told.now) machine.now self.now.memory.items) }
     {
-        let after = self.machine(machine)?;
         let words = self.config.words();
+        let after = self.machine(machine);
         step_value(
             self.alloc,
             self.test,

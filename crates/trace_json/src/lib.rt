@@ -9,7 +9,6 @@ mod limited;
 mod machine;
 pub mod memory_words;
 mod moment;
-mod objects;
 mod own_words;
 mod programs;
 mod proposition;

@@ -10,7 +10,6 @@ ghost use Rattle.trace_json.specs.inner.Looked.{IsMachineOfTest};
 
 use crate::cores::cores_value;
 use crate::moment::Moment;
-use crate::objects::Object;
 use crate::texts::{choice_value, line_value, name_or_null};
 use machine_core::{BusHolder, Machine};
 use protocol_tables::{Protocol, Transient};
@@ -21,6 +20,7 @@ use trace_report::step::core_of;
 use tso_model::{Loc, NoMemory, Test};
 use tso_report::json::memory_value;
 use tso_report::members::numbers_value;
+use tso_report::objects::Object;
 
 /// A machine at a moment: the bus, the cores, memory, and the words that a program sees.
 ///

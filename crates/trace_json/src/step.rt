@@ -1,20 +1,19 @@
 //! What a choice did as a value: the members of a step, and `null` for what this choice has nothing of, so that each step
 //! has all of them.
 
-ghost use Rattle.std.specs.Prelude.{◌≡◌, ◌<◌, IfOk, OnOk, IfSome, All, map, option_map};
-ghost use Rattle.serde_json.specs.Data.{string};
-ghost use Rattle.serde_json.specs.View.{view, members_view};
+ghost use Rattle.std.specs.Prelude.{◌≡◌, ◌<◌, IfOk, IfSome, All, map, option_map};
+ghost use Rattle.serde_json.specs.Data.{Data, string};
+ghost use Rattle.serde_json.specs.View.{view};
 ghost use Rattle.trace_report.specs.Shown.{shown_step};
 ghost use Rattle.trace_report.specs.Known.{IsLine, StepNamesExist};
 ghost use Rattle.trace_report.specs.Lines.{access_name, stall_name, line_name, printed_core, printed_move};
 ghost use Rattle.trace_report.specs.Lines.{printed_change, printed_request};
 ghost use Rattle.trace_json.specs.Values.{text_or_null, array_of_texts};
 ghost use Rattle.trace_json.specs.StepJson.{outcome_word, stall_in, step_json};
-ghost use Rattle.trace_json.specs.inner.Stepped.{part_value, with_parts};
 
 use crate::supplied::{Source, source_value};
-use crate::texts::{choice_value, core_name, line_value, name_or_null, text_value, word_value};
-use serde_json::{Map, Value, put};
+use crate::texts::{choice_value, core_name, line_value, name_or_null, text_value};
+use serde_json::Value;
 use snoop_bus::AccessKind;
 use std::alloc::Global;
 use trace_report::names::{access_name, stall_name};
@@ -22,65 +21,12 @@ use trace_report::text::{write_change, write_line_request};
 use trace_report::{LineRequest, Moved, StateChange, Step};
 use tso_model::{Core, NoMemory, Outcome, Test};
 use tso_report::json::order_value;
-use tso_report::members::{push_made, put_made};
+use tso_report::members::{push_made, word_value};
+use tso_report::objects::Object;
 use tso_report::pieces::Piece;
 
-/// What stands under a key of a step's value.
-#[derive(Clone, Copy)]
-pub(crate) enum StepPart {
-    /// What the access was, of a choice that made one.
-    Access,
-    /// The choice.
-    Choice,
-    /// The entries that it committed.
-    Entries,
-    /// The core whose copy was sent to memory.
-    Flush,
-    /// Whether a load got its value from the core's own pending stores.
-    Forwarded,
-    /// The register that a value was moved to.
-    Moved,
-    /// The outcome's word.
-    Outcome,
-    /// Why the choice stalled.
-    Stall,
-    /// The lines whose state changed.
-    States,
-    /// Where the word is found that was read.
-    Supplied,
-    /// What went on the bus.
-    Transaction,
-    /// The dirty line that left the core's cache.
-    WriteBack,
-}
-
-/// What a step's value has, by its keys; beside these it has the machine after it.
-const STEP_PARTS: [(&str, StepPart); 12] = [
-    ("access", StepPart::Access),
-    ("choice", StepPart::Choice),
-    ("entries", StepPart::Entries),
-    ("flush", StepPart::Flush),
-    ("forwarded", StepPart::Forwarded),
-    ("moved", StepPart::Moved),
-    ("outcome", StepPart::Outcome),
-    ("stall", StepPart::Stall),
-    ("states", StepPart::States),
-    ("supplied", StepPart::Supplied),
-    ("transaction", StepPart::Transaction),
-    ("write_back", StepPart::WriteBack),
-];
-
-/// A step of a test on caches whose lines have so many words, and where the word is found that it read.
-#[derive(Clone, Copy)]
-struct Telling<'a> {
-    test: &'a Test,
-    words: u8,
-    step: &'a Step,
-    supplied: Option<Source>,
-}
-
 /// What a choice did, on caches whose lines have so many words, where the word is found that it read, and this machine
-/// after it.
+/// after it, if its value could be made.
 ///
 /// Errors: out of memory only.
 pub fn step_value(
@@ -89,64 +35,35 @@ pub fn step_value(
     words: u8,
     step: &Step,
     supplied: Option<Source>,
-    after: Value,
+    after: Result<Value, NoMemory>,
 ) -> Result<Value, NoMemory>
     requires words { 0 < words }
     requires known { StepNamesExist test.now words (shown_step step.now) }
-    ensures { IfOk result (λ value. view value ≡ step_json test.now words (shown_step step.now) supplied (view after)) }
+    ensures { (d : Data) → IfOk after (λ value. view value ≡ d)
+        → IfOk result (λ value. view value ≡ step_json test.now words (shown_step step.now) supplied d) }
 {
-    let telling = Telling {
-        test,
-        words,
-        step,
-        supplied,
-    };
-    let mut members = Map::new(alloc);
-    put(&mut members, alloc, "after", after)?;
-    put_parts(&mut members, alloc, &telling, &STEP_PARTS)?;
-    Ok(Value::Object(members))
-}
-
-/// Puts what stands under each of these keys.
-fn put_parts(
-    members: &mut Map<String, Value>,
-    alloc: Global,
-    telling: &Telling<'_>,
-    parts: &[(&str, StepPart)],
-) -> Result<(), NoMemory>
-    requires words { 0 < telling.now.words }
-    requires known { StepNamesExist telling.now.test.now telling.now.words (shown_step telling.now.step.now) }
-    ensures { OnOk result (members_view members.new.entries
-        ≡ with_parts telling.now.test.now telling.now.words (shown_step telling.now.step.now) telling.now.supplied parts.now (members_view members.old.entries)) }
-{
-    for (key, part) in parts {
-        put_made(members, alloc, key, part_value(alloc, telling, *part))?;
-    }
-    Ok(())
-}
-
-fn part_value(alloc: Global, telling: &Telling<'_>, part: StepPart) -> Result<Value, NoMemory>
-    requires words { 0 < telling.now.words }
-    requires known { StepNamesExist telling.now.test.now telling.now.words (shown_step telling.now.step.now) }
-    ensures { IfOk result (λ value. view value ≡ part_value telling.now.test.now telling.now.words (shown_step telling.now.step.now) telling.now.supplied part) }
-{
-    let test = telling.test;
-    let words = telling.words;
-    let step = telling.step;
-    match part {
-        StepPart::Access => access_value(alloc, step.access),
-        StepPart::Choice => choice_value(alloc, step.choice),
-        StepPart::Entries => order_value(alloc, test, &step.entries),
-        StepPart::Flush => flush_value(alloc, step.flushed),
-        StepPart::Forwarded => Ok(Value::Bool(step.forwarded)),
-        StepPart::Moved => move_value(alloc, step.moved),
-        StepPart::Outcome => word_value(alloc, outcome_word(step.outcome)),
-        StepPart::Stall => stall_value(alloc, step.outcome),
-        StepPart::States => changes_value(alloc, test, words, &step.changes),
-        StepPart::Supplied => source_value(alloc, telling.supplied),
-        StepPart::Transaction => request_value(alloc, test, words, step.request),
-        StepPart::WriteBack => write_back_value(alloc, test, words, step.wrote_back),
-    }
+    let outcome = step.outcome;
+    Object::new(alloc)
+        .member("access", access_value(alloc, step.access))
+        .member("after", after)
+        .member("choice", choice_value(alloc, step.choice))
+        .member("entries", order_value(alloc, test, &step.entries))
+        .member("flush", flush_value(alloc, step.flushed))
+        .member("forwarded", Ok(Value::Bool(step.forwarded)))
+        .member("moved", move_value(alloc, step.moved))
+        .member("outcome", word_value(alloc, outcome_word(outcome)))
+        .member("stall", stall_value(alloc, outcome))
+        .member("states", changes_value(alloc, test, words, &step.changes))
+        .member("supplied", source_value(alloc, supplied))
+        .member(
+            "transaction",
+            request_value(alloc, test, words, step.request),
+        )
+        .member(
+            "write_back",
+            write_back_value(alloc, test, words, step.wrote_back),
+        )
+        .value()
 }
 
 fn access_value(alloc: Global, access: Option<AccessKind>) -> Result<Value, NoMemory>

@@ -11,7 +11,7 @@ ghost use Rattle.trace_json.specs.Supplied.{found_at, found_by, is_asked, line_r
 ghost use Rattle.trace_json.specs.Supplied.{supplier_or_memory, supplies};
 ghost use Rattle.trace_json.specs.Values.{text_or_null};
 
-use crate::texts::{core_name, word_value};
+use crate::texts::core_name;
 use machine_core::{Machine, MemoryAccess};
 use protocol_tables::{Protocol, State};
 use serde_json::Value;
@@ -19,6 +19,7 @@ use std::alloc::Global;
 use trace_report::Step;
 use trace_report::step::core_of;
 use tso_model::{Choice, Core, NoMemory, Outcome, Test};
+use tso_report::members::word_value;
 
 /// Where a core finds a word that it reads.
 #[derive(Clone, Copy)]

@@ -13,6 +13,7 @@ use serde_json::Value;
 use std::alloc::Global;
 use trace_report::text::write_line_name;
 use tso_model::{Choice, Core, Entry, Loc, NoMemory, Test};
+use tso_report::members::word_value;
 use tso_report::pieces::{Piece, write_pieces};
 
 /// A text of these pieces, one after the other.
@@ -36,15 +37,6 @@ pub fn name_or_null(alloc: Global, name: Option<&str>) -> Result<Value, NoMemory
         None => Ok(Value::Null),
         Some(name) => word_value(alloc, name),
     }
-}
-
-/// A word.
-///
-/// Errors: out of memory only.
-pub fn word_value(alloc: Global, word: &str) -> Result<Value, NoMemory>
-    ensures { IfOk result (λ value. view value ≡ string word.now) }
-{
-    Ok(Value::try_from_str(alloc, word)?)
 }
 
 /// A core by its name, `P1`.

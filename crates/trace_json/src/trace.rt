@@ -17,7 +17,6 @@ ghost use Rattle.trace_json.specs.inner.Observing.{AddsStep, KnowsLast, MakesSte
 
 use crate::following::{Follower, SourcedStep};
 use crate::limited::Limited;
-use crate::objects::Object;
 use machine_core::{Choice, Machine, Outcome};
 use protocol_tables::Protocol;
 use scheduler::Stalls;
@@ -28,6 +27,7 @@ use std::mem::replace;
 use trace_report::told_runs::traces_tell_their_runs;
 use tso_model::NoMemory;
 use tso_report::members::push_made;
+use tso_report::objects::Object;
 
 /// How a run left its test, what is told of it as a value, and which choices stalled.
 #[derive(Drop)]

@@ -10,7 +10,6 @@ ghost use Rattle.scheduler.specs.WordOfChoice.{IsWordOfChoice};
 ghost use Rattle.simulator.specs.Simulation.{FitsEnding};
 ghost use Rattle.trace_json.specs.TracedRun.{most_steps, line_with, ending_members};
 
-use crate::objects::Object;
 use crate::programs::programs_value;
 use crate::proposition::proposition_value;
 use scheduler::word_of_choice;
@@ -18,7 +17,8 @@ use serde_json::{Map, Value};
 use simulator::{Ending, Setup};
 use std::alloc::Global;
 use tso_model::NoMemory;
-use tso_report::json::{line_of, run_members, unfinished_members};
+use tso_report::json::{run_members, unfinished_members};
+use tso_report::objects::Object;
 
 /// Maximum number of steps of a trace as JSON.
 pub const MAX_STEPS: usize = 1_000;
@@ -60,12 +60,11 @@ pub fn traced_json(
     requires trace { has_float (view trace) ≡ false }
     ensures { IfOk result (λ text. string_bytes text ≡ line_with setup.now.test.now (view trace) (ending_members setup.now.test.now setup.now.protocol setup.now.config ending.now)) }
 {
-    let value = Object::from_made(alloc, ending_members(alloc, setup, ending))
+    Object::from_made(alloc, ending_members(alloc, setup, ending))
         .member("trace", Ok(trace))
         .member("proposition", proposition_value(alloc, setup.test))
         .member("programs", programs_value(alloc, setup.test))
-        .value()?;
-    line_of(alloc, &value)
+        .line()
 }
 
 /// What the report of a run has, or the line of one that didn't end.

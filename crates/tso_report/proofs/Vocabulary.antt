@@ -1,5 +1,5 @@
 -- The names that the proofs of this crate bring in from definitions and from crates below; each file takes its own from here.
-pub use Rattle.std.proofs.Common.{◌≡◌, ℕ, ◌<◌, ◌^◌, Bool, true, not, eqb, List, [], ◌∷◌, ◌++◌, get_or, All, inl, inr, refl, ap, ◌∙◌, arith, rules, ◌+◌, ◌-◌, ◌*◌, ◌≤◌, zero, suc, false, nat_le, ◌&&◌, length, map, slice_index, slice_index_or, Option, Some, None, length-append, codes, append-nil, ◌⊎◌, sym, ◌||◌, filter, subst, append_assoc, cond, sum, Vec, unwrap_or, option_map, ◌≢◌, drop, string_bytes, is_some}
+pub use Rattle.std.proofs.Common.{◌≡◌, ℕ, ◌<◌, ◌^◌, Bool, true, not, eqb, List, [], ◌∷◌, ◌++◌, get_or, All, inl, inr, refl, ap, ◌∙◌, arith, rules, ◌+◌, ◌-◌, ◌*◌, ◌≤◌, zero, suc, false, nat_le, ◌&&◌, length, map, slice_index, slice_index_or, Option, Some, None, length-append, codes, append-nil, ◌⊎◌, sym, ◌||◌, filter, subst, append_assoc, cond, sum, Vec, unwrap_or, option_map, ◌≢◌, drop, string_bytes, is_some, IfOk}
 pub use Rattle.std.specs.Fmt.{decimal}
 pub use Rattle.std.specs.List.{list_all, AllByRecursion}
 pub use Rattle.std.proofs.lemmas.Bool.{and_parts, and_from, or_parts}
@@ -29,8 +29,8 @@ pub use Rattle.std.specs.declared.cmp.Ordering.{Ordering}
 pub use Rattle.std.specs.declared.cmp.Ordering.TheVariants.{Less, Equal, Greater}
 pub use Rattle.serde_json.specs.Data.{string, Members, no_members, member, put, object, Data}
 pub use Rattle.serde_json.specs.View.{items_of, view, members_view}
-pub use Rattle.serde_json.specs.Written.{has_float, items_have_float, members_have_float}
-pub use Rattle.tso_report.specs.Json.{count, counts_value, cache_value, condition_value, with_bus, configuration_members, machine_value, memory_members, memory_value, order_value, registers_value, cores_value, run_value}
+pub use Rattle.serde_json.specs.Written.{compact_text, has_float, items_have_float, members_have_float}
+pub use Rattle.tso_report.specs.Json.{run_members, unfinished_members, count, counts_value, cache_value, choices_value, condition_value, with_bus, configuration_members, machine_value, memory_members, memory_value, order_value, registers_value, cores_value, run_value}
 pub use Rattle.tso_report.specs.inner.Tally.{NameExists, Tallied}
 pub use Rattle.std.specs.BTreeMap.{insert_entry, is_at}
 pub use Rattle.std.specs.Map.{lookup, keys_of, values_of}
@@ -42,7 +42,6 @@ pub use Rattle.std.specs.Iterator.Adapters.{zip_first, zip_second}
 pub use Rattle.std.proofs.lemmas.List.{drop_all, drop_more}
 pub use Rattle.serde_json.proofs.Views.{view-Array}
 pub use Rattle.serde_json.specs.Data.{array}
-pub use Rattle.tso_report.specs.inner.Json.{with_run_parts}
 pub use Rattle.tso_report.specs.inner.Pieces.{line_piece}
 pub use Rattle.tso_report.specs.inner.Members.{with_data}
 pub use Rattle.std.specs.List.{flat_map}

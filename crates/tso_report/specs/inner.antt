@@ -3,5 +3,6 @@ pub mod Counted
 pub mod Json
 pub mod JsonFrame
 pub mod Members
+pub mod Objects
 pub mod Pieces
 pub mod Tally

@@ -10,10 +10,11 @@ ghost use Rattle.tso_report.specs.Shown.{shown_run, IsRunOf};
 ghost use Rattle.tso_report.specs.Report.{line};
 ghost use Rattle.tso_report.specs.Json.{counts_value, cache_value, choices_value, condition_value, machine_value};
 ghost use Rattle.tso_report.specs.Json.{memory_members, memory_value, order_value, registers_value, cores_value};
-ghost use Rattle.tso_report.specs.inner.Json.{run_part_value, unfinished_search_value, with_run_parts};
+ghost use Rattle.tso_report.specs.inner.Json.{unfinished_search_value};
 ghost use Rattle.tso_report.specs.Json.{run_members, unfinished_members, json_report, json_unfinished};
 
-use crate::members::{Datum, object_of, push_made, put_made, put_object};
+use crate::members::{Datum, object_of, push_made, word_value};
+use crate::objects::Object;
 use crate::report::quantifier_text;
 use crate::run::Run;
 use machine_core::{Bus, Config, Counts};
@@ -37,8 +38,7 @@ pub fn report_json(
     requires { IsRunOf test.now (shown_run run.now) }
     ensures { IfOk result (λ text. string_bytes text ≡ json_report test.now protocol config (shown_run run.now)) }
 {
-    let members = run_members(alloc, test, protocol, config, run)?;
-    line_of(alloc, &Value::Object(members))
+    Object::from_made(alloc, run_members(alloc, test, protocol, config, run)).line()
 }
 
 /// The line of a run that didn't end, as JSON: how many choices were used, and how many of these stalled.
@@ -47,8 +47,7 @@ pub fn report_json(
 pub fn unfinished_json(alloc: Global, used: usize, stalled: usize) -> Result<String, NoMemory>
     ensures { IfOk result (λ text. string_bytes text ≡ json_unfinished used stalled) }
 {
-    let members = unfinished_members(alloc, used, stalled)?;
-    line_of(alloc, &Value::Object(members))
+    Object::from_made(alloc, unfinished_members(alloc, used, stalled)).line()
 }
 
 /// The compact text of a value that has no float, and a line feed.
@@ -63,27 +62,24 @@ pub fn line_of(alloc: Global, value: &Value) -> Result<String, NoMemory>
     Ok(text)
 }
 
-/// The value of a search that met its limit: the test, and under this key how many of them it was.
+/// The line of a search that met its limit, as JSON: the test, and under this key how many of them it was.
 ///
 /// Errors: out of memory only.
-pub fn unfinished_search_value(
+pub fn unfinished_search_json(
     alloc: Global,
     test: &Test,
     key: &str,
     limit: u64,
-) -> Result<Value, NoMemory>
-    ensures { IfOk result (λ value. view value ≡ unfinished_search_value test.now key.now limit) }
+) -> Result<String, NoMemory>
+    ensures { IfOk result (λ text. string_bytes text ≡ line (compact_text (unfinished_search_value test.now key.now limit))) }
 {
-    let mut members = Map::new(alloc);
-    put_object(
-        &mut members,
-        alloc,
-        "unfinished",
-        &[(key, Datum::Number(limit))],
-    )?;
-    let name = Value::try_from_str(alloc, test.name())?;
-    put(&mut members, alloc, "test", name)?;
-    Ok(Value::Object(members))
+    Object::new(alloc)
+        .member("test", word_value(alloc, test.name()))
+        .member(
+            "unfinished",
+            object_of(alloc, &[(key, Datum::Number(limit))]),
+        )
+        .line()
 }
 
 /// The members of a run that didn't end: how many choices were used, and how many of these stalled.
@@ -100,9 +96,9 @@ pub fn unfinished_members(
         ("stalled", Datum::Number(stalled as u64)),
         ("used", Datum::Number(used as u64)),
     ];
-    let mut members = Map::new(alloc);
-    put_object(&mut members, alloc, "unfinished", &counts)?;
-    Ok(members)
+    Object::new(alloc)
+        .member("unfinished", object_of(alloc, &counts))
+        .members()
 }
 
 /// The members of the report of a run: the cache counts, the choices, the condition, the machine, the
@@ -119,94 +115,18 @@ pub fn run_members(
     requires { IsRunOf test.now (shown_run run.now) }
     ensures { IfOk result (λ members. members_view members.entries ≡ run_members test.now protocol config (shown_run run.now)) }
 {
-    let reported = Reported {
-        test,
-        protocol,
-        config,
-        run,
-    };
-    let mut members = Map::new(alloc);
-    put_run_parts(&mut members, alloc, &reported, &RUN_PARTS)?;
-    Ok(members)
-}
-
-/// What stands under a key of a run's report.
-#[derive(Clone, Copy)]
-pub(crate) enum RunPart {
-    /// The counts of each core's cache.
-    Cache,
-    /// How many choices were used, stalled and stood after the end.
-    Choices,
-    /// The condition, and whether it is true.
-    Condition,
-    /// How the machine is built.
-    Machine,
-    /// The words of the test's locations.
-    Memory,
-    /// The order in which memory saw the run.
-    Order,
-    /// The registers of each core.
-    Registers,
-    /// The test's name.
-    Test,
-}
-
-/// What a run's report has, by its keys.
-const RUN_PARTS: [(&str, RunPart); 8] = [
-    ("cache", RunPart::Cache),
-    ("choices", RunPart::Choices),
-    ("condition", RunPart::Condition),
-    ("machine", RunPart::Machine),
-    ("memory", RunPart::Memory),
-    ("order", RunPart::Order),
-    ("registers", RunPart::Registers),
-    ("test", RunPart::Test),
-];
-
-/// A run of a test that is reported, and the machine that made it.
-#[derive(Clone, Copy)]
-struct Reported<'a> {
-    test: &'a Test,
-    protocol: ProtocolKind,
-    config: Config,
-    run: &'a Run,
-}
-
-/// Puts what stands under each of these keys.
-fn put_run_parts(
-    members: &mut Map<String, Value>,
-    alloc: Global,
-    reported: &Reported<'_>,
-    parts: &[(&str, RunPart)],
-) -> Result<(), NoMemory>
-    requires run { IsRunOf reported.now.test.now (shown_run reported.now.run.now) }
-    ensures { OnOk result (members_view members.new.entries
-        ≡ with_run_parts reported.now.test.now reported.now.protocol reported.now.config (shown_run reported.now.run.now) parts.now (members_view members.old.entries)) }
-{
-    for (key, part) in parts {
-        put_made(members, alloc, key, run_part_value(alloc, reported, *part))?;
-    }
-    Ok(())
-}
-
-fn run_part_value(alloc: Global, reported: &Reported<'_>, part: RunPart) -> Result<Value, NoMemory>
-    requires { IsRunOf reported.now.test.now (shown_run reported.now.run.now) }
-    ensures { IfOk result (λ value. view value
-        ≡ run_part_value reported.now.test.now reported.now.protocol reported.now.config (shown_run reported.now.run.now) part) }
-{
-    let test = reported.test;
-    let run = reported.run;
     let left = &run.left;
-    match part {
-        RunPart::Cache => cache_value(alloc, &left.counts),
-        RunPart::Choices => choices_value(alloc, run.used, run.stalled, run.unused),
-        RunPart::Condition => condition_value(alloc, test, run.holds),
-        RunPart::Machine => machine_value(alloc, reported.protocol, reported.config),
-        RunPart::Memory => memory_value(alloc, test, &left.state.memory),
-        RunPart::Order => order_value(alloc, test, &left.execution.order),
-        RunPart::Registers => cores_value(alloc, &left.state.registers),
-        RunPart::Test => Ok(Value::try_from_str(alloc, test.name())?),
-    }
+    let choices = choices_value(alloc, run.used, run.stalled, run.unused);
+    Object::new(alloc)
+        .member("cache", cache_value(alloc, &left.counts))
+        .member("choices", choices)
+        .member("condition", condition_value(alloc, test, run.holds))
+        .member("machine", machine_value(alloc, protocol, config))
+        .member("memory", memory_value(alloc, test, &left.state.memory))
+        .member("order", order_value(alloc, test, &left.execution.order))
+        .member("registers", cores_value(alloc, &left.state.registers))
+        .member("test", word_value(alloc, test.name()))
+        .members()
 }
 
 fn cache_value(alloc: Global, counts: &[Counts]) -> Result<Value, NoMemory>

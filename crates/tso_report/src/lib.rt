@@ -6,6 +6,7 @@ mod counters;
 pub mod json;
 pub mod members;
 pub mod named;
+pub mod objects;
 pub mod observation;
 pub mod pieces;
 pub mod printed_values;

@@ -1,7 +1,7 @@
 //! What a JSON object has under its keys.
 
 ghost use Rattle.std.specs.Prelude.{◌≡◌, ◌++◌, ◌∷◌, [], IfOk, OnOk, map};
-ghost use Rattle.serde_json.specs.Data.{Data, array, no_members, object, put as with_member};
+ghost use Rattle.serde_json.specs.Data.{Data, array, no_members, object, put as with_member, string};
 ghost use Rattle.serde_json.specs.View.{items_of, members_view, view};
 ghost use Rattle.tso_report.specs.Json.{count};
 ghost use Rattle.tso_report.specs.inner.Members.{datum_value, with_data};
@@ -32,21 +32,6 @@ pub fn object_of(alloc: Global, fields: &[(&str, Datum<'_>)]) -> Result<Value, N
     Ok(Value::Object(members))
 }
 
-/// Puts an object with what stands under each of these keys.
-///
-/// Errors: out of memory only.
-pub fn put_object(
-    members: &mut Map<String, Value>,
-    alloc: Global,
-    key: &str,
-    fields: &[(&str, Datum<'_>)],
-) -> Result<(), NoMemory>
-    ensures { OnOk result (members_view members.new.entries
-        ≡ with_member key.now (object (with_data fields.now no_members)) (members_view members.old.entries)) }
-{
-    put_made(members, alloc, key, object_of(alloc, fields))
-}
-
 fn put_data(
     members: &mut Map<String, Value>,
     alloc: Global,
@@ -64,10 +49,19 @@ fn datum_value(alloc: Global, datum: Datum<'_>) -> Result<Value, NoMemory>
     ensures { IfOk result (λ value. view value ≡ datum_value datum.entry) }
 {
     match datum {
-        Datum::Text(characters) => Ok(Value::try_from_str(alloc, characters)?),
+        Datum::Text(characters) => word_value(alloc, characters),
         Datum::Number(number) => Ok(Value::from(number)),
         Datum::Truth(truth) => Ok(Value::Bool(truth)),
     }
+}
+
+/// A word.
+///
+/// Errors: out of memory only.
+pub fn word_value(alloc: Global, word: &str) -> Result<Value, NoMemory>
+    ensures { IfOk result (λ value. view value ≡ string word.now) }
+{
+    Ok(Value::try_from_str(alloc, word)?)
 }
 
 /// Adds a value to a list, if it could be made. So one who makes several has a single end for each, at which nothing is let go.

@@ -1,16 +1,12 @@
-use Rattle.reason_report.proofs.Vocabulary.{◌∙◌, ℕ, List, ap, codes, string, put, object, members_view, Members, no_members}
-use Rattle.serde_json.proofs.Views.{view-Object}
-use Rattle.reason_report.specs.ReasonText.{event_text}
+use Rattle.reason_report.proofs.Vocabulary.{◌≡◌, subst, codes, IfOk, Data, string, put, object, view, no_members}
+use Rattle.reason_report.specs.ReasonText.{event_text, relation_text}
 use Rattle.reason_report.proofs.pieces_json.EdgeValued.value.Goals as goal
 
 pub returns : goal.returns
 returns c =
-    let source = string (event_text c.args.test.now c.args.self.now.source) in
-    let target = string (event_text c.args.test.now c.args.self.now.target) in
-    let whole = λ (relation : List ℕ) (ms : Members). put (codes "to") target (put (codes "relation") (string relation) ms) in
-    view-Object c.put_made-3.new.members
-    ∙ ap object (c.in_ok-put_made-3.ensures _ c.text_value-target.ensures
-    ∙ (ap (put (codes "to") target) (c.in_ok-put_made-2.ensures _ c.text_value-relation.ensures)
-    ∙ (ap (whole c.relation_text-relation.result.now)
-    (c.in_ok-put_made.ensures _ c.text_value-source.ensures ∙ ap (λ es. put (codes "from") source (members_view es)) c.new-members.ensures.empty)
-    ∙ ap (λ r. whole r (put (codes "from") source no_members)) c.relation_text-relation.ensures)))
+    let t = c.args.test.now in
+    let edge = c.args.self.now in
+    let relation : c.relation_text-relation.result.now ≡ relation_text edge.relation = c.relation_text-relation.ensures in
+    subst (λ (d : Data). IfOk c.value.result (λ value. view value ≡ d))
+    (λ i. object (put (codes "to") (string (event_text t edge.target)) (put (codes "relation") (string (relation i)) (put (codes "from") (string (event_text t edge.source)) no_members))))
+    (c.value.ensures _ (c.member-3.ensures _ _ (c.member-2.ensures _ _ (c.member.ensures _ _ c.new.ensures c.text_value.ensures) c.text_value-2.ensures) c.text_value-3.ensures))

@@ -1,4 +1,4 @@
-use Rattle.trace_json.proofs.Vocabulary.{◌≡◌, ◌∙◌, ap, sym, subst, Configuration, Data, IfOk, view, StepNamesExist, shown_step, some-word, sourced, step_json, words_per_line}
+use Rattle.trace_json.proofs.Vocabulary.{◌≡◌, ◌∙◌, ap, sym, subst, Configuration, Data, IfOk, view, StepNamesExist, shown_step, some-word, sourced, step_json, words_per_line, machine_json}
 use Rattle.trace_json.proofs.following.Follower.step_to.Goals as goal
 
 pub step_value-requires-clause-words : goal.step_value-requires-clause-words
@@ -14,4 +14,5 @@ returns g c =
     let is = c.requires.follows.0.machine in
     let t : c.args.self.now.test.now ≡ m.test = sym is.test in
     let words : c.words-words.result ≡ words_per_line m = c.words-words.ensures.value ∙ sym (ap (λ (x : Configuration). x.shape.words) is.config) in
-    subst (λ (d : Data). IfOk c.step_value.result (λ value. view value ≡ d)) (λ i. step_json (t i) (words i) told.step told.supplied (c.in_ok-after.ensures i)) c.step_value.ensures
+    subst (λ (d : Data). IfOk c.step_value.result (λ value. view value ≡ d)) (λ i. step_json (t i) (words i) told.step told.supplied (machine_json m c.args.self.now.memory.items))
+    (c.step_value.ensures _ c.machine-after.ensures)

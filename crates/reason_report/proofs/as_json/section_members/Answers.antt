@@ -2,7 +2,7 @@ use Rattle.reason_report.proofs.Vocabulary.{put, refl, members_view}
 use Rattle.reason_report.proofs.Growing.{put-more}
 use Rattle.reason_report.proofs.Sections.{known-at}
 use Rattle.reason_report.specs.inner.Pieces.{section_value, with_sections}
-use Rattle.reason_report.proofs.as_json.sections_value.Goals as goal
+use Rattle.reason_report.proofs.as_json.section_members.Goals as goal
 
 pub section_value-value-requires : goal.section_value-value-requires
 section_value-value-requires c = known-at c.args.test.now c.args.sections.now c.loop-before._before-index c.loop-before-item.result c.loop-before-test.true c.loop-before-item.is c.requires

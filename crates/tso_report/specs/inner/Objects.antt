@@ -1,8 +1,8 @@
 -- An object in the making.
 use Rattle.std.specs.Prelude.{◌≡◌, IfOk}
+use Rattle.serde_json.specs.Data.{Members}
 use Rattle.serde_json.specs.View.{members_view}
-use Rattle.trace_json.specs.Vocabulary.{Members}
-use Rattle.trace_json.specs.declared.objects.Object.{Object}
+use Rattle.tso_report.specs.declared.objects.Object.{Object}
 
 -- it has these members, unless memory was refused for one of them
 abbrev pub HasMembers : Object → Members → Type 0

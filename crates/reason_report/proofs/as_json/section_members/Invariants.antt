@@ -1,6 +1,6 @@
 use Rattle.reason_report.proofs.Vocabulary.{◌≡◌, drop, members_view, no_members}
 use Rattle.reason_report.specs.inner.Pieces.{with_sections}
-use Rattle.reason_report.proofs.as_json.sections_value.Given as goal
+use Rattle.reason_report.proofs.as_json.section_members.Given as goal
 
 abbrev pub invariant-loop-before : goal.invariant-loop-before
 invariant-loop-before l =
