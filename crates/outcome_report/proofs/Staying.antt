@@ -1,5 +1,5 @@
 -- Every register is hidden at first, and those that aren't shown stay so.
-use Rattle.outcome_report.proofs.Vocabulary.{◌≡◌, ◌≢◌, ◌∙◌, ◌<◌, ◌⊎◌, inl, inr, ℕ, zero, suc, Bool, true, false, List, [], ◌∷◌, ◌++◌, length, filter, cond, Some, slice_get, slice_set, slice_index_or, arith, ap, sym, subst, refl, Litmus, index_of, Reg, Eax, Ebx, Ecx, Edx, Esi, Edi, Core, none_hidden, hidden_of, Named, Register, named_register, is_shown, names_shown, Show, IsHidden}
+use Rattle.outcome_report.proofs.Vocabulary.{◌≡◌, ◌≢◌, ◌∙◌, ◌<◌, ◌⊎◌, inl, inr, ℕ, zero, suc, Bool, true, false, List, [], ◌∷◌, length, filter, cond, Some, slice_get, slice_set, slice_index_or, arith, ap, sym, subst, refl, Litmus, index_of, Reg, Eax, Ebx, Ecx, Edx, Esi, Edi, Core, none_hidden, hidden_of, Named, Register, named_register, is_shown, names_shown, Show, IsHidden}
 use Rattle.outcome_report.proofs.Hiding.{row-at}
 
 -- ---- one register more is shown
@@ -64,9 +64,6 @@ stays old at place d other core r reg cores places l differ hidden = by_core (sa
 
 -- ---- at first
 
-abbrev pub AreAllHidden : List (List Bool) → Type 0
-AreAllHidden rows = (core : ℕ) (reg : Reg) → core < length rows → IsHidden rows core reg
-
 -- all six registers of a core
 abbrev pub all_six : List Bool
 all_six = true ∷ true ∷ true ∷ true ∷ true ∷ true ∷ []
@@ -78,12 +75,6 @@ six-hidden Ecx = refl
 six-hidden Edx = refl
 six-hidden Esi = refl
 six-hidden Edi = refl
-
-pub one-row-more : (rows : List (List Bool)) (row : List Bool) → AreAllHidden rows → ((reg : Reg) → slice_index_or row (index_of reg) false ≡ true) → AreAllHidden (rows ++ row ∷ [])
-one-row-more [] row all each zero reg l = each reg
-one-row-more [] row all each (suc core) reg l = absurd (let z : ⊥ = omega (arith, l) in z)
-one-row-more (x ∷ rows) row all each zero reg l = all 0 reg (omega arith)
-one-row-more (x ∷ rows) row all each (suc core) reg l = one-row-more rows row (λ c r m. all (suc c) r (omega (arith, m))) each core reg (omega (arith, l))
 
 -- ---- what isn't shown isn't named
 

@@ -38,9 +38,7 @@ pub fn hidden_registers(alloc: Global, test: &Test, show: Show) -> Result<Vec<[b
 {
     let names = names_shown(alloc, test, show)?;
     let mut hidden = Vec::new(alloc);
-    for _core in 0..test.cores() {
-        hidden.push([true; 6])?;
-    }
+    hidden.resize(usize::from(test.cores()), [true; 6])?;
     for named in &names {
         reveal(&mut hidden, *named);
     }

@@ -1,6 +1,6 @@
-use Rattle.outcome_report.proofs.Vocabulary.{◌≡◌, ◌∙◌, [], ◌∷◌, Some, slice_get, length, inl, inr, ap, sym, subst, arith, length-append, names_shown, IsHidden, IsNotHidden}
+use Rattle.outcome_report.proofs.Vocabulary.{◌≡◌, ◌∙◌, false, Some, slice_get, slice_index_or, length, inl, inr, ap, sym, subst, refl, arith, index_of, none_hidden, names_shown, IsHidden, IsNotHidden}
 use Rattle.outcome_report.proofs.Hiding.{core-known, whole, get-or, get-within, lt-or, not-shown}
-use Rattle.outcome_report.proofs.Staying.{AreAllHidden, all_six, six-hidden, one-row-more, got, unnamed}
+use Rattle.outcome_report.proofs.Staying.{six-hidden, got, unnamed}
 use Rattle.outcome_report.proofs.hidden.hidden_registers.Goals as goal
 
 pub reveal-requires : goal.reveal-requires
@@ -11,21 +11,14 @@ reveal-requires c = λ core reg is.
     omega (arith, k, a, b)
 
 pub loop-named-init : goal.loop-named-init
-loop-named-init c = record {
-  count = let a = c.loop-core.invariant.count in let b = c.loop-core-test.false in let l = c.loop-core.auto._core-end in let n = c.cores-core-end.ensures.value in omega (arith, a, b, l, n);
-  shown = λ j n l. absurd (let z : ⊥ = omega (arith, l) in z);
-  unnamed = λ core reg l none.
-      c.loop-core.invariant.all core reg
-      (let a = c.loop-core.invariant.count in let b = c.loop-core-test.false in let d = c.loop-core.auto._core-end in let n = c.cores-core-end.ensures.value in omega (arith, a, b, d, n, l));
-}
-
-pub loop-core-preserved : goal.loop-core-preserved
-loop-core-preserved c =
-    let is = c.in_ok-push.ensures.items in
-    let size = length-append c.loop-core.hidden.items (all_six ∷ []) in
+loop-named-init c =
+    let n = c.from.ensures ∙ c.cores.ensures.value in
     record {
-      count = (let n = c.loop-core.invariant.count in let m = ap length is in omega (arith, n, m, size));
-      all = subst AreAllHidden (sym is) (one-row-more c.loop-core.hidden.items all_six c.loop-core.invariant.all six-hidden);
+      count = let a = c.in_ok-resize.ensures.len in let b = c.resize.new.self.ok.0 in omega (arith, n, a, b);
+      shown = λ j n l. absurd (let z : ⊥ = omega (arith, l) in z);
+      unnamed = λ core reg l none.
+          ap (λ row. slice_index_or row (index_of reg) false) (c.in_ok-resize.ensures.by_index.1 core none_hidden refl (omega arith) (omega (arith, n, l)))
+          ∙ six-hidden reg;
     }
 
 pub loop-named-preserved : goal.loop-named-preserved

@@ -1,12 +1,5 @@
 use Rattle.outcome_report.proofs.Vocabulary.{◌≡◌, ◌<◌, ℕ, Some, slice_get, length, Named, Reg, named_register, IsHidden, IsNotHidden}
-use Rattle.outcome_report.proofs.Staying.{AreAllHidden}
 use Rattle.outcome_report.proofs.hidden.hidden_registers.Given as goal
-
-abbrev pub invariant-loop-core : goal.invariant-loop-core
-invariant-loop-core l = record {
-  count : length l.hidden.items ≡ l._core;
-  all : AreAllHidden l.hidden.items;
-}
 
 abbrev pub invariant-loop-named : goal.invariant-loop-named
 invariant-loop-named l = record {
