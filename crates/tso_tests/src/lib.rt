@@ -5,19 +5,11 @@
 #![tactic(auto)]
 
 #[cfg(test)]
-mod bus;
-#[cfg(test)]
 mod caches;
-#[cfg(test)]
-mod calls;
 #[cfg(test)]
 mod choices;
 #[cfg(test)]
-mod driving;
-#[cfg(test)]
 mod final_states;
-#[cfg(test)]
-mod machine;
 #[cfg(test)]
 mod named;
 #[cfg(test)]
@@ -25,12 +17,6 @@ mod orders;
 #[cfg(test)]
 mod refuted;
 #[cfg(test)]
-mod split_accesses;
-#[cfg(test)]
 mod steps;
 #[cfg(test)]
 mod streams;
-#[cfg(test)]
-mod tally;
-#[cfg(test)]
-mod threads;

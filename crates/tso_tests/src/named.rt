@@ -19,8 +19,6 @@ pub const X: Loc = Loc(0);
 
 pub const Y: Loc = Loc(1);
 
-pub const Z: Loc = Loc(2);
-
 /// Ends the test where this isn't so. The panic stands here alone, since each one makes the proof of its function longer.
 pub fn holds(rt: &impl Abort, fact: bool)
     ensures { fact ≡ true }
