@@ -1,12 +1,13 @@
 //! What the calls of a bus leave, beyond the words that are seen: coherent copies, and the lines in memory. No crate above
 //! rests on either, so here it is asked for. (Primer, chapters 2 and 6.)
 
-ghost use Rattle.std.specs.Prelude.{◌≡◌, ◌<◌, ◌≤◌, false, true, IfOk, length, option_copied};
+ghost use Rattle.std.specs.Prelude.{◌≡◌, ◌<◌, ◌≤◌, ◌+◌, ◌%◌, ◌^◌, false, true, IfOk, OnErr, length, option_copied};
 ghost use Rattle.cache_set.specs.Contents.{copy_of};
-ghost use Rattle.snoop_bus.specs.Bus.{words_of, cores_of, IsFree, IsCoherent};
+ghost use Rattle.snoop_bus.specs.Bus.{words_of, cores_of, IsFree, IsCoherent, IsSameMachine};
 ghost use Rattle.snoop_bus.specs.inner.Bus.{HasLines};
 ghost use Rattle.snoop_bus.specs.Accesses.{contents_of, memory_of, memory_after_load, memory_after_write};
-ghost use Rattle.snoop_bus.specs.inner.Accesses.{contents_settled, copies_of, MayGoOn};
+ghost use Rattle.snoop_bus.specs.Accesses.{IsCurrentWord, WritesAt, write_of};
+ghost use Rattle.snoop_bus.specs.inner.Accesses.{contents_settled, copies_of, IsOutOfMemory, MayGoOn};
 
 use cache_set::Line;
 use protocol_tables::Protocol;
@@ -14,7 +15,7 @@ use snoop_bus::{Access, Shape, SnoopBus};
 use std::alloc::Global;
 use tso_model::{Core, Loc, NoMemory};
 
-/// The words that are seen of a new bus are those that it is made with.
+/// The words that are seen of a new bus are those that it is made with, and its copies are coherent.
 pub fn a_new_bus<P: Protocol>(
     alloc: Global,
     protocol: P,
@@ -24,7 +25,8 @@ pub fn a_new_bus<P: Protocol>(
 ) -> Result<SnoopBus<P>, NoMemory>
     requires cores { (1 ≤ cores) × (cores ≤ 8) }
     requires init { length init.now ≤ 16 }
-    ensures { IfOk result (λ b. words_of b ≡ init.now) }
+    ensures words { IfOk result (λ b. words_of b ≡ init.now) }
+    ensures coherent { IfOk result (λ b. IsCoherent b) }
 {
     SnoopBus::new(alloc, protocol, cores, shape, init)
 }
@@ -68,7 +70,7 @@ pub fn a_store<P: Protocol>(
     bus.store(core, loc, value)
 }
 
-/// So does an exchange.
+/// So does an exchange, which answers the word that was seen and writes its own; where memory is refused nothing has changed.
 pub fn an_exchange<P: Protocol>(
     bus: &mut SnoopBus<P>,
     core: Core,
@@ -78,13 +80,17 @@ pub fn an_exchange<P: Protocol>(
     requires core { core.0 < cores_of bus.old }
     requires loc { loc.0 < length (words_of bus.old) }
     requires free { MayGoOn bus.old core.0 loc.0 true }
+    ensures word { IfOk result (λ r. IsCurrentWord bus.old loc.0 r.0) }
+    ensures done { IfOk result (λ r. WritesAt bus.old bus.new core.0 loc.0 value r.1) }
+    ensures refused { OnErr result (IsOutOfMemory bus.old bus.new (write_of bus.old core.0 loc.0).access) }
+    ensures machine { IsSameMachine bus.old bus.new }
     ensures coherent { IsCoherent bus.new }
     ensures memory { IfOk result (λ _. memory_of bus.new ≡ memory_after_write bus.old core.0 loc.0) }
 {
     bus.swap(core, loc, value)
 }
 
-/// So does an addition.
+/// So does an addition, which answers the word that was seen and writes the sum.
 pub fn an_addition<P: Protocol>(
     bus: &mut SnoopBus<P>,
     core: Core,
@@ -94,15 +100,20 @@ pub fn an_addition<P: Protocol>(
     requires core { core.0 < cores_of bus.old }
     requires loc { loc.0 < length (words_of bus.old) }
     requires free { MayGoOn bus.old core.0 loc.0 true }
+    ensures word { IfOk result (λ r. IsCurrentWord bus.old loc.0 r.0) }
+    ensures done { IfOk result (λ r. WritesAt bus.old bus.new core.0 loc.0 ((r.0 + value) % 2 ^ 32) r.1) }
+    ensures refused { OnErr result (IsOutOfMemory bus.old bus.new (write_of bus.old core.0 loc.0).access) }
+    ensures machine { IsSameMachine bus.old bus.new }
     ensures coherent { IsCoherent bus.new }
     ensures memory { IfOk result (λ _. memory_of bus.new ≡ memory_after_write bus.old core.0 loc.0) }
 {
     bus.add(core, loc, value)
 }
 
-/// Settling cleans each dirty copy where it stands, and leaves every other, and the copies coherent.
+/// Settling cleans each dirty copy where it stands, and leaves every other, the copies coherent, and the bus free.
 pub fn a_settled_bus<P: Protocol>(bus: &mut SnoopBus<P>)
     requires { IsFree bus.old }
+    ensures free { IsFree bus.new }
     ensures contents { contents_of bus.new ≡ contents_settled bus.old }
     ensures coherent { IsCoherent bus.new }
 {

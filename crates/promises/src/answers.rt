@@ -29,6 +29,9 @@ use tso_cli::{Answer, Counted, RunFault, Settings, Status, answer_to, hint, run_
 use tso_model::NoMemory;
 
 /// What a command writes is the answer to what its reader has, and keeps the headline.
+///
+/// `Device` is answered exactly where a call of a stream failed, and at most one does, on either side. Nothing is written
+/// where that was the reader's, or where memory ran out; a beginning of the answer is, where it was the writer's.
 pub fn a_command_answers<R: Read, W: Write>(
     alloc: Global,
     reader: &mut Counted<R>,
@@ -40,21 +43,6 @@ pub fn a_command_answers<R: Read, W: Write>(
     requires writer { writer.old.1 ≡ 0 }
     ensures exact { IfOk result (WritesAnswer W.contents writer.old.0 writer.new.0 (IsAnswer settings.now (R.remaining reader.old.0))) }
     ensures headline { IfOk result (λ _. Writes W.contents writer.old.0 writer.new.0 (Headline settings.now (R.remaining reader.old.0))) }
-{
-    run_command(alloc, reader, writer, settings)
-}
-
-/// `Device` is answered exactly where a call of a stream failed, and at most one does, on either side. Nothing is written
-/// where that was the reader's, or where memory ran out; a beginning of the answer is, where it was the writer's.
-pub fn a_fault_is_told<R: Read, W: Write>(
-    alloc: Global,
-    reader: &mut Counted<R>,
-    writer: &mut Counted<W>,
-    settings: &Settings,
-) -> Result<Status, RunFault>
-    requires depth { HasDepth settings.now }
-    requires reader { reader.old.1 ≡ 0 }
-    requires writer { writer.old.1 ≡ 0 }
     ensures device { (result ≡ Err RunFault.Device) ↔ ((0 < reader.new.1) ⊎ (0 < writer.new.1)) }
     ensures once { reader.new.1 + writer.new.1 ≤ 1 }
     ensures no_memory { result ≡ Err RunFault.NoMemory → Keeps (W.contents writer.old.0) (W.contents writer.new.0) }

@@ -31,7 +31,6 @@ pub mod run_calls;
 pub mod runs_so_far;
 pub mod searched;
 pub mod searches;
-pub mod sets;
 pub mod simulations;
 pub mod split_accesses;
 pub mod stream_calls;

@@ -11,7 +11,8 @@ use scheduler::{WitnessFault, witness};
 use std::alloc::Global;
 use tso_model::{Choice, Execution, Test};
 
-/// The choices of a witness end the test with the very order; none stalls, and none is left over.
+/// The choices of a witness end the test with the very order; none stalls, and none is left over. Where it is refused for its
+/// depth, no choices at this depth end with the order. That is never so at a depth of as many stores as any program has.
 pub fn a_witness_leads_to_its_order(
     alloc: Global,
     test: &Test,
@@ -26,36 +27,9 @@ pub fn a_witness_leads_to_its_order(
     ensures used { IfOk result (λ v. (run test.now depth v.items).used ≡ length v.items) }
     ensures stalled { IfOk result (λ v. (run test.now depth v.items).stalled ≡ 0) }
     ensures unused { IfOk result (λ v. (run test.now depth v.items).unused ≡ 0) }
-{
-    witness(alloc, test, execution, depth)
-}
-
-/// Where a witness is refused for its depth, no choices at this depth end with the order.
-pub fn a_refused_order_is_out_of_reach(
-    alloc: Global,
-    test: &Test,
-    execution: &Execution,
-    depth: u8,
-) -> Result<Vec<Choice>, WitnessFault>
-    requires execution { IsTsoExecution test.now execution.now.order.items }
-    requires depth { (1 ≤ depth) × (depth ≤ 32) }
-    ensures { IfErr result (λ fault. fault ≢ WitnessFault.NoMemory
+    ensures out_of_reach { IfErr result (λ fault. fault ≢ WitnessFault.NoMemory
         → (choices : List Choice) → (run test.now depth choices).commits ≢ execution.now.order.items) }
-{
-    witness(alloc, test, execution, depth)
-}
-
-/// At a depth of as many stores as any program has, an order is refused only where the allocator is out of memory.
-pub fn a_great_depth_is_enough(
-    alloc: Global,
-    test: &Test,
-    execution: &Execution,
-    depth: u8,
-) -> Result<Vec<Choice>, WitnessFault>
-    requires execution { IsTsoExecution test.now execution.now.order.items }
-    requires depth { (1 ≤ depth) × (depth ≤ 32) }
-    requires enough { most_stores test.now.programs ≤ depth }
-    ensures { IfErr result (λ fault. fault ≡ WitnessFault.NoMemory) }
+    ensures enough { most_stores test.now.programs ≤ depth → IfErr result (λ fault. fault ≡ WitnessFault.NoMemory) }
 {
     witness(alloc, test, execution, depth)
 }

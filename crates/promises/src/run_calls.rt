@@ -1,16 +1,12 @@
 //! Clauses of single calls about runs, each said again of one call.
 
-ghost use Rattle.std.specs.Prelude.{◌-◌, ◌<◌, ◌^◌, ◌≡◌, ◌≤◌, ◌⊎◌, All, IfErr, IfOk, IsTrue, None, OnErr, OnOk, is_some, length, string_bytes};
+ghost use Rattle.std.specs.Prelude.{◌-◌, ◌<◌, ◌^◌, ◌≡◌, ◌≤◌, ◌⊎◌, All, IfOk, IsTrue, None, OnErr, OnOk, is_some, length, string_bytes};
 ghost use Rattle.command_line.specs.Limits.{HasDepth, IsWithinLimits};
-ghost use Rattle.explorer.specs.FinalStates.{AreReached, HasMoreStates, HaveEveryEnd};
-ghost use Rattle.explorer.specs.declared.fault.ExploreFault.{ExploreFault};
 ghost use Rattle.machine_core.specs.inner.Running.{is_ended};
 ghost use Rattle.order_builder.specs.PrintedOrder.{HasWord};
 ghost use Rattle.protocol_tables.specs.Names.{protocol_name};
 ghost use Rattle.protocol_tables.specs.PrintedTable.{printed_table};
 ghost use Rattle.protocol_tables.specs.Tables.{by_kind, table_of};
-ghost use Rattle.simulator.specs.Runs.{AnswersFit, counts_under, run_under};
-ghost use Rattle.simulator.specs.Simulation.{FitsEnding, HasCounts, IsEndingOf};
 ghost use Rattle.trace_json.specs.TracedRun.{most_steps};
 ghost use Rattle.tso_model.specs.Runs.{CoresExist};
 ghost use Rattle.tso_model.specs.Together.{put_together};
@@ -19,14 +15,13 @@ ghost use Rattle.tso_report.specs.Tally.{runs_in};
 ghost use Rattle.tso_report.specs.inner.Tally.{with_run};
 
 use command_line::{SearchPlan, Settings, Show, settings_of};
-use explorer::{Exploration, ExploreFault, explore};
 use flat_machine::{Snapshot, drive};
-use machine_core::{Bus, Choice, Config, Final, Machine};
+use machine_core::{Config, Final, Machine};
 use protocol_tables::{Mesi, Moesi, Mosi, Msi, Protocol, ProtocolKind, table_text};
 use scheduler::Choices;
 use std::alloc::Global;
 use trace_json::word_beyond;
-use tso_cli::{Ending, LineFault, SimFault, simulate};
+use tso_cli::LineFault;
 use tso_model::{NoMemory, Test};
 use tso_report::{Run, Tally, report_text};
 
@@ -139,23 +134,6 @@ pub fn an_unfinished_run_leaves_the_test(tally: &mut Tally<'_>)
     tally.add_unfinished();
 }
 
-/// A simulation is the run of its machine, with such answers as caches may give, and with its counts.
-pub fn a_simulation_is_a_run(
-    alloc: Global,
-    test: &Test,
-    protocol: ProtocolKind,
-    config: Config,
-    choices: &[Choice],
-) -> Result<Ending, SimFault>
-    requires { CoresExist (length test.now.programs) choices.now }
-    ensures ending { IfOk result (IsEndingOf test.now (run_under test.now protocol config choices.now)) }
-    ensures fits { IfOk result (FitsEnding test.now) }
-    ensures answers { OnOk result (AnswersFit test.now protocol config choices.now) }
-    ensures counts { IfOk result (HasCounts (counts_under test.now protocol config choices.now)) }
-{
-    simulate(alloc, test, protocol, config, choices)
-}
-
 /// A finished machine hands on its order and its counts.
 pub fn a_finished_machine_hands_on_its_order<P: Protocol>(
     machine: Machine<'_, P>,
@@ -188,19 +166,4 @@ pub fn a_driven_machine_keeps_its_locations<C: Choices>(
     ensures words { OnOk result (length state.new.memory.items ≡ length state.old.memory.items) }
 {
     drive(state, test, depth, choices)
-}
-
-/// Each state that is found is reached, and none that runs end in is missed; or the machine can reach more than may be kept.
-pub fn a_search_misses_no_end(
-    alloc: Global,
-    test: &Test,
-    depth: u8,
-    limit: usize,
-    hidden: &[[bool; 6]],
-) -> Result<Exploration, ExploreFault>
-    ensures reached { IfOk result (λ x. AreReached test.now depth x.final_states.items) }
-    ensures complete { IfOk result (λ x. HaveEveryEnd test.now depth hidden.now x.final_states.items) }
-    ensures too_many { IfErr result (λ fault. fault ≡ ExploreFault.TooMany → HasMoreStates test.now depth limit) }
-{
-    explore(alloc, test, depth, limit, hidden)
 }

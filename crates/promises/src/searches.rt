@@ -1,7 +1,7 @@
 //! All final states: what a search finds, and what is printed of it: no state is missed, and none is printed that can't be
 //! reached.
 
-ghost use Rattle.std.specs.Prelude.{◌≡◌, ◌↔◌, ℕ, Bool, IfOk, List, [], Some, slice_get};
+ghost use Rattle.std.specs.Prelude.{◌≡◌, ◌↔◌, ℕ, Bool, IfErr, IfOk, List, [], Some, slice_get};
 ghost use Rattle.tso_model.specs.Condition.{Condition, truth_of};
 ghost use Rattle.tso_model.specs.Litmus.{Litmus, IsTest};
 ghost use Rattle.basic_laws.specs.Types.{Atomic, Choice};
@@ -9,8 +9,9 @@ ghost use Rattle.outcome_laws.specs.Outcomes.{IsAllowedByTso, IsAllowedSequentia
 ghost use Rattle.tso_model.specs.FlatMachine.{State};
 ghost use Rattle.eager_laws.specs.Dead as dead;
 ghost use Rattle.explorer.specs.Settled.{LeadsToForgotten, LeadsBy};
-ghost use Rattle.explorer.specs.FinalStates.{AreDistinct, AreWhatTsoAllows, AreWhatSequentialConsistencyAllows, AreAmong, Have};
+ghost use Rattle.explorer.specs.FinalStates.{AreReached, HaveEveryEnd, HasMoreStates, AreDistinct, AreWhatTsoAllows, AreWhatSequentialConsistencyAllows, AreAmong, Have};
 ghost use Rattle.outcome_report.specs.Hidden.{AreNotShown};
+ghost use Rattle.explorer.specs.declared.fault.ExploreFault.{ExploreFault};
 ghost use Rattle.explorer.specs.declared.final_states.FinalState.{FinalState};
 ghost use Rattle.protocol_tables.specs.declared.kind.ProtocolKind.{ProtocolKind};
 ghost use Rattle.machine_core.specs.Configuration.{Configuration};
@@ -35,7 +36,8 @@ use tso_cli::answers::inputs_have_one_answer;
 use tso_cli::round_trips::searches_reach_their_states;
 use tso_model::Test;
 
-/// With buffers of 32 stores a search finds what TSO allows, without buffers what sequential consistency allows, each once, but
+/// Each state that a search finds is reached, and none that runs end in is missed; or the machine can reach more than may be kept.
+/// With buffers of 32 stores it finds what TSO allows, without buffers what sequential consistency allows, each once, but
 /// for registers that nobody looks at.
 pub fn a_search_finds_what_is_allowed(
     alloc: Global,
@@ -44,6 +46,9 @@ pub fn a_search_finds_what_is_allowed(
     limit: usize,
     hidden: &[[bool; 6]],
 ) -> Result<Exploration, ExploreFault>
+    ensures reached { IfOk result (λ x. AreReached test.now depth x.final_states.items) }
+    ensures complete { IfOk result (λ x. HaveEveryEnd test.now depth hidden.now x.final_states.items) }
+    ensures too_many { IfErr result (λ fault. fault ≡ ExploreFault.TooMany → HasMoreStates test.now depth limit) }
     ensures tso { IfOk result (λ x. depth ≡ 32 → AreWhatTsoAllows test.now hidden.now x.final_states.items) }
     ensures sequential { IfOk result (λ x. depth ≡ 0 → AreWhatSequentialConsistencyAllows test.now hidden.now x.final_states.items) }
     ensures once { IfOk result (λ x. AreDistinct hidden.now x.final_states.items) }

@@ -14,26 +14,11 @@ use std::alloc::Global;
 use tso_cli::{Ending, SimFault, simulate};
 use tso_model::Test;
 
-/// On the atomic bus, an ended run took each instruction once and drained each store once that was pending; and as many
-/// fair rounds as the longest program has instructions, twice, end the test.
-pub fn a_simulation_on_the_atomic_bus(
-    alloc: Global,
-    test: &Test,
-    protocol: ProtocolKind,
-    config: Config,
-    choices: &[Choice],
-) -> Result<Ending, SimFault>
-    requires cores { CoresExist (length test.now.programs) choices.now }
-    requires bus { config.bus ≡ Bus.Atomic }
-    ensures counting { IfOk result (IsCounted test.now config.depth) }
-    ensures fair { HasRounds test.now (2 * longest test.now.programs) choices.now → IfOk result HasEnded }
-{
-    simulate(alloc, test, protocol, config, choices)
-}
-
-/// On either bus, as many fair rounds as all programs have instructions, three times, end the test; and without buffers
-/// the order of an ended run keeps program order without exception.
-pub fn a_simulation_on_either_bus(
+/// A simulation is the run of its machine, with such answers as caches may give, and with its counts. On the atomic bus, an
+/// ended run took each instruction once and drained each store once that was pending; and as many fair rounds as the longest
+/// program has instructions, twice, end the test. On either bus, as many as all programs have instructions, three times, end
+/// it; and without buffers the order of an ended run keeps program order without exception.
+pub fn a_simulation_is_a_run(
     alloc: Global,
     test: &Test,
     protocol: ProtocolKind,
@@ -41,7 +26,13 @@ pub fn a_simulation_on_either_bus(
     choices: &[Choice],
 ) -> Result<Ending, SimFault>
     requires { CoresExist (length test.now.programs) choices.now }
-    ensures fair { HasRounds test.now (3 * instructions test.now.programs) choices.now → IfOk result HasEnded }
+    ensures ending { IfOk result (IsEndingOf test.now (run_under test.now protocol config choices.now)) }
+    ensures fits { IfOk result (FitsEnding test.now) }
+    ensures answers { OnOk result (AnswersFit test.now protocol config choices.now) }
+    ensures counts { IfOk result (HasCounts (counts_under test.now protocol config choices.now)) }
+    ensures counting { config.bus ≡ Bus.Atomic → IfOk result (IsCounted test.now config.depth) }
+    ensures fair { config.bus ≡ Bus.Atomic → HasRounds test.now (2 * longest test.now.programs) choices.now → IfOk result HasEnded }
+    ensures fair_on_either_bus { HasRounds test.now (3 * instructions test.now.programs) choices.now → IfOk result HasEnded }
     ensures unbuffered { config.depth ≡ 0 → IfOk result HasAllOrder }
 {
     simulate(alloc, test, protocol, config, choices)

@@ -1,9 +1,10 @@
 //! What the halves of an access leave, beyond the words that are seen: coherent copies, and the lines in memory.
 
-ghost use Rattle.std.specs.Prelude.{◌≡◌, ◌<◌, false, Some, IfOk, length};
+ghost use Rattle.std.specs.Prelude.{◌≡◌, ◌<◌, false, Some, IfOk, OnOk, OnErr, length};
 ghost use Rattle.snoop_bus.specs.Bus.{words_of, cores_of, holder_of, IsFree, IsCoherent};
 ghost use Rattle.snoop_bus.specs.Held.{holder};
-ghost use Rattle.snoop_bus.specs.Accesses.{memory_of, would_hit, memory_after_ask, memory_after_completion};
+ghost use Rattle.snoop_bus.specs.Accesses.{memory_of, would_hit, memory_after_ask, memory_after_completion, completion_of};
+ghost use Rattle.snoop_bus.specs.inner.Accesses.{IsOutOfMemory};
 
 use protocol_tables::Protocol;
 use snoop_bus::{Access, SnoopBus, Stage};
@@ -48,13 +49,15 @@ pub fn a_completed_store<P: Protocol>(
     bus.complete_store(core, loc, value)
 }
 
-/// So does the read of a locked instruction.
+/// So does the read of a locked instruction, which keeps the bus for its write; where memory is refused nothing has changed.
 pub fn a_locked_read<P: Protocol>(
     bus: &mut SnoopBus<P>,
     core: Core,
     loc: Loc,
 ) -> Result<(u32, Access), NoMemory>
     requires { holder_of bus.old ≡ Some (holder core loc Stage.Write) }
+    ensures holds { OnOk result (holder_of bus.new ≡ Some (holder core loc Stage.Locked)) }
+    ensures refused { OnErr result (IsOutOfMemory bus.old bus.new (completion_of bus.old core.0 loc.0).access) }
     ensures coherent { IsCoherent bus.new }
     ensures memory { IfOk result (λ _. memory_of bus.new ≡ memory_after_completion bus.old core.0 loc.0) }
 {
