@@ -80,14 +80,13 @@ pub fn refused_choices(
         cores: test.cores(),
         fault,
     };
-    let text = match fault {
-        ChoiceFault::BadWord(word) => format!(in alloc; "Refused choices word {word} BadWord\n")?,
-        ChoiceFault::NoSuchCore(word) => format!(in alloc;
-            "Refused choices word {word} NoSuchCore\n"
-        )?,
-        ChoiceFault::TooMany(word) => format!(in alloc; "Refused choices word {word} TooMany\n")?,
+    let (word, name) = match fault {
+        ChoiceFault::BadWord(word) => (word, "BadWord"),
+        ChoiceFault::NoSuchCore(word) => (word, "NoSuchCore"),
+        ChoiceFault::TooMany(word) => (word, "TooMany"),
         ChoiceFault::NoMemory => return Err(NoMemory),
     };
+    let text = format!(in alloc; "Refused choices word {word} {name}\n")?;
     Ok(Answer {
         text,
         status: Status::Refused,

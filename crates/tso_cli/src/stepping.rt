@@ -1,22 +1,23 @@
 //! The answer of `step`, which the page asks for after each choice that is made there: of the trace the last step alone, so
 //! that the page needn't take in again what it has.
 
-ghost use Rattle.std.specs.Prelude.{◌≡◌, IfOk, length, string_bytes};
+ghost use Rattle.std.specs.Prelude.{IfOk, length, string_bytes};
 ghost use Rattle.tso_model.specs.Runs.{CoresExist};
 ghost use Rattle.scheduler.specs.Grammar.{SpellsChoices};
 ghost use Rattle.tso_cli.specs.Step.{IsStepAnswer};
-ghost use Rattle.tso_cli.specs.inner.Step.{IsLastStep, status_after};
+ghost use Rattle.tso_cli.specs.inner.Step.{IsLastStep};
 
-use crate::answer::{Answer, Status, refused_input, refused_test};
+use crate::answer::{Answer, refused_input, refused_test};
 use crate::dividing::parts_of;
 use crate::measuring::{refused_trace, word_too_far};
 use crate::running::{cause_of, refused_choices};
+use crate::tracing::status_in;
 use hints::Reader;
 use litmus_reader::{ReadError, test_or_fault};
 use machine_core::{Choice, Config};
 use protocol_tables::ProtocolKind;
 use scheduler::{read_choices, spelled_cores_exist};
-use simulator::{Ending, Setup};
+use simulator::Setup;
 use std::alloc::Global;
 use trace_json::simulate_telling_last;
 use tso_io::MAX_INPUT;
@@ -80,20 +81,10 @@ fn last_answer(
         return refused_trace(alloc, text, word);
     }
     let step = line_of(alloc, &traced.told)?;
-    let status = status_after(&traced.ending);
+    let status = status_in(&traced.ending);
     Ok(Answer {
         text: step,
         status,
         cause: cause_of(status, setup, text, traced.stalls),
     })
-}
-
-/// The status of a run that left its test so.
-fn status_after(ending: &Ending) -> Status
-    ensures { result ≡ status_after ending.now }
-{
-    match ending {
-        Ending::Ended(_) => Status::Good,
-        Ending::Unfinished { .. } => Status::Unended,
-    }
 }

@@ -135,7 +135,7 @@ fn object_answer(
 }
 
 /// The status of an answer to a run that was left so.
-fn status_in(ending: &Ending) -> Status
+pub fn status_in(ending: &Ending) -> Status
     ensures { result ≡ status_in ending.now }
 {
     match ending {

@@ -14,8 +14,3 @@ pub data IsLastStep (t : Litmus) (kind : ProtocolKind) (c : Configuration) (text
   told : (choices : List Choice) → SpellsChoices (length t.programs) text choices → AnswersFit t kind c choices
       → FitsForm true (run_under t kind c choices)
       → IsLastStep t kind c text (json_last_step t kind c choices) (status_under t kind c choices)
-
--- the status of a run that left its test so
-abbrev pub status_after : Ending → Status
-status_after (Ended run) = Good
-status_after (Unfinished used stalled) = Unended

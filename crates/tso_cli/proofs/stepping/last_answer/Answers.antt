@@ -24,6 +24,6 @@ returns c =
     let kind = c.args.setup.now.protocol in
     let config = c.args.setup.now.config in
     let choices = c.args.choices.now in
-    answer-is {E = ℕ} (IsLastStep t kind config c.args.text.now) (Ok (record { text = c.in_ok-step.step; status = c.status_after-status.result; cause = c.cause_of.result })) (json_last_step t kind config choices) (status_under t kind config choices)
-    (record { text = rw (c.in_ok-traced.ensures.told (short refl)) at c.in_ok-step.ensures; status = c.status_after-status.ensures ∙ status-is t (run_under t kind config choices) c.in_ok-traced.traced.ending c.in_ok-traced.ensures.ending })
+    answer-is {E = ℕ} (IsLastStep t kind config c.args.text.now) (Ok (record { text = c.in_ok-step.step; status = c.status_in-status.result; cause = c.cause_of.result })) (json_last_step t kind config choices) (status_under t kind config choices)
+    (record { text = rw (c.in_ok-traced.ensures.told (short refl)) at c.in_ok-step.ensures; status = c.status_in-status.ensures ∙ status-is t (run_under t kind config choices) c.in_ok-traced.traced.ending c.in_ok-traced.ensures.ending })
     (told choices c.requires.spelled c.in_ok-traced.ensures.answers short)
