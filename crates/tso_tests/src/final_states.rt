@@ -1,10 +1,9 @@
 //! How many final states tests of the literature have, with ample memory, against the numbers that are published.
 
 use crate::named::{MEMORY, holds, test_of};
-use explorer::{ExploreFault, explore};
+use explorer::explore;
 use std::alloc::Global;
 use std::process::Abort;
-use tso_model::Test;
 
 const SB: &[u8] = b"\
 X86 SB\n\
@@ -38,40 +37,23 @@ X86 same-register\n\
 \x20MOV EAX,[x] | MOV EAX,[y] ;\n\
 \x20MOV [y],$2  | MOV [x],$2  ;\n";
 
-/// How many states a search of a test keeps, and how many final states it finds, where nobody looks at
-/// these registers.
-fn sizes(
-    alloc: Global,
-    test: &Test,
-    depth: u8,
-    limit: usize,
-    hidden: &[[bool; 6]],
-) -> Result<(usize, usize), ExploreFault> {
-    let found = explore(alloc, test, depth, limit, hidden)?;
-    Ok((found.kept, found.final_states.len()))
-}
-
-/// The same of the test that a text spells.
+/// How many states a search keeps of the test that a text spells, and how many final states it finds, with ample memory, where
+/// nobody looks at these registers.
 fn searched(
     rt: &impl Abort,
     alloc: Global,
     text: &[u8],
     depth: u8,
-    limit: usize,
     hidden: &[[bool; 6]],
-) -> Result<(usize, usize), ExploreFault> {
+) -> (usize, usize) {
     let test = test_of(rt, alloc, text);
-    sizes(alloc, &test, depth, limit, hidden)
+    let found = explore(alloc, &test, depth, 10_000, hidden).expect(rt, MEMORY);
+    (found.kept, found.final_states.len())
 }
 
-/// The same at the greatest depth, with ample memory.
+/// The same at the greatest depth.
 fn looked_at(rt: &impl Abort, alloc: Global, text: &[u8], hidden: &[[bool; 6]]) -> (usize, usize) {
-    searched(rt, alloc, text, 32, 10_000, hidden).expect(rt, MEMORY)
-}
-
-/// Whether a search that may keep so many states of the first test finds that they are more.
-fn are_too_many(rt: &impl Abort, alloc: Global, limit: usize) -> bool {
-    searched(rt, alloc, SB, 32, limit, &[]) == Err(ExploreFault::TooMany)
+    searched(rt, alloc, text, 32, hidden)
 }
 
 /// A test, a depth, and how many final states are published: without buffers those of sequential consistency.
@@ -86,16 +68,9 @@ const PUBLISHED: [(&[u8], u8, usize); 5] = [
 #[test]
 fn tests_have_as_many_final_states_as_are_published(rt: HostRuntime) {
     for (text, depth, finals) in &PUBLISHED {
-        let (_, found) = searched(&rt, rt.alloc(), text, *depth, 1000, &[]).expect(&rt, MEMORY);
+        let (_, found) = searched(&rt, rt.alloc(), text, *depth, &[]);
         holds(&rt, found == *finals);
     }
-}
-
-#[test]
-fn more_states_than_the_limit_are_too_many(rt: HostRuntime) {
-    holds(&rt, are_too_many(&rt, rt.alloc(), 0));
-    holds(&rt, are_too_many(&rt, rt.alloc(), 3));
-    holds(&rt, !are_too_many(&rt, rt.alloc(), 1000));
 }
 
 #[test]

@@ -5,8 +5,6 @@
 #![tactic(auto)]
 
 #[cfg(test)]
-mod caches;
-#[cfg(test)]
 mod choices;
 #[cfg(test)]
 mod final_states;
