@@ -13,7 +13,7 @@ ghost use Rattle.tso_report.specs.Tally.{claim_names_register, named_register};
 ghost use Rattle.tso_report.specs.inner.Tally.{NameExists};
 ghost use Rattle.shown_values.specs.Shown as shown;
 ghost use Rattle.shown_values.specs.Shown.{is_shown};
-ghost use Rattle.outcome_report.specs.Hidden.{IsHidden};
+ghost use Rattle.outcome_report.specs.Hidden.{AreNotShown, IsHidden};
 ghost use Rattle.command_line.specs.Limits.{IsWithinLimits};
 ghost use Rattle.command_line.specs.Search.{Search};
 ghost use Rattle.command_line.specs.declared.settings.Settings.{Settings};
@@ -95,14 +95,16 @@ pub fn what_is_shown_is_of_the_test(
     names_shown(alloc, test, show)
 }
 
-/// However much is shown, a register that isn't shown is hidden.
+/// However much is shown, a register that isn't shown is hidden, and final states that differ in hidden registers alone look
+/// alike.
 pub fn what_is_not_shown_is_hidden(
     alloc: Global,
     test: &Test,
     show: Show,
 ) -> Result<Vec<[bool; 6]>, NoMemory>
-    ensures { IfOk result (λ hidden. (core : ℕ) (reg : Reg) → core < length test.now.programs
+    ensures hidden { IfOk result (λ hidden. (core : ℕ) (reg : Reg) → core < length test.now.programs
         → is_shown show test.now (named_register core reg) ≡ false → IsHidden hidden.items core reg) }
+    ensures not_shown { IfOk result (λ hidden. AreNotShown (shown.names_shown show test.now) hidden.items) }
 {
     hidden_registers(alloc, test, show)
 }

@@ -1,9 +1,8 @@
-//! What the word of `outcomes` means, what its lines and its object tell, and which registers need not be looked at.
+//! What the word of `outcomes` means, and what its lines and its object tell.
 
-ghost use Rattle.std.specs.Prelude.{◌<◌, ◌≡◌, ◌≤◌, ◌^◌, Bool, IfOk, List, codes, false, length, map, true, ℕ};
+ghost use Rattle.std.specs.Prelude.{◌<◌, ◌≡◌, ◌≤◌, ◌^◌, Bool, List, codes, false, length, map, true, ℕ};
 ghost use Rattle.explorer.specs.FinalStates.{HasMoreStates};
 ghost use Rattle.command_line.specs.Search.{Search};
-ghost use Rattle.outcome_report.specs.Hidden.{AreNotShown};
 ghost use Rattle.outcome_report.specs.Laws.{OutcomesAreAlike};
 ghost use Rattle.outcome_report.specs.Outcomes.{Outcome};
 ghost use Rattle.outcome_report.specs.Printed.{outcomes_in, unfinished_search_in};
@@ -11,7 +10,6 @@ ghost use Rattle.outcome_laws.specs.Outcomes.{IsSequentiallyConsistent};
 ghost use Rattle.printed_laws.specs.Observed.{IsSoEverywhere, IsSoSomewhere, WordMeans, truth_after, truth_after_run};
 ghost use Rattle.printed_laws.specs.Outcomes.{OutcomesFit, ShowTheSame};
 ghost use Rattle.scheduler.specs.Printed.{printed_choices};
-ghost use Rattle.shown_values.specs.Shown as shown;
 ghost use Rattle.shown_values.specs.Shown.{names_shown};
 ghost use Rattle.tso_cli.specs.OneSearch.{ShowOneSearch, ShowsNoState, without_choices};
 ghost use Rattle.tso_laws.specs.Depth.{needed};
@@ -22,13 +20,10 @@ ghost use Rattle.tso_model.specs.Runs.{CoresExist, run};
 ghost use Rattle.basic_laws.specs.Types.{Choice, Entry};
 ghost use Rattle.tso_report.specs.declared.named.Named.{Named};
 
-use outcome_report::hidden_registers;
 use printed_laws::{
     outcomes_tell_their_states, outcomes_tell_their_tests, words_mean_what_they_say,
 };
 use shown_values::Show;
-use std::alloc::Global;
-use tso_model::{NoMemory, Test};
 
 /// `Never` is so nowhere, `Always` everywhere, and `Sometimes` here and not there.
 pub fn a_word_means_what_it_says()
@@ -114,14 +109,3 @@ pub fn texts_of_one_search()
     ensures unfinished { (t : Litmus) (s : Search) (json : Bool) (out : List ℕ) → ShowsNoState t s json out
         → out ≡ unfinished_search_in json t s.states }
 {}
-
-/// Final states that differ in hidden registers alone look alike, however much is shown.
-pub fn what_is_hidden_is_not_shown(
-    alloc: Global,
-    test: &Test,
-    show: Show,
-) -> Result<Vec<[bool; 6]>, NoMemory>
-    ensures not_shown { IfOk result (λ hidden. AreNotShown (shown.names_shown show test.now) hidden.items) }
-{
-    hidden_registers(alloc, test, show)
-}
