@@ -1,5 +1,5 @@
 -- What is written for a state is read back as that state.
-use Rattle.explorer.proofs.Vocabulary.{◌≡◌, ◌<◌, ◌≤◌, ℕ, ◌+◌, zero, suc, Bool, true, false, List, [], ◌∷◌, ◌++◌, length, map, take, slice_set, core_of_processor, Processor, if◌then◌else◌, arith, ap, sym, ◌∙◌, refl, subst, append_assoc, append-nil, map-append, CoreState, State, Entry}
+use Rattle.explorer.proofs.Vocabulary.{◌≡◌, ◌<◌, ◌≤◌, ℕ, ◌+◌, zero, suc, Bool, true, false, List, [], ◌∷◌, ◌++◌, length, map, take, slice_set, core_of_processor, Processor, if◌then◌else◌, arith, ap, sym, ◌∙◌, refl, subst, append_assoc, append-nil, map-append, length-map, CoreState, State, Entry}
 use Rattle.std.specs.Prelude.{nat_lt, ◌^◌}
 use Rattle.std.specs.Int.{w64, to_le_bytes}
 use Rattle.std.proofs.lemmas.Nat.{from_le_bytes-to_le_bytes_8}
@@ -200,3 +200,13 @@ state-read bs rest memory cores p q = ap (with_cores memory) q ∙ ap (λ z. wit
   where
     with_cores : List ℕ → List CoreState → State
     with_cores memory cores = record { memory = memory; cores = cores }
+
+-- all cores of a snapshot
+pub cores-packed : (cores : List Processor) (n : ℕ) (old now new : List ℕ) → length cores ≤ n → n ≤ length cores → Packs number_bytes read_number (length cores) old now
+    → Packs (all_bytes core_bytes) (read_all read_core n) (map core_of_processor (take n cores)) now new → Packs (list_bytes core_bytes) (read_list read_core) (map core_of_processor cores) old new
+cores-packed cores n old now new l m h k =
+    let all : n ≡ length cores = omega (arith, l, m) in
+    let count = length-map cores core_of_processor in
+    packs-list core_bytes read_core (map core_of_processor cores) old now new (subst (λ z. Packs number_bytes read_number z old now) (sym count) h)
+    (subst (λ z. Packs (all_bytes core_bytes) (read_all read_core z) (map core_of_processor cores) now new) (all ∙ sym count)
+    (subst (λ z. Packs (all_bytes core_bytes) (read_all read_core n) (map core_of_processor z) now new) (take_all n cores l) k))

@@ -19,10 +19,10 @@ pub enum ExploreFault {
 
 impl fmt::Display for ExploreFault {
     fn fmt<W: fmt::Write>(&self, f: &mut fmt::Formatter<W>) -> fmt::Result {
-        match self {
-            ExploreFault::TooMany => write!(f, "more states than the limit"),
-            ExploreFault::NoMemory => write!(f, "out of memory"),
-        }
+        f.write_str(match self {
+            ExploreFault::TooMany => "more states than the limit",
+            ExploreFault::NoMemory => "out of memory",
+        })
     }
 }
 

@@ -1,4 +1,5 @@
-use Rattle.explorer.proofs.Vocabulary.{[], Made}
+use Rattle.explorer.proofs.Vocabulary.{[], ◌++◌, map, ap, ◌∙◌, Made, Exchanged}
+use Rattle.std.proofs.lemmas.List.{take_all}
 use Rattle.explorer.proofs.Linking.{one-told}
 use Rattle.explorer.proofs.link.turns_of.Goals as goal
 
@@ -6,3 +7,8 @@ pub loop-choice-preserved : goal.loop-choice-preserved
 loop-choice-preserved c =
     one-told Made c.args.choices.now c.loop-choice.choice-index _ [] c.loop-choice.turns.items c.push.new.self.items
     c.loop-choice-test.true c.in_ok-push.ensures.items c.loop-choice.invariant
+
+pub returns : goal.returns
+returns c =
+    c.in_ok-append.ensures ∙ ap (λ z. z ++ map Exchanged c.args.exchanges.now)
+    (c.loop-choice.invariant ∙ ap (map Made) (take_all c.loop-choice.choice-index c.args.choices.now c.loop-choice-test.false))

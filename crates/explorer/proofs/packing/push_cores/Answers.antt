@@ -1,5 +1,5 @@
 use Rattle.explorer.proofs.Vocabulary.{◌∷◌, [], ◌++◌, take_more, map-append, take, map, ◌+◌, ◌∙◌, subst, sym, ap, core_of_processor, Packs, core_bytes, all_bytes, read_core, read_all}
-use Rattle.explorer.proofs.ReadBack.{packs-more, packs-none}
+use Rattle.explorer.proofs.ReadBack.{packs-more, packs-none, cores-packed}
 use Rattle.explorer.proofs.packing.push_cores.Goals as goal
 
 pub loop-core-preserved : goal.loop-core-preserved
@@ -12,3 +12,6 @@ loop-core-preserved c =
 
 pub loop-core-init : goal.loop-core-init
 loop-core-init c = packs-none core_bytes read_core c.push_number.new.bytes.items
+
+pub returns : goal.returns
+returns c = cores-packed c.args.cores.now c.loop-core.core-index _ _ _ c.loop-core-test.false c.loop-core.auto.core-index-end c.in_ok-push_number.ensures c.loop-core.invariant
