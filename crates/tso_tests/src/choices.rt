@@ -1,10 +1,10 @@
 //! The words of seeds, against published ones: a seed must give the same run on every machine and in every version.
 
-use crate::named::holds;
+use crate::named::{MEMORY, holds};
 use rand_core::SeedableRng;
 use rand_core::utils::NextWord;
 use rand_pcg::Lcg64Xsh32;
-use scheduler::read_choices;
+use scheduler::{read_choices, seeded_choices};
 use std::alloc::Global;
 use std::process::Abort;
 
@@ -50,4 +50,11 @@ fn seeds_give_the_published_choices(rt: HostRuntime) {
     for (cores, seeds, choices) in &SEEDS {
         are_the_same(&rt, rt.alloc(), *cores, seeds, choices);
     }
+}
+
+#[test]
+fn a_seed_gives_its_choices(rt: HostRuntime) {
+    let seeded = seeded_choices(rt.alloc(), 2, 9, 6).expect(&rt, MEMORY);
+    let listed = read_choices(rt.alloc(), 2, b"1s 1d 1d 1d 1s 0d").expect(&rt, "choices");
+    holds(&rt, seeded == listed);
 }

@@ -5,6 +5,8 @@
 #![tactic(auto)]
 
 #[cfg(test)]
+mod bus;
+#[cfg(test)]
 mod choices;
 #[cfg(test)]
 mod final_states;
@@ -18,3 +20,5 @@ mod refuted;
 mod steps;
 #[cfg(test)]
 mod streams;
+#[cfg(test)]
+mod tally;

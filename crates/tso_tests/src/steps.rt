@@ -1,16 +1,19 @@
-//! The last step of a trace alone, as the page asks for it. The expected texts are written out by hand.
-use crate::named::holds;
+//! What the page asks for, with ample memory: the answer to an input, and the last step of a trace alone. The expected
+//! texts are written out by hand.
+use crate::named::{MEMORY, holds};
 use machine_core::{Bus, Config, Shape};
 use protocol_tables::ProtocolKind;
 use std::alloc::Global;
 use std::process::Abort;
-use tso_cli::{Answer, Status, step_answer};
+use tso_cli::{Answer, Settings, Status, answer_to, step_answer};
 
 const NONE_MADE: &[u8] = b"X86 t\n{ }\n P0 ;\n MFENCE ;\n";
 
 const ONE_MADE: &[u8] = b"X86 t\n{ }\n P0 ;\n MFENCE ;\n====\n0s\n";
 
 const ONE_TOO_MANY: &[u8] = b"X86 t\n{ }\n P0 ;\n MFENCE ;\n====\n1s\n";
+
+const ORDERED: &[u8] = b"X86 t\n{ }\n P0 ;\n MFENCE ;\n====\nOrder\nP0:0 F\nEndorder 1\n";
 
 const START: &str =
     "{\"start\":{\"bus\":null,\"cores\":[{\"buffer\":[],\"lines\":[[]],\"place\":0,\"registers\":\
@@ -52,4 +55,10 @@ fn a_choice_of_no_core_is_refused(rt: HostRuntime) {
         "Refused choices word 1 NoSuchCore\n",
         Status::Refused,
     );
+}
+
+#[test]
+fn an_order_is_judged(rt: HostRuntime) {
+    let told = answer_to(rt.alloc(), &Settings::Check, ORDERED).expect(&rt, MEMORY);
+    is_told(&rt, &told, "Check valid\n", Status::Good);
 }
