@@ -73,6 +73,7 @@ pub fn word(digits: &[u8]) -> Option<u32>
     Some(number as u32)
 }
 
+#[inline(always)]
 #[tactic(auto, unfolding(crate::specs::inner::SymbolSteps::single))]
 fn single(byte: u8) -> Option<Symbol>
     ensures { result ≡ steps.single byte }
@@ -96,6 +97,7 @@ fn single(byte: u8) -> Option<Symbol>
 }
 
 /// The symbol at the very front, and what stands after it.
+#[inline(always)]
 fn symbol_of(bytes: &[u8]) -> Option<(Symbol, &[u8])>
     ensures value { option_map (λ x. (x.0, x.1.now)) result ≡ terms.symbol_of bytes.now }
     ensures shorter { IfSome result (λ x. length x.1.now < length bytes.now) }
@@ -115,6 +117,7 @@ fn symbol_of(bytes: &[u8]) -> Option<(Symbol, &[u8])>
 }
 
 /// The token at the very front, and what stands after it.
+#[inline(always)]
 fn lexeme_at(bytes: &[u8]) -> Result<(Lexeme<'_>, &[u8]), Stop>
     ensures value { mapped (λ x. (term_of x.0, x.1.now)) result ≡ terms.term_at bytes.now }
     ensures shorter { IfOk result (λ x. length x.1.now < length bytes.now) }
