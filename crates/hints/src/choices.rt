@@ -70,6 +70,9 @@ fn word_at(text: &[u8], number: usize) -> (&[u8], Part) {
             }
             part = part_after(part, word);
         }
+        if after.is_empty() {
+            break;
+        }
         rest = after;
     }
     (&[], part)

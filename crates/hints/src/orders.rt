@@ -147,6 +147,9 @@ fn bad_count(line: &mut Line, text: &[u8]) {
             let entries = number.saturating_sub(start).saturating_sub(1);
             return counted(line, number, without_return(entry), entries);
         }
+        if after.is_empty() {
+            break;
+        }
         rest = after;
     }
     line.say("no line Endorder n ends the order, where n is the number of its entries");
