@@ -31,14 +31,14 @@ pub fn limits_are_as_defined()
 {}
 
 /// A copy of a line: its state, and its words. Those past the line's size are 0.
-#[derive(Clone, Copy, PartialEq, Eq)]
+#[derive(Clone, Copy)]
 pub struct Line {
     pub state: State,
     pub words: [u32; MAX_WORDS],
 }
 
 /// A line that left a full set, with its copy.
-#[derive(Clone, Copy, PartialEq, Eq)]
+#[derive(Clone, Copy)]
 pub struct Victim {
     pub line: u8,
     pub content: Line,

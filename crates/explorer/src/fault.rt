@@ -9,7 +9,7 @@ use std::fmt;
 use tso_model::NoMemory;
 
 /// Why a search has no answer.
-#[derive(Clone, Copy, Debug, PartialEq, Eq)]
+#[derive(Clone, Copy, Debug)]
 pub enum ExploreFault {
     /// The machine can reach more states than the search was to keep.
     TooMany,

@@ -12,7 +12,7 @@ use std::error::Error;
 use std::fmt;
 
 /// The refusal of a text: its line, from 1, and why. With `NoMemory` the line is 0.
-#[derive(Clone, Copy, Debug, PartialEq, Eq)]
+#[derive(Clone, Copy, Debug)]
 pub struct TextFault {
     pub line: usize,
     pub why: Why,

@@ -2,7 +2,7 @@
 //! section 4; herd's `x86tso.cat`.)
 
 /// A model of memory.
-#[derive(Clone, Copy, PartialEq, Eq)]
+#[derive(Clone, Copy)]
 pub enum Model {
     /// x86-TSO.
     Tso,
@@ -11,7 +11,7 @@ pub enum Model {
 }
 
 /// A relation between two events. What each one is, the definition `relates` says.
-#[derive(Clone, Copy, PartialEq, Eq)]
+#[derive(Clone, Copy)]
 pub enum Relation {
     /// Program order.
     Po,

@@ -49,7 +49,7 @@ pub enum Ending {
 }
 
 /// Why a simulation came to no answer.
-#[derive(Clone, Copy, Debug, PartialEq, Eq, Error)]
+#[derive(Clone, Copy, Debug, Error)]
 pub enum SimFault {
     /// The allocator refused a growth.
     #[error("out of memory")]

@@ -15,7 +15,7 @@ pub enum Choice {
 }
 
 /// Why a choice changed nothing.
-#[derive(Clone, Copy, PartialEq, Eq)]
+#[derive(Clone, Copy)]
 pub enum Stall {
     /// The core's program is at its end.
     Done,
@@ -32,7 +32,7 @@ pub enum Stall {
 }
 
 /// What a choice did.
-#[derive(Clone, Copy, PartialEq, Eq)]
+#[derive(Clone, Copy)]
 pub enum Outcome {
     /// One memory action took effect, or both parts of a locked instruction.
     Committed,
