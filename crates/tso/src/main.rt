@@ -1,7 +1,7 @@
 //! `tso`: runs x86 litmus tests on a simulated multiprocessor under total store order.
 //!
 //! The command reads standard input and writes standard output. What it answers is proved of
-//! `tso_cli::answer_command`, as of `run_command`; here stand the streams, the words of the line and the exit status.
+//! `tso_cli::run_command` and `answer_command`; here stand the streams, the words of the line and the exit status.
 #![tactic(auto)]
 
 ghost use Rattle.std.specs.Prelude.{◌≡◌, IfOk};
@@ -16,7 +16,7 @@ use std::process::ExitCode;
 use std::{env, io};
 use tso_cli::{
     Answered, Counted, LineFault, RunFault, Settings, Status, answer_command, hint, line_hint,
-    settings_of,
+    run_command, settings_of,
 };
 
 /// The exit status of a line that is refused; `--help` is such a line too.
@@ -127,7 +127,33 @@ fn settings_of_arguments(rt: &HostRuntime) -> Result<Settings, LineError>
 fn run(rt: &HostRuntime, settings: &Settings) -> u8
     requires { HasDepth settings.now }
 {
-    tell_reading(rt, settings);
+    match settings {
+        Settings::Tables(_) => print_table(rt, settings),
+        _ => answer_input(rt, settings),
+    }
+}
+
+/// Prints a table. Nothing is read, so there is nothing to wait for, to watch or to hint at.
+fn print_table(rt: &HostRuntime, settings: &Settings) -> u8
+    requires { HasDepth settings.now }
+{
+    let mut reader = Counted::new(rt.reader());
+    let mut writer = Counted::new(io::writer(rt));
+    match run_command(rt.alloc(), &mut reader, &mut writer, settings) {
+        Ok(status) => match writer.flush() {
+            Ok(()) => exit_status(status),
+            Err(_) => device_fault(rt, OUTPUT_HINT),
+        },
+        Err(RunFault::Device) => device_fault(rt, OUTPUT_HINT),
+        Err(RunFault::NoMemory) => memory_fault(rt, 0),
+    }
+}
+
+/// Answers what standard input has, and tells on standard error how far a search is, and the hint of the answer.
+fn answer_input(rt: &HostRuntime, settings: &Settings) -> u8
+    requires { HasDepth settings.now }
+{
+    tell_reading(rt);
     let mut reader = Counted::new(rt.reader());
     let mut writer = Counted::new(io::writer(rt));
     let mut teller = Teller::new(rt);
@@ -145,10 +171,9 @@ fn run(rt: &HostRuntime, settings: &Settings) -> u8
     }
 }
 
-/// Tells a person at a terminal that the command waits for its input; `tables` reads none.
-fn tell_reading(rt: &HostRuntime, settings: &Settings) {
-    let reads = !matches!(settings, Settings::Tables(_));
-    if reads && rt.stdin().is_terminal() && rt.stderr().is_terminal() {
+/// Tells a person at a terminal that the command waits for its input.
+fn tell_reading(rt: &HostRuntime) {
+    if rt.stdin().is_terminal() && rt.stderr().is_terminal() {
         let _ = rt.eprintln(READING);
     }
 }

@@ -1,5 +1,5 @@
 //! Tests, of what neither a clause nor a row of the program says: outside vectors, calls that the program doesn't make
-//! with ample memory, and the command over streams that fail or give little at a time. A test is proved like any
+//! with ample memory, and inputs and outputs over streams that fail or give little at a time. A test is proved like any
 //! function, and many calls on one value in one function cost minutes: the calls are data, listed with what each is to
 //! answer, and each stands in a helper of its own, which promises little.
 #![tactic(auto)]
@@ -16,8 +16,6 @@ mod named;
 mod orders;
 #[cfg(test)]
 mod refuted;
-#[cfg(test)]
-mod steps;
 #[cfg(test)]
 mod streams;
 #[cfg(test)]
