@@ -4,7 +4,7 @@
 
 ghost use Rattle.std.specs.Prelude.{◌≡◌, ◌≢◌, ◌<◌, ◌⊎◌, ◌↔◌, true, false, take, length, string_bytes, IfOk};
 ghost use Rattle.command_line.specs.Limits.{HasDepth};
-ghost use Rattle.page_exports.specs.Questions.{AnswersAsked, IsAnswerToQuestion, IsCommandAnswer, IsAskable, TellsOf, TellsOfAsked};
+ghost use Rattle.page_exports.specs.Questions.{AnswersAsked, IsAnswerToQuestion, IsAskable, TellsOf, TellsOfAsked};
 ghost use Rattle.page_exports.specs.inner.Questions.{HasDepthFor};
 
 mod page_answers;
@@ -91,19 +91,9 @@ fn answer_of(alloc: Global, question: &Question, input: &[u8]) -> Result<Answer,
     ensures { IfOk result (λ a. IsAnswerToQuestion question.now input.now (string_bytes a.text) a.status) }
 {
     match question {
-        Question::Command(settings) => command_answer(alloc, settings, input),
+        Question::Command(settings) => answer_to(alloc, settings, input),
         Question::Step { protocol, config } => step_answer(alloc, *protocol, *config, input),
     }
-}
-
-/// The answer of a command to an input.
-///
-/// Errors: out of memory only.
-fn command_answer(alloc: Global, settings: &Settings, input: &[u8]) -> Result<Answer, NoMemory>
-    requires { HasDepth settings.now }
-    ensures { IfOk result (λ a. IsCommandAnswer settings.now input.now (string_bytes a.text) a.status) }
-{
-    answer_to(alloc, settings, input)
 }
 
 /// Answers a question, and tells what fitted into the rooms.
