@@ -46,6 +46,9 @@ OUTPUT_FAULT = (b"fault device\nhint: standard output can't be written: is it cl
 
 LONGEST_INPUT, LONGEST_TEST = 1_048_576, 65_536
 
+# Of inputs that are made by the hundreds a further program has one of so many.
+EVERY = 4
+
 DIVIDER = b"====\n"
 
 STORE_BUFFERING = (b"X86 SB\n{ }\n P0          | P1          ;\n MOV [x],$1  | MOV [y],$1  ;\n"
@@ -211,9 +214,20 @@ def in_processes(function, items, at_once=16):
 
 def judged(rows, programs, part="", at_once=16):
     """Judges rows, pairs of a name and a function of a program's faults: those whose name has this part, on each of these programs."""
+    return judged_in_turn(rows, programs, part, at_once, every=1)
+
+
+def judged_in_turn(rows, programs, part="", at_once=16, every=EVERY):
+    """The same of inputs that are made by the hundreds: the first program has each of them, a further one every so many of them."""
     rows = [row for row in rows if part in row[0]]
-    found = in_processes(lambda row: faults_on_each(programs, row[1]), rows, at_once)
+    found = in_processes(lambda at: faults_on_each(in_turn(programs, at, every), rows[at][1]), range(len(rows)), at_once)
     return [(name, faults) for (name, _), each in zip(rows, found) for faults in each]
+
+
+def in_turn(programs, number, every=EVERY):
+    """The programs that have the made input with this number: the first one, and in turn the further ones, which the same sources make.
+    Of each `every` that follow each other they have one, and each time the next: so each kind comes up of what comes up in turn."""
+    return programs if (number + number // every) % every == 0 else programs[:1]
 
 
 def judge_rows(document, group, rows, kind=None, at_once=16):

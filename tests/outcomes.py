@@ -13,6 +13,9 @@ twelve instructions together, of all kinds; and half as many more in which some 
 - `--json` says the same, with the same choices;
 - with `--assert` the answer is the same, and its status 4 where the verdict is `No`.
 
+Of the made tests the last two are asked with one value of `--show` each, in turn, and --json only with `--assert`; a further program
+has one in four of them, each of them at one depth, in turn.
+
 The search is written here, from docs/DEFINITIONS.md; the tests are read by tests/reference/. The last line is 'N passed, M failed'.
 """
 import functools
@@ -200,37 +203,52 @@ def faults_of_way(report, shown, values, way):
     return faults
 
 
-def faults_at(program, given, depth):
+def faults_at(program, given, depth, asked):
+    """The faults of a test at a depth; `asked` says by a value of --show which of the words below are asked with it too."""
     test = test_of(given)
     found = ends_of(given, depth_that_counts(test, depth))
     report_by = functools.cache(lambda way: report_of(program, given, depth, way))
-    return [fault for show in SHOWN for fault in faults_of_shown(program, given, show, Shown(test, depth, show, found), report_by)]
+    return [fault for show in SHOWN
+            for fault in faults_of_shown(program, given, show, Shown(test, depth, show, found), report_by, asked[show])]
 
 
-def faults_of_shown(program, given, show, shown, report_by):
+# What is asked beside the plain answer: of the tests of the repository all with each value of --show, of made ones what has its turn.
+FURTHER = ["--json"], ["--assert"], ["--json", "--assert"]
+OF_REPOSITORY = dict.fromkeys(SHOWN, FURTHER)
+
+
+def of_made(turn):
+    return {show: FURTHER[1:][at:at + 1] for show, at in zip(SHOWN, ((turn + place) % 3 for place in range(3)))}
+
+
+def faults_of_shown(program, given, show, shown, report_by, asked):
     """How what is shown differs from what is due; `report_by` answers the report of a run by its choices."""
     words = ["outcomes", "--depth", str(shown.depth)] + ([] if show == CONDITION else ["--show", show])
-    plain, as_json = program.run(words, given), program.run(words + ["--json"], given)
+    plain = program.run(words, given)
     text = plain.stdout.decode("latin-1")
     ways = re.findall(r"^By ?(.*)$", text, re.M)
     if plain.returncode != 0 or text != shown.text(ways) or len(ways) != len(shown.states):
         return ["with %s it prints %r, and not %r" % (words, text, shown.text(ways))]
-    faults = [] if json.loads(as_json.stdout) == shown.value(ways) else ["with %s the JSON is %r" % (words, as_json.stdout)]
+    faults = []
     if len({len(way.split()) for way in ways}) > 1:
         faults.append("with %s choices of different lengths" % words)
-    for one in (plain, as_json):
-        faults += faults_of_assertion(program, given, words + ["--json"] * (one is as_json), one, shown)
+    for further in asked:
+        faults += faults_of_further(program, given, words + further, plain, shown, ways)
     for values, way in zip(shown.states, ways):
         faults += faults_of_way(report_by(way), shown, values, way)
     return faults
 
 
-def faults_of_assertion(program, given, words, answer, shown):
-    """How `--assert` does something else than turn the status into 4 where the verdict is `No`."""
-    done = program.run(words + ["--assert"], given)
-    status = judging.INVALID if shown.verdict() == "No" else judging.ENDED
-    same = (done.returncode, done.stdout, done.stderr) == (status, answer.stdout, answer.stderr)
-    return [] if same else ["with %s --assert has status %s, and not %d, or another answer" % (words, done.returncode, status)]
+def faults_of_further(program, given, words, plain, shown, ways):
+    """How `--json` says something else than what is due, or a hint, or `--assert` does something else than turn the status into 4 where
+    the verdict is `No`."""
+    done = program.run(words, given)
+    status = judging.INVALID if "--assert" in words and shown.verdict() == "No" else judging.ENDED
+    same = json.loads(done.stdout) == shown.value(ways) if "--json" in words else done.stdout == plain.stdout
+    faults = [] if same else ["with %s it prints %r" % (words, done.stdout)]
+    if (done.returncode, done.stderr) != (status, b"" if "--json" in words else plain.stderr):
+        faults.append("with %s status %s, and not %d, or another standard error" % (words, done.returncode, status))
+    return faults
 
 
 def cell(draw):
@@ -275,10 +293,8 @@ def written(draw, name, programs, first_places, atoms):
     return ("X86 %s\n%s\n%s%s" % (name, first, table, condition)).encode()
 
 
-def tests(count, seed):
+def tests_made(count, seed):
     """Names and texts."""
-    for name, given in judging.all_inputs():
-        yield name, given.partition(judging.DIVIDER)[0]
     draw = random.Random(seed)
     for number in range(count):
         yield "made test %d of seed %d" % (number, seed), made_test(draw, number)
@@ -286,15 +302,23 @@ def tests(count, seed):
         yield "test %d of seed %d with alike cores" % (number, seed), alike_test(draw, number)
 
 
+def rows_of(tests, asked_in):
+    """Each test at each depth; `asked_in` says by the turn what is asked of it."""
+    for number, (name, given) in enumerate(tests):
+        for at, depth in enumerate(DEPTHS):
+            asked = asked_in(number + at)
+            yield "%s, depth %d" % (name, depth), lambda program, given=given, depth=depth, asked=asked: faults_at(program, given, depth, asked)
+
+
 def main():
     parser = judging.with_programs(__doc__, with_part=False)
     parser.add_argument("--tests", type=int, default=500)
     parser.add_argument("--seed", type=int, default=1)
     asked = parser.parse_args()
-    rows = [("%s, depth %d" % (name, depth), lambda program, given=given, depth=depth: faults_at(program, given, depth))
-            for name, given in tests(asked.tests, asked.seed) for depth in DEPTHS]
-    tally = judging.Tally()
-    tally.add("outcomes", judging.judged(rows, judging.programs_in(asked)))
+    programs, tally = judging.programs_in(asked), judging.Tally()
+    of_repository = [(name, given.partition(judging.DIVIDER)[0]) for name, given in judging.all_inputs()]
+    tally.add("outcomes", judging.judged(rows_of(of_repository, lambda turn: OF_REPOSITORY), programs))
+    tally.add("outcomes", judging.judged_in_turn(rows_of(tests_made(asked.tests, asked.seed), of_made), programs))
     return tally.end()
 
 

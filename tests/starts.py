@@ -25,6 +25,9 @@ PATIENCE = 60
 # A message is shorter.
 LONGEST = 65_536
 
+# What comes back of a start: its status, and the lengths of what it wrote to its output, its errors and its notes.
+ANSWER = struct.Struct("4l")
+
 
 @functools.cache
 def room():
@@ -54,6 +57,7 @@ class Starter:
     def __init__(self, program, libraries):
         self.files = [os.memfd_create(name) for name in ("input", "output", "errors", "notes")]
         taken, output, errors, notes = self.files
+        self.given = b""
         self.socket, other = socket.socketpair(socket.AF_UNIX, socket.SOCK_SEQPACKET)
         # What the program calls is looked up once, at the load, and not at each start.
         told = {"LD_PRELOAD": ":".join(libraries), "LD_BIND_NOW": "1", "STARTS": str(other.fileno()), "FAIL_NOTES": str(notes)}
@@ -64,17 +68,17 @@ class Starter:
 
     def answer(self, words, given, told):
         """The answer to this input, and what was written to the file of notes."""
-        os.pwrite(self.files[0], given, 0)
-        os.ftruncate(self.files[0], len(given))
-        for file in self.files:
-            os.lseek(file, 0, os.SEEK_SET)
+        if given != self.given:
+            os.pwrite(self.files[0], given, 0)
+            os.ftruncate(self.files[0], len(given))
+            self.given = given
         texts = ["%s=%s" % pair for pair in told.items()] + ["", NAME] + words
         message = os.fsencode("\0".join(texts) + "\0")
         if len(message) >= LONGEST:
             raise ValueError("a command line of %d bytes" % len(message))
         self.socket.send(message)
-        status, = struct.unpack("i", self.socket.recv(struct.calcsize("i")))
-        output, errors, notes = (os.pread(file, os.lseek(file, 0, os.SEEK_CUR), 0) for file in self.files[1:])
+        status, *lengths = ANSWER.unpack(self.socket.recv(ANSWER.size))
+        output, errors, notes = (os.pread(file, length, 0) if length else b"" for file, length in zip(self.files[1:], lengths))
         return subprocess.CompletedProcess(words, os.waitstatus_to_exitcode(status), output, errors), notes
 
 
