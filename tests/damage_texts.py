@@ -7,9 +7,11 @@ Each beginning of a generated test, of a list of choices and of a report is read
 small test, its choices and an order each byte is replaced by each of the 256 in turn: the answer must be of a form that
 the program has, with a name of a refusal and a place that the text has. And the greatest inputs, with their answers,
 under a small stack and within a bound of processor time. All of it also on the split bus, without store buffers, traced
-and searched, where a byte is replaced by one of each kind that a text tells apart. The last line is 'N passed, M failed'.
+and searched, where a byte is replaced by one of each kind that a text tells apart. A further program has one in four of the
+damaged texts, in turn, and all else. The last line is 'N passed, M failed'.
 """
 import collections
+import functools
 import re
 import resource
 import sys
@@ -99,11 +101,16 @@ def is_outcomes(output):
     return is_ascending and len(numbers) == int(found[3] or 0)
 
 
+@functools.lru_cache(1024)
+def test_of(text):
+    return reading.read_test(text)
+
+
 def is_told(command, given, done, show):
     """Whether standard error is as it must be; beside an answer that tells of final states, as the reference has it. `show` says what
     these show."""
     if done.returncode == ENDED and command in ("run", "outcomes", "why"):
-        test = reading.read_test(parts_of(given)[0])
+        test = test_of(parts_of(given)[0])
         return done.stderr == hints.beside(command, False, None, test, done.stdout.decode(), show)
     return judging.is_told(done.returncode, done.stdout, done.stderr)
 
@@ -127,7 +134,7 @@ def has_form(command, given, done, show):
     if command == "outcomes":
         return status == ENDED and is_outcomes(output)
     if command == "why":
-        return status == ENDED and not reasons.faults_of(reading.read_test(parts_of(given)[0]), "tso", output.decode())
+        return status == ENDED and not reasons.faults_of(test_of(parts_of(given)[0]), "tso", output.decode())
     if status == INVALID:
         return re.fullmatch(rb"Check invalid C[1-5] .+\n|Depth needed=[1-9]\d*\n", output) and (
             command == "witness" or output.startswith(b"Check"))
@@ -151,18 +158,19 @@ def faults_of_cut(line, given, done, refusal):
     return faults_of_form(line, given, done)
 
 
-def judge_texts(programs, tally, line, texts, faults_of, what):
-    """Judges the answers to these texts, each a name, an input, and what else `faults_of` takes. Answers how many they were."""
-    def judged(text):
-        name, given, *due = text
+def judge_texts(programs, tally, line, texts, faults_of, what, every=1):
+    """Judges the answers to these texts, each a name, an input, and what else `faults_of` takes: the first program's, and a further one's
+    to one in so many. Answers how many texts they were."""
+    def judged(numbered):
+        number, (name, given, *due) = numbered
         statuses = []
 
         def judge(program):
             done = program.run(line.split(), given)
             statuses.append(done.returncode)
             return faults_of(line, given, done, *due)
-        return name, judging.faults_on_each(programs, judge), statuses[:1]
-    found = judging.in_processes(judged, texts, AT_ONCE)
+        return name, judging.faults_on_each(judging.in_turn(programs, number, every), judge), statuses[:1]
+    found = judging.in_processes(judged, enumerate(texts), AT_ONCE)
     tally.add(line, [(name, faults) for name, each, _ in found for faults in each])
     statuses = collections.Counter(status for _, _, first in found for status in first)
     counts = ", ".join("%d with status %s" % (count, status) for status, count in sorted(statuses.items(), key=str))
@@ -238,7 +246,7 @@ def judge_damage(programs, tally):
     ordered = SMALL_TEST + DIVIDER + SMALL_ORDER
     jobs = [(line, whole, 0, ALL_BYTES if line == "run" else KINDS_OF_BYTES) for line in RUNS + SEARCHES]
     jobs.append(("check", ordered, len(SMALL_TEST + DIVIDER), ALL_BYTES))
-    return sum(judge_texts(programs, tally, line, damaged(text, first, others), faults_of_form, "bytes damaged")
+    return sum(judge_texts(programs, tally, line, damaged(text, first, others), faults_of_form, "bytes damaged", judging.EVERY)
                for line, text, first, others in jobs)
 
 
