@@ -14,6 +14,8 @@ beside a state end the test in it, in a run of its own, at that depth, none stal
 states can be reached than may be kept. They leave open which reason `why` prints. It is taken from the answer too, where it is one; it
 gives up only where a tree may have more cases than the limit. tests/why.py has more of it.
 
+Of the inputs a further program (--also) has one in four, in turn.
+
 The second program answers the rows of tests/data/rows/ too, with their output and their status. Of standard error it has what stands
 beside status 0, beside status 4 of `outcomes` and `why`, and beside `--words 3`. All other hints, `--help`, `--version` and the words on
 a refused command line aren't its own.
@@ -67,8 +69,8 @@ def faults_of(program, made):
     faults = judging.difference(done, wanted.status, wanted.output, done.stderr if unknown else wanted.errors)
     if unknown and not done.stderr:
         faults.append("standard error is empty")
-    begin = len(os.path.commonprefix([done.stdout, wanted.output])) - 20
-    if done.stdout != wanted.output and begin > 0:
+    begin = len(os.path.commonprefix([done.stdout, wanted.output])) - 20 if done.stdout != wanted.output else 0
+    if begin > 0:
         got, due = (judging.shown(output[begin:]) for output in (done.stdout, wanted.output))
         faults.append("from byte %d on %s, and not %s" % (begin, got, due))
     return faults
@@ -78,7 +80,7 @@ def judged(programs, seed, number):
     """Of the input with this number its kind, its name, its faults on each program, and what came up in answering it."""
     made = made_inputs.made(seed, number)
     seen.taken()
-    found = judging.faults_on_each(programs, lambda program: faults_of(program, made))
+    found = judging.faults_on_each(judging.in_turn(programs, number), lambda program: faults_of(program, made))
     return made.kind, "input %d of seed %d, words %s" % (number, seed, made.words), found, seen.taken()
 
 

@@ -40,6 +40,9 @@ class Relations:
     def __init__(self, events, sources, pairs):
         self.events, self.sources, self.pairs = events, sources, pairs
         self.fences = [event for event in events if event.kind == FENCE]
+        self.sources_of = {}
+        for read, write in sources:
+            self.sources_of.setdefault(read, []).append(write)
 
     def po(self, x, y):
         return x.is_before(y)
@@ -68,7 +71,7 @@ class Relations:
         return (w, v) in self.pairs
 
     def fr(self, r, v):
-        return any(self.is_after(source, r, v) for read, source in self.sources if read == r)
+        return any(self.is_after(source, r, v) for source in self.sources_of.get(r, ()))
 
     def is_after(self, source, r, v):
         """Whether v overwrites what r reads from this source; each write to the location does so with the initial word."""

@@ -1,4 +1,5 @@
 """Choice texts, and the choices of seeds: docs/INPUT.md, 'Choices'."""
+import functools
 import re
 
 from . import lexing, litmus, seen
@@ -107,14 +108,23 @@ def item_at(words, at, cores):
         seed, length = seed_at(words, at)
         seen.note("choice", "seed")
         return ("seed", seed, length), length, 3
+    choice, name = plain_choice(word)
+    if choice is None:
+        raise refusal(at, "BadWord")
+    if choice[0] >= cores:
+        raise refusal(at, "NoSuchCore")
+    seen.note("choice", name)
+    return choice, 1, 1
+
+
+@functools.lru_cache(1000)
+def plain_choice(word):
+    """The core and what it does, and the name of how this word spells it; None for both where it spells no choice."""
     found = re.fullmatch(rb"([0-9]+)([sd])", word)
     if found is None:
-        raise refusal(at, "BadWord")
-    core, action = lexing.value_of(found[1].decode()), found[2].decode()
-    if core >= cores:
-        raise refusal(at, "NoSuchCore")
-    seen.note("choice", action if len(found[1]) == 1 else action + " with leading zeros")
-    return (core, action), 1, 1
+        return None, None
+    action = found[2].decode()
+    return (lexing.value_of(found[1].decode()), action), action if len(found[1]) == 1 else action + " with leading zeros"
 
 
 def seed_at(words, at):

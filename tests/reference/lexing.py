@@ -5,7 +5,7 @@ import typing
 
 from . import litmus, seen
 
-WHITE = b" \t\r\n"
+WHITE = re.compile(rb"[ \t\r\n]*")
 LETTERS = b"abcdefghijklmnopqrstuvwxyzABCDEFGHIJKLMNOPQRSTUVWXYZ"
 DIGITS = b"0123456789"
 
@@ -73,14 +73,11 @@ class Text:
 
     def gap_end(self, place, where):
         """The first place from this one on that is neither white space nor in a comment."""
-        while place < len(self.bytes):
-            if self.bytes[place] in WHITE:
-                place += 1
-            elif self.bytes.startswith(b"(*", place):
-                place = self.comment_end(place, where)
-            else:
-                break
-        return place
+        while True:
+            place = WHITE.match(self.bytes, place).end()
+            if not self.bytes.startswith(b"(*", place):
+                return place
+            place = self.comment_end(place, where)
 
     def comment_end(self, place, where):
         """The place after the comment that begins here; it ends with the first '*)' after its first two bytes."""

@@ -58,16 +58,17 @@ def asked_of(test):
 class Known:
     """What a branch knows of a test: the sources of some reads, the newest answer first, and pairs of writes."""
 
-    def __init__(self, test, events, sources=(), pairs=()):
+    def __init__(self, test, events, sources=(), pairs=(), values=None):
         self.test, self.events, self.sources, self.pairs = test, events, sources, pairs
         self.relations, self.claim = Relations(events, sources, pairs), asked_of(test)
-        self.writes, self.registers = self.values_by_rounds()
+        self.writes, self.registers = values or self.values_by_rounds()
 
     def with_source(self, read, write):
         return Known(self.test, self.events, ((read, write),) + self.sources, self.pairs)
 
     def with_pair(self, first, second):
-        return Known(self.test, self.events, self.sources, ((first, second),) + self.pairs)
+        """The values stay: which of two writes comes first says nothing of what is read."""
+        return Known(self.test, self.events, self.sources, ((first, second),) + self.pairs, (self.writes, self.registers))
 
     def writes_to(self, location):
         return [event for event in self.events if event.is_write() and event.location == location]
