@@ -12,10 +12,12 @@ disjunctions, and without a condition, of x86-TSO and of sequential consistency:
 - of an execution the choices lead there, by `run` and by a machine in Python, its candidate is allowed by the relational model, what
   is asked is so, and it is printed as its definition has it;
 - `--json` says the same;
-- with `--assert` the answer is the same, and its status 4 where the condition isn't as it claims;
+- with `--assert` the answer is the same, of x86-TSO as text and of sequential consistency as JSON, and its status 4 where the condition
+  isn't as it claims;
 - what is asked can be so where `outcomes` has a state in which it is, at depth 32 or 0, and where tools/theory allows it.
 
-The judge itself is tried: reasons with one slip are refused. Great tests are 8 cores of 8 instructions, 4 of 16 and 8 of 32 on four
+The judge itself is tried: reasons with one slip are refused. A further program (--also) has all tests of the gallery and of the examples,
+and of the others one in four. Great tests are 8 cores of 8 instructions, 4 of 16 and 8 of 32 on four
 locations, with a condition of all loaded registers, as a run left them and with one to three values changed; the time of each is taken.
 The last line is 'N passed, M failed'.
 """
@@ -46,22 +48,23 @@ MOST_CANDIDATES = 2_000
 # Every so many of the reasons have slips made in them.
 EVERY_SLIP = 10
 
+# What is asked for JSON, by the model.
+AS_JSON = {candidates.TSO: ["--json"], candidates.SC: ["--json", "--assert"]}
+
 
 class Answer:
-    """What `why` prints for a test and a model, plain and as JSON."""
+    """What `why` prints for a test and a model, as text and as JSON: as JSON plain or with `--assert`, by the model."""
 
     def __init__(self, program, given, model):
         words = ["why", "--model", model]
-        self.plain, self.as_json = program.run(words, given), program.run(words + ["--json"], given)
+        self.plain, self.as_json = program.run(words, given), program.run(words + AS_JSON[model], given)
         self.text = self.plain.stdout.decode("latin-1")
 
     def faults(self, test, model):
-        if (self.plain.returncode, self.as_json.returncode) != (judging.ENDED, judging.ENDED):
-            return ["%s; %s" % (judging.described(self.plain), judging.described(self.as_json))]
-        faults = reasons.faults_of(test, model, self.text) or reasons.faults_of(test, model, self.as_json.stdout.decode("latin-1"), True)
-        if not faults and reasons.read_text(self.text, test) != json.loads(self.as_json.stdout):
-            faults.append("the JSON says something else: %r" % self.as_json.stdout)
-        return faults
+        status = status_of_assertion(test, self) if "--assert" in AS_JSON[model] else judging.ENDED
+        if (self.plain.returncode, self.as_json.returncode) != (judging.ENDED, status) or self.as_json.stderr:
+            return ["%s; as JSON %s, and not status %d" % (judging.described(self.plain), judging.described(self.as_json), status)]
+        return reasons.faults_of_both(test, model, self.text, self.as_json.stdout.decode("latin-1"))
 
     def is_allowed(self):
         return "\nAllowed " in self.text
@@ -81,10 +84,15 @@ def faults_of_run(program, given, model, answer):
     return []
 
 
-def faults_of_assertion(program, test, given, model, answer):
-    """How `--assert` does something else than turn the status into 4 where the condition isn't as it claims."""
+def status_of_assertion(test, answer):
+    """The status with `--assert`: 4 where the condition isn't as it claims."""
     is_so = test.proposition is None or answer.is_allowed() == (test.quantifier == "exists")
-    done, due = program.run(["why", "--assert", "--model", model], given), judging.ENDED if is_so else judging.INVALID
+    return judging.ENDED if is_so else judging.INVALID
+
+
+def faults_of_assertion(program, test, given, model, answer):
+    """How `--assert` does something else than turn the status into this one."""
+    done, due = program.run(["why", "--assert", "--model", model], given), status_of_assertion(test, answer)
     same = (done.returncode, done.stdout, done.stderr) == (due, answer.plain.stdout, answer.plain.stderr)
     return [] if same else ["with --assert it has status %s, and not %d, or another answer" % (done.returncode, due)]
 
@@ -131,7 +139,8 @@ def faults_with(program, found, text, with_slips):
     for model in MODELS:
         answer = Answer(program, given, model)
         told = answer.faults(test, model)
-        told = told or faults_of_assertion(program, test, given, model, answer)
+        if not told and "--assert" not in AS_JSON[model]:
+            told = faults_of_assertion(program, test, given, model, answer)
         if not told and answer.is_allowed() != found.can_be(test, model, given):
             told = ["outcomes doesn't say so"]
         if not told and answer.is_allowed():
@@ -183,9 +192,14 @@ def judge_great(program, seed, part, tally):
 # ---- all of it
 
 def inputs(whole, seed):
-    yield from reason_inputs.repository()
+    """The tests that aren't in the repository as such."""
     yield from reason_inputs.cycles((lambda lines: lines) if whole else lambda lines: lines[seed % EVERY::EVERY])
     yield from reason_inputs.made(MADE_WHOLE if whole else MADE, seed)
+
+
+def rows_of(tests):
+    return [(name, lambda program, name=name, text=text, at=at: faults_of_forms(program, name, text, at % EVERY_SLIP == 0))
+            for at, (name, text) in enumerate(tests)]
 
 
 def main():
@@ -195,9 +209,8 @@ def main():
     asked = parser.parse_args()
     programs, tally = judging.programs_in(asked), judging.Tally()
     tally.add("the judge of reasons", reason_slips.judge())
-    rows = [(name, lambda program, name=name, text=text, at=at: faults_of_forms(program, name, text, at % EVERY_SLIP == 0))
-            for at, (name, text) in enumerate(inputs(asked.whole, asked.seed))]
-    tally.add("why", judging.judged(rows, programs, asked.part, at_once=4))
+    tally.add("why", judging.judged(rows_of(reason_inputs.repository()), programs, asked.part, at_once=4))
+    tally.add("why", judging.judged_in_turn(rows_of(inputs(asked.whole, asked.seed)), programs, asked.part, at_once=4))
     if asked.whole:
         judge_great(programs[0], asked.seed, asked.part, tally)
     return tally.end()

@@ -309,6 +309,16 @@ def faults_of(test, model, text, with_json=False):
     return [] if printed == text else differences(printed, text)
 
 
+def faults_of_both(test, model, text, as_json):
+    """How what is printed isn't a reason for this test, once as text and once as JSON."""
+    try:
+        due = reason_of(test, model, read_text(text, test))
+    except Wrong as wrong:
+        return [str(wrong)]
+    pairs = (text_of(due, test), text), (printing.as_json(due), as_json)
+    return [fault for printed, got in pairs if printed != got for fault in differences(printed, got)]
+
+
 def differences(due, text):
     """Where a text first differs from the one that is due."""
     pairs = zip(re.split(r"\n|(?<=[}\]]),", due) + [None], re.split(r"\n|(?<=[}\]]),", text) + [None])

@@ -62,13 +62,20 @@ class Known:
         self.test, self.events, self.sources, self.pairs = test, events, sources, pairs
         self.relations, self.claim = Relations(events, sources, pairs), asked_of(test)
         self.writes, self.registers = values or self.values_by_rounds()
+        # What was asked for of the branches that begin here: a tree is gone through twice, to judge it and to print it.
+        self.after = {}
 
     def with_source(self, read, write):
-        return Known(self.test, self.events, ((read, write),) + self.sources, self.pairs)
+        if (read, write) not in self.after:
+            self.after[read, write] = Known(self.test, self.events, ((read, write),) + self.sources, self.pairs)
+        return self.after[read, write]
 
     def with_pair(self, first, second):
         """The values stay: which of two writes comes first says nothing of what is read."""
-        return Known(self.test, self.events, self.sources, ((first, second),) + self.pairs, (self.writes, self.registers))
+        if (first, second) not in self.after:
+            pairs = ((first, second),) + self.pairs
+            self.after[first, second] = Known(self.test, self.events, self.sources, pairs, (self.writes, self.registers))
+        return self.after[first, second]
 
     def writes_to(self, location):
         return [event for event in self.events if event.is_write() and event.location == location]
