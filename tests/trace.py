@@ -13,6 +13,9 @@ one with an instruction of each kind; under four protocols, in three shapes of t
   with their states and words, and of memory; the entries that the lines commit are the printed order; and each word that a copy
   answers with is the one that a single memory would have.
 
+A further program (--also) has the examples with their own choices and the test of each kind on all these machines, and what a seed was
+put to on one in four, in turn.
+
 Each outcome, stall, access, request and change of a state has to come up. The last line is 'N passed, M failed'.
 """
 import collections
@@ -72,13 +75,13 @@ def answer(program, command, machine, given):
 
 
 def inputs():
-    """Names and inputs."""
-    yield "every kind of instruction", EVERY_KIND + judging.DIVIDER + SEED
+    """Names and inputs, and how many machines there are for one on which a further program has it."""
+    yield "every kind of instruction", EVERY_KIND + judging.DIVIDER + SEED, 1
     for name, given in judging.all_inputs():
         if os.path.dirname(name) == "examples":
-            yield name, given
+            yield name, given, 1
         divider = b"" if re.search(rb"^====$", given, re.M) else judging.DIVIDER
-        yield name + " and a seed", given + divider + SEED
+        yield name + " and a seed", given + divider + SEED, judging.EVERY
 
 
 def counts_in(lines, cores):
@@ -139,7 +142,7 @@ def faults_of(test, made, table, machine, traced, run):
     return [] if rest == unfinished and not board.has_ended() else ["%r after %d lines" % (rest, count)]
 
 
-def judged(programs, tables, name, given):
+def judged(programs, tables, name, given, every):
     """The faults on each machine of each program, and what came up."""
     test_text, _, choice_text = given.partition(judging.DIVIDER)
     test = reading.read_test(test_text)
@@ -150,8 +153,8 @@ def judged(programs, tables, name, given):
         traced, run = (answer(program, command, machine, given) for command in ("trace", "run"))
         came_up.update(traced[1].partition("\nTrace\n")[2].split())
         return faults_of(test, made, tables[machine[0]], machine, traced, run)
-    results = [("%s, %s" % (name, words_of(*machine)), faults) for machine in MACHINES
-               for faults in judging.faults_on_each(programs, lambda program: faults_on(machine, program))]
+    results = [("%s, %s" % (name, words_of(*machine)), faults) for number, machine in enumerate(MACHINES)
+               for faults in judging.faults_on_each(judging.in_turn(programs, number, every), lambda program: faults_on(machine, program))]
     return results, came_up
 
 
@@ -159,7 +162,7 @@ def main():
     asked = judging.with_programs(__doc__).parse_args()
     programs, part = judging.programs_in(asked), asked.part
     tables = {name: trace_board.Table(programs[0].run(["tables", "--protocol", name], b"").stdout.decode()) for name in PROTOCOLS}
-    works = [(name, given) for name, given in inputs() if part in name]
+    works = [work for work in inputs() if part in work[0]]
     tally, came_up = judging.Tally(), collections.Counter()
     for results, more in judging.in_processes(lambda work: judged(programs, tables, *work), works, at_once=1):
         came_up.update(more)
