@@ -9,13 +9,14 @@ that may not grow; standard input is closed, a folder, open for writing alone, w
 of the answer, and nothing where standard input failed. A signal must not end the program.
 
 Then each call on standard input and on standard output fails in turn, and none comes after it on the same side; and both
-move one byte a call, which is enough for the whole answer. A small library does that, tests/failing_calls.c, which is built
+move one byte a call, which is enough for the whole answer. Of a further program (--also) every fourth call fails. A small library does that, tests/failing_calls.c, which is built
 with the C compiler and preloaded; without a C compiler that counts as a failure.
 
 At a terminal a command says that it reads from there, once, and only where standard error is a terminal too. The last line is
 'N passed, M failed'.
 """
 import fcntl
+import itertools
 import os
 import resource
 import subprocess
@@ -275,21 +276,21 @@ def with_calls(program, words, given, told):
     return done, [word for word, _ in noted if word != "reading"]
 
 
-def failing_in_turn(program, words, given, call, told):
-    """The answers for each such call that fails, and the notes, up to and without the first run in which none does."""
-    found = []
-    while True:
-        at = str(len(found) + 1)
-        done, noted = with_calls(program, words, given, dict(told, FAIL_CALL=call, FAIL_FIRST=at, FAIL_LAST=at))
+def failing_in_turn(program, every, words, given, call, told):
+    """By the number of the call that fails, each so many on from 1, the answer and the notes, up to and without the first run in which
+    none does."""
+    found = {}
+    for at in itertools.count(1, every):
+        done, noted = with_calls(program, words, given, dict(told, FAIL_CALL=call, FAIL_FIRST=str(at), FAIL_LAST=str(at)))
         if not noted:
             return found
-        found.append((done, noted))
+        found[at] = done, noted
 
 
 def judged(call, found, output_before):
     """For each call that failed its faults; what was taken before is given by the number of the call."""
     results = []
-    for at, (done, noted) in enumerate(found, 1):
+    for at, (done, noted) in found.items():
         faults = fault_of(done, output_before(at), INPUT_FAULT if call == "input" else OUTPUT_FAULT)
         if noted != ["failed"]:
             faults.append("a call came after the one that failed")
@@ -297,23 +298,24 @@ def judged(call, found, output_before):
     return results or [(call, ["no call came"])]
 
 
-def judge_calls(program, line, given, status):
-    """The results of all calls of this command line and input."""
+def judge_calls(program, every, line, given, status):
+    """The results of all calls of this command line and input, or of one in so many."""
     words = line.split()
     whole = program.run(words, given).stdout
     done, _ = with_calls(program, words, given, ONE_BYTE)
     results = [("one byte a call", judging.difference(done, status, whole))]
     if words[0] != "tables":
         for told in ({}, ONE_BYTE):
-            found = failing_in_turn(program, words, given, "input", told)
+            found = failing_in_turn(program, every, words, given, "input", told)
             results += judged("input", found, lambda at: b"")
     for told in (ONE_BYTE, dict(ONE_BYTE, FAIL_EMPTY="")):
-        found = failing_in_turn(program, words, given, "output", told)
+        found = failing_in_turn(program, every, words, given, "output", told)
         results += judged("output byte by byte", found, lambda at: whole[:at - 1])
-        results.append(("output byte by byte", [] if len(found) == len(whole) else ["%d calls took it" % len(found)]))
-    found = failing_in_turn(program, words, given, "output", {})
-    taken = [done.stdout for done, _ in found]
-    return results + judged("output", found, lambda at: whole[:len(taken[at - 1])] if at > 1 else b"")
+        is_all = list(found) == list(range(1, len(whole) + 1, every))
+        results.append(("output byte by byte", [] if is_all else ["calls that took it: %s" % list(found)]))
+    found = failing_in_turn(program, every, words, given, "output", {})
+    taken = {at: done.stdout for at, (done, _) in found.items()}
+    return results + judged("output", found, lambda at: whole[:len(taken[at])] if at > 1 else b"")
 
 
 def main():
@@ -324,9 +326,9 @@ def main():
     print("devices broken: %d" % (tally.passed + tally.failed - len(programs) * len(JOBS)))
     for program in programs:
         judge_terminals(program, tally)
-    jobs = [(program, *job) for program in programs for job in JOBS] if failing.is_there(tally) else []
+    jobs = [(program, every, *job) for program, every in judging.with_turns(programs) for job in JOBS] if failing.is_there(tally) else []
     for job, results in zip(jobs, judging.in_processes(lambda job: judge_calls(*job), jobs, at_once=1)):
-        calls += tally.add(job[1], results)
+        calls += tally.add(job[2], results)
     print("calls on standard input and output that failed: %d" % calls)
     return tally.end()
 

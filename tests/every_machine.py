@@ -9,7 +9,7 @@ share more lines than there is room for. Each run ends with status 0 and names i
 valid. On the atomic bus a run prints the same whatever the protocol and the shape, but for its second line and the `Cache`
 lines, and as many choices stall as the depth has it. `trace` prints the same report with a line for each choice that was used in it.
 
-The last line is 'N passed, M failed'.
+A further program (--also) is run on one in four of the machines, in turn. The last line is 'N passed, M failed'.
 """
 import itertools
 import sys
@@ -105,4 +105,4 @@ def rows(program):
 
 
 if __name__ == "__main__":
-    sys.exit(judging.judge_rows(__doc__, "every machine", rows))
+    sys.exit(judging.judge_rows(__doc__, "every machine", rows, rows_every=judging.EVERY))

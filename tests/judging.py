@@ -212,16 +212,17 @@ def in_processes(function, items, at_once=16):
     return found
 
 
-def judged(rows, programs, part="", at_once=16):
-    """Judges rows, pairs of a name and a function of a program's faults: those whose name has this part, on each of these programs."""
-    return judged_in_turn(rows, programs, part, at_once, every=1)
-
-
-def judged_in_turn(rows, programs, part="", at_once=16, every=EVERY):
-    """The same of inputs that are made by the hundreds: the first program has each of them, a further one every so many of them."""
+def judged(rows, programs, part="", at_once=16, rows_every=1, answers_every=1):
+    """Judges rows, pairs of a name and a function of a program's faults: those whose name has this part, on each of these programs. Where
+    rows or their inputs are made by the hundreds, a further program has one in so many of the rows, or of what the first one was asked."""
     rows = [row for row in rows if part in row[0]]
-    found = in_processes(lambda at: faults_on_each(in_turn(programs, at, every), rows[at][1]), range(len(rows)), at_once)
+    found = in_processes(lambda at: faults_on_each(in_turn(programs, at, rows_every), rows[at][1], answers_every), range(len(rows)), at_once)
     return [(name, faults) for (name, _), each in zip(rows, found) for faults in each]
+
+
+def judged_in_turn(rows, programs, part="", at_once=16):
+    """The same where a further program has one in four of the rows."""
+    return judged(rows, programs, part, at_once, rows_every=EVERY)
 
 
 def in_turn(programs, number, every=EVERY):
@@ -230,13 +231,13 @@ def in_turn(programs, number, every=EVERY):
     return programs if (number + number // every) % every == 0 else programs[:1]
 
 
-def judge_rows(document, group, rows, kind=None, at_once=16):
-    """A script whose command line is PROGRAM [PART-OF-NAME] [--also PROGRAM] and which judges rows; `rows` answers them, and
-    may ask the first program which there are. The programs are of this kind, Program where none is named."""
+def judge_rows(document, group, rows, kind=None, **how):
+    """A script whose command line is PROGRAM [PART-OF-NAME] [--also PROGRAM] and which judges rows, as `judged` is told how; `rows` answers
+    them, and may ask the first program which there are. The programs are of this kind, Program where none is named."""
     words = with_programs(document).parse_args()
     tally = Tally(shown=100)
     programs = programs_in(words, kind or Program)
-    tally.add(group, judged(rows(programs[0]), programs, words.part, at_once))
+    tally.add(group, judged(rows(programs[0]), programs, words.part, **how))
     return tally.end()
 
 
@@ -292,10 +293,15 @@ class Noted:
         self.are_all = False
         return self.program.path
 
-    def is_repeated_by(self, other):
-        """Whether another program gives the same answers, byte for byte."""
+    def is_repeated_by(self, other, every=1):
+        """Whether another program gives the same answers, byte for byte; it is asked for the first one, and one in so many."""
         return self.are_all and bool(self.answers) and all(
-            is_same_answer(other.run(words, given), done) for words, given, done in self.answers)
+            is_same_answer(other.run(words, given), done) for words, given, done in self.answers[::every])
+
+
+def with_turns(programs):
+    """Each program with the number of inputs for one of which it is asked: of those that are made by the hundreds the first has each."""
+    return [(program, EVERY if number else 1) for number, program in enumerate(programs)]
 
 
 def is_same_answer(one, other):
@@ -307,13 +313,13 @@ def programs_in(words, kind=Program):
     return [kind(path) for path in [words.program, *words.also]]
 
 
-def faults_on_each(programs, judge):
-    """A row's faults on each of these programs. Where the first one has none, another that gives its answers to the same inputs has none
-    either: a row goes by the answers alone. Where it gives others, it is judged by them."""
+def faults_on_each(programs, judge, every=1):
+    """A row's faults on each of these programs. Where the first one has none, another that gives its answers to the same inputs, or to one
+    in so many, has none either: a row goes by the answers alone. Where it gives others, it is judged by them."""
     first = Noted(programs[0])
     found = [faults_told(lambda: judge(first))]
     for other in programs[1:]:
-        is_judged = not found[0] and first.is_repeated_by(other)
+        is_judged = not found[0] and first.is_repeated_by(other, every)
         found.append([] if is_judged else ["%s: %s" % (other.path, fault) for fault in faults_told(lambda: judge(other))])
     return found
 

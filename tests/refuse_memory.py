@@ -4,7 +4,7 @@
     tests/refuse_memory.py PROGRAM [--also PROGRAM]
 
 For each command line and input below, the Nth request is refused, for N = 1, 2, .. until a run has none refused: first
-that request alone, then all from it on. Where the parser of the command line is refused, the status is 2. Before it, while
+that request alone, then all from it on. A further program (--also) has every fourth N. Where the parser of the command line is refused, the status is 2. Before it, while
 the words are kept, and from the first request after it on, it is 5 with the line 'fault memory', after which `outcomes` may
 say how many states it had kept. Either way nothing is written to standard output.
 
@@ -17,6 +17,7 @@ it, or for keeping the input of which it is made.
 The requests are refused by a small library, tests/failing_calls.c, which is built with the C compiler and preloaded; without
 a C compiler nothing is judged, and that counts as a failure. The last line is 'N passed, M failed'.
 """
+import itertools
 import sys
 
 sys.dont_write_bytecode = True
@@ -102,15 +103,14 @@ def answer(program, words, given, first, last):
     return Answer(*failing.answer(program, words, given, told))
 
 
-def answers_until_none_is_refused(program, words, given, alone):
-    """The answers for N = 1, 2, .., up to and without the first run that has no request refused."""
-    found = []
-    while True:
-        at = len(found) + 1
+def answers_until_none_is_refused(program, words, given, alone, every):
+    """The answers by N, each so many on from 1, up to and without the first run that has no request refused."""
+    found = {}
+    for at in itertools.count(1, every):
         one = answer(program, words, given, at, at if alone else 0)
         if not one.refused:
             return found
-        found.append(one)
+        found[at] = one
 
 
 def is_of_the_line(one):
@@ -141,40 +141,41 @@ def is_without_hint(one, ample):
 
 def judged(found, ample, alone, searches):
     """For each refused request its faults: first come faults of memory, then refusals of the line, then faults of memory."""
-    of_the_line = [at for at, one in enumerate(found, 1) if is_of_the_line(one)]
+    of_the_line = [at for at, one in found.items() if is_of_the_line(one)]
     first, last = (of_the_line[0], of_the_line[-1]) if of_the_line else (0, 0)
     results = []
-    for at, one in enumerate(found, 1):
+    for at, one in found.items():
         within = first <= at <= last
         may_be_line = within and (ample.before_reading is None or at <= ample.before_reading)
-        fits = (may_be_line and is_of_the_line(one)) or (not within and is_fault(one, searches)) or is_whole(one, ample, alone) or is_without_hint(one, ample)
+        fits = (may_be_line and is_of_the_line(one) or not within and is_fault(one, searches)
+                or is_whole(one, ample, alone) or is_without_hint(one, ample))
         said = "%s; asked for %s bytes, then for %s" % (judging.described(one.done), one.refused[0], one.next_request)
         results.append(("request %d %s" % (at, "alone" if alone else "and all after it"), [] if fits else [said]))
-    if not of_the_line or last == len(found):
+    if not of_the_line or last == max(found):
         results.append(("requests", ["none was refused in the command line's parser, or none after it"]))
     return results
 
 
-def judge_job(program, line, given, status):
-    """The results of all requests of this command line and input, and how many were granted at the next request."""
+def judge_job(program, every, line, given, status):
+    """The results of all requests of this command line and input, or of one in so many, and how many were granted at the next request."""
     words = line.split()
     undisturbed = program.run(words, given)
     ample = answer(program, words, given, 0, 0)
     faults = judging.difference(ample.done, status, undisturbed.stdout)
     results, granted = [("ample memory", faults)], 0
     for alone in (True, False):
-        found = answers_until_none_is_refused(program, words, given, alone)
+        found = answers_until_none_is_refused(program, words, given, alone, every)
         results += judged(found, ample, alone, words[0] == "outcomes")
-        granted += sum(is_whole(one, ample, alone) for one in found)
+        granted += sum(is_whole(one, ample, alone) for one in found.values())
     return results, granted
 
 
 def main():
     programs = judging.programs_in(judging.with_programs(__doc__, with_part=False).parse_args())
     tally, requests, granted = judging.Tally(), 0, 0
-    jobs = [(program, *job) for program in programs for job in JOBS] if failing.is_there(tally) else []
+    jobs = [(program, every, *job) for program, every in judging.with_turns(programs) for job in JOBS] if failing.is_there(tally) else []
     for job, (results, again) in zip(jobs, judging.in_processes(lambda job: judge_job(*job), jobs, at_once=1)):
-        requests += tally.add(job[1], results) - 1
+        requests += tally.add(job[2], results) - 1
         granted += again
     print("requests for memory refused: %d, of which %d were made again at once and granted" % (requests, granted))
     return tally.end()

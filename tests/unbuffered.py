@@ -9,6 +9,8 @@ runs are the states that the sweep lists, each as often as it says.
 
 Of each test of the gallery whose outcome sequential consistency forbids: no such sweep, on either bus, meets it.
 
+A further program (--also) has all sweeps, and runs one in four of the seeds; where an answer is another one, it has all of them.
+
 The last line is 'N passed, M failed'.
 """
 import collections
@@ -99,4 +101,4 @@ def rows(_):
 
 
 if __name__ == "__main__":
-    sys.exit(judging.judge_rows(__doc__, "unbuffered", rows, at_once=1))
+    sys.exit(judging.judge_rows(__doc__, "unbuffered", rows, at_once=1, answers_every=judging.EVERY))
