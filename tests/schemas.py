@@ -25,13 +25,13 @@ import rows
 COMMANDS = ("run", "trace", "outcomes", "why")
 LINES = COMMANDS + ("outcomes --show all",)
 
-MOST_PLACES = 300
+MOST_PLACES = 150
 NOTES = {"$schema", "$defs", "title", "description"}
 TYPES = {"object": dict, "array": list, "string": str, "boolean": bool, "integer": int, "null": type(None)}
 
 
 def is_of(kind, value):
-    return isinstance(value, TYPES[kind]) and not (kind == "integer" and isinstance(value, bool))
+    return isinstance(value, TYPES[kind]) and (kind != "integer" or not isinstance(value, bool))
 
 
 def is_same(one, other):
@@ -44,6 +44,8 @@ class Schema:
     def __init__(self, path):
         with open(path, encoding="utf-8") as file:
             self.whole = json.load(file)
+        # Of each schema in it the words that say something, each with what reads it and what it asks.
+        self.words_of = {}
         # Objects and lists of the last value whose faults were asked for, each with a schema that it fits.
         self.fitting, self.learns = set(), False
 
@@ -65,70 +67,61 @@ class Schema:
         pair, fits = (id(schema), id(value)), True
         if pair in self.fitting:
             return
-        for word, asked in schema.items():
-            if word not in NOTES:
-                for fault in getattr(self, "word_" + word.lstrip("$"))(place, schema, asked, value):
-                    fits = False
-                    yield fault
+        words = self.words_of.get(id(schema)) or self.words_of.setdefault(id(schema), [
+            (getattr(self, "word_" + word.lstrip("$")), asked) for word, asked in schema.items() if word not in NOTES])
+        for faults_of_word, asked in words:
+            for fault in faults_of_word(place, schema, asked, value):
+                fits = False
+                yield fault
         if fits and self.learns and isinstance(value, (dict, list)):
             self.fitting.add(pair)
 
     def word_ref(self, place, schema, asked, value):
-        yield from self.faults_at(place, self.whole["$defs"][asked.rsplit("/", 1)[1]], value)
+        return self.faults_at(place, self.whole["$defs"][asked.rsplit("/", 1)[1]], value)
 
     def word_type(self, place, schema, asked, value):
-        if not is_of(asked, value):
-            yield "%s is no %s" % (place, asked)
+        return () if is_of(asked, value) else ("%s is no %s" % (place, asked),)
 
     def word_const(self, place, schema, asked, value):
-        if not is_same(asked, value):
-            yield "%s isn't %r" % (place, asked)
+        return () if is_same(asked, value) else ("%s isn't %r" % (place, asked),)
 
     def word_enum(self, place, schema, asked, value):
-        if not any(is_same(one, value) for one in asked):
-            yield "%s is none of %r" % (place, asked)
+        return () if any(is_same(one, value) for one in asked) else ("%s is none of %r" % (place, asked),)
 
     def word_oneOf(self, place, schema, asked, value):
         fitting = [one for one in asked if self.fits_at(place, one, value)]
-        if len(fitting) != 1:
-            yield "%s fits %d of %d forms" % (place, len(fitting), len(asked))
+        return () if len(fitting) == 1 else ("%s fits %d of %d forms" % (place, len(fitting), len(asked)),)
 
     def word_minimum(self, place, schema, asked, value):
-        if is_of("integer", value) and value < asked:
-            yield "%s is below %d" % (place, asked)
+        return ("%s is below %d" % (place, asked),) if is_of("integer", value) and value < asked else ()
 
     def word_maximum(self, place, schema, asked, value):
-        if is_of("integer", value) and value > asked:
-            yield "%s is above %d" % (place, asked)
+        return ("%s is above %d" % (place, asked),) if is_of("integer", value) and value > asked else ()
 
     def word_pattern(self, place, schema, asked, value):
-        if is_of("string", value) and not re.search(asked, value):
-            yield "%s isn't of the form %s" % (place, asked)
+        is_wrong = is_of("string", value) and not re.search(asked, value)
+        return ("%s isn't of the form %s" % (place, asked),) if is_wrong else ()
 
     def word_minItems(self, place, schema, asked, value):
-        if is_of("array", value) and len(value) < asked:
-            yield "%s has fewer than %d items" % (place, asked)
+        return ("%s has fewer than %d items" % (place, asked),) if is_of("array", value) and len(value) < asked else ()
 
     def word_maxItems(self, place, schema, asked, value):
-        if is_of("array", value) and len(value) > asked:
-            yield "%s has more than %d items" % (place, asked)
+        return ("%s has more than %d items" % (place, asked),) if is_of("array", value) and len(value) > asked else ()
 
     def word_items(self, place, schema, asked, value):
         for at, item in enumerate(value if is_of("array", value) else ()):
-            yield from self.faults_at("%s/%d" % (place, at), asked, item)
+            if (id(asked), id(item)) not in self.fitting:
+                yield from self.faults_at("%s/%d" % (place, at), asked, item)
 
     def word_maxProperties(self, place, schema, asked, value):
-        if is_of("object", value) and len(value) > asked:
-            yield "%s has more than %d members" % (place, asked)
+        return ("%s has more than %d members" % (place, asked),) if is_of("object", value) and len(value) > asked else ()
 
     def word_required(self, place, schema, asked, value):
-        for name in asked if is_of("object", value) else ():
-            if name not in value:
-                yield "%s lacks %s" % (place, name)
+        return ["%s lacks %s" % (place, name) for name in asked if name not in value] if is_of("object", value) else ()
 
     def word_properties(self, place, schema, asked, value):
         for name in asked if is_of("object", value) else ():
-            if name in value:
+            if name in value and (id(asked[name]), id(value[name])) not in self.fitting:
                 yield from self.faults_at(place + "/" + name, asked[name], value[name])
 
     def word_propertyNames(self, place, schema, asked, value):
