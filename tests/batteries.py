@@ -8,9 +8,9 @@
 - The verdict by the program's `outcomes`, by theory (tools/theory), by the plain search of all runs (flat_machine.py), and by the rule of
   such cycles: allowed exactly where some core's first access is a plain store, its last a plain load, with no fence or locked access
   between; and all final states by the program and by theory. All cycles of length 4 and 5 with locked accesses, all of length 6 without.
-- Cycles given by hand (cycle_meanings.py): all of two to four edges, and drawn ones of five and six, with and without locked accesses.
-  One that contradicts itself is refused. Of the others each candidate that makes the condition true has every edge, some candidate
-  does, and the verdict is that of the candidates that have the cycle.
+- Cycles given by hand (cycle_meanings.py): all of two to four edges, and 1,000 drawn ones of five and six, with and without locked
+  accesses. One that contradicts itself is refused. Of the others each candidate that makes the condition true has every edge, some
+  candidate does, and the verdict is that of the candidates that have the cycle.
 - Wildcards, lists of edges, draws and folders of tools/cycles (cycle_runs.py).
 - The battery that ships, examples/cycles.list, has just the cycles of length 4 and 5 with locked accesses, with these verdicts.
 - Cycles of ten names have the gallery's states, up to names of cores, locations and registers, and stored values.

@@ -9,8 +9,9 @@ that may not grow; standard input is closed, a folder, open for writing alone, w
 of the answer, and nothing where standard input failed. A signal must not end the program.
 
 Then each call on standard input and on standard output fails in turn, and none comes after it on the same side; and both
-move one byte a call, which is enough for the whole answer. Of a further program (--also) every fourth call fails. A small library does that, tests/failing_calls.c, which is built
-with the C compiler and preloaded; without a C compiler that counts as a failure.
+move one byte a call, which is enough for the whole answer. Of a further program (--also) every fourth call fails. A small
+library does that, tests/failing_calls.c, which is built with the C compiler and preloaded; without a C compiler that counts as
+a failure.
 
 At a terminal a command says that it reads from there, once, and only where standard error is a terminal too. The last line is
 'N passed, M failed'.
@@ -326,7 +327,8 @@ def main():
     print("devices broken: %d" % (tally.passed + tally.failed - len(programs) * len(JOBS)))
     for program in programs:
         judge_terminals(program, tally)
-    jobs = [(program, every, *job) for program, every in judging.with_turns(programs) for job in JOBS] if failing.is_there(tally) else []
+    turns = judging.with_turns(programs) if failing.is_there(tally) else []
+    jobs = [(program, every, *job) for program, every in turns for job in JOBS]
     for job, results in zip(jobs, judging.in_processes(lambda job: judge_calls(*job), jobs, at_once=1)):
         calls += tally.add(job[2], results)
     print("calls on standard input and output that failed: %d" % calls)

@@ -18,7 +18,7 @@ WORDS = ("Rfe Rfi Fre Fri Coe Coi PodRR PodRW PodWR PodWW PosRR PosRW PosWR PosW
 NAMES = [edges.edge_named(word) for word in WORDS.split()]
 
 # All cycles of so many edges are held, and so many drawn ones of the longer ones, every second with locked accesses.
-ALL_OF, DRAWN_OF, DRAWN, SEED = (2, 3, 4), (5, 6), 2_000, 1
+ALL_OF, DRAWN_OF, DRAWN, SEED = (2, 3, 4), (5, 6), 1_000, 1
 
 # Of those every so many is asked of the program too.
 ASKED_OF_PROGRAM, PATIENCE = 20, 60

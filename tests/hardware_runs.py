@@ -14,7 +14,7 @@ import litmus
 from scripts import COULD_NOT, INTERRUPTED
 
 # Of each test of the gallery.
-SECONDS = "0.05"
+SECONDS = "0.025"
 
 # A state that each processor shows soon: both cores one after the other.
 SEEN_SOON = "State 0:EAX=0 1:EAX=1 against=yes\n"
@@ -126,7 +126,7 @@ def judge(program, tally):
         log = write(os.path.join(room, "log"), OUTCOMES)
         wrong = write(os.path.join(room, "wrong"), OUTCOMES.replace(SEEN_SOON, "").replace("states=4", "states=3"))
         for name, table, status in (("a table of allowed states", log, 0), ("a wrong table of allowed states", wrong, 1)):
-            done = tool("hardware", "--allowed", table, "--seconds", "2", "--runs", "100000", test_file("SB"))
+            done = tool("hardware", "--allowed", table, "--seconds", "1", "--runs", "100000", test_file("SB"))
             told = "NOT ALLOWED, AND SEEN: SB: 0:EAX=0 1:EAX=1\n" in done.stdout
             tally.add(name, None if done.returncode == status and told == bool(status) else described(done))
         seen = write(os.path.join(room, "seen"), done.stdout)

@@ -216,7 +216,10 @@ def judged(rows, programs, part="", at_once=16, rows_every=1, answers_every=1):
     """Judges rows, pairs of a name and a function of a program's faults: those whose name has this part, on each of these programs. Where
     rows or their inputs are made by the hundreds, a further program has one in so many of the rows, or of what the first one was asked."""
     rows = [row for row in rows if part in row[0]]
-    found = in_processes(lambda at: faults_on_each(in_turn(programs, at, rows_every), rows[at][1], answers_every), range(len(rows)), at_once)
+
+    def faults_of(at):
+        return faults_on_each(in_turn(programs, at, rows_every), rows[at][1], answers_every)
+    found = in_processes(faults_of, range(len(rows)), at_once)
     return [(name, faults) for (name, _), each in zip(rows, found) for faults in each]
 
 

@@ -306,8 +306,8 @@ def rows_of(tests, asked_in):
     """Each test at each depth; `asked_in` says by the turn what is asked of it."""
     for number, (name, given) in enumerate(tests):
         for at, depth in enumerate(DEPTHS):
-            asked = asked_in(number + at)
-            yield "%s, depth %d" % (name, depth), lambda program, given=given, depth=depth, asked=asked: faults_at(program, given, depth, asked)
+            how = given, depth, asked_in(number + at)
+            yield "%s, depth %d" % (name, depth), lambda program, how=how: faults_at(program, *how)
 
 
 def main():

@@ -4,9 +4,9 @@
     tests/refuse_memory.py PROGRAM [--also PROGRAM]
 
 For each command line and input below, the Nth request is refused, for N = 1, 2, .. until a run has none refused: first
-that request alone, then all from it on. A further program (--also) has every fourth N. Where the parser of the command line is refused, the status is 2. Before it, while
-the words are kept, and from the first request after it on, it is 5 with the line 'fault memory', after which `outcomes` may
-say how many states it had kept. Either way nothing is written to standard output.
+that request alone, then all from it on. A further program (--also) has every fourth N. Where the parser of the command line is
+refused, the status is 2. Before it, while the words are kept, and from the first request after it on, it is 5 with the line
+'fault memory', after which `outcomes` may say how many states it had kept. Either way nothing is written to standard output.
 
 Two other answers are right. One, only where one request alone was refused: the whole answer, where the very next request
 asked for no more than the refused one and was granted. A list that is collected from an iterator first asks for all the
@@ -173,7 +173,8 @@ def judge_job(program, every, line, given, status):
 def main():
     programs = judging.programs_in(judging.with_programs(__doc__, with_part=False).parse_args())
     tally, requests, granted = judging.Tally(), 0, 0
-    jobs = [(program, every, *job) for program, every in judging.with_turns(programs) for job in JOBS] if failing.is_there(tally) else []
+    turns = judging.with_turns(programs) if failing.is_there(tally) else []
+    jobs = [(program, every, *job) for program, every in turns for job in JOBS]
     for job, (results, again) in zip(jobs, judging.in_processes(lambda job: judge_job(*job), jobs, at_once=1)):
         requests += tally.add(job[2], results) - 1
         granted += again

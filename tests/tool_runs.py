@@ -1,8 +1,11 @@
 """What the parts of tests/batteries.py share: calling tools/, and the gallery."""
 import os
+import runpy
 import signal
 import subprocess
 import sys
+import tempfile
+import traceback
 
 import judging
 from judging import GALLERY, TESTS, TOP
@@ -37,9 +40,54 @@ def test_file(name):
     return os.path.join(GALLERY, name + ".litmus")
 
 
+# Tools that are called often. The first call of each is a start of its own; later ones are forks of this process, which has loaded what
+# they need: a start takes longer than what most calls ask for.
+CALLED_OFTEN, _started = ("compare", "cycles"), set()
+
+
 def tool(name, *words, **how):
     """What a tool answers. It needs the standard library alone, so Python doesn't look for more (-S): that takes longer than most tools."""
-    return subprocess.run([sys.executable, "-S", os.path.join(TOOLS, name), *words], capture_output=True, text=True, **how)
+    path = os.path.join(TOOLS, name)
+    if name in _started and not how.keys() - {"cwd"}:
+        return forked(path, words, **how)
+    _started.update({name} & set(CALLED_OFTEN))
+    return subprocess.run([sys.executable, "-S", path, *words], capture_output=True, text=True, **how)
+
+
+def forked(path, words, cwd=None):
+    """The same by a fork of this process."""
+    with tempfile.TemporaryFile("w+") as output, tempfile.TemporaryFile("w+") as errors:
+        child = os.fork()
+        if child == 0:
+            os._exit(carried_out(path, words, output, errors, cwd))
+        _, status = os.waitpid(child, 0)
+        texts = []
+        for file in (output, errors):
+            file.seek(0)
+            texts.append(file.read())
+    return subprocess.CompletedProcess([path, *words], os.waitstatus_to_exitcode(status), *texts)
+
+
+def carried_out(path, words, output, errors, cwd):
+    """The status with which the script of this path ends, in this process, where it writes to these files."""
+    status = 0
+    try:
+        os.dup2(output.fileno(), 1)
+        os.dup2(errors.fileno(), 2)
+        sys.argv, sys.stdout, sys.stderr = [path, *words], open(1, "w", closefd=False), open(2, "w", closefd=False)
+        os.chdir(cwd or ".")
+        runpy.run_path(path, run_name="__main__")
+    except SystemExit as end:
+        status = end.code or 0
+        if isinstance(status, str):
+            print(status, file=sys.stderr)
+            status = 1
+    except BaseException:
+        traceback.print_exc()
+        status = 1
+    sys.stdout.flush()
+    sys.stderr.flush()
+    return status
 
 
 def interrupted(name, *words, ready):
