@@ -117,15 +117,20 @@ def names_in(text):
 
 
 @lru_cache(None)
+def of_another_case(case):
+    """What stands behind a definition's name in a line of another case."""
+    return re.compile(r" \(?settings\.(?:" + "|".join(word for word in CASES.values() if word != case) + r")\b")
+
+
+@lru_cache(None)
 def uses(module, name, case):
     """What one definition uses: pairs of a module and a name; a declared type's module stands for itself."""
     file = files()[module]
     definition = file.definitions[name]
     text = definition.text
     if case:
-        others = [word for word in CASES.values() if word != case]
-        other = re.compile(r"^" + re.escape(name) + r" \(?settings\.(?:" + "|".join(others) + r")\b")
-        text = [line for line in text if not other.match(line)]
+        other = of_another_case(case)
+        text = [line for line in text if not (line.startswith(name) and other.match(line, len(name)))]
     fields = set(re.findall(r"^  (?:pub )?(" + NAME + r") :", "\n".join(text), re.M))
     found = []
     words = names_in("\n".join(text))

@@ -281,6 +281,8 @@ class Typing:
 
     def read(self, words, known):
         """Goes through an expression, and notes each field that is taken up in it."""
+        if not any(map(is_field, words)):
+            return
         at = 0
         while at < len(words):
             end = closing(words, at) if words[at] == "(" else at

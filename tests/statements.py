@@ -22,6 +22,8 @@ def closing(words, at):
 
 def parted(words, mark):
     """These words, cut at each mark that stands in no bracket."""
+    if mark not in words:
+        return [list(words)]
     found, depth = [[]], 0
     for word in words:
         depth += (word in OPEN) - (word in SHUT)
