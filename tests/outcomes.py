@@ -3,7 +3,7 @@
 
     tests/outcomes.py PROGRAM [--tests N] [--seed S] [--also PROGRAM]
 
-The tests are those of the gallery and of the examples, and N (500) made at random from a seed S (1): two to four cores, at most
+The tests are those of the gallery and of the examples, and N (300) made at random from a seed S (1): two to four cores, at most
 twelve instructions together, of all kinds; and half as many more in which some cores have the same program. Of each, at depths 0, 1,
 2 and 32, with each of the three values of `--show`:
 
@@ -312,7 +312,7 @@ def rows_of(tests, asked_in):
 
 def main():
     parser = judging.with_programs(__doc__, with_part=False)
-    parser.add_argument("--tests", type=int, default=500)
+    parser.add_argument("--tests", type=int, default=300)
     parser.add_argument("--seed", type=int, default=1)
     asked = parser.parse_args()
     programs, tally = judging.programs_in(asked), judging.Tally()
