@@ -127,20 +127,16 @@ impl Branch {
         self.rows.word(self.before(relations, a), k)
     }
 
-    /// Where an event and a write to its location have their place in a table.
+    /// Where an event and a write to its location have their place among the moments.
     fn cell(&self, problem: &Problem, a: usize, w: usize) -> usize {
         let places = problem.most_writes.wrapping_add(1);
         a.wrapping_mul(places).wrapping_add(problem.ranks.at(w))
     }
 
-    /// The fact that says that one write is before another one.
-    pub fn pair(&self, problem: &Problem, a: usize, b: usize) -> usize {
-        self.moments.at(self.cell(problem, a, b)).facts
-    }
-
-    /// When the source was taken from the read; `NEVER` where it wasn't.
-    pub fn removed_at(&self, problem: &Problem, r: usize, s: usize) -> Moment {
-        self.moments.at(self.cell(problem, r, s))
+    /// When a source was taken from a read, or it was told that one write is before another one: the number of facts is that of the
+    /// fact that tells it. `NEVER` where it wasn't.
+    pub fn moment(&self, problem: &Problem, a: usize, w: usize) -> Moment {
+        self.moments.at(self.cell(problem, a, w))
     }
 
     /// The write that a read is known to read from.

@@ -4,7 +4,7 @@ use crate::lists::{List, NONE};
 use crate::problem::{Problem, RELEVANT, STORED, Term, add_reads, register_place};
 use crate::rows::bit;
 use std::alloc::Global;
-use tso_model::{Loc, Prop, Quantifier, Test};
+use tso_model::{Prop, Quantifier, Test};
 
 /// What a value has to be: this number, or any other one.
 #[derive(Clone, Copy)]
@@ -33,12 +33,10 @@ pub struct Parts {
     words: [u64; 8],
 }
 
-impl Parts {
-    /// No part.
-    pub fn none() -> Parts {
-        Parts { words: [0; 8] }
-    }
+/// No part.
+pub const NO_PARTS: Parts = Parts { words: [0; 8] };
 
+impl Parts {
     /// Whether it has the part with this number.
     pub fn has(&self, i: usize) -> bool {
         self.words[i / 64 % 8] & bit(i) != 0
@@ -66,16 +64,6 @@ fn term_part(term: Term, number: u32, truth: bool) -> Part {
     }
 }
 
-/// A part that says of a location that it has a number at the end, or hasn't.
-fn word_part(problem: &Problem, loc: Loc, number: u32, truth: bool) -> Part {
-    let x = usize::from(loc.0);
-    if problem.writes_to.next(x, 0) == NONE {
-        term_part(problem.terms.at(x), number, truth)
-    } else {
-        Part::Value(x, Demand { number, truth })
-    }
-}
-
 /// Adds the parts of what says that a proposition has this truth.
 fn add_parts(
     parts: &mut List<Part>,
@@ -90,7 +78,15 @@ fn add_parts(
             let held = registers.at(register_place(*core, *reg));
             parts.push(term_part(held, *number, truth));
         }
-        Prop::LocIs(loc, number) => parts.push(word_part(problem, *loc, *number, truth)),
+        Prop::LocIs(loc, number) => {
+            let number = *number;
+            let x = usize::from(loc.0);
+            parts.push(if problem.writes_to.next(x, 0) == NONE {
+                term_part(problem.terms.at(x), number, truth)
+            } else {
+                Part::Value(x, Demand { number, truth })
+            });
+        }
         Prop::Not(inner) => add_parts(parts, problem, registers, inner, !truth),
         Prop::And(left, right) | Prop::Or(left, right) => {
             let place = parts.len();

@@ -21,19 +21,6 @@ pub fn add_trial(desk: &mut Desk, relations: Relations) -> usize {
     add_cycle(&mut desk.trees, relations, &desk.trial.cycle)
 }
 
-/// Whether an answer above says that one write is before another one; it is used then.
-fn is_used(problem: &Problem, branch: &Branch, desk: &mut Desk, a: usize, b: usize) -> bool {
-    if problem.is_initial(a) {
-        return true;
-    }
-    let fact = branch.pair(problem, a, b);
-    if fact >= desk.above {
-        return false;
-    }
-    desk.used.add(0, fact);
-    true
-}
-
 /// Two writes, of which one comes before the other.
 #[derive(Clone, Copy)]
 struct Pair {
@@ -41,8 +28,8 @@ struct Pair {
     second: usize,
 }
 
-/// A tree that goes by an order. Where no answer says it, and it isn't the one that is turned, it follows from a chain: then the
-/// question stands above the tree, and the other order is a cycle.
+/// A tree that goes by an order. Where an answer above says it, that is used. Where none does, and it isn't the one that is turned, it
+/// follows from a chain: then the question stands above the tree, and the other order is a cycle.
 fn add_pair_above(
     problem: &Problem,
     branch: &Branch,
@@ -52,9 +39,13 @@ fn add_pair_above(
     tree: usize,
 ) -> usize {
     let Pair { first, second } = pair;
-    if first == turned.second && second == turned.first
-        || is_used(problem, branch, desk, first, second)
-    {
+    let is_turned = first == turned.second && second == turned.first;
+    if is_turned || problem.is_initial(first) {
+        return tree;
+    }
+    let fact = branch.moment(problem, first, second).facts;
+    if fact < desk.above {
+        desk.used.add(0, fact);
         return tree;
     }
     reset(&mut desk.trial, Closing::Cycle(Relations::OnLocation));
@@ -65,32 +56,8 @@ fn add_pair_above(
     ask_order(desk, first, second, cycle, tree)
 }
 
-/// The tree of a write between two parts, the first of which reads from `s`, with the pairs that only follow from chains.
-fn add_between_tree(
-    problem: &Problem,
-    branch: &Branch,
-    desk: &mut Desk,
-    s: usize,
-    turned: Turned,
-) -> usize {
-    let r = desk.best.cycle.at(0);
-    let v = desk.best.cycle.at(1);
-    let own = desk.best.cycle.at(2);
-    let leaf = add_node(&mut desk.trees, Growth::Between(r, v, own), 1);
-    let later = Pair {
-        first: v,
-        second: own,
-    };
-    let earlier = Pair {
-        first: s,
-        second: v,
-    };
-    let tree = add_pair_above(problem, branch, desk, turned, later, leaf);
-    add_pair_above(problem, branch, desk, turned, earlier, tree)
-}
-
-/// The tree of the best reason, for a read of `s`, or where this order is supposed to be turned; what it uses is used then. Where
-/// there is no reason, all answers are used.
+/// The tree of the best reason, for a read of `s`, or where this order is supposed to be turned; what it uses is used then. A write
+/// between two parts has above it the pairs that only follow from chains. Where there is no reason, all answers are used.
 pub fn add_best(
     problem: &Problem,
     branch: &Branch,
@@ -101,7 +68,22 @@ pub fn add_best(
     use_facts(&desk.best, &mut desk.used);
     match desk.best.closing {
         Closing::Cycle(relations) => add_cycle(&mut desk.trees, relations, &desk.best.cycle),
-        Closing::Between => add_between_tree(problem, branch, desk, s, turned),
+        Closing::Between => {
+            let v = desk.best.cycle.at(1);
+            let own = desk.best.cycle.at(2);
+            let growth = Growth::Between(desk.best.cycle.at(0), v, own);
+            let leaf = add_node(&mut desk.trees, growth, 1);
+            let later = Pair {
+                first: v,
+                second: own,
+            };
+            let earlier = Pair {
+                first: s,
+                second: v,
+            };
+            let tree = add_pair_above(problem, branch, desk, turned, later, leaf);
+            add_pair_above(problem, branch, desk, turned, earlier, tree)
+        }
         Closing::False => add_node(&mut desk.trees, Growth::False, 1),
         Closing::None => add_false(desk),
     }

@@ -53,29 +53,14 @@ fn widen_each(branch: &mut Branch, some: Ends, first: usize, added: Ends) {
     }
 }
 
-/// What is before a gets all that is after b, and the other way round.
-fn spread(branch: &mut Branch, relations: Relations, a: usize, b: usize) {
-    let earlier = Ends {
-        row: branch.before(relations, a),
-        also: a,
-    };
-    let later = Ends {
-        row: branch.row(relations, b),
-        also: b,
-    };
-    let first_after = branch.row(relations, 0);
-    let first_before = branch.before(relations, 0);
-    widen_each(branch, earlier, first_after, later);
-    widen_each(branch, later, first_before, earlier);
-}
-
-/// Adds an edge, and what follows. False where it closes a cycle.
+/// Adds an edge, and what follows: what is before its source gets all that is after its target, and the other way round. False where
+/// it closes a cycle.
 pub fn add_edge(problem: &Problem, branch: &mut Branch, relations: Relations, link: Link) -> bool {
     let Link { from: a, to: b, .. } = link;
     if branch.is_known(relations, a, b) {
         return true;
     }
-    let place = problem.row(relations, a);
+    let place = branch.row(relations, a);
     let next = branch.heads.at(place);
     let number = branch.edges.len();
     branch.edges.push(Edge {
@@ -89,7 +74,18 @@ pub fn add_edge(problem: &Problem, branch: &mut Branch, relations: Relations, li
     }
     branch.trail.push(Change::Head(place, next));
     branch.heads.put(place, number);
-    spread(branch, relations, a, b);
+    let earlier = Ends {
+        row: branch.before(relations, a),
+        also: a,
+    };
+    let later = Ends {
+        row: branch.row(relations, b),
+        also: b,
+    };
+    let first_after = branch.row(relations, 0);
+    let first_before = branch.before(relations, 0);
+    widen_each(branch, earlier, first_after, later);
+    widen_each(branch, later, first_before, earlier);
     if matches!(relations, Relations::Coherence) {
         let loc = problem.location(a);
         branch.sets.join(DIRTY, &problem.readers_of, loc);
@@ -120,33 +116,25 @@ pub fn put_before(problem: &Problem, branch: &mut Branch, a: usize, b: usize, tr
 
 /// Notes what is after an event in its program, where what is after those is known.
 fn add_program(problem: &Problem, branch: &mut Branch, relations: Relations, a: usize) {
-    let row = problem.row(relations, a);
+    let row = branch.row(relations, a);
     branch.rows.join(row, &problem.program, row);
     let mut b = branch.rows.next(row, a);
-    for _later in a..problem.size {
+    for _event in a..problem.size {
         if b == NONE {
             break;
         }
         let before = branch.before(relations, b);
+        let later = branch.row(relations, b);
         branch.rows.add(before, a);
-        branch.rows.join_own(row, problem.row(relations, b));
+        branch.rows.join_own(row, later);
         b = branch.rows.next(row, b.wrapping_add(1));
-    }
-}
-
-/// What the program alone tells, from the last event on.
-fn spread_program(problem: &Problem, branch: &mut Branch) {
-    for a in (0..problem.size).rev() {
-        add_program(problem, branch, Relations::OnLocation, a);
-        add_program(problem, branch, Relations::Global, a);
-        add_program(problem, branch, Relations::Coherence, a);
     }
 }
 
 /// A write comes before those to its location that stand later in its program.
 fn put_before_later(problem: &Problem, branch: &mut Branch, a: usize) {
     let loc = problem.location(a);
-    let row = problem.row(Relations::OnLocation, a);
+    let row = branch.row(Relations::OnLocation, a);
     let mut b = problem.program.next(row, a);
     for _later in a..problem.size {
         if problem.is_write_to(loc, b) {
@@ -159,9 +147,13 @@ fn put_before_later(problem: &Problem, branch: &mut Branch, a: usize) {
     }
 }
 
-/// Puts what the program alone tells on a branch that has nothing yet.
+/// Puts what the program alone tells on a branch that has nothing yet: its edges, from the last event on, and then what follows.
 pub fn put_program(problem: &Problem, branch: &mut Branch) {
-    spread_program(problem, branch);
+    for a in (0..problem.size).rev() {
+        add_program(problem, branch, Relations::OnLocation, a);
+        add_program(problem, branch, Relations::Global, a);
+        add_program(problem, branch, Relations::Coherence, a);
+    }
     for a in problem.locations..problem.size {
         let event = problem.events.at(a);
         if event.writes {

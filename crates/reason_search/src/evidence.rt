@@ -47,35 +47,11 @@ pub fn reset(evidence: &mut Evidence, closing: Closing) {
     evidence.cost = NONE;
 }
 
-/// Makes the leaf one of a write between the parts of a locked instruction.
-pub fn put_between(evidence: &mut Evidence, load: usize, between: usize, store: usize) {
-    evidence.closing = Closing::Between;
-    evidence.cycle.cut(0);
-    evidence.cycle.push(load);
-    evidence.cycle.push(between);
-    evidence.cycle.push(store);
-}
-
 /// Adds a fact that the leaf uses.
 pub fn need(evidence: &mut Evidence, fact: usize) {
     if fact != NONE {
         evidence.facts.push(fact);
     }
-}
-
-/// How many facts a leaf uses that aren't used yet, and how long it is: a write between counts as a cycle of six.
-pub fn weigh(evidence: &mut Evidence, used: &Rows) {
-    let length = match evidence.closing {
-        Closing::Between => 6,
-        _ => evidence.cycle.len(),
-    };
-    let mut fresh = 0usize;
-    for i in 0..evidence.facts.len() {
-        if !used.has(0, evidence.facts.at(i)) {
-            fresh = fresh.wrapping_add(1);
-        }
-    }
-    evidence.cost = fresh.wrapping_mul(64).wrapping_add(length);
 }
 
 /// Adds what a leaf uses to what is used.

@@ -47,12 +47,6 @@ pub fn no_trees(alloc: Global) -> Trees {
     }
 }
 
-/// Takes all nodes away.
-pub fn clear(trees: &mut Trees) {
-    trees.twigs.cut(0);
-    trees.events.cut(0);
-}
-
 /// Adds a node with no branch yet: a question, which has no leaves then, or a leaf.
 pub fn add_node(trees: &mut Trees, growth: Growth, leaves: usize) -> usize {
     let number = trees.twigs.len();
@@ -123,30 +117,6 @@ fn cycle_of(
     cycle.into_items()
 }
 
-/// What stands at a node, as a refutation has it.
-fn node_of(
-    alloc: Global,
-    problem: &Problem,
-    trees: &Trees,
-    growth: Growth,
-) -> Result<Node, NoMemory> {
-    Ok(match growth {
-        Growth::ReadsFrom(r) => Node::ReadsFrom(problem.entry(r)),
-        Growth::ComesFirst(a, b) => Node::ComesFirst(problem.entry(a), problem.entry(b)),
-        Growth::Cycle(relations, start, length) => {
-            let cycle = cycle_of(alloc, problem, &trees.events, start, length)?;
-            match relations {
-                Relations::Global => Node::Globally(cycle),
-                _ => Node::OnLocation(cycle),
-            }
-        }
-        Growth::Between(r, v, w) => {
-            Node::Between(problem.entry(r), problem.entry(v), problem.entry(w))
-        }
-        Growth::False => Node::FalseClaim,
-    })
-}
-
 /// A tree that is proposed, and its nodes that aren't taken yet but for what stands below them.
 #[derive(Drop)]
 pub struct Proposal {
@@ -172,20 +142,8 @@ pub fn offer_tree(proposal: &mut Proposal, trees: &mut Trees, root: usize, leave
     fewer
 }
 
-/// Takes a node, and opens those that stand behind it.
-fn take(proposal: &mut Proposal) -> Growth {
-    let number = proposal.open.pop();
-    let twig = proposal.trees.twigs.at(number);
-    if twig.beside != NONE {
-        proposal.open.push(twig.beside);
-    }
-    if twig.child != NONE {
-        proposal.open.push(twig.child);
-    }
-    twig.growth
-}
-
-/// The next node of the tree that is proposed, where these are still to be taken, each before its branches.
+/// The next node of the tree that is proposed, where these are still to be taken, each before its branches. Those that stand behind it
+/// are opened.
 ///
 /// Errors: out of memory only.
 pub fn next_node(
@@ -196,9 +154,30 @@ pub fn next_node(
     if proposal.open.len() == 0 {
         return Ok(None);
     }
-    let growth = take(proposal);
+    let number = proposal.open.pop();
+    let twig = proposal.trees.twigs.at(number);
+    if twig.beside != NONE {
+        proposal.open.push(twig.beside);
+    }
+    if twig.child != NONE {
+        proposal.open.push(twig.child);
+    }
     if is_short(proposal) {
         return Err(NoMemory);
     }
-    Ok(Some(node_of(alloc, problem, &proposal.trees, growth)?))
+    Ok(Some(match twig.growth {
+        Growth::ReadsFrom(r) => Node::ReadsFrom(problem.entry(r)),
+        Growth::ComesFirst(a, b) => Node::ComesFirst(problem.entry(a), problem.entry(b)),
+        Growth::Cycle(relations, start, length) => {
+            let cycle = cycle_of(alloc, problem, &proposal.trees.events, start, length)?;
+            match relations {
+                Relations::Global => Node::Globally(cycle),
+                _ => Node::OnLocation(cycle),
+            }
+        }
+        Growth::Between(r, v, w) => {
+            Node::Between(problem.entry(r), problem.entry(v), problem.entry(w))
+        }
+        Growth::False => Node::FalseClaim,
+    }))
 }

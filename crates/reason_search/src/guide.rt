@@ -25,31 +25,27 @@ pub struct Guide {
     proposal: Proposal,
 }
 
-/// Looks for smaller trees than this one, a few times, each time at no more cases than that took.
-fn look_for_smaller(problem: &Problem, hunt: &mut Hunt, proposal: &mut Proposal, root: usize) {
-    let effort = hunt.cases.wrapping_add(20);
-    let mut leaves = offer_tree(proposal, &mut hunt.desk.trees, root, NONE);
-    for tries in 0..MOST_TRIES {
-        if leaves < 3 || tries.wrapping_mul(effort) > 4_000 || is_refused(hunt) {
-            break;
-        }
-        if let Find::Refuted(other) = hunt_again(problem, hunt, effort) {
-            leaves = offer_tree(proposal, &mut hunt.desk.trees, other, leaves);
-        }
-    }
-}
-
-/// Searches. Where all is closed, a tree is proposed.
+/// Searches. Where all is closed, a tree is proposed: the smallest of those that are found in a few tries, each at no more cases than
+/// the first one took.
 fn search(guide: &mut Guide) {
     if guide.problem.is_refused() {
         return;
     }
-    match hunt_for(&guide.problem, &mut guide.hunt, MOST_CASES) {
-        Find::Refuted(root) => {
-            look_for_smaller(&guide.problem, &mut guide.hunt, &mut guide.proposal, root);
+    let hunt = &mut guide.hunt;
+    let found = hunt_for(&guide.problem, hunt, MOST_CASES);
+    guide.is_allowed = matches!(found, Find::Allowed);
+    let Find::Refuted(root) = found else {
+        return;
+    };
+    let effort = hunt.cases.wrapping_add(20);
+    let mut leaves = offer_tree(&mut guide.proposal, &mut hunt.desk.trees, root, NONE);
+    for tries in 0..MOST_TRIES {
+        if leaves < 3 || tries.wrapping_mul(effort) > 4_000 || is_refused(hunt) {
+            break;
         }
-        Find::Allowed => guide.is_allowed = true,
-        Find::Paused => {}
+        if let Find::Refuted(other) = hunt_again(&guide.problem, hunt, effort) {
+            leaves = offer_tree(&mut guide.proposal, &mut hunt.desk.trees, other, leaves);
+        }
     }
 }
 

@@ -5,14 +5,18 @@ use crate::branch::{Branch, DIRTY, Mark, VALUED, look_at_all, make_branch, mark_
 use crate::chance::{Chance, FIRST_CHANCE};
 use crate::choosing::{Ask, choose};
 use crate::edges::{put_before, put_program};
-use crate::growing::clear;
-use crate::lists::NONE;
+use crate::evidence::make_evidence;
+use crate::growing::no_trees;
+use crate::lists::{List, NONE};
 use crate::looking::{deduce, put_source};
-use crate::offers::{Desk, make_desk};
+use crate::offers::Desk;
+use crate::paths::make_paths;
 use crate::problem::Problem;
 use crate::questions::{Frame, NO_FRAME, Questions, begin};
-use crate::reasoning::{add_conflict, add_source_question, add_tried_order, wrap};
+use crate::reasoning::{add_conflict, add_order_question, add_source_question, wrap};
+use crate::rows::Rows;
 use crate::values::{find_values, known_facts};
+use crate::weights::Weights;
 use std::alloc::Global;
 
 /// A search.
@@ -51,7 +55,17 @@ pub fn make_hunt(alloc: Global, problem: &Problem) -> Hunt {
     Hunt {
         start: mark_here(&branch),
         branch,
-        desk: make_desk(alloc, size, most_facts),
+        desk: Desk {
+            paths: make_paths(alloc, size),
+            inner: make_paths(alloc, size),
+            best: make_evidence(alloc),
+            trial: make_evidence(alloc),
+            trees: no_trees(alloc),
+            used: Rows::new(alloc, 1, most_facts),
+            above: 0,
+            branches: List::filled(alloc, size, NONE),
+            weights: Weights::new(alloc, size),
+        },
         questions: Questions::none(alloc),
         cases: 0,
         pause: 0,
@@ -63,21 +77,6 @@ pub fn make_hunt(alloc: Global, problem: &Problem) -> Hunt {
 /// Whether memory was refused.
 pub fn is_refused(hunt: &Hunt) -> bool {
     hunt.branch.is_refused() | hunt.desk.is_refused() | hunt.questions.is_refused()
-}
-
-/// Puts an answer on the branch. False where that closes it.
-fn put_answer(problem: &Problem, branch: &mut Branch, ask: Ask, answer: usize) -> bool {
-    match ask {
-        Ask::Source(r) => put_source(problem, branch, r, answer, true),
-        Ask::Order(a, b) => {
-            if answer == 0 {
-                put_before(problem, branch, b, a, true)
-            } else {
-                put_before(problem, branch, a, b, true)
-            }
-        }
-        Ask::Nothing => true,
-    }
 }
 
 /// What came of the next answer of a question.
@@ -92,30 +91,21 @@ enum Next {
 fn try_next(problem: &Problem, hunt: &mut Hunt, frame: &Frame) -> Next {
     let answer = hunt.questions.next_answer(frame);
     if answer == NONE {
-        Next::None
-    } else if put_answer(problem, &mut hunt.branch, frame.ask, answer) {
-        Next::Open
-    } else {
-        Next::Closed
+        return Next::None;
     }
+    let branch = &mut hunt.branch;
+    let is_open = match frame.ask {
+        Ask::Source(r) => put_source(problem, branch, r, answer, true),
+        Ask::Order(a, b) => {
+            let (first, second) = if answer == 0 { (b, a) } else { (a, b) };
+            put_before(problem, branch, first, second, true)
+        }
+        Ask::Nothing => true,
+    };
+    if is_open { Next::Open } else { Next::Closed }
 }
 
-/// The tree of a question all of whose answers are closed.
-fn finish(problem: &Problem, hunt: &mut Hunt, frame: &Frame) -> usize {
-    let desk = &mut hunt.desk;
-    desk.used.clear(0);
-    hunt.questions.use_again(frame, &mut desk.used);
-    hunt.questions.put_trees(frame, &mut desk.branches);
-    hunt.questions.take_back(frame);
-    desk.above = hunt.branch.facts.len();
-    match frame.ask {
-        Ask::Source(r) => add_source_question(problem, &mut hunt.branch, desk, r),
-        Ask::Order(a, b) => add_tried_order(desk, a, b),
-        Ask::Nothing => NONE,
-    }
-}
-
-/// Goes back to the last question with the tree of its answer. The question's tree, where that is known; else `NONE`.
+/// Goes back to the last question with the tree of its answer. The question's tree, where all its answers are closed; else `NONE`.
 fn go_back_one(problem: &Problem, hunt: &mut Hunt, frame: &Frame, tree: usize) -> usize {
     undo(&mut hunt.branch, &frame.mark);
     if !hunt.desk.used.has(0, frame.mark.facts) {
@@ -125,9 +115,25 @@ fn go_back_one(problem: &Problem, hunt: &mut Hunt, frame: &Frame, tree: usize) -
     }
     hunt.questions.keep(frame, tree, &hunt.desk.used);
     match try_next(problem, hunt, frame) {
-        Next::Open => NONE,
-        Next::Closed => add_conflict(problem, &mut hunt.branch, &mut hunt.desk),
-        Next::None => finish(problem, hunt, frame),
+        Next::Open => return NONE,
+        Next::Closed => return add_conflict(problem, &mut hunt.branch, &mut hunt.desk),
+        Next::None => {}
+    }
+    let desk = &mut hunt.desk;
+    hunt.questions
+        .put_trees(frame, &mut desk.branches, &mut desk.used);
+    hunt.questions.take_back(frame);
+    desk.above = hunt.branch.facts.len();
+    match frame.ask {
+        Ask::Source(r) => add_source_question(problem, &mut hunt.branch, desk, r),
+        Ask::Order(a, b) => {
+            let second = desk.branches.at(0);
+            let first = desk.branches.at(1);
+            desk.branches.put(0, NONE);
+            desk.branches.put(1, NONE);
+            add_order_question(desk, a, b, first, second)
+        }
+        Ask::Nothing => NONE,
     }
 }
 
@@ -152,24 +158,6 @@ fn go_back(problem: &Problem, hunt: &mut Hunt) -> usize {
     NONE
 }
 
-/// Asks the next question, and tries its first answer. What came of it; none where no question is open.
-fn ask_next(problem: &Problem, hunt: &mut Hunt) -> Next {
-    let ask = choose(problem, &hunt.branch, &hunt.desk.weights, hunt.round);
-    if matches!(ask, Ask::Nothing) {
-        return Next::None;
-    }
-    let by_chance = hunt.round != 0;
-    let frame = begin(
-        problem,
-        &hunt.branch,
-        &mut hunt.questions,
-        &mut hunt.chance,
-        ask,
-        by_chance,
-    );
-    try_next(problem, hunt, &frame)
-}
-
 /// Notes what every read returns, as the order of an execution has it.
 fn find_all_values(problem: &Problem, branch: &mut Branch) {
     for loc in 0..problem.locations {
@@ -187,13 +175,22 @@ fn search(problem: &Problem, hunt: &mut Hunt) -> Find {
             return Find::Paused;
         }
         if deduce(problem, &mut hunt.branch) {
-            match ask_next(problem, hunt) {
-                Next::Open => continue,
-                Next::None => {
-                    find_all_values(problem, &mut hunt.branch);
-                    return Find::Allowed;
-                }
-                Next::Closed => {}
+            let ask = choose(problem, &hunt.branch, &hunt.desk.weights, hunt.round);
+            if matches!(ask, Ask::Nothing) {
+                find_all_values(problem, &mut hunt.branch);
+                return Find::Allowed;
+            }
+            let by_chance = hunt.round != 0;
+            let frame = begin(
+                problem,
+                &hunt.branch,
+                &mut hunt.questions,
+                &mut hunt.chance,
+                ask,
+                by_chance,
+            );
+            if !matches!(try_next(problem, hunt, &frame), Next::Closed) {
+                continue;
             }
         }
         let tree = go_back(problem, hunt);
@@ -209,7 +206,8 @@ pub fn start_anew(hunt: &mut Hunt) {
     undo(&mut hunt.branch, &hunt.start);
     look_at_all(&mut hunt.branch);
     hunt.questions.take_back(&NO_FRAME);
-    clear(&mut hunt.desk.trees);
+    hunt.desk.trees.twigs.cut(0);
+    hunt.desk.trees.events.cut(0);
     hunt.round = hunt.round.wrapping_add(1);
 }
 

@@ -10,40 +10,22 @@ use crate::problem::{Problem, RELEVANT, Relations, STORED};
 use crate::rows::{bit, lowest};
 use crate::values::{find_values, is_false, is_wrong_source, is_wrong_value, known_facts};
 
-/// Marks what may have as its source a write whose value hangs on a read.
-fn look_at_dependents(problem: &Problem, branch: &mut Branch, r: usize) {
-    for w in problem.locations..problem.size {
-        let term = problem.terms.at(w);
-        let event = problem.events.at(w);
+/// Marks what may have as its source a write whose value hangs on a read; and where `all` says so, each read with no source on whose
+/// value what is asked may hang.
+fn look_at_dependents(problem: &Problem, branch: &mut Branch, r: usize, all: bool) {
+    for a in problem.locations..problem.size {
+        let term = problem.terms.at(a);
+        let event = problem.events.at(a);
         if event.writes && (term.first == r || term.second == r) {
             branch.sets.join(DIRTY, &problem.readers_of, event.location);
         }
-    }
-}
-
-/// Marks the reads with no source on whose values what is asked may hang as to be looked at.
-fn look_at_relevant(problem: &Problem, branch: &mut Branch) {
-    for r in problem.locations..problem.size {
-        if problem.reads.has(RELEVANT, r) && branch.source.at(r) == NONE {
-            branch.sets.add(DIRTY, r);
+        if all && problem.reads.has(RELEVANT, a) && branch.source.at(a) == NONE {
+            branch.sets.add(DIRTY, a);
         }
     }
 }
 
-/// Marks what the value of a read may change, which has this source now.
-fn look_at_value(problem: &Problem, branch: &mut Branch, r: usize, w: usize) {
-    if problem.reads.has(STORED, r) {
-        look_at_dependents(problem, branch, r);
-    }
-    let hangs = problem.terms.at(w).first != NONE;
-    if hangs && problem.reads.has(RELEVANT, r) {
-        look_at_relevant(problem, branch);
-    }
-    // What no other value hangs on was tested as a source.
-    branch.claim_is_dirty |= hangs || problem.reads.has(STORED, r);
-}
-
-/// A read has this source. False where that closes a cycle.
+/// A read has this source; what its value may change is to be looked at. False where that closes a cycle.
 pub fn put_source(problem: &Problem, branch: &mut Branch, r: usize, w: usize, tried: bool) -> bool {
     let fact = add_fact(branch, Answer::Source(r, w), tried);
     let link = Link {
@@ -55,7 +37,14 @@ pub fn put_source(problem: &Problem, branch: &mut Branch, r: usize, w: usize, tr
     branch.trail.push(Change::Source(r));
     branch.source.put(r, fact);
     branch.sets.add(DIRTY, r);
-    look_at_value(problem, branch, r, w);
+    let is_stored = problem.reads.has(STORED, r);
+    let hangs = problem.terms.at(w).first != NONE;
+    let all = hangs && problem.reads.has(RELEVANT, r);
+    if is_stored || all {
+        look_at_dependents(problem, branch, r, all);
+    }
+    // What no other value hangs on was tested as a source.
+    branch.claim_is_dirty |= hangs || is_stored;
     add_edge(problem, branch, Relations::OnLocation, link)
         && (!problem.is_global_source(w, r) || add_edge(problem, branch, Relations::Global, link))
 }
@@ -71,22 +60,6 @@ enum Put {
     FromRead(usize),
 }
 
-fn put_one(problem: &Problem, branch: &mut Branch, put: Put, v: usize) -> bool {
-    match put {
-        Put::Before(w) => v == w || put_before(problem, branch, v, w, false),
-        Put::After(w) => v == w || put_before(problem, branch, w, v, false),
-        Put::FromRead(r) => {
-            let link = Link {
-                from: r,
-                to: v,
-                fact: branch.source.at(r),
-                is_from_read: true,
-            };
-            add_edges(problem, branch, link)
-        }
-    }
-}
-
 /// Puts each write of a word in its place. False where that closes the branch.
 fn put_each(problem: &Problem, branch: &mut Branch, put: Put, k: usize, some: u64) -> bool {
     let mut left = some;
@@ -96,7 +69,20 @@ fn put_each(problem: &Problem, branch: &mut Branch, put: Put, k: usize, some: u6
         }
         let v = lowest(k, left);
         left &= left.wrapping_sub(1);
-        if !put_one(problem, branch, put, v) {
+        let is_open = match put {
+            Put::Before(w) => v == w || put_before(problem, branch, v, w, false),
+            Put::After(w) => v == w || put_before(problem, branch, w, v, false),
+            Put::FromRead(r) => {
+                let link = Link {
+                    from: r,
+                    to: v,
+                    fact: branch.source.at(r),
+                    is_from_read: true,
+                };
+                add_edges(problem, branch, link)
+            }
+        };
+        if !is_open {
             return false;
         }
     }
@@ -166,38 +152,27 @@ fn put_before_source(
     problem.is_initial(s) || put_each(problem, branch, Put::Before(s), k, earlier & them & !known)
 }
 
-/// What follows for the writes of a word at a read whose source is known.
-fn look_at_writes(
-    problem: &Problem,
-    branch: &mut Branch,
-    r: usize,
-    s: usize,
-    own: usize,
-    k: usize,
-) -> bool {
-    let loc = problem.location(r);
-    let them = problem.writes_to.word(loc, k);
-    let later = branch.word_after(Relations::Coherence, s, k);
-    let passed = branch.word_after(Relations::OnLocation, r, k)
-        & branch.word_after(Relations::Global, r, k);
-    put_each(problem, branch, Put::FromRead(r), k, later & !passed & them)
-        && put_before_source(problem, branch, s, word_earlier(branch, r, k), k, them)
-        && (own == NONE || keep_together(problem, branch, s, own, k, them))
-}
-
 /// What follows at a read whose source is known.
 fn look_at_known(problem: &Problem, branch: &mut Branch, r: usize, s: usize) -> bool {
+    let loc = problem.location(r);
     let own = problem.partner(r);
     for k in 0..branch.rows.width {
-        if !look_at_writes(problem, branch, r, s, own, k) {
+        let them = problem.writes_to.word(loc, k);
+        let later = branch.word_after(Relations::Coherence, s, k);
+        let passed = branch.word_after(Relations::OnLocation, r, k)
+            & branch.word_after(Relations::Global, r, k);
+        let is_open = put_each(problem, branch, Put::FromRead(r), k, later & !passed & them)
+            && put_before_source(problem, branch, s, word_earlier(branch, r, k), k, them)
+            && (own == NONE || keep_together(problem, branch, s, own, k, them));
+        if !is_open {
             return false;
         }
     }
     true
 }
 
-/// Notes the writes to its location that are known to come before a read, or its store part.
-fn note_earlier(problem: &Problem, branch: &mut Branch, r: usize) {
+/// Notes the writes to its location that are known to come before a read, or its store part, and then those before one of them.
+fn note_parted(problem: &Problem, branch: &mut Branch, r: usize) {
     let loc = problem.location(r);
     let own = problem.partner(r);
     for k in 0..branch.rows.width {
@@ -208,11 +183,6 @@ fn note_earlier(problem: &Problem, branch: &mut Branch, r: usize) {
         let writes = problem.writes_to.word(loc, k);
         branch.sets.put_word(EARLIER, k, earlier & writes);
     }
-}
-
-/// Notes the writes after which another one is known to come before a read, or its store part.
-fn note_parted(problem: &Problem, branch: &mut Branch, r: usize) {
-    note_earlier(problem, branch, r);
     branch.sets.clear(PARTED);
     let mut w = branch.sets.next(EARLIER, 0);
     for _write in 0..problem.size {
@@ -223,18 +193,6 @@ fn note_parted(problem: &Problem, branch: &mut Branch, r: usize) {
         branch.sets.join(PARTED, &branch.rows, before);
         w = branch.sets.next(EARLIER, w.wrapping_add(1));
     }
-}
-
-/// A word of what a read can't read from, since it is known to be before it.
-fn word_too_late(problem: &Problem, branch: &Branch, r: usize, k: usize) -> u64 {
-    let own = if problem.sequential {
-        0
-    } else {
-        let core = usize::from(problem.core(r));
-        problem.events_of.word(core, k)
-    };
-    branch.word_after(Relations::OnLocation, r, k)
-        | branch.word_after(Relations::Global, r, k) & !own
 }
 
 /// Takes sources of a word from a read.
@@ -267,13 +225,22 @@ fn take_by_value(problem: &Problem, branch: &mut Branch, r: usize, k: usize) {
     }
 }
 
-/// Takes from a read all sources that it can't have, for what is known of the order, and for their values.
-fn take_all(problem: &Problem, branch: &mut Branch, r: usize) {
+/// What follows at a read whose source is open: it can't have those that it is known to be before, nor any but the last before it, nor
+/// those of a wrong value.
+fn look_at_open(problem: &Problem, branch: &mut Branch, r: usize) -> bool {
     note_parted(problem, branch, r);
+    let row = branch.candidates(r);
+    let core = usize::from(problem.core(r));
     let is_tested = !branch.sets.has(UNTESTED, r);
     for k in 0..branch.rows.width {
-        let barred = word_too_late(problem, branch, r, k) | branch.sets.word(PARTED, k);
-        let taken = branch.rows.word(branch.candidates(r), k) & barred;
+        let own = if problem.sequential {
+            0
+        } else {
+            problem.events_of.word(core, k)
+        };
+        let later = branch.word_after(Relations::OnLocation, r, k)
+            | branch.word_after(Relations::Global, r, k) & !own;
+        let taken = branch.rows.word(row, k) & (later | branch.sets.word(PARTED, k));
         if taken != 0 {
             take_sources(problem, branch, r, k, taken);
         }
@@ -282,12 +249,6 @@ fn take_all(problem: &Problem, branch: &mut Branch, r: usize) {
         }
     }
     branch.sets.remove(UNTESTED, r);
-}
-
-/// What follows at a read whose source is open.
-fn look_at_open(problem: &Problem, branch: &mut Branch, r: usize) -> bool {
-    take_all(problem, branch, r);
-    let row = branch.candidates(r);
     match branch.rows.count(row) {
         0 => {
             branch.conflict = Conflict::NoSource(r);
@@ -305,7 +266,7 @@ fn look_at_open(problem: &Problem, branch: &mut Branch, r: usize) -> bool {
 pub fn next_last(problem: &Problem, branch: &Branch, loc: usize, from: usize) -> usize {
     for a in from..problem.size {
         if problem.is_write_to(loc, a)
-            && branch.rows.next(problem.row(Relations::Coherence, a), 0) == NONE
+            && branch.rows.next(branch.row(Relations::Coherence, a), 0) == NONE
             && !is_wrong_value(problem, branch, loc, a)
         {
             return a;
@@ -350,20 +311,7 @@ fn look_at_one(problem: &Problem, branch: &mut Branch, a: usize) -> bool {
     }
 }
 
-/// Notes the values that are known. False where what is asked is false by them.
-fn look_at_claim(problem: &Problem, branch: &mut Branch) -> bool {
-    branch.claim_is_dirty = false;
-    let known = known_facts(branch.facts.len());
-    find_values(problem, branch, known);
-    branch.sets.join(UNTESTED, &problem.reads, RELEVANT);
-    let is_false = is_false(problem, branch, known);
-    if is_false {
-        branch.conflict = Conflict::False;
-    }
-    !is_false
-}
-
-/// Notes all that follows. False where the branch is closed.
+/// Notes all that follows, first of all the values that are known. False where the branch is closed.
 pub fn deduce(problem: &Problem, branch: &mut Branch) -> bool {
     for _step in 0..u64::MAX {
         if branch.facts.is_refused {
@@ -371,7 +319,12 @@ pub fn deduce(problem: &Problem, branch: &mut Branch) -> bool {
             return true;
         }
         if branch.claim_is_dirty {
-            if !look_at_claim(problem, branch) {
+            branch.claim_is_dirty = false;
+            let known = known_facts(branch.facts.len());
+            find_values(problem, branch, known);
+            branch.sets.join(UNTESTED, &problem.reads, RELEVANT);
+            if is_false(problem, branch, known) {
+                branch.conflict = Conflict::False;
                 return false;
             }
             continue;

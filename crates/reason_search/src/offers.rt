@@ -2,20 +2,15 @@
 //! answers.
 
 use crate::branch::Branch;
-use crate::evidence::{
-    Closing, Evidence, lacks_memory, make_evidence, need, put_between, reset, weigh,
-};
+use crate::evidence::{Closing, Evidence, lacks_memory, need, reset};
 use crate::facts::{Edge, Link, Turned};
-use crate::growing::{Trees, no_trees};
+use crate::growing::Trees;
 use crate::lists::{List, NONE};
-use crate::paths::{
-    Edges, Paths, STARTS, begin, find, lack_memory, make_paths, start_from, start_from_later,
-};
+use crate::paths::{Edges, Paths, STARTS, begin, find, lack_memory, start_from, start_from_later};
 use crate::problem::{Problem, Relations};
 use crate::rows::Rows;
 use crate::values::{Known, known_facts, need_falsity};
 use crate::weights::Weights;
-use std::alloc::Global;
 use std::mem::swap;
 
 /// What reasons are made with.
@@ -50,21 +45,6 @@ impl Desk {
     }
 }
 
-/// What reasons are made with, for at most so many facts.
-pub fn make_desk(alloc: Global, size: usize, facts: usize) -> Desk {
-    Desk {
-        paths: make_paths(alloc, size),
-        inner: make_paths(alloc, size),
-        best: make_evidence(alloc),
-        trial: make_evidence(alloc),
-        trees: no_trees(alloc),
-        used: Rows::new(alloc, 1, facts),
-        above: 0,
-        branches: List::filled(alloc, size, NONE),
-        weights: Weights::new(alloc, size),
-    }
-}
-
 /// A path: its ends, and the edges that it may use.
 #[derive(Clone, Copy)]
 struct Way {
@@ -82,8 +62,8 @@ struct Parting {
     second: usize,
 }
 
-/// Adds to the leaf in hand the facts that one write comes before another one.
-fn need_order(
+/// Adds to the leaf in hand the facts that one write comes before another one, and to its cycle the writes that stand between them.
+pub fn show_order(
     problem: &Problem,
     branch: &Branch,
     desk: &mut Desk,
@@ -97,26 +77,15 @@ fn need_order(
     };
     begin(&mut desk.inner);
     start_from(&mut desk.inner, a);
-    if find(problem, branch, &mut desk.inner, edges, b) {
-        for i in 0..desk.inner.path.len() {
-            let edge = branch.edges.at(desk.inner.path.at(i).edge);
-            need(&mut desk.trial, edge.link.fact);
-        }
+    if !find(problem, branch, &mut desk.inner, edges, b) {
+        return;
     }
-}
-
-/// The same, and adds to the cycle the writes that stand between them.
-pub fn show_order(
-    problem: &Problem,
-    branch: &Branch,
-    desk: &mut Desk,
-    a: usize,
-    b: usize,
-    limit: usize,
-) {
-    need_order(problem, branch, desk, a, b, limit);
-    for i in 1..desk.inner.path.len() {
-        desk.trial.cycle.push(desk.inner.path.from_end(i).from);
+    for i in 0..desk.inner.path.len() {
+        let step = desk.inner.path.from_end(i);
+        need(&mut desk.trial, branch.edges.at(step.edge).link.fact);
+        if i != 0 {
+            desk.trial.cycle.push(step.from);
+        }
     }
 }
 
@@ -127,18 +96,6 @@ fn need_edge(problem: &Problem, branch: &Branch, desk: &mut Desk, edge: Edge, li
         let s = branch.source_of(edge.link.from);
         show_order(problem, branch, desk, s, edge.link.to, limit);
     }
-}
-
-/// Adds the path that was found.
-fn follow(problem: &Problem, branch: &Branch, desk: &mut Desk, to: usize) {
-    for i in 0..desk.paths.path.len() {
-        let step = desk.paths.path.from_end(i);
-        desk.trial.cycle.push(step.from);
-        if step.edge != NONE {
-            need_edge(problem, branch, desk, branch.edges.at(step.edge), step.edge);
-        }
-    }
-    desk.trial.cycle.push(to);
 }
 
 /// Takes in hand the leaf of a cycle that an edge closes.
@@ -160,9 +117,20 @@ pub fn close_cycle(problem: &Problem, branch: &Branch, desk: &mut Desk, edge: Ed
     need_edge(problem, branch, desk, edge, limit);
 }
 
-/// Offers the leaf in hand: the better one is the best then.
+/// Offers the leaf in hand: the better one is the best then. It costs as much as it uses facts that aren't used yet, and is long: a
+/// write between counts as a cycle of six.
 fn offer(desk: &mut Desk) {
-    weigh(&mut desk.trial, &desk.used);
+    let length = match desk.trial.closing {
+        Closing::Between => 6,
+        _ => desk.trial.cycle.len(),
+    };
+    let mut fresh = 0usize;
+    for i in 0..desk.trial.facts.len() {
+        if !desk.used.has(0, desk.trial.facts.at(i)) {
+            fresh = fresh.wrapping_add(1);
+        }
+    }
+    desk.trial.cost = fresh.wrapping_mul(64).wrapping_add(length);
     if desk.trial.cost < desk.best.cost {
         swap(&mut desk.trial, &mut desk.best);
     }
@@ -180,7 +148,14 @@ fn take_cycle(
         return false;
     }
     reset(&mut desk.trial, Closing::Cycle(edges.relations));
-    follow(problem, branch, desk, to);
+    for i in 0..desk.paths.path.len() {
+        let step = desk.paths.path.from_end(i);
+        desk.trial.cycle.push(step.from);
+        if step.edge != NONE {
+            need_edge(problem, branch, desk, branch.edges.at(step.edge), step.edge);
+        }
+    }
+    desk.trial.cycle.push(to);
     true
 }
 
@@ -193,7 +168,11 @@ fn take_path(problem: &Problem, branch: &Branch, desk: &mut Desk, way: Way) -> b
 
 /// Makes the leaf in hand one of a write between two parts, and offers it.
 fn offer_write_between(problem: &Problem, desk: &mut Desk, r: usize, v: usize) {
-    put_between(&mut desk.trial, r, v, problem.partner(r));
+    desk.trial.closing = Closing::Between;
+    desk.trial.cycle.cut(0);
+    desk.trial.cycle.push(r);
+    desk.trial.cycle.push(v);
+    desk.trial.cycle.push(problem.partner(r));
     offer(desk);
 }
 
@@ -259,21 +238,14 @@ fn offer_between(
     }
     if take_cycle(problem, branch, desk, edges, own) {
         let x = desk.trial.cycle.at(0);
-        need_order(problem, branch, desk, s, x, limit);
+        show_order(problem, branch, desk, s, x, limit);
         offer_write_between(problem, desk, r, x);
-    }
-}
-
-/// Offers that what is asked is false by the values that are known.
-fn offer_false(problem: &Problem, branch: &mut Branch, desk: &mut Desk, known: Known) {
-    if need_falsity(problem, branch, known, &mut desk.trial) {
-        offer(desk);
     }
 }
 
 /// Finds the best reason why a read can't have a source.
 pub fn find_why_not(problem: &Problem, branch: &mut Branch, desk: &mut Desk, r: usize, s: usize) {
-    let removed = branch.removed_at(problem, r, s);
+    let removed = branch.moment(problem, r, s);
     let limit = removed.edges;
     let known = Known {
         read: r,
@@ -289,7 +261,9 @@ pub fn find_why_not(problem: &Problem, branch: &mut Branch, desk: &mut Desk, r: 
         limit,
     };
     reset(&mut desk.best, Closing::None);
-    offer_false(problem, branch, desk, known);
+    if need_falsity(problem, branch, known, &mut desk.trial) {
+        offer(desk);
+    }
     offer_orders(problem, branch, desk, on_location, r, s);
     offer_orders(problem, branch, desk, global, r, s);
     if problem.partner(r) != NONE {
@@ -335,7 +309,9 @@ pub fn find_why_before(problem: &Problem, branch: &mut Branch, desk: &mut Desk, 
             first: turned.second,
             ..known_facts(turned.fact)
         };
-        offer_false(problem, branch, desk, known);
+        if need_falsity(problem, branch, known, &mut desk.trial) {
+            offer(desk);
+        }
     }
     for r in problem.locations..problem.size {
         if branch.source.at(r) < turned.fact && problem.location(r) == loc {

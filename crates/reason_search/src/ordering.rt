@@ -43,25 +43,19 @@ fn is_waiting(problem: &Problem, branch: &Branch, placing: &Placing, a: usize) -
     is_fenced(problem, placing, a)
 }
 
-/// The value of an event. A fence has 0.
-fn event_value(problem: &Problem, branch: &Branch, a: usize) -> u32 {
-    let value = if problem.events.at(a).reads {
+/// Places an event with its value. A fence has 0.
+fn place(problem: &Problem, branch: &Branch, placing: &mut Placing, a: usize) {
+    let event = problem.events.at(a);
+    let value = if event.reads {
         branch.values.at(a)
     } else {
         written(problem, branch, a)
     };
-    if value == NONE {
-        0
-    } else {
-        (value % 4_294_967_296) as u32
-    }
-}
-
-fn place(problem: &Problem, branch: &Branch, placing: &mut Placing, a: usize) {
+    let value = if value == NONE { 0 } else { value };
     placing.left.remove(0, a);
     placing.order.push(Entry {
-        value: event_value(problem, branch, a),
-        ..problem.entry(a)
+        value: (value % 4_294_967_296) as u32,
+        ..event.entry
     });
 }
 

@@ -87,7 +87,7 @@ fn reach(paths: &mut Paths, step: Step, to: usize) {
 }
 
 fn reach_by_program(problem: &Problem, paths: &mut Paths, relations: Relations, a: usize) {
-    let row = problem.row(relations, a);
+    let row = relations.row(problem.size, a);
     let step = Step {
         from: a,
         edge: NONE,

@@ -145,15 +145,9 @@ impl Problem {
         self.sequential || self.core(w) != self.core(r)
     }
 
-    /// The row of what is after an event.
-    pub fn row(&self, relations: Relations, a: usize) -> usize {
-        relations.row(self.size, a)
-    }
-
     /// Adds an edge that the program tells.
     pub fn add_edge(&mut self, relations: Relations, a: usize, b: usize) {
-        let row = self.row(relations, a);
-        self.program.add(row, b);
+        self.program.add(relations.row(self.size, a), b);
     }
 
     /// Whether memory was refused.
@@ -187,21 +181,6 @@ pub fn add_reads(rows: &mut Rows, row: usize, term: Term) {
     rows.add(row, term.second);
 }
 
-/// The event with this number.
-fn event_of(i: usize, entry: Entry) -> Event {
-    Event {
-        entry,
-        location: usize::from(entry.loc.0),
-        reads: is_read(&entry),
-        writes: is_write(&entry),
-        partner: match entry.kind {
-            Kind::LR => i.wrapping_add(1),
-            Kind::LW => i.wrapping_sub(1),
-            _ => NONE,
-        },
-    }
-}
-
 /// Notes the events, after the initial writes.
 fn add_events(problem: &mut Problem, events: &[Entry]) {
     for location in 0..problem.locations {
@@ -212,7 +191,17 @@ fn add_events(problem: &mut Problem, events: &[Entry]) {
     }
     for entry in events {
         let i = problem.events.len();
-        problem.events.push(event_of(i, *entry));
+        problem.events.push(Event {
+            entry: *entry,
+            location: usize::from(entry.loc.0),
+            reads: is_read(entry),
+            writes: is_write(entry),
+            partner: match entry.kind {
+                Kind::LR => i.wrapping_add(1),
+                Kind::LW => i.wrapping_sub(1),
+                _ => NONE,
+            },
+        });
         problem.events_of.add(usize::from(entry.core.0), i);
     }
 }
@@ -309,10 +298,11 @@ fn run_cores(terms: &mut List<Term>, registers: &mut List<Term>, test: &Test) {
     }
 }
 
-/// A problem of so many locations and events that aren't noted yet.
-fn bare_problem(alloc: Global, locations: usize, events: usize, model: Model) -> Problem {
-    let size = locations.wrapping_add(events);
-    Problem {
+/// What a search for a reason works on.
+pub fn make_problem(alloc: Global, test: &Test, events: &[Entry], model: Model) -> Problem {
+    let locations = usize::from(test.locations());
+    let size = locations.wrapping_add(events.len());
+    let mut problem = Problem {
         size,
         locations,
         sequential: matches!(model, Model::Sequential),
@@ -328,13 +318,7 @@ fn bare_problem(alloc: Global, locations: usize, events: usize, model: Model) ->
         parts_on: List::filled(alloc, size, NONE),
         other_parts: List::new(alloc, NONE),
         reads: Rows::new(alloc, 2, size),
-    }
-}
-
-/// What a search for a reason works on.
-pub fn make_problem(alloc: Global, test: &Test, events: &[Entry], model: Model) -> Problem {
-    let locations = usize::from(test.locations());
-    let mut problem = bare_problem(alloc, locations, events.len(), model);
+    };
     let mut registers = List::new(alloc, bare_number(0));
     run_cores(&mut problem.terms, &mut registers, test);
     // What is asked hangs on both lists, and this one ends here.

@@ -3,32 +3,26 @@
 use crate::lists::NONE;
 use crate::problem::{Problem, Relations};
 
-/// Adds the edges between two accesses of one program that program order tells: all but that of a plain store and a later plain load,
-/// with no fence between them.
-fn add_pair(problem: &mut Problem, a: usize, b: usize, is_fenced: bool) {
-    let x = problem.events.at(a);
-    let y = problem.events.at(b);
-    if x.location == y.location {
-        problem.add_edge(Relations::OnLocation, a, b);
-    }
-    let passes = x.writes && y.reads && x.partner == NONE && y.partner == NONE;
-    if is_fenced || problem.sequential || !passes {
-        problem.add_edge(Relations::Global, a, b);
-    }
-}
-
-/// Adds the edges from an access to those that stand later in its program.
+/// Adds the edges from an access to those that stand later in its program, as program order tells them: all but that of a plain store
+/// and a later plain load, with no fence between them.
 fn add_later(problem: &mut Problem, a: usize) {
-    let core = problem.core(a);
-    let mut is_fenced = false;
+    let x = problem.events.at(a);
+    let mut is_fenced = problem.sequential;
     for b in a.wrapping_add(1)..problem.size {
-        if problem.core(b) != core {
+        let y = problem.events.at(b);
+        if y.entry.core.0 != x.entry.core.0 {
             break;
         }
         if problem.is_fence(b) {
             is_fenced = true;
-        } else {
-            add_pair(problem, a, b, is_fenced);
+            continue;
+        }
+        if x.location == y.location {
+            problem.add_edge(Relations::OnLocation, a, b);
+        }
+        let passes = x.writes && y.reads && x.partner == NONE && y.partner == NONE;
+        if is_fenced || !passes {
+            problem.add_edge(Relations::Global, a, b);
         }
     }
 }

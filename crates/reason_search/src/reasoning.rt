@@ -4,7 +4,7 @@
 use crate::branch::{Branch, Conflict};
 use crate::closing::{add_best, add_false, add_trial, ask_order};
 use crate::evidence::use_facts;
-use crate::facts::{Answer, Fact, Turned};
+use crate::facts::{Answer, Turned};
 use crate::growing::{Growth, add_node, put_branch};
 use crate::lists::NONE;
 use crate::offers::{Desk, close_cycle, find_why_before, find_why_not};
@@ -19,7 +19,7 @@ fn close_source(problem: &Problem, branch: &mut Branch, desk: &mut Desk, r: usiz
             first: NONE,
             second: NONE,
             fact: NONE,
-            edges: branch.removed_at(problem, r, s).edges,
+            edges: branch.moment(problem, r, s).edges,
         };
         let tree = add_best(problem, branch, desk, s, nothing);
         desk.branches.put(s, tree);
@@ -58,19 +58,16 @@ pub fn add_source_question(
 }
 
 /// The question which of two writes comes first, with both trees.
-fn add_order_question(desk: &mut Desk, a: usize, b: usize, first: usize, second: usize) -> usize {
+pub fn add_order_question(
+    desk: &mut Desk,
+    a: usize,
+    b: usize,
+    first: usize,
+    second: usize,
+) -> usize {
     desk.weights.heed(a);
     desk.weights.heed(b);
     ask_order(desk, a, b, second, first)
-}
-
-/// The same, with the trees of both answers, which stand in `branches`: that of 0 where the second write comes first.
-pub fn add_tried_order(desk: &mut Desk, a: usize, b: usize) -> usize {
-    let second = desk.branches.at(0);
-    let first = desk.branches.at(1);
-    desk.branches.put(0, NONE);
-    desk.branches.put(1, NONE);
-    add_order_question(desk, a, b, first, second)
 }
 
 /// The tree where the order that a fact tells is turned.
@@ -92,7 +89,7 @@ fn add_closed_cycle(
     let number = edge.link.fact;
     let fact = branch.facts.at(number);
     if let Answer::Before(first, second) = fact.answer {
-        let known = branch.pair(problem, second, first);
+        let known = branch.moment(problem, second, first).facts;
         if known != NONE && !fact.tried {
             let turned = Turned {
                 first,
@@ -109,16 +106,6 @@ fn add_closed_cycle(
     add_trial(desk, edge.relations)
 }
 
-/// The leaf where what is asked is false by the values that answers tell.
-fn add_falsity(problem: &Problem, branch: &mut Branch, desk: &mut Desk) -> usize {
-    let known = known_facts(branch.facts.len());
-    if !need_falsity(problem, branch, known, &mut desk.trial) {
-        return add_false(desk);
-    }
-    use_facts(&desk.trial, &mut desk.used);
-    add_node(&mut desk.trees, Growth::False, 1)
-}
-
 /// The tree of a branch that is closed. What it uses is used then, and nothing else.
 pub fn add_conflict(problem: &Problem, branch: &mut Branch, desk: &mut Desk) -> usize {
     desk.used.clear(0);
@@ -127,37 +114,15 @@ pub fn add_conflict(problem: &Problem, branch: &mut Branch, desk: &mut Desk) -> 
     match branch.conflict {
         Conflict::Cycle(edge) => add_closed_cycle(problem, branch, desk, edge),
         Conflict::NoSource(r) => add_source_question(problem, branch, desk, r),
-        Conflict::False => add_falsity(problem, branch, desk),
+        Conflict::False => {
+            let known = known_facts(branch.facts.len());
+            if !need_falsity(problem, branch, known, &mut desk.trial) {
+                return add_false(desk);
+            }
+            use_facts(&desk.trial, &mut desk.used);
+            add_node(&mut desk.trees, Growth::False, 1)
+        }
         Conflict::Open => add_false(desk),
-    }
-}
-
-/// Puts a fact above a tree that uses it.
-fn wrap_one(
-    problem: &Problem,
-    branch: &mut Branch,
-    desk: &mut Desk,
-    number: usize,
-    fact: Fact,
-    tree: usize,
-) -> usize {
-    desk.above = number;
-    desk.used.remove(0, number);
-    match fact.answer {
-        Answer::Source(r, s) => {
-            desk.branches.put(s, tree);
-            add_source_question(problem, branch, desk, r)
-        }
-        Answer::Before(first, second) => {
-            let turned = Turned {
-                first,
-                second,
-                fact: number,
-                edges: fact.edges,
-            };
-            let other = add_other(problem, branch, desk, turned);
-            add_order_question(desk, first, second, tree, other)
-        }
     }
 }
 
@@ -172,9 +137,27 @@ pub fn wrap(
     let mut whole = tree;
     for number in (from..branch.facts.len()).rev() {
         let fact = branch.facts.at(number);
-        if desk.used.has(0, number) && !fact.tried {
-            whole = wrap_one(problem, branch, desk, number, fact, whole);
+        if fact.tried || !desk.used.has(0, number) {
+            continue;
         }
+        desk.above = number;
+        desk.used.remove(0, number);
+        whole = match fact.answer {
+            Answer::Source(r, s) => {
+                desk.branches.put(s, whole);
+                add_source_question(problem, branch, desk, r)
+            }
+            Answer::Before(first, second) => {
+                let turned = Turned {
+                    first,
+                    second,
+                    fact: number,
+                    edges: fact.edges,
+                };
+                let other = add_other(problem, branch, desk, turned);
+                add_order_question(desk, first, second, whole, other)
+            }
+        };
     }
     whole
 }

@@ -1,7 +1,7 @@
 //! Values that answers tell, read by read: and whether what is asked is false by them, with the answers by which it is.
 
 use crate::branch::{Branch, NEEDED, VALUED};
-use crate::claim::{Demand, Part, Parts, can_be};
+use crate::claim::{Demand, NO_PARTS, Part, Parts, can_be};
 use crate::evidence::{Closing, Evidence, need, reset};
 use crate::lists::NONE;
 use crate::problem::{Problem, STORED, add_reads};
@@ -93,8 +93,11 @@ fn overwriting(problem: &Problem, branch: &Branch, known: Known, w: usize) -> us
     }
     let loc = problem.location(w);
     for v in problem.locations..problem.size {
-        if problem.is_write_to(loc, v) && branch.pair(problem, w, v) < known.limit {
-            return branch.pair(problem, w, v);
+        if problem.is_write_to(loc, v) {
+            let fact = branch.moment(problem, w, v).facts;
+            if fact < known.limit {
+                return fact;
+            }
         }
     }
     NONE
@@ -131,31 +134,6 @@ const NOTHING: Supposed = Supposed {
     value: NONE,
 };
 
-/// Whether a part can be so where it is known which of the parts behind it can be.
-fn part_can_be(
-    problem: &Problem,
-    branch: &Branch,
-    known: Known,
-    supposed: Supposed,
-    parts: &Parts,
-    i: usize,
-) -> bool {
-    match problem.claim.at(i) {
-        Part::Value(r, demand) => {
-            if r == supposed.place {
-                can_be(demand, supposed.value)
-            } else if problem.is_initial(r) {
-                word_can_be(problem, branch, known, r, demand)
-            } else {
-                can_be(demand, branch.values.at(r))
-            }
-        }
-        Part::Fixed(truth) => truth,
-        Part::Both(second) => parts.has(i.wrapping_add(1)) && parts.has(second),
-        Part::Either(second) => parts.has(i.wrapping_add(1)) || parts.has(second),
-    }
-}
-
 /// The parts of what is asked that can be so.
 fn parts_that_can_be(
     problem: &Problem,
@@ -163,9 +141,22 @@ fn parts_that_can_be(
     known: Known,
     supposed: Supposed,
 ) -> Parts {
-    let mut parts = Parts::none();
+    let mut parts = NO_PARTS;
     for i in (0..problem.claim.len()).rev() {
-        let can = part_can_be(problem, branch, known, supposed, &parts, i);
+        let can = match problem.claim.at(i) {
+            Part::Value(r, demand) => {
+                if r == supposed.place {
+                    can_be(demand, supposed.value)
+                } else if problem.is_initial(r) {
+                    word_can_be(problem, branch, known, r, demand)
+                } else {
+                    can_be(demand, branch.values.at(r))
+                }
+            }
+            Part::Fixed(truth) => truth,
+            Part::Both(second) => parts.has(i.wrapping_add(1)) && parts.has(second),
+            Part::Either(second) => parts.has(i.wrapping_add(1)) || parts.has(second),
+        };
         parts.add(i, can);
     }
     parts
@@ -205,15 +196,12 @@ pub fn is_wrong_value(problem: &Problem, branch: &Branch, place: usize, w: usize
         return false;
     }
     let value = written(problem, branch, w);
-    if !problem.reads.has(STORED, place) {
-        return is_barred(problem, place, value);
+    if problem.reads.has(STORED, place) {
+        let known = known_facts(branch.facts.len());
+        let supposed = Supposed { place, value };
+        return value != NONE && !parts_that_can_be(problem, branch, known, supposed).has(0);
     }
-    let known = known_facts(branch.facts.len());
-    value != NONE && !parts_that_can_be(problem, branch, known, Supposed { place, value }).has(0)
-}
-
-/// Whether a part of what is asked bars a value, as far as it is known.
-fn is_barred(problem: &Problem, place: usize, value: usize) -> bool {
+    // Then one part that asks of this place suffices to bar the value.
     let mut i = problem.parts_on.at(place);
     for _part in 0..problem.claim.len() {
         if let Part::Value(_, demand) = problem.claim.at(i) {
@@ -252,60 +240,39 @@ fn need_word(
     }
 }
 
-/// The parts of what is asked that can be so, and those by which it is false.
-#[derive(Clone, Copy)]
-struct Falsity {
-    can: Parts,
-    wrong: Parts,
-}
-
-/// Notes by what a part is false, and adds to those that are false on which this hangs.
-fn need_part(
-    problem: &Problem,
-    branch: &mut Branch,
-    known: Known,
-    evidence: &mut Evidence,
-    falsity: &mut Falsity,
-    i: usize,
-) {
-    let first = i.wrapping_add(1);
-    match problem.claim.at(i) {
-        Part::Value(r, demand) => {
-            if problem.is_initial(r) {
-                need_word(problem, branch, known, evidence, r, demand);
-            } else {
-                branch.sets.add(NEEDED, r);
-            }
-        }
-        Part::Both(second) => {
-            let is_second = !falsity.can.has(second);
-            falsity.wrong.add(second, is_second);
-            falsity.wrong.add(first, !is_second);
-        }
-        Part::Either(second) => {
-            falsity.wrong.add(first, true);
-            falsity.wrong.add(second, true);
-        }
-        Part::Fixed(_) => {}
-    }
-}
-
-/// Notes by which of its parts what is asked is false, where it is known which can be so.
+/// Notes by which of its parts what is asked is false, and by what those are, where it is known which can be so.
 fn need_parts(
     problem: &Problem,
     branch: &mut Branch,
     known: Known,
     evidence: &mut Evidence,
-    can: Parts,
+    can: &Parts,
 ) {
-    let mut falsity = Falsity {
-        can,
-        wrong: Parts::none(),
-    };
-    falsity.wrong.add(0, true);
+    let mut wrong = NO_PARTS;
+    wrong.add(0, true);
     for i in 0..problem.claim.len() {
-        if falsity.wrong.has(i) {
-            need_part(problem, branch, known, evidence, &mut falsity, i);
+        if !wrong.has(i) {
+            continue;
+        }
+        let first = i.wrapping_add(1);
+        match problem.claim.at(i) {
+            Part::Value(r, demand) => {
+                if problem.is_initial(r) {
+                    need_word(problem, branch, known, evidence, r, demand);
+                } else {
+                    branch.sets.add(NEEDED, r);
+                }
+            }
+            Part::Both(second) => {
+                let is_second = !can.has(second);
+                wrong.add(second, is_second);
+                wrong.add(first, !is_second);
+            }
+            Part::Either(second) => {
+                wrong.add(first, true);
+                wrong.add(second, true);
+            }
+            Part::Fixed(_) => {}
         }
     }
 }
@@ -351,7 +318,7 @@ pub fn need_falsity(
     }
     reset(evidence, Closing::False);
     branch.sets.clear(NEEDED);
-    need_parts(problem, branch, known, evidence, can);
+    need_parts(problem, branch, known, evidence, &can);
     for _round in 0..problem.size {
         if !need_more_sources(problem, branch, known, evidence) {
             break;
