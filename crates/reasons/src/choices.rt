@@ -80,18 +80,9 @@ fn steps_among(alloc: Global, choices: &[Choice]) -> Result<Vec<Choice>, NoMemor
 {
     let mut steps = Vec::new(alloc);
     for choice in choices {
-        if is_step(choice) {
+        if let Choice::Step(_) = choice {
             steps.push(*choice)?;
         }
     }
     Ok(steps)
-}
-
-fn is_step(choice: &Choice) -> bool
-    ensures { result ≡ spec.is_step choice.now }
-{
-    match choice {
-        Choice::Step(_) => true,
-        Choice::Drain(_) => false,
-    }
 }

@@ -8,7 +8,6 @@ ghost use Rattle.refutations.specs.Trees.{node_of};
 ghost use Rattle.refutations.specs.inner.Trees.{known_of};
 ghost use Rattle.reasons.specs.inner.Questions as spec;
 
-use refutation_laws::Pair;
 use refutations::answers::comes_before;
 use refutations::events::{is_event, is_read, is_write, same_event, writes_to};
 use refutations::{Answers, Node};
@@ -18,7 +17,12 @@ use tso_model::{Entry, Test};
 pub fn is_read_known(answers: &Answers, r: &Entry) -> bool
     ensures { result ≡ has_source (known_of answers.now) r.now }
 {
-    answers.sources.iter().any(|s| same_event(&s.read, r))
+    for s in &answers.sources {
+        if same_event(&s.read, r) {
+            return true;
+        }
+    }
+    false
 }
 
 /// Whether an answer says which of two writes comes first.
@@ -26,12 +30,6 @@ pub fn is_order_known(answers: &Answers, w: &Entry, v: &Entry) -> bool
     ensures { result ≡ are_ordered (known_of answers.now) w.now v.now }
 {
     comes_before(answers, w, v) || comes_before(answers, v, w)
-}
-
-fn is_unread(answers: &Answers, r: &Entry) -> bool
-    ensures { result ≡ spec.is_unread (known_of answers.now) r.now }
-{
-    is_read(r) && !is_read_known(answers, r)
 }
 
 fn is_unordered(answers: &Answers, w: &Entry, v: &Entry) -> bool
@@ -44,7 +42,7 @@ fn first_unread(events: &[Entry], answers: &Answers) -> Option<Entry>
     ensures { result ≡ spec.first_unread (known_of answers.now) events.now }
 {
     for r in events {
-        if is_unread(answers, r) {
+        if is_read(r) && !is_read_known(answers, r) {
             return Some(*r);
         }
     }
@@ -62,20 +60,6 @@ fn first_beside(events: &[Entry], answers: &Answers, w: &Entry) -> Option<Entry>
     None
 }
 
-fn first_pair(events: &[Entry], answers: &Answers) -> Option<Pair>
-    ensures { result ≡ spec.first_pair (known_of answers.now) events.now events.now }
-{
-    for w in events {
-        if let Some(v) = first_beside(events, answers, w) {
-            return Some(Pair {
-                first: *w,
-                second: v,
-            });
-        }
-    }
-    None
-}
-
 /// The first question that no answer settles: what a read reads from, or which of two writes comes
 /// first.
 pub fn next_question(events: &[Entry], answers: &Answers) -> Option<Node>
@@ -84,8 +68,10 @@ pub fn next_question(events: &[Entry], answers: &Answers) -> Option<Node>
     if let Some(r) = first_unread(events, answers) {
         return Some(Node::ReadsFrom(r));
     }
-    if let Some(pair) = first_pair(events, answers) {
-        return Some(Node::ComesFirst(pair.first, pair.second));
+    for w in events {
+        if let Some(v) = first_beside(events, answers, w) {
+            return Some(Node::ComesFirst(*w, v));
+        }
     }
     None
 }

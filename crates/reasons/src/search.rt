@@ -2,13 +2,12 @@
 ghost use Rattle.std.specs.Prelude.{◌≡◌, ◌∷◌, [], IfOk, IfSome, true};
 ghost use Rattle.refutation_laws.specs.Known.{events_of, nothing};
 ghost use Rattle.refutation_laws.specs.inner.FullCases.{IsSound};
-ghost use Rattle.refutation_laws.specs.Refutations.{asked_claim, is_node};
+ghost use Rattle.refutation_laws.specs.Refutations.{asked_claim};
 ghost use Rattle.refutation_laws.specs.Models.{IsMet};
-ghost use Rattle.refutations.specs.Trees.{node_of};
 ghost use Rattle.refutations.specs.inner.Trees.{known_of};
 ghost use Rattle.refutations.specs.inner.Stack.{cases_of};
-ghost use Rattle.reasons.specs.Reasons.{IsReason, is_leaf};
-ghost use Rattle.reasons.specs.inner.Cases.{IsLeafless, IsSearchStep, reason_or_never};
+ghost use Rattle.reasons.specs.Reasons.{IsReason};
+ghost use Rattle.reasons.specs.inner.Cases.{IsSearchStep, reason_or_never};
 
 use crate::leaves::{find_leaf, is_leaf};
 use crate::order::make_order;
@@ -30,46 +29,6 @@ struct Asked<'t> {
     model: Model,
 }
 
-/// What is done with a case that no leaf closes: the next question is asked, or it has an execution.
-fn go_on(
-    alloc: Global,
-    test: &Test,
-    events: &[Entry],
-    model: Model,
-    answers: &Answers,
-) -> Result<Step, NoMemory>
-    requires events { events.now ≡ events_of test.now }
-    requires sound { IsSound test.now (known_of answers.now) }
-    requires leafless { IsLeafless model test.now (known_of answers.now) }
-    ensures { IfOk result (IsSearchStep model test.now (known_of answers.now)) }
-{
-    test.know_limits();
-    if let Some(question) = next_question(events, answers) {
-        return Ok(Step::Question(question));
-    }
-    let order = make_order(alloc, test, events, model, answers)?;
-    Ok(Step::Allowed(Execution { order }))
-}
-
-/// Whether this is a leaf that closes the case.
-fn is_closed_by(
-    alloc: Global,
-    test: &Test,
-    events: &[Entry],
-    model: Model,
-    answers: &Answers,
-    node: &Node,
-) -> Result<bool, NoMemory>
-    requires events { events.now ≡ events_of test.now }
-    ensures { IfOk result (λ b. b ≡ true → (is_node model test.now (asked_claim test.now.condition) (known_of answers.now) (node_of node.now) ≡ true)
-        × (is_leaf (node_of node.now) ≡ true)) }
-{
-    if !is_leaf(node) {
-        return Ok(false);
-    }
-    is_node(alloc, test, events, model, answers, node)
-}
-
 /// What is done with a case for which this node is proposed: none where the node may not stand there.
 fn take_proposal(
     alloc: Global,
@@ -82,8 +41,11 @@ fn take_proposal(
     requires events { events.now ≡ events_of test.now }
     ensures { IfOk result (λ r. IfSome r (IsSearchStep model test.now (known_of answers.now))) }
 {
-    if is_closed_by(alloc, test, events, model, answers, &node)? {
-        return Ok(Some(Step::Leaf(node)));
+    if is_leaf(&node) {
+        if is_node(alloc, test, events, model, answers, &node)? {
+            return Ok(Some(Step::Leaf(node)));
+        }
+        return Ok(None);
     }
     if is_open_question(test, events, answers, &node) {
         return Ok(Some(Step::Question(node)));
@@ -91,7 +53,7 @@ fn take_proposal(
     Ok(None)
 }
 
-/// What is done with an open case, whatever is proposed.
+/// What is done with an open case, whatever is proposed: where no leaf closes it, the next question is asked, or it has an execution.
 fn next_step(
     alloc: Global,
     test: &Test,
@@ -103,10 +65,14 @@ fn next_step(
     requires sound { IsSound test.now (known_of answers.now) }
     ensures { IfOk result (IsSearchStep model test.now (known_of answers.now)) }
 {
-    match find_leaf(alloc, test, events, model, answers)? {
-        Some(leaf) => Ok(Step::Leaf(leaf)),
-        None => go_on(alloc, test, events, model, answers),
+    if let Some(leaf) = find_leaf(alloc, test, events, model, answers)? {
+        return Ok(Step::Leaf(leaf));
     }
+    if let Some(question) = next_question(events, answers) {
+        return Ok(Step::Question(question));
+    }
+    let order = make_order(alloc, test, events, model, answers)?;
+    Ok(Step::Allowed(Execution { order }))
 }
 
 /// What is done with an open case: what the guide proposes, if that may be done.

@@ -1,10 +1,8 @@
 //! Events in a row in which nothing stands before what must precede it, as far as that is possible.
-ghost use Rattle.std.specs.Prelude.{◌≡◌, ◌==◌, ◌&&◌, not, IfOk, filter};
+ghost use Rattle.std.specs.Prelude.{◌≡◌, ◌&&◌, not, IfOk, filter};
 ghost use Rattle.std.specs.List.{list_any};
-ghost use Rattle.tso_model.specs.ProgramOrder as program_order;
 ghost use Rattle.refutation_laws.specs.Known.{events_of};
 ghost use Rattle.refutation_laws.specs.Edges as edges;
-ghost use Rattle.refutation_laws.specs.Known as known;
 ghost use Rattle.refutation_laws.specs.inner.Orders as orders;
 ghost use Rattle.refutations.specs.inner.Trees.{known_of};
 ghost use Rattle.reasons.specs.inner.Precedence.{edge_in, is_first, IsSorted};
@@ -29,52 +27,29 @@ fn is_kept(model: Model, x: &Entry, y: &Entry) -> bool
     ensures { result ≡ orders.is_kept_by model x.now y.now }
 {
     match model {
-        Model::Tso => is_before(x, y) && !may_be_passed(x, y),
+        Model::Tso => is_before(x, y) && !(x.kind == Kind::W && y.kind == Kind::R),
         Model::Sequential => is_before(x, y),
     }
-}
-
-fn may_be_passed(x: &Entry, y: &Entry) -> bool
-    ensures { result ≡ program_order.may_be_passed x.now y.now }
-{
-    x.kind == Kind::W && y.kind == Kind::R
-}
-
-fn is_read_elsewhere(answers: &Answers, w: &Entry, r: &Entry) -> bool
-    ensures { result ≡ (known.reads_from (known_of answers.now) w.now r.now && not (w.now.core.0 == r.now.core.0)) }
-{
-    reads_from(answers, w, r) && w.core.0 != r.core.0
 }
 
 fn must_precede(model: Model, answers: &Answers, x: &Entry, y: &Entry) -> bool
     ensures { result ≡ orders.must_precede model (known_of answers.now) x.now y.now }
 {
     is_kept(model, x, y)
-        || is_read_elsewhere(answers, x, y)
+        || reads_from(answers, x, y) && x.core.0 != y.core.0
         || comes_before(answers, x, y)
         || from_reads(answers, x, y)
-}
-
-fn precedes_part(model: Model, answers: &Answers, x: &Entry, r: &Entry, y: &Entry) -> bool
-    ensures { result ≡ (edges.are_parts r.now y.now && orders.must_precede model (known_of answers.now) x.now r.now) }
-{
-    are_parts(r, y) && must_precede(model, answers, x, r)
 }
 
 fn precedes_load(events: &[Entry], model: Model, answers: &Answers, x: &Entry, y: &Entry) -> bool
     ensures { result ≡ list_any (λ r. edges.are_parts r y.now && orders.must_precede model (known_of answers.now) x.now r) events.now }
 {
-    events
-        .iter()
-        .any(|r| precedes_part(model, answers, x, r, y))
-}
-
-fn comes_toward(branch: Branch<'_>, model: Model, x: &Entry, y: &Entry) -> bool
-    requires { branch.events.now ≡ events_of branch.test.now }
-    ensures { result ≡ orders.comes_toward model branch.entry.test.now (known_of branch.entry.answers.now) x.now y.now }
-{
-    must_precede(model, branch.answers, x, y)
-        || precedes_load(branch.events, model, branch.answers, x, y)
+    for r in events {
+        if are_parts(r, y) && must_precede(model, answers, x, r) {
+            return true;
+        }
+    }
+    false
 }
 
 /// Whether x must precede y.
@@ -84,22 +59,23 @@ pub fn precedes(branch: Branch<'_>, precedence: Precedence, x: &Entry, y: &Entry
 {
     match precedence {
         Precedence::Edges(acyclic) => leads_to(branch, acyclic, x, y),
-        Precedence::Order(model) => comes_toward(branch, model, x, y),
+        Precedence::Order(model) => {
+            must_precede(model, branch.answers, x, y)
+                || precedes_load(branch.events, model, branch.answers, x, y)
+        }
     }
-}
-
-fn is_preceded(branch: Branch<'_>, precedence: Precedence, some: &[Entry], x: &Entry) -> bool
-    requires { branch.events.now ≡ events_of branch.test.now }
-    ensures { result ≡ list_any (λ y. edge_in branch.entry.test.now (known_of branch.entry.answers.now) precedence y x.now) some.now }
-{
-    some.iter().any(|y| precedes(branch, precedence, y, x))
 }
 
 fn can_be_first(branch: Branch<'_>, precedence: Precedence, some: &[Entry], x: &Entry) -> bool
     requires { branch.events.now ≡ events_of branch.test.now }
     ensures { result ≡ is_first (edge_in branch.entry.test.now (known_of branch.entry.answers.now) precedence) some.now x.now }
 {
-    !is_preceded(branch, precedence, some, x)
+    for y in some {
+        if precedes(branch, precedence, y, x) {
+            return false;
+        }
+    }
+    true
 }
 
 /// Events in a row, and those that are left, each of which is preceded by one of them.
