@@ -27,7 +27,7 @@ pub closed-push : (tree : Refutation) (cs : List Closed) (c : Closed) → Branch
 closed-push tree [] c h k = (k, tt)
 closed-push tree (d ∷ cs) c h k = (h.0, closed-push tree cs c h.1 k)
 
-take-at : {X : Type 0} (xs : List X) (i : ℕ) (d : X) → i < length xs → take (suc i) xs ≡ take i xs ++ (get_or xs i d ∷ [])
+pub take-at : {X : Type 0} (xs : List X) (i : ℕ) (d : X) → i < length xs → take (suc i) xs ≡ take i xs ++ (get_or xs i d ∷ [])
 take-at [] i d w = absurd (omega (arith, w))
 take-at (x ∷ xs) zero d w = refl
 take-at (x ∷ xs) (suc i) d w = ap (λ ys. x ∷ ys) (take-at xs i d (omega (arith, w)))

@@ -1,5 +1,5 @@
 -- Tasks and the parts that they are for.
-use Rattle.reason_report.proofs.Vocabulary.{map_push, ℕ, suc, zero, ◌+◌, ◌-◌, ◌<◌, ◌==◌, get_or, Option, Some, None, ◌≡◌, ◌≤◌, Bool, true, false, not, cond, List, [], ◌∷◌, ◌++◌, length, drop, map, refl, sym, ap, ◌∙◌, arith, subst, append_assoc, append-nil, drop_all, filter, replicate, flat_map, Litmus, Claim, Known, Model, Part, Branch, ReasonStep, is_leaf, is_closed, branches_with, with_reply, so_steps, case_steps, rest_steps, closed_case, groups, leaf_steps, grown, Reply, reason_step_of, first_part, Task, Passed, Case, So, Endcases, task_of, tasks_of, branch_task, branch_tasks, end_of, as_branch, emit, depth_below, task_depth, TasksAreWithin, spec_wanted, with_wanted, ended_by, drop-cons}
+use Rattle.reason_report.proofs.Vocabulary.{map_push, ℕ, suc, zero, ◌+◌, ◌-◌, ◌<◌, ◌==◌, get_or, Option, Some, None, ◌≡◌, ◌≤◌, Bool, true, false, not, cond, List, [], ◌∷◌, ◌++◌, length, take, drop, map, refl, sym, ap, ◌∙◌, arith, subst, append_assoc, append-nil, drop_all, filter, replicate, flat_map, Litmus, Claim, Known, Model, Part, Branch, ReasonStep, is_leaf, is_closed, branches_with, with_reply, so_steps, case_steps, rest_steps, closed_case, groups, leaf_steps, grown, Reply, reason_step_of, first_part, Task, Passed, Case, So, Endcases, task_of, tasks_of, branch_task, branch_tasks, end_of, as_branch, emit, depth_below, task_depth, task_of_answered, TasksAreWithin, spec_wanted, with_wanted, drop-cons, known_of}
 use Rattle.std.proofs.lemmas.Bool.Decides.{nat_tests}
 use Rattle.refutation_laws.specs.Refutations as refutations
 use Rattle.reason_report.specs.Steps as spec
@@ -11,6 +11,7 @@ use Rattle.reason_report.specs.declared.layout.Wanted.TheVariants as wanted
 use Rattle.reason_report.specs.declared.layout.Task as declared
 use Rattle.reason_report.specs.declared.layout.Task.TheVariants as code
 use Rattle.reason_report.proofs.Cutting.{shape}
+use Rattle.reason_report.proofs.Grouping.{take-at}
 
 -- ---- the stack
 
@@ -197,18 +198,26 @@ pub part-within : (most : ℕ) (old new : List declared.Task) (a : declared.Task
 part-within most old new a w left is h =
     subst (λ (b : declared.Task). (task_depth (task_of b) ≤ most) × TasksAreWithin most (tasks_of new)) is (next-within most old new a left h)
 
-ends : (t : Litmus) (a : Task) (ts : List Task) → emit t (a ∷ ts) [] ≡ ended_by a ++ emit t ts []
-ends t Passed ts = refl
-ends t (Case d r k) ts = refl
-ends t (So d r k) ts = refl
-ends t (Endcases d) ts = refl
+pub taken : (tasks : List declared.Task) (i j : ℕ) (d : declared.Task) → 0 < i → i ≤ length tasks → j ≡ i - 1 → take i tasks ≡ take j tasks ++ (get_or tasks j d ∷ [])
+taken tasks i j d some within less =
+    let next : suc j ≡ i = omega (arith, some, less) in
+    sym (ap (λ n. take n tasks) next) ∙ take-at tasks j d (omega (arith, some, within, less))
 
-pub all-ended : (t : Litmus) (whole before after : List ReasonStep) (old new : List declared.Task) (a : declared.Task) → old ≡ new ++ (a ∷ [])
-    → after ≡ before ++ ended_by (task_of a) → before ++ emit t (tasks_of old) [] ≡ whole → after ++ emit t (tasks_of new) [] ≡ whole
-all-ended t whole before after old new a left more so =
-    ap (λ xs. xs ++ emit t (tasks_of new) []) more
-    ∙ (append_assoc before (ended_by (task_of a)) (emit t (tasks_of new) [])
-    ∙ (ap (λ xs. before ++ xs) (sym (ap (λ ts. emit t ts []) (popped old new a left) ∙ ends t (task_of a) (tasks_of new))) ∙ so))
+-- where no part is left, that of a task has no lines
+passed-by : (t : Litmus) (w : Wanted) (ts : List Task) → emit t (spec_wanted w ∷ ts) [] ≡ emit t ts []
+passed-by t wanted.Passed ts = refl
+passed-by t (wanted.Answered a) ts = by-case a.is_only
+  where
+    by-case : (b : Bool) → emit t (cond b (So a.depth a.reply (known_of a.answers)) (Case a.depth a.reply (known_of a.answers)) ∷ ts) [] ≡ emit t ts []
+    by-case true = refl
+    by-case false = refl
+
+pub part-ended : (t : Litmus) (whole : List ReasonStep) (before after : List steps.Step) (old new : List declared.Task) (a : declared.Task) (w : Wanted)
+    → old ≡ new ++ (a ∷ []) → a ≡ code.Part w → after ≡ before
+    → map reason_step_of before ++ emit t (tasks_of old) [] ≡ whole → map reason_step_of after ++ emit t (tasks_of new) [] ≡ whole
+part-ended t whole before after old new a w left is same so =
+    ap (λ ss. map reason_step_of ss ++ emit t (tasks_of new) []) same
+    ∙ (ap (λ xs. map reason_step_of before ++ xs) (sym (ap (λ ts. emit t ts []) (popped old new a left ∙ ap (λ b. task_of b ∷ tasks_of new) is) ∙ passed-by t w (tasks_of new))) ∙ so)
 
 pub wanted-within : (most : ℕ) (w : Option Wanted) (ts : List Task) → TasksAreWithin most (with_wanted w ts) → TasksAreWithin most ts
 wanted-within most None ts h = h
@@ -262,6 +271,14 @@ module _ (f : replies.Branch → Branch) (bs : List replies.Branch) (d : ℕ) wh
   started-none single old new h same =
       ap tasks_of same
       ∙ (ap (λ (s : Bool). end_of s d ++ tasks_of old) (sym h) ∙ ap (λ cs. branch_tasks single d (map f cs) ++ tasks_of old) (sym (drop_all (length bs) bs (omega arith))))
+
+  pub task-passed : (single : Bool) (b : Branch) → is_closed b ≡ true → Passed ≡ branch_task single d b
+  task-passed single b h = sym (ap (λ (x : Bool). cond x Passed (cond single (So d b.reply b.known) (Case d b.reply b.known))) h)
+
+  pub task-open : (single : Bool) (b : Branch) → is_closed b ≡ false → (k : Known) → k ≡ b.known → cond single (So d b.reply k) (Case d b.reply k) ≡ branch_task single d b
+  task-open single b h k is =
+      ap (λ (j : Known). cond single (So d b.reply j) (Case d b.reply j)) is
+      ∙ sym (ap (λ (x : Bool). cond x Passed (cond single (So d b.reply b.known) (Case d b.reply b.known))) h)
 
   pub tasks-more : (single : Bool) (i j : ℕ) (b : replies.Branch) → 0 < i → i ≤ length bs → j ≡ i - 1 → (w : Wanted)
       → spec_wanted w ≡ branch_task single d (f (get_or bs j b)) → (old new : List declared.Task) (base : List Task)

@@ -274,14 +274,15 @@ pub tso-of : (model : Model) (t : Litmus) (order : List Entry) → IsExecutionOf
 tso-of Tso t order h = h
 tso-of Sequential t order h = h.execution
 
-pub location-written : (name written ws : List ℕ) → written ≡ name
-    → ((codes "Coherence " ++ written) ++ (ws ++ [])) ++ (10 ∷ []) ≡ codes "Coherence " ++ (name ++ line ws)
-location-written name written ws e = together written ws ∙ ap (λ z. codes "Coherence " ++ (z ++ line ws)) e
+pub location-written : (bytes name written ws one two three : List ℕ) → written ≡ name → one ≡ bytes ++ (codes "Coherence " ++ (written ++ [])) → two ≡ one ++ ws
+    → three ≡ two ++ (10 ∷ []) → three ≡ bytes ++ (codes "Coherence " ++ (name ++ line ws))
+location-written bytes name written ws one two three e first second third =
+    third
+    ∙ (ap (λ z. z ++ (10 ∷ [])) (second ∙ ap (λ z. z ++ ws) first)
+    ∙ (together bytes written ws ∙ ap (λ z. bytes ++ (codes "Coherence " ++ (z ++ line ws))) e))
   where
-    together : (a b : List ℕ) → ((codes "Coherence " ++ a) ++ (b ++ [])) ++ (10 ∷ []) ≡ codes "Coherence " ++ (a ++ line b)
-    together a b =
-        append_assoc (codes "Coherence " ++ a) (b ++ []) (10 ∷ [])
-        ∙ (append_assoc (codes "Coherence ") a ((b ++ []) ++ (10 ∷ [])) ∙ ap (λ z. codes "Coherence " ++ (a ++ (z ++ (10 ∷ [])))) (append-nil b))
+    together : (o a b : List ℕ) → ((o ++ (codes "Coherence " ++ (a ++ []))) ++ b) ++ (10 ∷ []) ≡ o ++ (codes "Coherence " ++ (a ++ line b))
+    together o a b = simp (append_assoc, append-nil)
 
 pub known-moved : (a b cores locations : ℕ) (ns names : List Named) → cores ≡ a → locations ≡ b → names ≡ ns → All (NameExists a b) ns
     → All (NameExists cores locations) names

@@ -21,7 +21,7 @@ pub use Rattle.reason_report.specs.Views.{reason_step_of, place_of}
 pub use Rattle.reason_report.specs.declared.closed.Closed.{Closed}
 pub use Rattle.reason_report.specs.inner.Closed.{IsClosed, BranchesAreClosed, closed_branch, same_truths, alike, known_alike}
 unfoldable pub use Rattle.reason_report.specs.inner.Closed.{rest_of}
-pub use Rattle.reason_report.specs.inner.Tasks.{Task, Passed, Case, So, Endcases, task_of, tasks_of, branch_task, branch_tasks, end_of, as_branch, emit, depth_below, task_of_answered, task_depth, TasksAreWithin, spec_wanted, with_wanted, ended_by}
+pub use Rattle.reason_report.specs.inner.Tasks.{Task, Passed, Case, So, Endcases, task_of, tasks_of, branch_task, branch_tasks, end_of, as_branch, emit, depth_below, task_of_answered, task_depth, TasksAreWithin, spec_wanted, with_wanted}
 pub use Rattle.tso_model.specs.ProgramOrder.{writes_to, is_read, is_before}
 pub use Rattle.basic_laws.specs.Types.{Choice, Entry}
 pub use Rattle.order_builder.specs.PrintedOrder.{printed_entry}

@@ -15,8 +15,8 @@ use crate::as_text::has_write;
 use crate::asked::asked_value;
 use crate::fields::{never_sections, reading_fields, step_fields};
 use crate::items::{Valued, array_of};
-use crate::pieces::{Field, Piece, Section, Titled};
-use crate::pieces_json::{is_nothing, piece_value};
+use crate::pieces::{Field, Section, Titled};
+use crate::pieces_json::{is_nothing, piece_value, writes_value};
 use crate::readings::Reading;
 use crate::steps::Step;
 use outcome_report::json::{choices_value, values_value};
@@ -106,26 +106,12 @@ fn object_of(alloc: Global, test: &Test, fields: &[Field<'_>]) -> Result<Value, 
     ensures { IfOk result (λ value. view value ≡ object (with_fields test.now fields.now no_members)) }
 {
     let mut members = Map::new(alloc);
-    put_fields(&mut members, alloc, test, fields)?;
-    Ok(Value::Object(members))
-}
-
-/// Puts what stands under each of these keys.
-fn put_fields(
-    members: &mut Map<String, Value>,
-    alloc: Global,
-    test: &Test,
-    fields: &[Field<'_>],
-) -> Result<(), NoMemory>
-    ensures { OnOk result (members_view members.new.entries
-        ≡ with_fields test.now fields.now (members_view members.old.entries)) }
-{
     for (_before, key, piece) in fields {
         if !is_nothing(*piece) {
-            put_made(members, alloc, key, piece_value(alloc, test, *piece))?;
+            put_made(&mut members, alloc, key, piece_value(alloc, test, *piece))?;
         }
     }
-    Ok(())
+    Ok(Value::Object(members))
 }
 
 impl Valued for Step {
@@ -168,6 +154,6 @@ fn put_location(
     if !has_write(order, loc) {
         return Ok(());
     }
-    let fields = [("", test.location_name(loc), Piece::Writes(order, loc))];
-    put_fields(members, alloc, test, &fields)
+    let writes = writes_value(alloc, test, order, loc);
+    put_made(members, alloc, test.location_name(loc), writes)
 }

@@ -12,7 +12,7 @@ use crate::asked::write_asked;
 use crate::fields::{never_sections, reading_fields, step_fields};
 use crate::items::{Written, write_each};
 use crate::pieces::{Field, Piece, Section, Titled};
-use crate::pieces_text::write_piece;
+use crate::pieces_text::{write_piece, write_writes};
 use crate::readings::Reading;
 use crate::steps::Step;
 use outcome_report::verdict::write_verdict;
@@ -146,11 +146,13 @@ fn write_location(text: &mut String, test: &Test, order: &[Entry], loc: Loc) -> 
     if !has_write(order, loc) {
         return Ok(());
     }
-    let fields = [
-        ("Coherence ", "", Piece::Word(test.location_name(loc), "")),
-        ("", "", Piece::Writes(order, loc)),
+    let pieces = [
+        Printed::Text("Coherence "),
+        Printed::Text(test.location_name(loc)),
     ];
-    write_line(text, test, &fields)
+    write_pieces(text, &pieces)?;
+    write_writes(text, test, order, loc)?;
+    write_characters(text, "\n")
 }
 
 /// Whether an entry of the order writes to the location.

@@ -1,7 +1,6 @@
 //! What is shown of an answer, and why a leaf closes a case.
 
 ghost use Rattle.std.specs.Prelude.{ℕ, ◌≡◌, IfOk, map, length};
-ghost use Rattle.std.specs.List.{flat_map};
 ghost use Rattle.refutation_laws.specs.Refutations.{asked_claim};
 ghost use Rattle.refutations.specs.inner.Trees.{known_of};
 ghost use Rattle.tso_report.specs.inner.Tally.{NameExists};
@@ -79,33 +78,9 @@ fn write_of_answer(tree: Refutation<'_>, given: &Given, reply: Reply) -> Option<
     }
 }
 
-/// The words that a place may have in these cases: in that of a leaf, and in those that are alike.
+/// A place, and the values that it may have in these cases: in that of a leaf, and in those that are alike.
 ///
 /// Errors: out of memory only.
-fn words_in(
-    alloc: Global,
-    tree: Refutation<'_>,
-    leaf: &Leaf,
-    others: &[Closed],
-    place: Named,
-) -> Result<Vec<Option<u32>>, NoMemory>
-    requires tree { IsLayoutReady tree }
-    requires given { IsGiven tree.test.now leaf.now.given }
-    requires others { BranchesAreClosed tree others.now }
-    requires place { NameExists (length tree.test.now.programs) (length tree.test.now.locations) place }
-    ensures { IfOk result (λ words. words.items
-        ≡ flat_map (λ k. places.words_at tree.entry.test.now k place) (known_alike leaf.now others.now)) }
-{
-    let mut words = words_at(alloc, tree, &leaf.given, place)?;
-    for other in others {
-        if are_alike(leaf, &other.leaf) {
-            let more = words_at(alloc, tree, &other.leaf.given, place)?;
-            words.extend_from_slice(&more)?;
-        }
-    }
-    Ok(words)
-}
-
 fn place_in(
     alloc: Global,
     tree: Refutation<'_>,
@@ -119,11 +94,15 @@ fn place_in(
     requires place { NameExists (length tree.test.now.programs) (length tree.test.now.locations) named }
     ensures { IfOk result (λ place. place_of place ≡ places.place_with_values tree.entry.test.now (known_alike leaf.now others.now) named) }
 {
-    let words = words_in(alloc, tree, leaf, others, named)?;
-    Ok(Place {
-        named,
-        values: distinct_words(alloc, &words)?,
-    })
+    let mut words = words_at(alloc, tree, &leaf.given, named)?;
+    for other in others {
+        if are_alike(leaf, &other.leaf) {
+            let more = words_at(alloc, tree, &other.leaf.given, named)?;
+            words.extend_from_slice(&more)?;
+        }
+    }
+    let values = distinct_words(alloc, &words)?;
+    Ok(Place { named, values })
 }
 
 /// The places that a leaf's case names, with the values that they have in it and in those that are alike.

@@ -11,10 +11,10 @@ ghost use Rattle.reason_report.specs.Views as views;
 ghost use Rattle.reason_report.specs.Views.{reason_step_of};
 ghost use Rattle.reason_report.specs.inner.Parts.{AreBelow, IsLayoutReady, first_part, root_at, parts_of_refutation, branch_in};
 ghost use Rattle.reason_report.specs.inner.Closed.{IsGiven};
-ghost use Rattle.reason_report.specs.inner.Tasks.{TasksAreWithin, IsUsed, Passed, spec_wanted, task_of, with_wanted, ended_by, tasks_of, branch_task, branch_tasks, depth_below, emit, task_of_answered};
+ghost use Rattle.reason_report.specs.inner.Tasks.{TasksAreWithin, IsUsed, Passed, with_wanted, tasks_of, branch_tasks, depth_below, emit, task_of_answered};
 
 use crate::cases::{add_closed, add_leaf};
-use crate::closed::{Given, Leaf, Standing, closed_among, give, is_leaf};
+use crate::closed::{Leaf, Standing, closed_among, give, is_leaf};
 use crate::closing::answer_at;
 use crate::parts::{Refutation, branches, next_parts, node_at};
 use crate::replies::{Branch, Reply, reply_count, with_reply};
@@ -93,7 +93,7 @@ fn lay_out(alloc: Global, tree: Refutation<'_>) -> Result<Vec<Step>, NoMemory>
         let wanted = next_wanted(&mut steps, &mut tasks)?;
         lay_part(alloc, tree, &mut steps, &mut tasks, at, wanted)?;
     }
-    end_all(&mut steps, &mut tasks)?;
+    end_all(&mut steps, &tasks)?;
     Ok(steps)
 }
 
@@ -119,23 +119,16 @@ fn next_wanted(steps: &mut Vec<Step>, tasks: &mut Vec<Task>) -> Result<Option<Wa
 /// Adds the lines of the cases that end behind the last part.
 ///
 /// Errors: out of memory only.
-fn end_all(steps: &mut Vec<Step>, tasks: &mut Vec<Task>) -> Result<(), NoMemory>
-    ensures { OnOk result ((t : Litmus) → map reason_step_of steps.new.items ≡ map reason_step_of steps.old.items ++ emit t (tasks_of tasks.old.items) []) }
+fn end_all(steps: &mut Vec<Step>, tasks: &[Task]) -> Result<(), NoMemory>
+    ensures { OnOk result ((t : Litmus) → map reason_step_of steps.new.items ≡ map reason_step_of steps.old.items ++ emit t (tasks_of tasks.now) []) }
 {
-    while let Some(task) = tasks.pop() {
-        end(steps, task)?;
-    }
-    Ok(())
-}
-
-/// Adds the line of cases that end, if this task is their end.
-///
-/// Errors: out of memory only.
-fn end(steps: &mut Vec<Step>, task: Task) -> Result<(), NoMemory>
-    ensures { OnOk result (map reason_step_of steps.new.items ≡ map reason_step_of steps.old.items ++ ended_by (task_of task)) }
-{
-    if let Task::Endcases(depth) = task {
-        steps.push(Step::Endcases(depth))?;
+    for i in (0..tasks.len()).rev() {
+        match &tasks[i] {
+            Task::Endcases(depth) => {
+                steps.push(Step::Endcases(*depth))?;
+            }
+            Task::Part(_) => {}
+        }
     }
     Ok(())
 }
@@ -203,7 +196,7 @@ fn lay_answer(
         answers,
     } = answered;
     let given = give(alloc, tree, answers)?;
-    let answer = answer_of(alloc, tree, &given, reply)?;
+    let answer = answer_at(alloc, tree, &given, reply, &[reply])?;
     steps.push(step_of(is_only, depth, answer))?;
     let node = Standing {
         at,
@@ -229,24 +222,6 @@ fn depth_below(is_only: bool, depth: usize) -> usize
     ensures { result ≡ depth_below is_only depth }
 {
     if is_only { depth } else { depth + 1 }
-}
-
-/// What is shown of one answer.
-///
-/// Errors: out of memory only.
-fn answer_of(
-    alloc: Global,
-    tree: Refutation<'_>,
-    given: &Given,
-    reply: Reply,
-) -> Result<Answer, NoMemory>
-    requires tree { IsLayoutReady tree }
-    requires given { IsGiven tree.test.now given.now }
-    ensures { IfOk result (λ answer. views.answer_of answer
-        ≡ spec.answer_at tree.entry.test.now (known_of given.now.answers) reply (reply ∷ [])) }
-{
-    let alone = [reply];
-    answer_at(alloc, tree, given, reply, &alone)
 }
 
 /// Passes over so many parts.
@@ -353,30 +328,16 @@ fn add_tasks(
     }
     for i in (0..branches.len()).rev() {
         let branch = &branches[i];
-        let wanted = wanted_of(alloc, tree, question, branch, single)?;
-        tasks.push(Task::Part(wanted))?;
+        if is_leaf(node_at(tree.nodes, branch.at)) {
+            tasks.push(Task::Part(Wanted::Passed))?;
+        } else {
+            tasks.push(Task::Part(Wanted::Answered(Answered {
+                is_only: single,
+                depth: question.depth,
+                reply: branch.reply,
+                answers: with_reply(alloc, &question.given.answers, branch.reply)?,
+            })))?;
+        }
     }
     Ok(())
-}
-
-fn wanted_of(
-    alloc: Global,
-    tree: Refutation<'_>,
-    question: &Standing,
-    branch: &Branch,
-    single: bool,
-) -> Result<Wanted, NoMemory>
-    requires { branch.now.at < length tree.nodes.now }
-    ensures { IfOk result (λ wanted. spec_wanted wanted
-        ≡ branch_task single question.now.depth (branch_in tree.entry (known_of question.now.given.answers) branch.now)) }
-{
-    if is_leaf(node_at(tree.nodes, branch.at)) {
-        return Ok(Wanted::Passed);
-    }
-    Ok(Wanted::Answered(Answered {
-        is_only: single,
-        depth: question.depth,
-        reply: branch.reply,
-        answers: with_reply(alloc, &question.given.answers, branch.reply)?,
-    }))
 }

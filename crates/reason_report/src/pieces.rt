@@ -2,7 +2,7 @@
 
 use crate::readings::Reading;
 use crate::steps::{Edge, Event, Place, Step};
-use tso_model::{Choice, Entry, Loc};
+use tso_model::{Choice, Entry};
 use tso_report::named::Named;
 
 /// A piece of a line, or what stands under a key.
@@ -22,8 +22,6 @@ pub enum Piece<'a> {
     Cycle(&'a [Edge]),
     /// Places, with what stands there.
     Places(&'a [Place]),
-    /// The writes to a location among these entries.
-    Writes(&'a [Entry], Loc),
     /// Nothing in a line, and no key.
     Nothing,
 }

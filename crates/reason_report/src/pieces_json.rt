@@ -43,7 +43,6 @@ pub fn piece_value(alloc: Global, test: &Test, piece: Piece<'_>) -> Result<Value
         Piece::Sources(writes) => array_of(alloc, test, writes),
         Piece::Cycle(edges) => array_of(alloc, test, edges),
         Piece::Places(places) => places_value(alloc, test, places),
-        Piece::Writes(order, loc) => writes_value(alloc, test, order, loc),
         Piece::Nothing => Ok(Value::Null),
     }
 }
@@ -56,7 +55,15 @@ impl Valued for Option<Event> {
     }
 }
 
-fn writes_value(alloc: Global, test: &Test, order: &[Entry], loc: Loc) -> Result<Value, NoMemory>
+/// The writes to a location among these entries.
+///
+/// Errors: out of memory only.
+pub fn writes_value(
+    alloc: Global,
+    test: &Test,
+    order: &[Entry],
+    loc: Loc,
+) -> Result<Value, NoMemory>
     ensures { IfOk result (λ value. view value
         ≡ array (items_of (map (λ v. string (printed_entry test.now v)) (filter (program_order.writes_to loc.0) order.now)))) }
 {

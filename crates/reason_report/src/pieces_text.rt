@@ -35,7 +35,6 @@ pub fn write_piece(text: &mut String, test: &Test, piece: Piece<'_>) -> Result<(
         Piece::Sources(writes) => write_separated(text, test, " or ", writes),
         Piece::Cycle(edges) => write_cycle(text, test, edges),
         Piece::Places(places) => write_each(text, test, " ", places),
-        Piece::Writes(order, loc) => write_writes(text, test, order, loc),
         Piece::Nothing => Ok(()),
     }
 }
@@ -119,7 +118,14 @@ impl Written for u32 {
 }
 
 /// ` P0:0 W x=1 ..`: the writes to a location among these entries.
-fn write_writes(text: &mut String, test: &Test, order: &[Entry], loc: Loc) -> Result<(), NoMemory>
+///
+/// Errors: out of memory only; the text may have grown then.
+pub fn write_writes(
+    text: &mut String,
+    test: &Test,
+    order: &[Entry],
+    loc: Loc,
+) -> Result<(), NoMemory>
     ensures { OnOk result (string_bytes text.new ≡ string_bytes text.old
         ++ flat_map (λ (v : declared.Entry). codes " " ++ printed_entry test.now v) (filter (program_order.writes_to loc.0) order.now)) }
 {

@@ -97,19 +97,25 @@ fn judge(tree: Refutation<'_>, given: &Given, prop: &Prop, truth: bool, place: N
         Prop::Not(inner) => judge(tree, given, inner, !truth, place),
         Prop::And(left, right) => {
             let first = judge(tree, given, left, truth, place);
-            if truth && !first.is_allowed {
-                return first;
+            if !truth {
+                return either(first, judge(tree, given, right, truth, place));
             }
-            let second = judge(tree, given, right, truth, place);
-            if truth { second } else { either(first, second) }
+            if first.is_allowed {
+                judge(tree, given, right, truth, place)
+            } else {
+                first
+            }
         }
         Prop::Or(left, right) => {
             let first = judge(tree, given, left, truth, place);
-            if !truth && !first.is_allowed {
-                return first;
+            if truth {
+                return either(first, judge(tree, given, right, truth, place));
             }
-            let second = judge(tree, given, right, truth, place);
-            if truth { either(first, second) } else { second }
+            if first.is_allowed {
+                judge(tree, given, right, truth, place)
+            } else {
+                first
+            }
         }
     }
 }

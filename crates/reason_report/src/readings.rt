@@ -2,6 +2,7 @@
 //! program.
 
 ghost use Rattle.std.specs.Prelude.{◌≡◌, ◌↔◌, ◌∷◌, ◌++◌, ◌+◌, ◌<◌, IfOk, IsTrue, filter, take, drop, length};
+ghost use Rattle.tso_model.specs.ProgramEntries.{made};
 ghost use Rattle.tso_model.specs.ProgramOrder as program_order;
 ghost use Rattle.tso_model.specs.Axioms.{counting};
 ghost use Rattle.tso_model.specs.declared.execution.Entry as declared;
@@ -11,9 +12,10 @@ ghost use Rattle.reason_report.specs.inner.Shown as shown;
 ghost use Rattle.reason_report.specs.inner.Shown.{last_or, AreIn, ReadsIt, AreReadings};
 
 use crate::steps::Event;
+use execution_check::final_state::entries_made;
 use refutations::events::{is_before, is_read, writes_to};
 use std::alloc::Global;
-use tso_model::{Entry, NoMemory};
+use tso_model::{Entry, NoMemory, Test};
 
 /// A read, and the write that it reads from; none is the initial one.
 #[derive(Clone, Copy)]
@@ -32,15 +34,16 @@ pub fn event_of(e: &Entry) -> Event
     }
 }
 
-/// The reads among these entries of an order, each with the write that it reads from.
+/// The reads of an order, core by core, each with the write that it reads from.
 ///
 /// Errors: out of memory only.
-pub fn readings(alloc: Global, order: &[Entry], entries: &[Entry]) -> Result<Vec<Reading>, NoMemory>
-    requires { AreIn order.now entries.now }
-    ensures { IfOk result (λ all. AreReadings order.now (filter program_order.is_read entries.now) all.items) }
+pub fn readings(alloc: Global, test: &Test, order: &[Entry]) -> Result<Vec<Reading>, NoMemory>
+    requires { AreIn order.now (made test.now order.now) }
+    ensures { IfOk result (λ all. AreReadings order.now (filter program_order.is_read (made test.now order.now)) all.items) }
 {
+    let entries = entries_made(alloc, test, order)?;
     let mut all = Vec::new(alloc);
-    for read in entries {
+    for read in &entries {
         if is_read(read) {
             all.push(Reading {
                 read: event_of(read),

@@ -1,16 +1,14 @@
 //! What is printed of a refutation, of an execution, or of a search that met its limit: lines of text, or a JSON value on one line.
 
-ghost use Rattle.std.specs.Prelude.{◌≡◌, All, IfOk, filter, length, map, string_bytes};
+ghost use Rattle.std.specs.Prelude.{◌≡◌, All, IfOk, length, map, string_bytes};
 ghost use Rattle.tso_model.specs.FinalState.{final_registers, final_words};
-ghost use Rattle.tso_model.specs.ProgramEntries.{made};
-ghost use Rattle.tso_model.specs.ProgramOrder.{is_read};
 ghost use Rattle.relational_model.specs.Candidates.{Candidate};
 ghost use Rattle.refutation_laws.specs.Models.{IsExecutionOf};
 ghost use Rattle.refutations.specs.Trees.{node_of};
 ghost use Rattle.tso_report.specs.Tally.{looked_at, shown_value};
 ghost use Rattle.tso_report.specs.inner.Tally.{NameExists};
 ghost use Rattle.reason_report.specs.Printed.{allowed_in, refutation_in, unfinished_cases_in, ShowsExecution};
-ghost use Rattle.reason_report.specs.inner.Shown.{AreIn, AreReadings, IsShown};
+ghost use Rattle.reason_report.specs.inner.Shown.{IsShown};
 
 use crate::as_json::{never_json, sections_json, unfinished_reason_json};
 use crate::as_text::{never_text, sections_text, unfinished_text};
@@ -18,7 +16,7 @@ use crate::asked::model_name;
 use crate::layout::steps_of;
 use crate::pieces::Section;
 use crate::readings::{Reading, readings};
-use execution_check::final_state::{entries_made, registers_left, words_left};
+use execution_check::final_state::{registers_left, words_left};
 use refutation_laws::Model;
 use refutations::Node;
 use relational_model::{candidates_of_executions_are_allowed, executions_have_candidates};
@@ -80,7 +78,7 @@ pub fn allowed_report(
     executions_have_candidates();
     candidates_of_executions_are_allowed();
     let order = execution.order.as_slice();
-    let readings = readings_of(alloc, test, order)?;
+    let readings = readings(alloc, test, order)?;
     let names = looked_at(alloc, test)?;
     let values = values_left(alloc, test, order, &names)?;
     let shown = Shown {
@@ -91,15 +89,6 @@ pub fn allowed_report(
         choices,
     };
     shown_report(alloc, test, model, shown, json)
-}
-
-/// What each read of the order reads from.
-fn readings_of(alloc: Global, test: &Test, order: &[Entry]) -> Result<Vec<Reading>, NoMemory>
-    requires { AreIn order.now (made test.now order.now) }
-    ensures { IfOk result (λ all. AreReadings order.now (filter is_read (made test.now order.now)) all.items) }
-{
-    let entries = entries_made(alloc, test, order)?;
-    readings(alloc, order, &entries)
 }
 
 /// The values that an order leaves where these names are.

@@ -1,10 +1,10 @@
 -- What a piece and a section of a report are in lines of text, and as a JSON value.
-use Rattle.std.specs.Prelude.{ℕ, ◌≡◌, All, Bool, true, false, if◌then◌else◌, List, [], ◌∷◌, ◌++◌, codes, filter, length, map}
+use Rattle.std.specs.Prelude.{ℕ, ◌≡◌, All, Bool, true, false, if◌then◌else◌, List, [], ◌∷◌, ◌++◌, codes, length, map}
 use Rattle.std.specs.Borrow.{Bor}
 use Rattle.std.specs.Fmt.{decimal}
 use Rattle.std.specs.List.{flat_map}
 use Rattle.scheduler.specs.Printed.{printed_after}
-use Rattle.reason_report.specs.Vocabulary.{array, Data, Entry, items_of, Litmus, Members, no_members, null, object, outcomes_verdict_value, printed_choices, printed_entry, put, string, value_members, verdict_line, writes_to}
+use Rattle.reason_report.specs.Vocabulary.{array, Data, items_of, Litmus, Members, no_members, null, object, outcomes_verdict_value, printed_choices, put, string, value_members, verdict_line}
 use Rattle.tso_report.specs.Json.{count}
 use Rattle.tso_report.specs.Tally.{printed_values}
 use Rattle.tso_report.specs.inner.Tally.{NameExists}
@@ -27,7 +27,6 @@ piece_text t (piece.Source write) = source_text t write.now
 piece_text t (piece.Sources writes) = sources_text t writes.now
 piece_text t (piece.Cycle edges) = cycle_text t edges.now
 piece_text t (piece.Places places) = flat_map (place_text t) (map place_of places.now)
-piece_text t (piece.Writes order loc) = flat_map (λ (v : Entry). codes " " ++ printed_entry t v) (filter (writes_to loc.0) order.now)
 piece_text t piece.Nothing = []
 
 abbrev pub piece_value : Litmus → Piece → Data
@@ -38,7 +37,6 @@ piece_value t (piece.Source write) = string (source_text t write.now)
 piece_value t (piece.Sources writes) = array (items_of (map (λ w. string (source_text t w)) writes.now))
 piece_value t (piece.Cycle edges) = edges_value t edges.now
 piece_value t (piece.Places places) = object (place_members t (map place_of places.now))
-piece_value t (piece.Writes order loc) = array (items_of (map (λ v. string (printed_entry t v)) (filter (writes_to loc.0) order.now)))
 piece_value t piece.Nothing = null
 
 abbrev pub is_nothing : Piece → Bool

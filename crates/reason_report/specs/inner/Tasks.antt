@@ -87,8 +87,3 @@ TasksAreWithin most (a ∷ rest) = (task_depth a ≤ most) × TasksAreWithin mos
 abbrev pub IsUsed : Option Wanted → List Task → Type 0
 IsUsed None ts = ts ≡ []
 IsUsed (Some w) ts = Unit {0}
-
--- the line of a task where no part is left
-abbrev pub ended_by : Task → List spec.ReasonStep
-ended_by (Endcases depth) = spec.Endcases depth ∷ []
-ended_by _ = []

@@ -13,6 +13,7 @@ returns c =
     let t = c.args.test.now in
     let name = slice_index_or t.locations c.args.loc.0 [] in
     let ms = members_view c.args.members.now.entries in
-    on_ok_weaker c.put_fields.result
+    on_ok_weaker c.put_made.result
     (λ e. e ∙ (ap (λ n. put n (array (items_of (map (λ v. string (printed_entry t v)) (filter (writes_to c.args.loc.0) c.args.order.now)))) ms) c.location_name.ensures
-    ∙ sym (member-is t name (writes_to c.args.loc.0) c.args.order.now ms (sym c.has_write.ensures ∙ c.if-not-has_write.false)))) c.put_fields.ensures
+    ∙ sym (member-is t name (writes_to c.args.loc.0) c.args.order.now ms (sym c.has_write.ensures ∙ c.if-not-has_write.false))))
+    (c.put_made.ensures _ c.writes_value-writes.ensures)

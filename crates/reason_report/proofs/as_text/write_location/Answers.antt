@@ -14,6 +14,7 @@ returns c =
     let t = c.args.test.now in
     let bytes = string_bytes c.args.text.now in
     let name = slice_index_or t.locations c.args.loc.0 [] in
-    on_ok_weaker c.write_line.result
-    (λ e. e ∙ ap (λ z. bytes ++ z) (location-written name _ _ c.location_name.ensures
-    ∙ sym (line-is t name (writes_to c.args.loc.0) c.args.order.now (sym c.has_write.ensures ∙ c.if-not-has_write.false)))) c.write_line.ensures
+    on_ok_weaker c.write_characters.result
+    (λ e. location-written bytes name _ _ _ _ _ c.location_name.ensures c.in_ok-write_pieces.ensures c.in_ok-write_writes.ensures e
+    ∙ ap (λ z. bytes ++ z) (sym (line-is t name (writes_to c.args.loc.0) c.args.order.now (sym c.has_write.ensures ∙ c.if-not-has_write.false))))
+    c.write_characters.ensures

@@ -2,8 +2,8 @@ use Rattle.reason_report.proofs.Vocabulary.{◌∙◌, sym, subst, string_bytes,
 use Rattle.reason_report.proofs.Shown.{all-in, tso-of, shows}
 use Rattle.reason_report.proofs.report.allowed_report.Goals as goal
 
-pub readings_of-requires : goal.readings_of-requires
-readings_of-requires c =
+pub readings-requires : goal.readings-requires
+readings-requires c =
     let t = c.args.test.now in
     let order = c.as_slice-order.result.now in
     let tso = tso-of c.args.model t order (subst (IsExecutionOf c.args.model t) (sym c.as_slice-order.ensures.value) c.requires) in

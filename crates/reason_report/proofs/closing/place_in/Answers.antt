@@ -1,8 +1,8 @@
-use Rattle.reason_report.proofs.Vocabulary.{◌∙◌, ◌++◌, List, ap, sym, map, filter, flat_map, refl, known_of, words_at, Closed, alike}
+use Rattle.reason_report.proofs.Vocabulary.{ℕ, ◌∙◌, ◌++◌, List, ap, sym, map, filter, flat_map, refl, known_of, words_at, distinct, known_among, Named, Place, Closed, alike}
 use Rattle.reason_report.proofs.Growing.{one-picked, one-left, all-made}
 use Rattle.reason_report.proofs.Grouping.{closed-at}
-use Rattle.reason_report.proofs.closing.words_in.Goals as goal
-use Rattle.reason_report.proofs.closing.words_in.Goals.{then-are_alike+in_ok-more+in_ok-extend_from_slice, else-are_alike}
+use Rattle.reason_report.proofs.closing.place_in.Goals as goal
+use Rattle.reason_report.proofs.closing.place_in.Goals.{then-are_alike+in_ok-more+in_ok-extend_from_slice, else-are_alike}
 
 pub words_at-requires-then-are_alike-clause-given : goal.words_at-requires-then-are_alike-clause-given
 words_at-requires-then-are_alike-clause-given c =
@@ -11,8 +11,8 @@ words_at-requires-then-are_alike-clause-given c =
 pub loop-other-preserved : goal.loop-other-preserved
 loop-other-preserved c =
     let p = λ (d : Closed). alike c.args.leaf.now d.leaf in
-    let one = λ (d : Closed). words_at c.args.tree.test.now (known_of d.leaf.given.answers) c.args.place in
-    let f = λ (cs : List Closed). flat_map (λ k. words_at c.args.tree.test.now k c.args.place) (map (λ (d : Closed). known_of d.leaf.given.answers) cs) in
+    let one = λ (d : Closed). words_at c.args.tree.test.now (known_of d.leaf.given.answers) c.args.named in
+    let f = λ (cs : List Closed). flat_map (λ k. words_at c.args.tree.test.now k c.args.named) (map (λ (d : Closed). known_of d.leaf.given.answers) cs) in
     let made = c.loop-other.words.items in
     elim c.if-are_alike.branch [
       | then-are_alike+in_ok-more+in_ok-extend_from_slice w ↦
@@ -24,8 +24,12 @@ loop-other-preserved c =
           c.loop-other-test.true c.other-item.is c.loop-other.invariant (sym c.are_alike.ensures ∙ w.if-are_alike.false) (ap (λ v. v.items) w.words-is)
     ]
 
+abbrev placed : Named → List ℕ → Place
+placed named values = record { named = named; values = values }
+
 pub returns : goal.returns
 returns c =
-    all-made (λ cs. flat_map (λ k. words_at c.args.tree.test.now k c.args.place)
+    ap (placed c.args.named) (c.in_ok-values.ensures ∙ ap (λ ws. distinct (known_among ws)) (c.deref-2.ensures.value
+    ∙ all-made (λ cs. flat_map (λ k. words_at c.args.tree.test.now k c.args.named)
     (map (λ (d : Closed). known_of d.leaf.given.answers) (filter (λ (d : Closed). alike c.args.leaf.now d.leaf) cs))) refl c.args.others.now
-    c.loop-other.other-index c.loop-other.words.items _ c.loop-other-test.false c.loop-other.invariant
+    c.loop-other.other-index c.loop-other.words.items _ c.loop-other-test.false c.loop-other.invariant))
