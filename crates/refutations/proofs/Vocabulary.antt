@@ -4,7 +4,7 @@ pub use Rattle.std.proofs.lemmas.List.{at_drop_more, at_drop_all, map-append}
 pub use Rattle.tso_model.specs.Thread.{entries_of}
 pub use Rattle.basic_laws.specs.Types.{Instr, Entry, Cond}
 pub use Rattle.relational_model.specs.Candidates.{events_from}
-pub use Rattle.refutation_laws.specs.Known.{bare, Known, nothing, with_source, same_event, comes_before, events_of, is_event}
+pub use Rattle.refutation_laws.specs.Known.{bare, Known, nothing, with_source, same_event, is_write_of, reads_from, is_overwritten, from_reads, comes_before, events_of, is_event}
 pub use Rattle.refutation_laws.proofs.Standing.{by-program}
 pub use Rattle.std.specs.Prelude.{filter}
 pub use Rattle.std.specs.List.{list_any, list_all}

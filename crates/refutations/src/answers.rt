@@ -85,20 +85,24 @@ fn is_write_of(w: &Entry, write: &Option<Entry>) -> bool
 pub fn reads_from(answers: &Answers, w: &Entry, r: &Entry) -> bool
     ensures { result ≡ spec.reads_from (known_of answers.now) w.now r.now }
 {
-    answers
-        .sources
-        .iter()
-        .any(|s| same_event(&s.read, r) && is_write_of(w, &s.write))
+    for s in &answers.sources {
+        if same_event(&s.read, r) && is_write_of(w, &s.write) {
+            return true;
+        }
+    }
+    false
 }
 
 /// Whether it is an answer that w comes before v in coherence.
 pub fn comes_before(answers: &Answers, w: &Entry, v: &Entry) -> bool
     ensures { result ≡ spec.comes_before (known_of answers.now) w.now v.now }
 {
-    answers
-        .order
-        .iter()
-        .any(|p| same_event(&p.first, w) && same_event(&p.second, v))
+    for p in &answers.order {
+        if same_event(&p.first, w) && same_event(&p.second, v) {
+            return true;
+        }
+    }
+    false
 }
 
 fn is_overwritten(answers: &Answers, r: &Entry, write: &Option<Entry>, v: &Entry) -> bool
@@ -114,6 +118,10 @@ fn is_overwritten(answers: &Answers, r: &Entry, write: &Option<Entry>, v: &Entry
 pub fn from_reads(answers: &Answers, r: &Entry, v: &Entry) -> bool
     ensures { result ≡ spec.from_reads (known_of answers.now) r.now v.now }
 {
-    answers.sources.iter().any(|s| same_event(&s.read, r)
-        && is_overwritten(answers, r, &s.write, v))
+    for s in &answers.sources {
+        if same_event(&s.read, r) && is_overwritten(answers, r, &s.write, v) {
+            return true;
+        }
+    }
+    false
 }

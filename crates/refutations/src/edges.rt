@@ -1,10 +1,9 @@
 //! Edges that the answers tell, and the cycles of them that a model forbids. (herd's `x86tso.cat`.)
-ghost use Rattle.std.specs.Prelude.{◌≡◌, ◌&&◌, ◌||◌};
+ghost use Rattle.std.specs.Prelude.{◌≡◌, ◌&&◌};
 ghost use Rattle.std.specs.List.{list_any};
 ghost use Rattle.tso_model.specs.ProgramOrder as program_order;
 ghost use Rattle.tso_model.specs.declared.execution.Entry as declared;
 ghost use Rattle.tso_model.specs.declared.execution.Kind.TheVariants.{F};
-ghost use Rattle.relational_model.specs.Relations as access;
 ghost use Rattle.refutation_laws.specs.Known.{events_of};
 ghost use Rattle.refutation_laws.specs.Edges as spec;
 ghost use Rattle.refutation_laws.specs.Shown as shown;
@@ -32,14 +31,12 @@ fn is_fenced(test: &Test, events: &[Entry], x: &Entry, y: &Entry) -> bool
     ensures { result ≡ list_any (λ (f : declared.Entry). program_order.same_kind f.kind F && program_order.is_before x.now f
         && program_order.is_before f y.now) (events_of test.now) }
 {
-    events.iter().any(|f| f.kind == Kind::F && is_before(x, f) && is_before(f, y))
-}
-
-fn is_kept(x: &Entry, y: &Entry) -> bool
-    ensures { result ≡ ((program_order.is_write x.now && program_order.is_write y.now)
-        || (program_order.is_read x.now && access.is_access y.now)) }
-{
-    is_write(x) && is_write(y) || is_read(x) && is_access(y)
+    for f in events {
+        if f.kind == Kind::F && is_before(x, f) && is_before(f, y) {
+            return true;
+        }
+    }
+    false
 }
 
 /// Whether the answers tell that the relation leads from x to y.
@@ -50,7 +47,9 @@ pub fn relates(branch: Branch<'_>, relation: Relation, x: &Entry, y: &Entry) -> 
     match relation {
         Relation::Po => is_before(x, y),
         Relation::PoLoc => is_before(x, y) && share_location(x, y),
-        Relation::PoGhb => is_before(x, y) && is_kept(x, y),
+        Relation::PoGhb => {
+            is_before(x, y) && (is_write(x) && is_write(y) || is_read(x) && is_access(y))
+        }
         Relation::Mfence => is_fenced(branch.test, branch.events, x, y),
         Relation::Implied => {
             is_before(x, y) && is_write(x) && is_read(y) && (is_locked(x) || is_locked(y))

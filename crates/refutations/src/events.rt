@@ -30,15 +30,9 @@ fn add_bare(events: &mut Vec<Entry>, entries: &[Entry]) -> Result<(), NoMemory>
     ensures { IfOk result (λ _. events.new.items ≡ events.old.items ++ map spec.bare entries.now) }
 {
     for e in entries {
-        events.push(bare(e))?;
+        events.push(Entry { value: 0, ..*e })?;
     }
     Ok(())
-}
-
-fn bare(e: &Entry) -> Entry
-    ensures { result ≡ spec.bare e.now }
-{
-    Entry { value: 0, ..*e }
 }
 
 /// Whether both are one event: they differ at most in their values.
@@ -53,7 +47,12 @@ pub fn is_event(test: &Test, events: &[Entry], x: &Entry) -> bool
     requires { events.now ≡ spec.events_of test.now }
     ensures { result ≡ spec.is_event test.now x.now }
 {
-    events.iter().any(|e| same_event(x, e))
+    for e in events {
+        if same_event(x, e) {
+            return true;
+        }
+    }
+    false
 }
 
 /// Whether each of these is one of the test's events.
@@ -61,20 +60,20 @@ pub fn are_events(test: &Test, events: &[Entry], some: &[Entry]) -> bool
     requires { events.now ≡ spec.events_of test.now }
     ensures { result ≡ list_all (spec.is_event test.now) some.now }
 {
-    some.iter().all(|e| is_event(test, events, e))
+    for e in some {
+        if !is_event(test, events, e) {
+            return false;
+        }
+    }
+    true
 }
 
 /// Whether x stands before y in the program of their core.
 pub fn is_before(x: &Entry, y: &Entry) -> bool
     ensures { result ≡ program_order.is_before x.now y.now }
 {
-    x.core == y.core && (x.place < y.place || is_earlier_part(x, y))
-}
-
-fn is_earlier_part(x: &Entry, y: &Entry) -> bool
-    ensures { result ≡ program_order.is_earlier_part x.now y.now }
-{
-    x.place == y.place && y.kind == Kind::LW && x.kind != Kind::LW
+    let is_earlier_part = x.place == y.place && y.kind == Kind::LW && x.kind != Kind::LW;
+    x.core == y.core && (x.place < y.place || is_earlier_part)
 }
 
 /// Whether this is a load, or the load part of a locked instruction.

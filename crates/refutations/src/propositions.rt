@@ -7,7 +7,6 @@ ghost use Rattle.refutation_laws.specs.Known.{events_of};
 ghost use Rattle.refutation_laws.specs.Known as known;
 ghost use Rattle.refutation_laws.specs.Refutations.{asked_claim};
 ghost use Rattle.refutation_laws.specs.Values as spec;
-ghost use Rattle.refutation_laws.specs.declared.known.Pair as declared;
 ghost use Rattle.refutations.specs.inner.Trees.{known_of};
 ghost use Rattle.refutations.specs.inner.Facts.{AreFacts};
 
@@ -15,7 +14,6 @@ use crate::answers::{Answers, Branch};
 use crate::events::{is_event, same_event, writes_to};
 use crate::facts::Facts;
 use crate::values::{first_word, value_among};
-use refutation_laws::Pair;
 use std::alloc::Global;
 use tso_model::{Core, Entry, Loc, NoMemory, Prop, Quantifier, Reg, Test};
 
@@ -32,21 +30,12 @@ fn can_be(n: u32, truth: bool, value: Option<u32>) -> bool
 fn has_writes(events: &[Entry], loc: u8) -> bool
     ensures { result ≡ list_any (program_order.writes_to loc) events.now }
 {
-    events.iter().any(|w| writes_to(loc, w))
-}
-
-fn puts_before(test: &Test, events: &[Entry], w: &Entry, p: &Pair) -> bool
-    requires { events.now ≡ events_of test.now }
-    ensures { result ≡ (known.same_event p.now.first w.now && known.is_event test.now p.now.second) }
-{
-    same_event(&p.first, w) && is_event(test, events, &p.second)
-}
-
-fn is_put_before(test: &Test, events: &[Entry], order: &[Pair], w: &Entry) -> bool
-    requires { events.now ≡ events_of test.now }
-    ensures { result ≡ list_any (λ (p : declared.Pair). known.same_event p.first w.now && known.is_event test.now p.second) order.now }
-{
-    order.iter().any(|p| puts_before(test, events, w, p))
+    for w in events {
+        if writes_to(loc, w) {
+            return true;
+        }
+    }
+    false
 }
 
 /// Whether an answer puts w before another event.
@@ -54,7 +43,12 @@ fn is_passed(test: &Test, events: &[Entry], answers: &Answers, w: &Entry) -> boo
     requires { events.now ≡ events_of test.now }
     ensures { result ≡ list_any (known.comes_before (known_of answers.now) w.now) (events_of test.now) }
 {
-    is_put_before(test, events, &answers.order, w)
+    for p in &answers.order {
+        if same_event(&p.first, w) && is_event(test, events, &p.second) {
+            return true;
+        }
+    }
+    false
 }
 
 fn can_be_last(test: &Test, events: &[Entry], answers: &Answers, loc: u8, w: &Entry) -> bool
@@ -71,45 +65,24 @@ struct Wanted {
     truth: bool,
 }
 
-fn write_can_be(branch: Branch<'_>, facts: &Facts, loc: u8, wanted: Wanted, w: &Entry) -> bool
-    requires events { branch.events.now ≡ events_of branch.test.now }
-    requires facts { AreFacts branch.test.now (known_of branch.answers.now) facts.now }
-    ensures { result ≡ (spec.can_be_last branch.entry.test.now (known_of branch.entry.answers.now) loc w.now
-        && spec.can_be wanted.number wanted.truth
-        (spec.value_among (spec.all_known branch.entry.test.now (known_of branch.entry.answers.now)) w.now)) }
-{
-    can_be_last(branch.test, branch.events, branch.answers, loc, w)
-        && can_be(wanted.number, wanted.truth, value_among(&facts.writes, w))
-}
-
-fn some_write_can_be(branch: Branch<'_>, facts: &Facts, loc: u8, wanted: Wanted) -> bool
-    requires events { branch.events.now ≡ events_of branch.test.now }
-    requires facts { AreFacts branch.test.now (known_of branch.answers.now) facts.now }
-    ensures { result ≡ list_any (λ w. spec.can_be_last branch.entry.test.now (known_of branch.entry.answers.now) loc w
-        && spec.can_be wanted.number wanted.truth
-        (spec.value_among (spec.all_known branch.entry.test.now (known_of branch.entry.answers.now)) w)) branch.entry.events.now }
-{
-    branch
-        .events
-        .iter()
-        .any(|w| write_can_be(branch, facts, loc, wanted, w))
-}
-
 fn word_can_be(branch: Branch<'_>, facts: &Facts, loc: Loc, wanted: Wanted) -> bool
     requires events { branch.events.now ≡ events_of branch.test.now }
     requires facts { AreFacts branch.test.now (known_of branch.answers.now) facts.now }
     ensures { result ≡ list_any (spec.can_be wanted.number wanted.truth)
         (spec.words_at_end branch.entry.test.now (known_of branch.entry.answers.now) loc.0) }
 {
-    if has_writes(branch.events, loc.0) {
-        some_write_can_be(branch, facts, loc.0, wanted)
-    } else {
-        can_be(
-            wanted.number,
-            wanted.truth,
-            Some(first_word(branch.test, loc)),
-        )
+    if !has_writes(branch.events, loc.0) {
+        let word = Some(first_word(branch.test, loc));
+        return can_be(wanted.number, wanted.truth, word);
     }
+    for w in branch.events {
+        if can_be_last(branch.test, branch.events, branch.answers, loc.0, w)
+            && can_be(wanted.number, wanted.truth, value_among(&facts.writes, w))
+        {
+            return true;
+        }
+    }
+    false
 }
 
 /// What a location's word may be at the end: the value of each write that can be its last one; the

@@ -2,8 +2,7 @@ use Rattle.refutations.proofs.Vocabulary.{◌&&◌, ap, ◌∙◌, list_any, eve
 use Rattle.refutations.proofs.Last.{passed}
 use Rattle.refutations.proofs.propositions.is_passed.Goals as goal
 
-pub returns : goal.returns
-returns c =
-    c.is_put_before.ensures
-    ∙ (ap (list_any (λ (p : Pair). same_event p.first c.args.w.now && is_event c.args.test.now p.second)) c.deref.ensures.value
-    ∙ passed (known_of c.args.answers.now) c.args.w.now (events_of c.args.test.now))
+pub loop-p-init : goal.loop-p-init
+loop-p-init c =
+    ap (list_any (λ (p : Pair). same_event p.first c.args.w.now && is_event c.args.test.now p.second)) c.deref-p-items.ensures.value
+    ∙ passed (known_of c.args.answers.now) c.args.w.now (events_of c.args.test.now)
