@@ -5,16 +5,16 @@ ghost use Rattle.std.specs.List.{flat_map};
 ghost use Rattle.refutation_laws.specs.Refutations.{asked_claim};
 ghost use Rattle.refutations.specs.inner.Trees.{known_of};
 ghost use Rattle.reason_report.specs.Steps as spec;
-ghost use Rattle.reason_report.specs.Views.{answer_of, reason_step_of};
+ghost use Rattle.reason_report.specs.Views.{reason_step_of};
 ghost use Rattle.reason_report.specs.declared.closed.Closed as declared;
 ghost use Rattle.reason_report.specs.inner.Parts.{IsLayoutReady, root_at};
 ghost use Rattle.reason_report.specs.inner.Closed.{IsGiven, IsLeaf, IsClosed, BranchesAreClosed, closed_branch, alike, known_alike, rest_of};
 
-use crate::closed::{Closed, Given, Leaf, Standing, are_alike, is_alike_to_some};
+use crate::closed::{Closed, Leaf, Standing, are_alike, is_alike_to_some};
 use crate::closing::{answer_at, why_closed};
 use crate::parts::Refutation;
 use crate::replies::Reply;
-use crate::steps::{Answer, Step};
+use crate::steps::Step;
 use std::alloc::Global;
 use tso_model::NoMemory;
 
@@ -56,32 +56,8 @@ fn replies_alike(alloc: Global, first: &Closed, others: &[Closed]) -> Result<Vec
     Ok(all)
 }
 
-/// The answer of a case. One answer is shown with what is known under it, several with what is known without them.
-///
-/// Errors: out of memory only.
-fn case_answer(
-    alloc: Global,
-    tree: Refutation<'_>,
-    question: &Given,
-    first: &Closed,
-    others: &[Closed],
-) -> Result<Answer, NoMemory>
-    requires tree { IsLayoutReady tree }
-    requires question { IsGiven tree.test.now question.now }
-    requires first { IsClosed tree first.now }
-    requires others { BranchesAreClosed tree others.now }
-    ensures { IfOk result (λ answer. answer_of answer ≡ spec.answer_of_case tree.entry.test.now (known_of question.now.answers)
-        (closed_branch tree.entry first.now) (rest_of tree.entry first.now others.now)) }
-{
-    let replies = replies_alike(alloc, first, others)?;
-    if replies.len() == 1 {
-        answer_at(alloc, tree, &first.leaf.given, first.reply, &replies)
-    } else {
-        answer_at(alloc, tree, question, first.reply, &replies)
-    }
-}
-
-/// Adds the lines of a case that a leaf closes at once, and of the others that are alike.
+/// Adds the lines of a case that a leaf closes at once, and of the others that are alike. One answer is shown with what is known under
+/// it, several with what is known without them.
 ///
 /// Errors: out of memory only.
 fn add_case(
@@ -101,7 +77,13 @@ fn add_case(
         ++ spec.closed_case tree.entry.model tree.entry.test.now (asked_claim tree.entry.test.now.condition) question.now.depth (known_of question.now.given.answers)
         (closed_branch tree.entry first.now ∷ rest_of tree.entry first.now others.now)) }
 {
-    let answer = case_answer(alloc, tree, &question.given, first, others)?;
+    let replies = replies_alike(alloc, first, others)?;
+    let given = if replies.len() == 1 {
+        &first.leaf.given
+    } else {
+        &question.given
+    };
+    let answer = answer_at(alloc, tree, given, first.reply, &replies)?;
     steps.push(Step::Case(question.depth, answer))?;
     add_leaf(alloc, tree, steps, question.depth + 1, &first.leaf, others)
 }

@@ -1,7 +1,7 @@
 //! Why a proposition is false by the values that are known: the registers and locations that suffice to tell it.
 
-ghost use Rattle.std.specs.Prelude.{◌≡◌, ◌==◌, ◌||◌, IfOk, OnOk, length, map, true, is_some};
-ghost use Rattle.std.specs.List.{list_all, list_any};
+ghost use Rattle.std.specs.Prelude.{◌≡◌, ◌==◌, ◌||◌, IfOk, OnOk, length, map};
+ghost use Rattle.std.specs.List.{list_any};
 ghost use Rattle.tso_model.specs.Condition.{NamesExist, claim_of, RegClaim, LocClaim};
 ghost use Rattle.refutation_laws.specs.Known.{events_of};
 ghost use Rattle.refutation_laws.specs.Refutations.{asked_claim};
@@ -120,18 +120,6 @@ fn judge(tree: Refutation<'_>, given: &Given, prop: &Prop, truth: bool, place: N
     }
 }
 
-/// Whether the place tells that what the test asks is false.
-fn tells_asked(tree: Refutation<'_>, given: &Given, place: Named) -> bool
-    requires events { tree.events.now ≡ events_of tree.test.now }
-    requires facts { AreFacts tree.test.now (known_of given.now.answers) given.now.facts }
-    ensures { result ≡ spec.tells tree.entry.test.now (known_of given.now.answers) (asked_claim tree.entry.test.now.condition) true place }
-{
-    let Some(cond) = tree.test.cond() else {
-        return false;
-    };
-    judge(tree, given, &cond.prop, truth_asked(cond.quantifier), place).is_told
-}
-
 /// What a register holds at the end, or the words that a location may have; none of what isn't known.
 ///
 /// Errors: out of memory only.
@@ -159,15 +147,9 @@ pub fn words_at(
 fn are_known(words: &[Option<u32>]) -> bool
     ensures { result ≡ spec.are_known words.now }
 {
-    match words.split_first() {
-        None => false,
-        Some(_) => are_all_known(words),
-    }
-}
-
-fn are_all_known(words: &[Option<u32>]) -> bool
-    ensures { result ≡ list_all is_some words.now }
-{
+    let Some(_) = words.split_first() else {
+        return false;
+    };
     for w in words {
         if w.is_none() {
             return false;
@@ -190,7 +172,10 @@ pub fn suffices(
     requires place { NameExists (length tree.test.now.programs) (length tree.test.now.locations) place }
     ensures { IfOk result (λ b. b ≡ spec.suffices tree.entry.test.now (asked_claim tree.entry.test.now.condition) (known_of given.now.answers) place) }
 {
-    if !tells_asked(tree, given, place) {
+    let Some(cond) = tree.test.cond() else {
+        return Ok(false);
+    };
+    if !judge(tree, given, &cond.prop, truth_asked(cond.quantifier), place).is_told {
         return Ok(false);
     }
     let words = words_at(alloc, tree, given, place)?;
