@@ -14,10 +14,12 @@ use crate::values::{find_values, is_false, is_wrong_source, is_wrong_value, know
 /// value what is asked may hang.
 fn look_at_dependents(problem: &Problem, branch: &mut Branch, r: usize, all: bool) {
     for a in problem.locations..problem.size {
-        let term = problem.terms.at(a);
         let event = problem.events.at(a);
-        if event.writes && (term.first == r || term.second == r) {
-            branch.sets.join(DIRTY, &problem.readers_of, event.location);
+        if event.writes {
+            let term = problem.terms.at(a);
+            if term.first == r || term.second == r {
+                branch.sets.join(DIRTY, &problem.readers_of, event.location);
+            }
         }
         if all && problem.reads.has(RELEVANT, a) && branch.source.at(a) == NONE {
             branch.sets.add(DIRTY, a);
