@@ -1,5 +1,5 @@
 -- What is written for a state is read back as that state.
-use Rattle.explorer.proofs.Vocabulary.{◌≡◌, ◌<◌, ◌≤◌, ℕ, ◌+◌, zero, suc, Bool, true, false, List, [], ◌∷◌, ◌++◌, length, map, take, slice_set, core_of_processor, Processor, if◌then◌else◌, arith, ap, sym, ◌∙◌, refl, subst, append_assoc, append-nil, map-append, length-map, CoreState, State, Entry}
+use Rattle.explorer.proofs.Vocabulary.{◌≡◌, ◌<◌, ◌≤◌, ℕ, ◌+◌, zero, suc, Bool, true, false, List, [], ◌∷◌, ◌++◌, length, map, take, take_more, slice_index_or, slice_set, core_of_processor, Processor, if◌then◌else◌, arith, ap, sym, ◌∙◌, refl, subst, append_assoc, append-nil, map-append, length-map, CoreState, State, Entry}
 use Rattle.std.specs.Prelude.{nat_lt, ◌^◌}
 use Rattle.std.specs.Int.{w64, to_le_bytes}
 use Rattle.std.proofs.lemmas.Nat.{from_le_bytes-to_le_bytes_8}
@@ -111,6 +111,15 @@ module _ {A : Type 0} (bytes : A → List ℕ) (read : List ℕ → A × List �
         ap (λ z. let count = read_number z in read_all read count.0 count.1) (append_assoc (number_bytes (length xs)) (all_bytes bytes xs) rest)
         ∙ ap (λ z. read_all read z.0 z.1) (h.read_back (all_bytes bytes xs ++ rest)) ∙ k.read_back rest;
   }
+
+-- the next pending store
+pub packs-next-entry : (es : List Entry) (i : ℕ) (d : Entry) (kind : ℕ) (old now mid new : List ℕ) → i < length es → Packs (all_bytes entry_bytes) (read_all read_entry i) (take i es) old now
+    → kind ≡ kind_byte (slice_index_or es i d).kind → mid ≡ now ++ (slice_index_or es i d).core.0 ∷ (slice_index_or es i d).place ∷ kind ∷ (slice_index_or es i d).loc.0 ∷ []
+    → Packs number_bytes read_word (slice_index_or es i d).value mid new → Packs (all_bytes entry_bytes) (read_all read_entry (i + 1)) (take (i + 1) es) old new
+packs-next-entry es i d kind old now mid new l h k m v =
+    let e : Entry = slice_index_or es i d in
+    subst (λ z. Packs (all_bytes entry_bytes) (read_all read_entry (i + 1)) z old new) (sym (take_more es i d l))
+    (packs-more entry_bytes read_entry i (take i es) e old now new h (packs-entry e now mid new (m ∙ ap (λ z. now ++ e.core.0 ∷ e.place ∷ z ∷ e.loc.0 ∷ []) k) v))
 
 -- ---- cores, and a state
 

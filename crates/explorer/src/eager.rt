@@ -25,11 +25,14 @@ fn others_avoid(at: &Situation, core: Core, meeting: Meeting) -> bool
     others_are_held_back(at, &NOTHING, core, meeting)
 }
 
-/// Whether the core may make this action, its next, at once.
-fn is_eager_action(at: &Situation, core: Core, action: Action) -> bool
+/// Whether the core may make its next action at once.
+fn is_eager_step(at: &Situation, core: Core) -> bool
     requires { core.0 < length at.now.test.now.programs }
-    ensures { result ≡ true → IsEagerBy at.now.depth at.now.test.now (state_of_snapshot at.now.state.now) core.0 action }
+    ensures { result ≡ true → IsEager at.now.depth at.now.test.now (state_of_snapshot at.now.state.now) (Choice.Step core) }
 {
+    let Some(action) = at.next_action(core) else {
+        return false;
+    };
     let pending = at.pending(core);
     match action {
         Action::Store(..) => pending.len() < usize::from(at.depth),
@@ -39,16 +42,6 @@ fn is_eager_action(at: &Situation, core: Core, action: Action) -> bool
         Action::Lock(loc, _, _) => {
             pending.is_empty() && others_avoid(at, core, Meeting { loc, loads: true })
         }
-    }
-}
-
-fn is_eager_step(at: &Situation, core: Core) -> bool
-    requires { core.0 < length at.now.test.now.programs }
-    ensures { result ≡ true → IsEager at.now.depth at.now.test.now (state_of_snapshot at.now.state.now) (Choice.Step core) }
-{
-    match at.next_action(core) {
-        None => false,
-        Some(action) => is_eager_action(at, core, action),
     }
 }
 

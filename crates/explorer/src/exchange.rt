@@ -41,21 +41,14 @@ pub fn exchange(state: &mut Snapshot, pair: (u8, u8))
     state.cores.swap(usize::from(pair.0), usize::from(pair.1));
 }
 
-/// Exchanges two cores in a choice.
-fn exchanged_choice(choice: Choice, pair: (u8, u8)) -> Choice
-    ensures { result ≡ Rattle.eager_laws.specs.Exchanged.exchanged_choice pair choice }
-{
-    match choice {
-        Choice::Step(core) => Choice::Step(exchanged_core(core, pair)),
-        Choice::Drain(core) => Choice::Drain(exchanged_core(core, pair)),
-    }
-}
-
 /// Exchanges two cores in each of the choices.
 pub fn exchange_choices(choices: &mut Vec<Choice>, pair: (u8, u8))
     ensures { choices.new.items ≡ map (exchanged_choice pair) choices.old.items }
 {
     for at in 0..choices.len() {
-        choices[at] = exchanged_choice(choices[at], pair);
+        choices[at] = match choices[at] {
+            Choice::Step(core) => Choice::Step(exchanged_core(core, pair)),
+            Choice::Drain(core) => Choice::Drain(exchanged_core(core, pair)),
+        };
     }
 }

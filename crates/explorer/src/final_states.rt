@@ -22,13 +22,13 @@ use crate::fault::ExploreFault;
 use crate::found::{Found, begin, nothing_found};
 use crate::link::path;
 use crate::plan::{Plan, plan_of};
-use crate::search::{Extent, expand_all, extent_within};
+use crate::search::{Extent, expand_all};
 use crate::unpacking::unpack;
 use crate::watching::{Unwatched, Watcher};
 use eager_laws::{
     alike_cores_are_exchangeable, dead_registers_change_nothing, partly_closed_states_miss_none,
 };
-use flat_machine::{Snapshot, act, has_ended, registers_of, start};
+use flat_machine::{act, has_ended, registers_of, start};
 use outcome_laws::ends_are_what_tso_allows;
 use std::alloc::Global;
 use tso_laws::runs_stop_where_they_end;
@@ -52,25 +52,6 @@ pub struct Exploration {
     pub kept: usize,
 }
 
-/// The state that choices lead to from the beginning of the test.
-///
-/// Errors: out of memory only.
-fn state_after(
-    alloc: Global,
-    test: &Test,
-    depth: u8,
-    choices: &[Choice],
-) -> Result<Snapshot, NoMemory>
-    requires { CoresExist (length test.now.programs) choices.now }
-    ensures { IfOk result (λ s. state_of_snapshot s ≡ state_after test.now depth (start test.now) choices.now) }
-{
-    let mut state = start(alloc, test)?;
-    for choice in choices {
-        act(&mut state, test, depth, *choice)?;
-    }
-    Ok(state)
-}
-
 /// The final state of a kept state, with the choices that lead there.
 ///
 /// Errors: out of memory only.
@@ -81,11 +62,14 @@ fn final_state(alloc: Global, plan: &Plan, found: &Found, at: usize) -> Result<F
         → IsFinalOf plan.now.depth plan.now.test.now plan.now.hidden.now (state_of_packed s) f) }
 {
     let choices = path(alloc, &found.links, at)?;
-    let last = state_after(alloc, plan.test, plan.depth, &choices)?;
-    let registers = registers_of(alloc, &last.cores)?;
+    let mut state = start(alloc, plan.test)?;
+    for choice in &choices {
+        act(&mut state, plan.test, plan.depth, *choice)?;
+    }
+    let registers = registers_of(alloc, &state.cores)?;
     Ok(FinalState {
         registers,
-        memory: last.memory,
+        memory: state.memory,
         choices,
     })
 }
@@ -176,8 +160,13 @@ fn meet<W: Watcher>(
     watcher.is_over(kept);
     searched?;
     let final_states = final_states(alloc, plan, found)?;
+    let extent = if kept > limit {
+        Extent::Cut
+    } else {
+        Extent::Whole
+    };
     Ok(Met {
-        extent: extent_within(limit, kept),
+        extent,
         final_states,
         kept,
     })

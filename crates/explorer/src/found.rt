@@ -11,11 +11,11 @@ ghost use Rattle.explorer.specs.declared.plan.Plan.{Plan};
 use crate::eager::settle;
 use crate::forgetting::forget;
 use crate::link::{Link, turns_of};
-use crate::packed::{Packed, copy};
+use crate::packed::Packed;
 use crate::packing::pack;
 use crate::plan::Plan;
-use crate::reached::{Reached, nowhere};
-use flat_machine::{Snapshot, start};
+use crate::reached::Reached;
+use flat_machine::{Snapshot, exact, start};
 use indexmap::IndexSet;
 use std::alloc::Global;
 use tso_model::{NoMemory, Test};
@@ -50,8 +50,9 @@ pub fn keep(alloc: Global, found: &mut Found, from: usize) -> Result<(), NoMemor
     if found.states.contains(&found.room) {
         return Ok(());
     }
-    let packed = copy(alloc, &found.room)?;
-    found.states.insert(packed)?;
+    // With no room to spare: as many are kept as there are states.
+    let bytes = exact(alloc, &found.room.bytes)?;
+    found.states.insert(Packed { bytes })?;
     let turns = turns_of(alloc, &found.reached.choices, &found.reached.exchanges)?;
     found.links.push(Link { from, turns })?;
     Ok(())
@@ -64,7 +65,7 @@ pub fn nothing_found(alloc: Global, test: &Test) -> Result<Found, NoMemory>
     ensures { IfOk result (IsNothingYet test.now) }
 {
     let current = start(alloc, test)?;
-    let reached = nowhere(alloc, test)?;
+    let state = start(alloc, test)?;
     Ok(Found {
         states: IndexSet::new(alloc),
         links: Vec::new(alloc),
@@ -72,7 +73,11 @@ pub fn nothing_found(alloc: Global, test: &Test) -> Result<Found, NoMemory>
         room: Packed {
             bytes: Vec::new(alloc),
         },
-        reached,
+        reached: Reached {
+            state,
+            choices: Vec::new(alloc),
+            exchanges: Vec::new(alloc),
+        },
     })
 }
 

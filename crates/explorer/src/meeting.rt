@@ -2,7 +2,7 @@
 //! meets another core's access says whether that one may go first.
 ghost use Rattle.std.specs.Prelude.{◌≡◌, ◌≤◌, ℕ, true, false, Some, slice_get};
 ghost use Rattle.tso_model.specs.Actions.{action_of};
-ghost use Rattle.eager_laws.specs.Eager.{meets, Avoids};
+ghost use Rattle.eager_laws.specs.Eager.{meets};
 ghost use Rattle.eager_laws.specs.Stubborn.{HasPending, HasNonePending};
 ghost use Rattle.flat_machine.specs.State.{core_of_processor};
 ghost use Rattle.tso_model.specs.declared.instruction.Instr.{Instr};
@@ -64,15 +64,4 @@ pub fn has_pending(processor: &Processor, loc: Loc) -> bool
         }
     }
     false
-}
-
-/// Whether what the core has still to do keeps away from the location: neither an instruction nor a pending store of it
-/// makes such an access.
-pub fn avoids(program: &[Instr], processor: &Processor, meeting: Meeting) -> bool
-    ensures { result ≡ true → Avoids meeting.loads meeting.loc.0 program.now (core_of_processor processor.now) }
-{
-    if !has_none_coming(program, processor, meeting) {
-        return false;
-    }
-    has_none_pending(processor, meeting.loc)
 }

@@ -1,12 +1,9 @@
 //! A state as a string of bytes: a search keeps as many of these as there are states, so each is one short piece of memory.
-ghost use Rattle.std.specs.Prelude.{◌≡◌, IfOk, [], ◌∷◌};
+ghost use Rattle.std.specs.Prelude.{[], ◌∷◌};
 ghost use Rattle.std.specs.Cmp.Rules.{comparing, hashing};
 ghost use Rattle.std.proofs.Common.{rules};
 
-use flat_machine::exact;
-use std::alloc::Global;
 use std::hash::{Hash, Hasher};
-use tso_model::NoMemory;
 
 /// A state, packed. Two are equal where their bytes are.
 #[derive(PartialEq, Eq, Drop)]
@@ -23,15 +20,4 @@ impl Hash for Packed {
     fn hash<H: Hasher>(&self, state: &mut H) {
         state.write(&self.bytes);
     }
-}
-
-/// The same bytes once more, with no room to spare.
-///
-/// Errors: out of memory only.
-pub fn copy(alloc: Global, packed: &Packed) -> Result<Packed, NoMemory>
-    ensures { IfOk result (λ p. p.bytes.items ≡ packed.now.bytes.items) }
-{
-    Ok(Packed {
-        bytes: exact(alloc, &packed.bytes)?,
-    })
 }

@@ -46,16 +46,6 @@ fn push_words(bytes: &mut Vec<u8>, words: &[u32]) -> Result<(), NoMemory>
     Ok(())
 }
 
-/// Appends how many words there are, and then each.
-///
-/// Errors: out of memory only.
-fn push_memory(bytes: &mut Vec<u8>, memory: &[u32]) -> Result<(), NoMemory>
-    ensures { OnOk result (Packs (list_bytes number_bytes) (read_list read_word) memory.now bytes.old.items bytes.new.items) }
-{
-    push_number(bytes, memory.len() as u64)?;
-    push_words(bytes, memory)
-}
-
 /// The byte of a kind.
 #[tactic(auto, unfolding(crate::specs::inner::Packed::kind_byte))]
 fn byte_of_kind(kind: Kind) -> u8
@@ -70,17 +60,6 @@ fn byte_of_kind(kind: Kind) -> u8
     }
 }
 
-/// Appends a pending store.
-///
-/// Errors: out of memory only.
-fn push_entry(bytes: &mut Vec<u8>, entry: &Entry) -> Result<(), NoMemory>
-    ensures { OnOk result (Packs entry_bytes read_entry entry.now bytes.old.items bytes.new.items) }
-{
-    let kind = byte_of_kind(entry.kind);
-    bytes.extend_from_slice(&[entry.core.0, entry.place, kind, entry.loc.0])?;
-    push_word(bytes, entry.value)
-}
-
 /// Appends how many stores are pending, and then each.
 ///
 /// Errors: out of memory only.
@@ -89,32 +68,14 @@ fn push_pending(bytes: &mut Vec<u8>, pending: &[Entry]) -> Result<(), NoMemory>
 {
     push_number(bytes, pending.len() as u64)?;
     for entry in pending {
-        push_entry(bytes, entry)?;
+        let kind = byte_of_kind(entry.kind);
+        bytes.extend_from_slice(&[entry.core.0, entry.place, kind, entry.loc.0])?;
+        push_word(bytes, entry.value)?;
     }
     Ok(())
 }
 
-/// Appends registers. How many they are isn't told: they are always six.
-///
-/// Errors: out of memory only.
-fn push_registers(bytes: &mut Vec<u8>, registers: &[u32; 6]) -> Result<(), NoMemory>
-    ensures { OnOk result (Packs (all_bytes number_bytes) read_registers registers.now bytes.old.items bytes.new.items) }
-{
-    push_words(bytes, registers)
-}
-
-/// Appends a core.
-///
-/// Errors: out of memory only.
-fn push_core(bytes: &mut Vec<u8>, core: &Processor) -> Result<(), NoMemory>
-    ensures { OnOk result (Packs core_bytes read_core (core_of_processor core.now) bytes.old.items bytes.new.items) }
-{
-    bytes.push(core.place)?;
-    push_registers(bytes, &core.registers)?;
-    push_pending(bytes, &core.pending)
-}
-
-/// Appends how many cores there are, and then each.
+/// Appends how many cores there are, and then each. How many registers one has isn't told: they are always six.
 ///
 /// Errors: out of memory only.
 fn push_cores(bytes: &mut Vec<u8>, cores: &[Processor]) -> Result<(), NoMemory>
@@ -122,7 +83,9 @@ fn push_cores(bytes: &mut Vec<u8>, cores: &[Processor]) -> Result<(), NoMemory>
 {
     push_number(bytes, cores.len() as u64)?;
     for core in cores {
-        push_core(bytes, core)?;
+        bytes.push(core.place)?;
+        push_words(bytes, &core.registers)?;
+        push_pending(bytes, &core.pending)?;
     }
     Ok(())
 }
@@ -135,6 +98,7 @@ pub fn pack(state: &Snapshot, packed: &mut Packed) -> Result<(), NoMemory>
     ensures state { OnOk result (state_of_packed packed.new ≡ state_of_snapshot state.now) }
 {
     packed.bytes.clear();
-    push_memory(&mut packed.bytes, &state.memory)?;
+    push_number(&mut packed.bytes, state.memory.len() as u64)?;
+    push_words(&mut packed.bytes, &state.memory)?;
     push_cores(&mut packed.bytes, &state.cores)
 }

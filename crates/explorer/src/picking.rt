@@ -8,7 +8,7 @@ ghost use Rattle.explorer.specs.inner.Picked.{set_of, HasEvery};
 
 use crate::meeting::{Meeting, has_none_coming, has_none_pending};
 use crate::situation::Situation;
-use crate::stubborn::{Picked, is_stubborn};
+use crate::stubborn::{NOTHING, Picked, is_stubborn};
 use flat_machine::Snapshot;
 use tso_model::{Action, Core, Test};
 
@@ -37,27 +37,19 @@ fn drain_bit(core: u8) -> u16 {
     2u16 << (core % 8 * 2)
 }
 
-/// The choice of a core that comes before all of its accesses that meet one: its drain while it has a store to the location
-/// pending, else its step if an instruction to come makes such an access.
-fn first_to_meet(at: &Situation, core: Core, meeting: Meeting) -> u16
-    requires { core.0 < length at.now.test.now.programs }
-{
-    let processor = at.processor(core);
-    if !has_none_pending(processor, meeting.loc) {
-        return drain_bit(core.0);
-    }
-    if has_none_coming(at.test.program(core), processor, meeting) {
-        return 0;
-    }
-    step_bit(core.0)
-}
-
-/// Those choices of all other cores.
+/// Of each other core the choice that comes before all of its accesses that meet one: its drain while it has a store to the
+/// location pending, else its step if an instruction to come makes such an access.
 fn all_to_meet(at: &Situation, core: Core, meeting: Meeting) -> u16 {
     let mut set = 0u16;
     for other in 0..at.test.cores() {
-        if other != core.0 {
-            set |= first_to_meet(at, Core(other), meeting);
+        if other == core.0 {
+            continue;
+        }
+        let processor = at.processor(Core(other));
+        if !has_none_pending(processor, meeting.loc) {
+            set |= drain_bit(other);
+        } else if !has_none_coming(at.test.program(Core(other)), processor, meeting) {
+            set |= step_bit(other);
         }
     }
     set
@@ -81,32 +73,6 @@ fn step_needs(at: &Situation, core: Core) -> u16
     }
 }
 
-/// What a core's drain needs.
-fn drain_needs(at: &Situation, core: Core) -> u16
-    requires { core.0 < length at.now.test.now.programs }
-{
-    let Some((oldest, _later)) = at.pending(core).split_first() else {
-        return EVERY;
-    };
-    let meeting = Meeting {
-        loc: oldest.loc,
-        loads: true,
-    };
-    all_to_meet(at, core, meeting)
-}
-
-/// Which choices of a core don't stall, where its step and its drain need these.
-fn open_bits(core: u8, step: u16, drain: u16) -> u16 {
-    let mut open = 0u16;
-    if step != EVERY && step != drain_bit(core) {
-        open |= step_bit(core);
-    }
-    if drain != EVERY {
-        open |= drain_bit(core);
-    }
-    open
-}
-
 /// What each choice needs.
 fn needs_of(at: &Situation) -> Needs {
     let mut needs = Needs {
@@ -117,10 +83,19 @@ fn needs_of(at: &Situation) -> Needs {
     for core in 0..8u8 {
         if core < at.test.cores() {
             let step = step_needs(at, Core(core));
-            let drain = drain_needs(at, Core(core));
             needs.steps[usize::from(core)] = step;
-            needs.drains[usize::from(core)] = drain;
-            needs.open |= open_bits(core, step, drain);
+            if step != EVERY && step != drain_bit(core) {
+                needs.open |= step_bit(core);
+            }
+            if let Some((oldest, _later)) = at.pending(Core(core)).split_first() {
+                let loc = oldest.loc;
+                needs.drains[usize::from(core)] = all_to_meet(
+                    at,
+                    Core(core),
+                    Meeting { loc, loads: true },
+                );
+                needs.open |= drain_bit(core);
+            }
         }
     }
     needs
@@ -168,40 +143,24 @@ fn smallest(needs: &Needs) -> u16 {
     best
 }
 
-/// The choices of a set.
-fn picked_of(set: u16) -> Picked {
-    let mut picked = Picked {
-        steps: [false; 8],
-        drains: [false; 8],
-    };
-    for core in 0..8u8 {
-        picked.steps[usize::from(core)] = set & step_bit(core) != 0;
-        picked.drains[usize::from(core)] = set & drain_bit(core) != 0;
-    }
-    picked
-}
-
-/// Every choice of each core of a test.
-fn every_choice(test: &Test) -> Picked
-    ensures { HasEvery (set_of result) (length test.now.programs) }
-{
-    test.know_limits();
-    Picked {
-        steps: [true; 8],
-        drains: [true; 8],
-    }
-}
-
 /// A stubborn set of choices that has fewer than all of those that don't stall, if one is found, and else every choice.
 pub fn pick(state: &Snapshot, test: &Test, depth: u8) -> Picked
     requires { length state.now.cores.items ≡ length test.now.programs }
     ensures { IsStubborn depth test.now (set_of result) (state_of_snapshot state.now) ⊎ HasEvery (set_of result) (length test.now.programs) }
 {
+    test.know_limits();
     let at = Situation { state, test, depth };
     let set = smallest(&needs_of(&at));
-    let picked = picked_of(set);
-    if set == EVERY || !is_stubborn(&at, &picked) {
-        return every_choice(test);
+    let mut picked = NOTHING;
+    for core in 0..8u8 {
+        picked.steps[usize::from(core)] = set & step_bit(core) != 0;
+        picked.drains[usize::from(core)] = set & drain_bit(core) != 0;
     }
-    picked
+    if set != EVERY && is_stubborn(&at, &picked) {
+        return picked;
+    }
+    Picked {
+        steps: [true; 8],
+        drains: [true; 8],
+    }
 }

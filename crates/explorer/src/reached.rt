@@ -1,6 +1,6 @@
 //! The state that a choice leads to, with the choices after it that need not wait, without what is dead there, and with cores
 //! that are alike in one order. A choice that stalls leads nowhere new.
-ghost use Rattle.std.specs.Prelude.{◌≡◌, ◌<◌, [], IfOk, OnOk, true, false, length};
+ghost use Rattle.std.specs.Prelude.{◌≡◌, ◌<◌, IfOk, OnOk, true, false, length};
 ghost use Rattle.tso_model.specs.FlatMachine.{after_choice, chosen};
 ghost use Rattle.flat_machine.specs.State.{state_of_snapshot};
 ghost use Rattle.explorer.specs.inner.Planned.{IsPlan};
@@ -10,10 +10,9 @@ use crate::arranging::arrange;
 use crate::eager::settle;
 use crate::forgetting::forget;
 use crate::plan::Plan;
-use flat_machine::{Snapshot, act, has_stalled, is_idle, overwrite, start};
-use std::alloc::Global;
+use flat_machine::{Snapshot, act, has_stalled, is_idle, overwrite};
 use tso_laws::stalls_change_nothing;
-use tso_model::{Choice, NoMemory, Test};
+use tso_model::{Choice, NoMemory};
 
 /// A state that was reached from another one, and the choices that lead there. A search has one of
 /// these and reaches each state in it, so that a state that is there already takes no memory.
@@ -23,22 +22,6 @@ pub struct Reached {
     pub choices: Vec<Choice>,
     /// Which cores were exchanged after the choices, one pair after the other.
     pub exchanges: Vec<(u8, u8)>,
-}
-
-/// The first state of a test, where no choice has been made.
-///
-/// Errors: out of memory only.
-pub fn nowhere(alloc: Global, test: &Test) -> Result<Reached, NoMemory>
-    ensures cores { IfOk result (λ r. length r.state.cores.items ≡ length test.now.programs) }
-    ensures state { IfOk result (λ r. state_of_snapshot r.state ≡ Rattle.tso_model.specs.FlatMachine.start test.now) }
-    ensures choices { IfOk result (λ r. r.choices.items ≡ []) }
-    ensures exchanges { IfOk result (λ r. r.exchanges.items ≡ []) }
-{
-    Ok(Reached {
-        state: start(alloc, test)?,
-        choices: Vec::new(alloc),
-        exchanges: Vec::new(alloc),
-    })
 }
 
 /// Makes a choice in a snapshot, and what choices need not wait after it, forgets what is dead then,

@@ -4,50 +4,23 @@ ghost use Rattle.std.specs.Prelude.{◌≡◌, ℕ, ◌<◌, ◌≤◌, true, On
 ghost use Rattle.tso_model.specs.FlatMachine.{chosen, start};
 ghost use Rattle.eager_laws.specs.Closed.{IsCovered, IsExpandedEnough, ArePartlyClosed};
 ghost use Rattle.flat_machine.specs.State.{state_of_snapshot};
-ghost use Rattle.explorer.specs.inner.Settled.{Grows, IsCurrent, IsVisited, ArePicksVisited, IsInOrder};
+ghost use Rattle.explorer.specs.inner.Settled.{Grows, IsCurrent, IsVisited, IsInOrder};
 ghost use Rattle.explorer.specs.inner.Planned.{IsPlan};
 ghost use Rattle.explorer.specs.inner.Packed.{state_of_packed};
-ghost use Rattle.explorer.specs.inner.Picked.{set_of};
 ghost use Rattle.explorer.specs.declared.packed.Packed.{Packed};
-ghost use Rattle.explorer.specs.declared.search.Extent.{Extent};
 
 use crate::found::{Found, keep};
 use crate::picking::pick;
 use crate::plan::Plan;
 use crate::reached::reach;
-use crate::stubborn::{Picked, is_marked};
+use crate::stubborn::is_marked;
 use crate::unpacking::unpack;
-use crate::watching::{ToldSoFar, Watcher, tell};
+use crate::watching::{NOTHING_TOLD, Watcher, tell};
 use std::alloc::Global;
 use tso_model::{Choice, Core, NoMemory};
 
-/// Makes a choice in one of the states, and what choices need not wait after it. Where that is a
-/// state that isn't there yet, it is added.
-///
-/// Errors: out of memory only.
-pub fn visit(
-    alloc: Global,
-    found: &mut Found,
-    plan: &Plan,
-    from: usize,
-    choice: Choice,
-) -> Result<(), NoMemory>
-    requires plan { IsPlan plan.now }
-    requires current { IsCurrent found.old.states.keys from found.old.current }
-    requires found { IsInOrder plan.now found.old }
-    requires chosen { chosen choice < length plan.now.test.now.programs }
-    ensures grows { OnOk result (Grows found.old.states.keys found.new.states.keys) }
-    ensures found { OnOk result (IsInOrder plan.now found.new) }
-    ensures current { OnOk result (found.new.current ≡ found.old.current) }
-    ensures visited { OnOk result (IsVisited plan.now.depth plan.now.test.now plan.now.hidden.now plan.now.alike.items found.new.states.keys (state_of_snapshot found.old.current) choice) }
-{
-    if reach(&mut found.reached, &found.current, plan, choice)? {
-        keep(alloc, found, from)?;
-    }
-    Ok(())
-}
-
-/// Makes a choice in one of the states, if it is picked.
+/// Makes a choice in one of the states, if it is picked, and what choices need not wait after it. Where that is a state that
+/// isn't there yet, it is added.
 ///
 /// Errors: out of memory only.
 fn visit_if(
@@ -70,58 +43,8 @@ fn visit_if(
     if !is_picked {
         return Ok(());
     }
-    visit(alloc, found, plan, from, choice)
-}
-
-/// Makes the picked choices of a core in one of the states.
-///
-/// Errors: out of memory only.
-fn visit_picked(
-    alloc: Global,
-    found: &mut Found,
-    plan: &Plan,
-    from: usize,
-    picked: &Picked,
-    core: u8,
-) -> Result<(), NoMemory>
-    requires plan { IsPlan plan.now }
-    requires current { IsCurrent found.old.states.keys from found.old.current }
-    requires found { IsInOrder plan.now found.old }
-    requires core { core < length plan.now.test.now.programs }
-    ensures grows { OnOk result (Grows found.old.states.keys found.new.states.keys) }
-    ensures found { OnOk result (IsInOrder plan.now found.new) }
-    ensures current { OnOk result (found.new.current ≡ found.old.current) }
-    ensures visited { OnOk result (ArePicksVisited plan.now.depth plan.now.test.now plan.now.hidden.now plan.now.alike.items found.new.states.keys (state_of_snapshot found.old.current) (set_of picked.now) core) }
-{
-    let is_step_picked = is_marked(&picked.steps, core);
-    let its_step = Choice::Step(Core(core));
-    visit_if(alloc, found, plan, from, its_step, is_step_picked)?;
-    let is_drain_picked = is_marked(&picked.drains, core);
-    let its_drain = Choice::Drain(Core(core));
-    visit_if(alloc, found, plan, from, its_drain, is_drain_picked)
-}
-
-/// Makes the picked choices in one of the states.
-///
-/// Errors: out of memory only.
-fn expand_picked(
-    alloc: Global,
-    found: &mut Found,
-    plan: &Plan,
-    from: usize,
-    picked: &Picked,
-) -> Result<(), NoMemory>
-    requires plan { IsPlan plan.now }
-    requires current { IsCurrent found.old.states.keys from found.old.current }
-    requires found { IsInOrder plan.now found.old }
-    ensures grows { OnOk result (Grows found.old.states.keys found.new.states.keys) }
-    ensures found { OnOk result (IsInOrder plan.now found.new) }
-    ensures current { OnOk result (found.new.current ≡ found.old.current) }
-    ensures visited { OnOk result ((core : ℕ) → core < length plan.now.test.now.programs
-        → ArePicksVisited plan.now.depth plan.now.test.now plan.now.hidden.now plan.now.alike.items found.new.states.keys (state_of_snapshot found.old.current) (set_of picked.now) core) }
-{
-    for core in 0..plan.test.cores() {
-        visit_picked(alloc, found, plan, from, picked, core)?;
+    if reach(&mut found.reached, &found.current, plan, choice)? {
+        keep(alloc, found, from)?;
     }
     Ok(())
 }
@@ -140,7 +63,27 @@ pub fn expand(alloc: Global, found: &mut Found, plan: &Plan, from: usize) -> Res
 {
     unpack(&found.states[from], &mut found.current)?;
     let picked = pick(&found.current, plan.test, plan.depth);
-    expand_picked(alloc, found, plan, from, &picked)
+    for core in 0..plan.test.cores() {
+        let its_step = Choice::Step(Core(core));
+        visit_if(
+            alloc,
+            found,
+            plan,
+            from,
+            its_step,
+            is_marked(&picked.steps, core),
+        )?;
+        let its_drain = Choice::Drain(Core(core));
+        visit_if(
+            alloc,
+            found,
+            plan,
+            from,
+            its_drain,
+            is_marked(&picked.drains, core),
+        )?;
+    }
+    Ok(())
 }
 
 /// How far a search came.
@@ -150,18 +93,6 @@ pub enum Extent {
     Whole,
     /// To its limit: it kept more states than it was to keep.
     Cut,
-}
-
-/// How far a search came that keeps so many states.
-pub(crate) fn extent_within(limit: usize, kept: usize) -> Extent
-    ensures within { result ≡ Extent.Whole → kept ≤ limit }
-    ensures more { result ≡ Extent.Cut → limit < kept }
-{
-    if kept > limit {
-        Extent::Cut
-    } else {
-        Extent::Whole
-    }
 }
 
 /// Expands each state in turn, those that are added on the way too, as long as no more than `limit` are kept. Where
@@ -183,7 +114,7 @@ pub fn expand_all<W: Watcher>(
     ensures closed { OnOk result (length found.new.states.keys ≤ limit
         → ArePartlyClosed plan.now.depth plan.now.test.now plan.now.hidden.now plan.now.alike.items (map state_of_packed found.new.states.keys)) }
 {
-    let mut told = ToldSoFar::nothing();
+    let mut told = NOTHING_TOLD;
     for at in 0..limit {
         if at >= found.states.len() || found.states.len() > limit {
             break;

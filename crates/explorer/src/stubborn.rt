@@ -6,9 +6,9 @@ ghost use Rattle.eager_laws.specs.Stubborn.{has_step, has_drain, has_choice, IsH
 ghost use Rattle.flat_machine.specs.State.{state_of_snapshot};
 ghost use Rattle.explorer.specs.inner.Picked.{set_of, ArePicksApart};
 
-use crate::meeting::{Meeting, avoids, has_none_pending, has_pending};
+use crate::meeting::{Meeting, has_none_coming, has_none_pending, has_pending};
 use crate::situation::Situation;
-use tso_model::{Action, Choice, Core, Entry, Loc};
+use tso_model::{Action, Core, Entry, Loc};
 
 /// Some of the choices in a state: of which cores the step, and of which the drain.
 #[derive(Clone, Copy)]
@@ -40,30 +40,11 @@ fn is_held_back(at: &Situation, picked: &Picked, core: Core, meeting: Meeting) -
         (has_step (set_of picked.now) core.0) (has_drain (set_of picked.now) core.0) }
 {
     let processor = at.processor(core);
-    if avoids(at.test.program(core), processor, meeting) {
-        return true;
+    if has_none_pending(processor, meeting.loc) {
+        return is_marked(&picked.steps, core.0)
+            || has_none_coming(at.test.program(core), processor, meeting);
     }
-    let step = is_marked(&picked.steps, core.0);
-    if step && has_none_pending(processor, meeting.loc) {
-        return true;
-    }
-    let drain = is_marked(&picked.drains, core.0);
-    at.depth > 0 && drain && has_pending(processor, meeting.loc)
-}
-
-/// Whether that is so of another core; of this one nothing is asked.
-fn stays_held_back(
-    at: &Situation,
-    picked: &Picked,
-    core: Core,
-    other: Core,
-    meeting: Meeting,
-) -> bool
-    requires { other.0 < length at.now.test.now.programs }
-    ensures { result ≡ true → other.0 ≢ core.0 → IsHeldBack at.now.depth meeting.loads meeting.loc.0 (program_of at.now.test.now other.0)
-        (core_of (state_of_snapshot at.now.state.now) other.0) (has_step (set_of picked.now) other.0) (has_drain (set_of picked.now) other.0) }
-{
-    other.0 == core.0 || is_held_back(at, picked, other, meeting)
+    at.depth > 0 && is_marked(&picked.drains, core.0) && has_pending(processor, meeting.loc)
 }
 
 /// Whether that is so of every other core.
@@ -71,7 +52,7 @@ pub fn others_are_held_back(at: &Situation, picked: &Picked, core: Core, meeting
     ensures { result ≡ true → OthersAreHeldBack at.now.depth meeting.loads meeting.loc.0 at.now.test.now (set_of picked.now) (state_of_snapshot at.now.state.now) core.0 }
 {
     for other in 0..at.test.cores() {
-        if !stays_held_back(at, picked, core, Core(other), meeting) {
+        if other != core.0 && !is_held_back(at, picked, Core(other), meeting) {
             return false;
         }
     }
@@ -108,21 +89,30 @@ fn is_apart_action(at: &Situation, picked: &Picked, core: Core, action: Action) 
     }
 }
 
-fn is_apart_step(at: &Situation, picked: &Picked, core: Core) -> bool
-    requires { core.0 < length at.now.test.now.programs }
-    ensures { result ≡ true → IsApartStep at.now.depth at.now.test.now (set_of picked.now) (state_of_snapshot at.now.state.now) core.0 }
+/// Whether the core's step, if it is picked, is so.
+fn is_step_fine(at: &Situation, picked: &Picked, core: Core) -> bool
+    ensures { result ≡ true → has_step (set_of picked.now) core.0 ≡ true → IsApartStep at.now.depth at.now.test.now (set_of picked.now) (state_of_snapshot at.now.state.now) core.0 }
 {
+    if !is_marked(&picked.steps, core.0) {
+        return true;
+    }
+    if core.0 >= at.test.cores() {
+        return false;
+    }
     match at.next_action(core) {
         None => false,
         Some(action) => is_apart_action(at, picked, core, action),
     }
 }
 
-fn is_apart_drain(at: &Situation, picked: &Picked, core: Core) -> bool
-    requires { core.0 < length at.now.test.now.programs }
-    ensures { result ≡ true → IsApartDrain at.now.depth at.now.test.now (set_of picked.now) (state_of_snapshot at.now.state.now) core.0 }
+/// Whether the core's drain, if it is picked, is so.
+fn is_drain_fine(at: &Situation, picked: &Picked, core: Core) -> bool
+    ensures { result ≡ true → has_drain (set_of picked.now) core.0 ≡ true → IsApartDrain at.now.depth at.now.test.now (set_of picked.now) (state_of_snapshot at.now.state.now) core.0 }
 {
-    if at.depth == 0 {
+    if !is_marked(&picked.drains, core.0) {
+        return true;
+    }
+    if at.depth == 0 || core.0 >= at.test.cores() {
         return false;
     }
     let Some((oldest, _later)) = at.pending(core).split_first() else {
@@ -135,83 +125,18 @@ fn is_apart_drain(at: &Situation, picked: &Picked, core: Core) -> bool
     others_are_held_back(at, picked, core, meeting)
 }
 
-/// Whether the core's step, if it is picked, is so.
-fn is_step_fine(at: &Situation, picked: &Picked, core: Core) -> bool
-    requires { core.0 < length at.now.test.now.programs }
-    ensures { result ≡ true → has_step (set_of picked.now) core.0 ≡ true → IsApartStep at.now.depth at.now.test.now (set_of picked.now) (state_of_snapshot at.now.state.now) core.0 }
-{
-    !is_marked(&picked.steps, core.0) || is_apart_step(at, picked, core)
-}
-
-/// Whether the core's drain, if it is picked, is so.
-fn is_drain_fine(at: &Situation, picked: &Picked, core: Core) -> bool
-    requires { core.0 < length at.now.test.now.programs }
-    ensures { result ≡ true → has_drain (set_of picked.now) core.0 ≡ true → IsApartDrain at.now.depth at.now.test.now (set_of picked.now) (state_of_snapshot at.now.state.now) core.0 }
-{
-    !is_marked(&picked.drains, core.0) || is_apart_drain(at, picked, core)
-}
-
-/// Whether what is picked of each core is so.
-fn are_cores_fine(at: &Situation, picked: &Picked) -> bool
-    ensures { result ≡ true → ArePicksApart at.now.depth at.now.test.now (set_of picked.now) (state_of_snapshot at.now.state.now) (length at.now.test.now.programs) }
-{
-    for core in 0..at.test.cores() {
-        if !is_step_fine(at, picked, Core(core)) {
-            return false;
-        }
-        if !is_drain_fine(at, picked, Core(core)) {
-            return false;
-        }
-    }
-    true
-}
-
-/// Whether no core from this number on is marked.
-fn are_none_marked(marks: &[bool], from: u8) -> bool
-    ensures { result ≡ true → (core : ℕ) → from ≤ core → slice_index_or marks.now core false ≡ false }
-{
-    for core in from..8 {
-        if is_marked(marks, core) {
-            return false;
-        }
-    }
-    marks.len() <= 8
-}
-
-/// The first choice that is picked, if there is one.
-fn first_picked(picked: &Picked) -> Option<Choice>
-    ensures { IfSome result (λ c. has_choice (set_of picked.now) c ≡ true) }
-{
-    for core in 0..8u8 {
-        if is_marked(&picked.steps, core) {
-            return Some(Choice::Step(Core(core)));
-        }
-        if is_marked(&picked.drains, core) {
-            return Some(Choice::Drain(Core(core)));
-        }
-    }
-    None
-}
-
-/// Whether each choice that is picked is so.
-fn are_picks_fine(at: &Situation, picked: &Picked) -> bool
-    ensures { result ≡ true → (count : ℕ) → ArePicksApart at.now.depth at.now.test.now (set_of picked.now) (state_of_snapshot at.now.state.now) count }
-{
-    if !are_none_marked(&picked.steps, at.test.cores()) {
-        return false;
-    }
-    if !are_none_marked(&picked.drains, at.test.cores()) {
-        return false;
-    }
-    are_cores_fine(at, picked)
-}
-
-/// Whether the picked choices are a stubborn set.
+/// Whether the picked choices are a stubborn set: each is as those of one are, and there is one.
 pub fn is_stubborn(at: &Situation, picked: &Picked) -> bool
     ensures { result ≡ true → IsStubborn at.now.depth at.now.test.now (set_of picked.now) (state_of_snapshot at.now.state.now) }
 {
-    match first_picked(picked) {
-        None => false,
-        Some(_first) => are_picks_fine(at, picked),
+    let mut has_one = false;
+    for core in 0..8u8 {
+        if !is_step_fine(at, picked, Core(core)) || !is_drain_fine(at, picked, Core(core)) {
+            return false;
+        }
+        if is_marked(&picked.steps, core) || is_marked(&picked.drains, core) {
+            has_one = true;
+        }
     }
+    has_one
 }

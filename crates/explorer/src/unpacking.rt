@@ -18,53 +18,32 @@ fn take_byte(bytes: &[u8]) -> (u8, &[u8])
     }
 }
 
-/// A number of eight bytes, and the rest.
-#[tactic(auto, unfolding(crate::specs::inner::Packed::read_long))]
-fn take_long(bytes: &[u8]) -> (u64, &[u8])
-    ensures { (result.0, result.1.now) ≡ read_long bytes.now }
-{
-    match bytes.split_first_chunk::<8>() {
-        None => (0, bytes),
-        Some((number, rest)) => (u64::from_le_bytes(*number), rest),
-    }
-}
-
 /// A number, and the rest.
-#[tactic(auto, unfolding(crate::specs::inner::Packed::read_number))]
+#[tactic(auto, unfolding(crate::specs::inner::Packed::read_number, crate::specs::inner::Packed::read_long))]
 fn take_number(bytes: &[u8]) -> (u64, &[u8])
     ensures { (result.0, result.1.now) ≡ read_number bytes.now }
 {
     match bytes.split_first() {
         None => (0, bytes),
-        Some((byte, rest)) => {
-            if *byte < 255 {
-                (u64::from(*byte), rest)
-            } else {
-                take_long(rest)
-            }
-        }
+        Some((byte, rest)) if *byte < 255 => (u64::from(*byte), rest),
+        Some((_mark, long)) => match long.split_first_chunk::<8>() {
+            None => (0, long),
+            Some((number, rest)) => (u64::from_le_bytes(*number), rest),
+        },
     }
 }
 
-/// The number as a word; 0 where it is too great for one.
-#[tactic(auto, unfolding(crate::specs::inner::Packed::word_or_zero))]
-fn as_word(number: u64) -> u32
-    ensures { result ≡ word_or_zero number }
-{
-    if number <= 4_294_967_295 {
-        number as u32
-    } else {
-        0
-    }
-}
-
-/// A word, and the rest.
-#[tactic(auto, unfolding(crate::specs::inner::Packed::read_word))]
+/// A word, and the rest. A number that is too great for one is read as 0.
+#[tactic(auto, unfolding(crate::specs::inner::Packed::read_word, crate::specs::inner::Packed::word_or_zero))]
 fn take_word(bytes: &[u8]) -> (u32, &[u8])
     ensures { (result.0, result.1.now) ≡ read_word bytes.now }
 {
     let (number, rest) = take_number(bytes);
-    (as_word(number), rest)
+    if number <= 4_294_967_295 {
+        (number as u32, rest)
+    } else {
+        (0, rest)
+    }
 }
 
 /// The kind of a byte.
@@ -146,19 +125,6 @@ fn unpack_pending<'a>(bytes: &'a [u8], pending: &mut Vec<Entry>) -> Result<&'a [
     Ok(rest)
 }
 
-/// Reads a core, and answers the rest.
-///
-/// Errors: out of memory only.
-fn unpack_core<'a>(bytes: &'a [u8], core: &mut Processor) -> Result<&'a [u8], NoMemory>
-    ensures { IfOk result (λ rest. (core_of_processor core.new, rest.now) ≡ read_core bytes.now) }
-{
-    let (place, rest) = take_byte(bytes);
-    core.place = place;
-    let rest = unpack_registers(rest, &mut core.registers);
-    let rest = unpack_pending(rest, &mut core.pending)?;
-    Ok(rest)
-}
-
 /// Reads a core into each of these.
 ///
 /// Errors: out of memory only.
@@ -168,7 +134,11 @@ fn unpack_cores(bytes: &[u8], cores: &mut Vec<Processor>) -> Result<(), NoMemory
 {
     let (_, mut rest) = take_number(bytes);
     for at in 0..cores.len() {
-        rest = unpack_core(rest, &mut cores[at])?;
+        let core = &mut cores[at];
+        let (place, later) = take_byte(rest);
+        core.place = place;
+        let later = unpack_registers(later, &mut core.registers);
+        rest = unpack_pending(later, &mut core.pending)?;
     }
     Ok(())
 }

@@ -33,7 +33,7 @@ impl Watcher for Unwatched {
 }
 
 /// How far a watcher has been told of a search.
-#[derive(Drop)]
+#[derive(Clone, Copy)]
 pub(crate) struct ToldSoFar {
     /// How many of the states have been looked at.
     counted: usize,
@@ -43,16 +43,12 @@ pub(crate) struct ToldSoFar {
     next: usize,
 }
 
-impl ToldSoFar {
-    /// Nothing has been told.
-    pub(crate) fn nothing() -> ToldSoFar {
-        ToldSoFar {
-            counted: 0,
-            finals: 0,
-            next: STRIDE,
-        }
-    }
-}
+/// Nothing has been told.
+pub(crate) const NOTHING_TOLD: ToldSoFar = ToldSoFar {
+    counted: 0,
+    finals: 0,
+    next: STRIDE,
+};
 
 /// Tells a watcher of a search, where so many states are kept that it is time. The room is for one of them, unpacked.
 ///
@@ -72,33 +68,14 @@ pub(crate) fn tell<W: Watcher>(
     if kept < told.next {
         return Ok(());
     }
-    let finals = count_ended(plan, states, room, told.counted)?;
-    told.finals = told.finals.saturating_add(finals);
+    for at in told.counted..kept {
+        unpack(&states[at], room)?;
+        if has_ended(plan.test, room) {
+            told.finals = told.finals.saturating_add(1);
+        }
+    }
     told.counted = kept;
     told.next = told.next.saturating_add(STRIDE);
     watcher.goes_on(kept, told.finals);
     Ok(())
-}
-
-/// In how many of the states from this one on the test has ended.
-///
-/// Errors: out of memory only.
-fn count_ended(
-    plan: &Plan,
-    states: &IndexSet<Packed>,
-    room: &mut Snapshot,
-    from: usize,
-) -> Result<usize, NoMemory>
-    requires cores { HaveCores plan.now.test.now states.now.keys }
-    requires room { length room.old.cores.items ≡ length plan.now.test.now.programs }
-    ensures room { OnOk result (length room.new.cores.items ≡ length plan.now.test.now.programs) }
-{
-    let mut count = 0usize;
-    for at in from..states.len() {
-        unpack(&states[at], room)?;
-        if has_ended(plan.test, room) {
-            count = count.saturating_add(1);
-        }
-    }
-    Ok(count)
 }

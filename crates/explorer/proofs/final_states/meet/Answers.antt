@@ -1,7 +1,8 @@
-use Rattle.explorer.proofs.Vocabulary.{arith}
+use Rattle.explorer.proofs.Vocabulary.{◌≤◌, arith}
 use Rattle.explorer.proofs.Counting.{more-states}
 use Rattle.explorer.proofs.Finals.{finals-reached, finals-complete}
 use Rattle.explorer.proofs.final_states.meet.Goals as goal
+use Rattle.explorer.proofs.final_states.meet.Goals.{then-kept-limit, else-kept-limit}
 
 pub returns-clause-reached : goal.returns-clause-reached
 returns-clause-reached g c =
@@ -17,7 +18,10 @@ returns-clause-complete g c = λ whole.
     c.args.plan.now.hidden.now c.args.plan.now.alike.items c.search_all-searched.new.found.states.keys c.in_ok-final_states.final_states.items c.know_limits.ensures (record {
       alike = c.requires.plan.alike;
       cores = c.in_ok-searched.ensures.found.cores;
-      whole = c.in_ok-searched.ensures.whole (let n = c.len-kept.ensures.len in let l = c.extent_within.ensures.within whole in omega (arith, n, l));
+      whole = c.in_ok-searched.ensures.whole (let n = c.len-kept.ensures.len in let l : c.len-kept.result ≤ c.args.limit = elim c.if-kept-limit.branch [
+        | then-kept-limit w ↦ absurd (let q = w.extent-is in let z : ⊥ = cc in z)
+        | else-kept-limit w ↦ w.if-kept-limit.false
+      ] in omega (arith, n, l));
     }) c.in_ok-final_states.ensures
 
 pub returns-clause-kept : goal.returns-clause-kept

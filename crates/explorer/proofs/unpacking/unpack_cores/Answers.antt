@@ -1,5 +1,5 @@
 use Rattle.explorer.proofs.Vocabulary.{arith, ◌∙◌, length-set}
-use Rattle.explorer.proofs.ReadBack.{next-core, cores-read}
+use Rattle.explorer.proofs.ReadBack.{core-read, next-core, cores-read}
 use Rattle.explorer.proofs.unpacking.unpack_cores.Goals as goal
 
 pub loop-at-preserved : goal.loop-at-preserved
@@ -9,7 +9,8 @@ loop-at-preserved c =
     let k = c.args.cores.now.ok.0 in
     let m = c.loop-at.invariant.count in
     record {
-      read = next-core c.loop-at.at _ _ _ c.loop-at.cores.items _ (omega (arith, l, n, k, m)) c.loop-at.invariant.read c.in_ok-rest.ensures;
+      read = next-core c.loop-at.at _ _ _ c.loop-at.cores.items _ (omega (arith, l, n, k, m)) c.loop-at.invariant.read
+          (core-read c.loop-at.rest.now _ _ _ _ _ _ c.take_byte-place.ensures c.unpack_registers-later.ensures c.in_ok-rest.ensures);
       count = length-set c.loop-at.cores.items c.loop-at.at _ ∙ c.loop-at.invariant.count;
     }
 

@@ -1,6 +1,6 @@
 use Rattle.explorer.proofs.Vocabulary.{subst, sym, inr, state_of_snapshot, LeadToExchanged}
 use Rattle.explorer.proofs.Searching.{grows-none}
-use Rattle.explorer.proofs.search.visit.Goals as goal
+use Rattle.explorer.proofs.search.visit_if.Goals as goal
 
 pub reach-requires-clause-cores : goal.reach-requires-clause-cores
 reach-requires-clause-cores c = c.requires.found.current

@@ -1,5 +1,0 @@
-use Rattle.explorer.proofs.Vocabulary.{◌≡◌, length}
-use Rattle.explorer.proofs.watching.count_ended.Given as goal
-
-abbrev pub invariant-loop-at : goal.invariant-loop-at
-invariant-loop-at l = length l.room.cores.items ≡ length l.plan.test.now.programs
