@@ -1,6 +1,6 @@
 -- The number of a name among slices.
-use Rattle.std.proofs.Common.{◌≡◌, ℕ, ◌+◌, suc, Bool, true, false, cond, ltb, not, ◌||◌, List, [], ◌∷◌, ◌++◌, length, Some, None, refl, sym, ◌∙◌, arith}
-use Rattle.std.specs.Prelude.{◌≢◌, position}
+use Rattle.std.proofs.Common.{◌≡◌, ℕ, ◌+◌, suc, Bool, true, false, cond, ltb, not, ◌||◌, List, [], ◌∷◌, ◌++◌, length, refl, sym, ◌∙◌, arith}
+use Rattle.std.specs.Prelude.{◌≢◌}
 use Rattle.std.specs.List.{list_any, position_or_len}
 use Rattle.std.proofs.lemmas.Bool.{lt-ltb, le-ltb}
 use Rattle.std.proofs.lemmas.List.{length-map, map-append}
@@ -9,7 +9,7 @@ use Rattle.std.specs.Str.{bytes_eq}
 use denote.Ref.{Bor}
 use Prim.Native.Nat.compare
 use Rattle.litmus_cells.specs.Locations.{texts}
-use Rattle.litmus_cells.proofs.Maps.{position_or_len-map, position_found, position_none}
+use Rattle.litmus_cells.proofs.Maps.{position_or_len-map}
 use Rattle.litmus_cells.specs.GrammarNames.{number_of, with_name}
 
 -- a search finds a place before the end where an item passes
@@ -21,11 +21,17 @@ any_before p (x ∷ xs) = by_test (p x) (any_before p xs)
     by_test true e = sym (lt-ltb 0 (suc (length xs)) (omega arith))
     by_test false e = let one : 1 + position_or_len p xs ≡ suc (position_or_len p xs) = omega arith in rw (one, compare.suc-suc) e
 
-pub number_known : (names : List (Bor (List ℕ))) (x : List ℕ) (n : ℕ) → Some n ≡ position (λ k. bytes_eq x k.now) names → n ≡ number_of (texts names) x
-number_known names x n at = position_found _ names n at ∙ sym (position_or_len-map (bytes_eq x) (λ (k : Bor (List ℕ)). k.now) names)
+-- ---- the number of a name, found by a loop
 
-pub number_next : (names : List (Bor (List ℕ))) (x : List ℕ) → None ≡ position (λ k. bytes_eq x k.now) names → length names ≡ number_of (texts names) x
-number_next names x at = position_none _ names at ∙ sym (position_or_len-map (bytes_eq x) (λ (k : Bor (List ℕ)). k.now) names)
+abbrev pub is_name : List ℕ → Bor (List ℕ) → Bool
+is_name x k = bytes_eq x k.now
+
+pub number_is : (names : List (Bor (List ℕ))) (x : List ℕ) (i rest : ℕ) → i + rest ≡ position_or_len (is_name x) names → rest ≡ 0 → i ≡ number_of (texts names) x
+number_is names x i rest so_far none =
+    let is : i ≡ position_or_len (is_name x) names = omega (arith, so_far, none) in
+    is ∙ sym (position_or_len-map (bytes_eq x) (λ (k : Bor (List ℕ)). k.now) names)
+
+-- ---- a name that is put after the others where it is new
 
 pub noted_new : (names : List (Bor (List ℕ))) (k : Bor (List ℕ)) (number : ℕ) → number ≡ number_of (texts names) k.now → number ≡ length names → texts (names ++ k ∷ []) ≡ with_name (texts names) k.now
 noted_new names k number is e =

@@ -67,7 +67,13 @@ fn instr_of<'a>(
 fn count_of(core: usize, instrs: &[CoreInstr]) -> usize
     ensures { result ≡ spec.count_of core instrs.now }
 {
-    instrs.iter().filter(|i| i.core == core).count()
+    let mut count = 0usize;
+    for i in instrs {
+        if i.core == core {
+            count += 1;
+        }
+    }
+    count
 }
 
 /// Reads a core's cell: its instruction goes after the others.

@@ -1,8 +1,7 @@
 //! Locations by their names, each with its number: by first appearance in the text. One over the limit is refused where it
 //! appears.
 
-ghost use Rattle.std.specs.Prelude.{◌≡◌, OnOk, position};
-ghost use Rattle.std.specs.Str.{bytes_eq};
+ghost use Rattle.std.specs.Prelude.{◌≡◌, OnOk};
 ghost use Rattle.litmus_cells.specs.inner.Faults.{Gives};
 ghost use Rattle.litmus_cells.specs.Locations as spec;
 ghost use Rattle.litmus_cells.specs.Locations.{texts};
@@ -12,21 +11,16 @@ use crate::fault::{Fault, ReadError, Why};
 use tso_model::limits::MAX_LOCATIONS;
 use tso_model::{Loc, NoMemory};
 
-/// Where a name stands among the others, if it does. They are few, so each is looked at.
-fn place_of(names: &[&[u8]], name: &[u8]) -> Option<usize>
-    ensures { result ≡ position (λ known. bytes_eq name.now known.now) names.now }
-{
-    names.iter().position(|known| name == *known)
-}
-
-/// The number of a name: its own, or the next.
+/// The number of a name: its own, or the next. The names are few, so each is looked at.
 fn number_of(names: &[&[u8]], name: &[u8]) -> usize
     ensures { result ≡ grammar.number_of (texts names.now) name.now }
 {
-    match place_of(names, name) {
-        Some(number) => number,
-        None => names.len(),
+    for number in 0..names.len() {
+        if name == names[number] {
+            return number;
+        }
     }
+    names.len()
 }
 
 /// Puts a name, whose number this is, after the others where it is new.

@@ -1,8 +1,22 @@
-use Rattle.litmus_cells.proofs.Numbering.{number_known, number_next}
+use Rattle.std.proofs.Common.{◌≡◌, length, sym, ◌∙◌, arith}
+use Rattle.litmus_cells.proofs.Maps.{search_on, search_here, search_ends}
+use Rattle.litmus_cells.proofs.Numbering.{is_name, number_is}
 use Rattle.litmus_cells.proofs.location.number_of.Goals as goal
 
-pub returns-in-Some : goal.returns-in-Some
-returns-in-Some c = number_known c.args.names.now c.args.name.now c.in-Some.number c.in-Some.ensures
+pub loop-number-init : goal.loop-number-init
+loop-number-init c = omega arith
 
-pub returns-in-None : goal.returns-in-None
-returns-in-None c = number_next c.args.names.now c.args.name.now c.in-None.ensures
+pub loop-number-preserved : goal.loop-number-preserved
+loop-number-preserved c = search_on (is_name c.args.name.now) c.args.names.now c.loop-number.number _ c.loop-number-test.true (sym c.eq.ensures ∙ c.if-eq.false) ∙ c.loop-number.invariant
+
+pub returns-then-eq : goal.returns-then-eq
+returns-then-eq c =
+    number_is c.args.names.now c.args.name.now c.loop-number.number _ c.loop-number.invariant
+    (search_here (is_name c.args.name.now) c.args.names.now c.loop-number.number _ c.loop-number-test.true (sym c.eq.ensures ∙ c.if-eq.true))
+
+pub returns : goal.returns
+returns c =
+    let n = c.loop-number-test.false in
+    let m = c.loop-number.auto.number-end in
+    let all : length c.args.names.now ≡ c.loop-number.number = omega (arith, n, m) in
+    all ∙ number_is c.args.names.now c.args.name.now c.loop-number.number _ c.loop-number.invariant (search_ends (is_name c.args.name.now) c.args.names.now c.loop-number.number n m)
