@@ -19,21 +19,16 @@ pub fn body_of(text: &[u8]) -> &[u8] {
 /// none; `tokens` are those of the body. They end before it only where they stop in `locations [..]`, in which
 /// any bytes may stand: then what stands after these brackets.
 pub fn ending_of<'a>(body: &'a [u8], tokens: &Tokens<'a>) -> &'a [u8] {
-    match tokens.stop {
-        Stop::BadToken(remaining) => after_square(last_bytes(body, remaining)),
-        Stop::End | Stop::Unclosed(_) => last_bytes(body, last_quantifier(&tokens.items)),
+    if let Stop::BadToken(remaining) = tokens.stop {
+        return after_square(last_bytes(body, remaining));
     }
-}
-
-/// How many bytes stand from the last quantifier on; 0 where there is none.
-fn last_quantifier(tokens: &[Token<'_>]) -> usize {
     let mut last = 0;
-    for token in tokens {
+    for token in &tokens.items {
         if is_name(token, b"exists") || is_name(token, b"forall") {
             last = token.remaining;
         }
     }
-    last
+    last_bytes(body, last)
 }
 
 /// What stands after the next `]`, comments passed over.

@@ -32,12 +32,7 @@ pub fn bad_instruction(alloc: Global, line: &mut Line, rest: &[u8]) -> Result<()
         return Ok(());
     }
     let tokens = tokens_of(alloc, cell)?;
-    bad_cell(line, cell, &tokens.items);
-    Ok(())
-}
-
-fn bad_cell(line: &mut Line, cell: &[u8], tokens: &[Token<'_>]) {
-    let (name, operands) = first_name(tokens);
+    let (name, operands) = first_name(&tokens.items);
     if after_symbol(Symbol::Colon, operands).is_some() {
         line.say_of(STRAIGHT, name);
     } else if name.eq_ignore_ascii_case(b"LOCK") {
@@ -48,6 +43,7 @@ fn bad_cell(line: &mut Line, cell: &[u8], tokens: &[Token<'_>]) {
     } else if !says_of_instruction(line, &UNLOCKED, cell, name, operands) {
         line.say_of(NO_INSTRUCTION, token(cell));
     }
+    Ok(())
 }
 
 /// The name that stands first, or no bytes, and what stands after it.
@@ -95,13 +91,9 @@ fn bad_operands(line: &mut Line, forms: &str, tokens: &[Token<'_>]) {
             return line.say_of(said, name);
         }
         in_brackets = is_symbol(Symbol::OpenSquare, token);
-        after_zero = is_zero(token);
+        after_zero = matches!(token.lexeme, Lexeme::Number(digits) if digits.is_empty());
     }
     line.say(forms);
-}
-
-fn is_zero(token: &Token<'_>) -> bool {
-    matches!(token.lexeme, Lexeme::Number(digits) if digits.is_empty())
 }
 
 /// What is said of a name that is no operand, in brackets or without.

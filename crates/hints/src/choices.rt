@@ -68,7 +68,11 @@ fn word_at(text: &[u8], number: usize) -> (&[u8], Part) {
             if place == number {
                 return (word, part);
             }
-            part = part_after(part, word);
+            part = match part {
+                Part::First if is_exactly_one_of(&["seed"], word) => Part::Seed,
+                Part::Seed => Part::Count,
+                _ => Part::First,
+            };
         }
         if after.is_empty() {
             break;
@@ -76,15 +80,6 @@ fn word_at(text: &[u8], number: usize) -> (&[u8], Part) {
         rest = after;
     }
     (&[], part)
-}
-
-/// Which word of its item stands after a word.
-fn part_after(part: Part, word: &[u8]) -> Part {
-    match part {
-        Part::First if is_exactly_one_of(&["seed"], word) => Part::Seed,
-        Part::Seed => Part::Count,
-        _ => Part::First,
-    }
 }
 
 fn bad_word(line: &mut Line, word: &[u8], part: Part) {

@@ -23,7 +23,7 @@ pub fn says_missing_divider(line: &mut Line, asked: Asked, rest: &[u8]) -> bool 
         "{} is no dividing line: write ==== alone, with no space before or after it"
     } else if is_choice(word) {
         "{} is no part of a test: put a line ==== between the test and the choices"
-    } else if asked.reader.takes_order() && begins_order(word) {
+    } else if matches!(asked.reader, Reader::Check | Reader::Witness) && begins_order(word) {
         "{} is no part of a test: put a line ==== between the test and the order"
     } else {
         return false;

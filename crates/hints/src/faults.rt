@@ -39,7 +39,12 @@ pub fn say_fault(
     place: &Place<'_>,
     why: Why,
 ) -> Result<(), NoMemory> {
-    line.say_number("line {}: ", line_of_fault(place, why));
+    let number = match why {
+        // Of an input without a test, one that is there.
+        Why::NoHeader => place.line_with_bytes(),
+        _ => place.line(),
+    };
+    line.say_number("line {}: ", number);
     if let Some(said) = foreign_line(place, why) {
         line.say(said);
         return Ok(());
@@ -67,14 +72,6 @@ pub fn say_fault(
         Why::NoMemory => line.say(NOTHING_KNOWN),
     }
     Ok(())
-}
-
-/// The line of a fault; of an input without a test, one that is there.
-fn line_of_fault(place: &Place<'_>, why: Why) -> usize {
-    match why {
-        Why::NoHeader => place.line_with_bytes(),
-        _ => place.line(),
-    }
 }
 
 /// Of a line that is no part of a test as it is read, whatever is at fault in it.
@@ -122,21 +119,18 @@ fn unfit(line: &mut Line, place: &Place<'_>, end: &str, form: &str) {
 
 /// Says of a number or a connective of another form, within a condition or after it. Whether one stands there.
 fn says_foreign_form(line: &mut Line, place: &Place<'_>) -> bool {
+    let token = place.token;
     if place.is_hexadecimal() {
         line.say_of(DECIMAL, place.with_last_byte());
         true
-    } else if is_connective(place) {
-        line.say_of(CONNECTIVES, place.token);
+    } else if is_one_of(&["|", "and", "or"], token)
+        || (is_exactly_one_of(&["="], token) && is_exactly_one_of(&["="], place.last_word))
+    {
+        line.say_of(CONNECTIVES, token);
         true
     } else {
         false
     }
-}
-
-fn is_connective(place: &Place<'_>) -> bool {
-    let token = place.token;
-    is_one_of(&["|", "and", "or"], token)
-        || (is_exactly_one_of(&["="], token) && is_exactly_one_of(&["="], place.last_word))
 }
 
 /// Says of a register of another form: of one that isn't read, or of the `P` of its core. Whether one stands there.

@@ -91,20 +91,23 @@ impl Line {
     fn push_piece(&mut self, piece: Piece<'_>) {
         match piece {
             Piece::Text(text) => self.push(text.as_bytes()),
-            Piece::Named(name) => self.push_named(name),
+            Piece::Named(name) if is_bare(name) => self.push_shown(name),
+            Piece::Named(name) => {
+                self.push(b"'");
+                self.push_shown(name);
+                self.push(b"'");
+            }
             Piece::Shown(shown) => self.push_shown(shown),
             Piece::Number(number) => self.push_number(number),
-            Piece::Count(count, unit) => self.push_count(count, unit),
+            Piece::Count(count, unit) => {
+                self.push_number(count);
+                self.push(b" ");
+                self.push(unit.as_bytes());
+                if count != 1 {
+                    self.push(b"s");
+                }
+            }
             Piece::Character(character) => self.push_code_point(character),
-        }
-    }
-
-    fn push_count(&mut self, count: usize, unit: &str) {
-        self.push_number(count);
-        self.push(b" ");
-        self.push(unit.as_bytes());
-        if count != 1 {
-            self.push(b"s");
         }
     }
 
@@ -122,16 +125,6 @@ impl Line {
                 self.push(&[DIGITS[(rest % 16) as usize]]);
             }
         }
-    }
-
-    /// A name or a number bare, everything else in quotation marks.
-    fn push_named(&mut self, name: &[u8]) {
-        if is_bare(name) {
-            return self.push_shown(name);
-        }
-        self.push(b"'");
-        self.push_shown(name);
-        self.push(b"'");
     }
 
     /// The bytes; of too many the first, and two points.

@@ -32,21 +32,14 @@ fn say_line(line: &mut Line, words: &[&str]) {
     let [_, name, words @ ..] = words else {
         return;
     };
-    if asks_for_help(words) {
+    if words.contains(&"--help") || words.contains(&"-h") {
         return;
     }
-    match Subcommand::named(name) {
-        Some(command) => say_words(line, command, words),
-        None => no_command(line, name.as_bytes()),
+    if let Some(command) = Subcommand::named(name) {
+        return say_words(line, command, words);
     }
-}
-
-fn asks_for_help(words: &[&str]) -> bool {
-    words.contains(&"--help") || words.contains(&"-h")
-}
-
-/// Of a line whose first word is no command: it may name a file.
-fn no_command(line: &mut Line, word: &[u8]) {
+    // What is no command may name a file.
+    let word = name.as_bytes();
     if !word.starts_with(b"-") && (word.contains(&b'.') || word.contains(&b'/')) {
         line.say_with(
             "write a command first; tso reads the test from standard input: tso run < {}",
@@ -60,7 +53,9 @@ fn say_words(line: &mut Line, command: Subcommand, words: &[&str]) {
     let mut option: &[u8] = b"";
     for word in words {
         let word = word.as_bytes();
-        if are_three_words(option, word) {
+        if is_exactly_one_of(&["--words=3"], word)
+            || (is_exactly_one_of(&["--words"], option) && is_exactly_one_of(&["3"], word))
+        {
             line.say("--words is 1, 2 or 4");
         } else if option.is_empty() {
             say_word(line, command, word);
@@ -72,30 +67,20 @@ fn say_words(line: &mut Line, command: Subcommand, words: &[&str]) {
     }
 }
 
-/// Whether three words are asked for, by a word or by the option before it.
-fn are_three_words(option: &[u8], word: &[u8]) -> bool {
-    is_exactly_one_of(&["--words=3"], word)
-        || (is_exactly_one_of(&["--words"], option) && is_exactly_one_of(&["3"], word))
-}
-
-/// Of a word after a command that is no option's value.
+/// Of a word after a command that is no option's value: of an option, or of a file.
 fn say_word(line: &mut Line, command: Subcommand, word: &[u8]) {
-    if !word.starts_with(b"-") {
-        return say_file(line, command, word);
+    if word.starts_with(b"-") {
+        let option = up_to(word, b'=');
+        if command.option_named(option).is_none() {
+            say_owners(line, option, count_owners(option));
+        }
+        return;
     }
-    let option = up_to(word, b'=');
-    if command.option_named(option).is_none() {
-        say_owners(line, option, count_owners(option));
-    }
-}
-
-/// Of a file on the line.
-fn say_file(line: &mut Line, command: Subcommand, file: &[u8]) {
     let sentence = match command {
         Subcommand::Tables => "tables reads no input: tso tables --protocol mesi",
         _ => "tso reads standard input, so don't name a file without <: tso {} < {}",
     };
-    line.say_with(sentence, &[Piece::Text(command.name()), Piece::Shown(file)]);
+    line.say_with(sentence, &[Piece::Text(command.name()), Piece::Shown(word)]);
 }
 
 /// Of an option that so many commands have.
@@ -108,17 +93,12 @@ fn say_owners(line: &mut Line, option: &[u8], owners: usize) {
             }
             left = left.saturating_sub(1);
             line.say(command.name());
-            line.say(joint_before(left));
+            line.say(match left {
+                0 => "",
+                1 => " and ",
+                _ => ", ",
+            });
         }
-    }
-}
-
-/// What stands in a list before so many more.
-fn joint_before(left: usize) -> &'static str {
-    match left {
-        0 => "",
-        1 => " and ",
-        _ => ", ",
     }
 }
 
@@ -135,14 +115,13 @@ fn count_owners(option: &[u8]) -> usize {
 
 /// Whether the word after this one is its value: it is an option, and no command has it as a flag.
 fn takes_value(word: &[u8]) -> bool {
-    word.starts_with(b"--") && !word.contains(&b'=') && !is_flag(word)
-}
-
-fn is_flag(option: &[u8]) -> bool {
+    if !word.starts_with(b"--") || word.contains(&b'=') {
+        return false;
+    }
     for command in &SUBCOMMANDS {
-        if let Some(declared) = command.option_named(option) {
-            return matches!(declared.value, Value::Flag);
+        if let Some(declared) = command.option_named(word) {
+            return !matches!(declared.value, Value::Flag);
         }
     }
-    false
+    true
 }

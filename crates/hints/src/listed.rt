@@ -35,7 +35,12 @@ pub fn listed_in(alloc: Global, test: &Test, text: &[u8]) -> Result<Vec<Listed>,
         if is_symbol(Symbol::CloseSquare, token) {
             break;
         }
-        core = core_after(core, token);
+        // The registers of a core follow its number.
+        core = match token.lexeme {
+            Lexeme::Symbol(Symbol::Semicolon) => None,
+            Lexeme::Number(digits) => word(digits),
+            _ => core,
+        };
         if let Some(listed) = listed_at(test, text, core, token) {
             found.push(listed)?;
         }
@@ -53,15 +58,6 @@ fn after_opening<'a, 'b>(tokens: &'b [Token<'a>]) -> &'b [Token<'a>] {
     &[]
 }
 
-/// The core of the registers that stand after a token; they follow its number.
-fn core_after(core: Option<u32>, token: &Token<'_>) -> Option<u32> {
-    match token.lexeme {
-        Lexeme::Symbol(Symbol::Semicolon) => None,
-        Lexeme::Number(digits) => word(digits),
-        _ => core,
-    }
-}
-
 /// What a token of the list names in this text of a test, after the number of a core or after none.
 fn listed_at(test: &Test, text: &[u8], core: Option<u32>, token: &Token<'_>) -> Option<Listed> {
     let Lexeme::Name(name) = token.lexeme else {
@@ -69,22 +65,16 @@ fn listed_at(test: &Test, text: &[u8], core: Option<u32>, token: &Token<'_>) -> 
     };
     let what = match core {
         None => ListedName::Location(location_named(test, name)?),
-        Some(core) => register_named(test, core, name)?,
+        Some(core) if core < u32::from(test.cores()) => {
+            ListedName::Register(Core(core as u8), Reg::from_name(name)?)
+        }
+        Some(_) => return None,
     };
     Some(Listed {
         first: text.len().saturating_sub(token.remaining),
         length: name.len(),
         what,
     })
-}
-
-fn register_named(test: &Test, core: u32, name: &[u8]) -> Option<ListedName> {
-    let reg = Reg::from_name(name)?;
-    if core < u32::from(test.cores()) {
-        Some(ListedName::Register(Core(core as u8), reg))
-    } else {
-        None
-    }
 }
 
 /// Of a register or a location that is listed there: no state shows it unless more is asked for.

@@ -27,14 +27,10 @@ fn first_over<'a>(tokens: &[Token<'a>]) -> Option<&'a [u8]> {
         if over.is_some() && !is_symbol(Symbol::Colon, token) {
             return over;
         }
-        over = over_in(token);
+        over = match token.lexeme {
+            Lexeme::Number(digits) if word(digits).is_none() => Some(digits),
+            _ => None,
+        };
     }
     over
-}
-
-fn over_in<'a>(token: &Token<'a>) -> Option<&'a [u8]> {
-    match token.lexeme {
-        Lexeme::Number(digits) if word(digits).is_none() => Some(digits),
-        _ => None,
-    }
 }

@@ -96,20 +96,16 @@ pub fn no_header(line: &mut Line, asked: Reader, place: &Place<'_>) {
     } else if rest.starts_with(b"\xef\xbb\xbf") {
         line.say("a byte order mark stands before X86: save the file without it");
     } else if !says_foreign(line, up_to(rest, b'\n'), "a test's name is in ASCII") {
-        other_header(line, word(rest));
+        let first = word(rest);
+        let sentence = if is_exactly_one_of(&["X86"], first) {
+            "write a space and the test's name after X86, in printable ASCII"
+        } else {
+            said_of(&HEADERS, first).unwrap_or(
+                "a test begins with X86, a space and its name, and not with {}",
+            )
+        };
+        line.say_of(sentence, first);
     }
-}
-
-/// Of a header line whose first word is this.
-fn other_header(line: &mut Line, word: &[u8]) {
-    let sentence = if is_exactly_one_of(&["X86"], word) {
-        "write a space and the test's name after X86, in printable ASCII"
-    } else {
-        said_of(&HEADERS, word).unwrap_or(
-            "a test begins with X86, a space and its name, and not with {}",
-        )
-    };
-    line.say_of(sentence, word);
 }
 
 /// Of what doesn't end.
@@ -130,7 +126,12 @@ pub fn unclosed(line: &mut Line, asked: Asked, place: &Place<'_>) {
 pub fn bad_token(line: &mut Line, place: &Place<'_>) {
     let token = place.token;
     if is_exactly_one_of(&["locations"], place.last_word) {
-        return no_brackets(line, token);
+        let sentence = if token.is_empty() {
+            "write [ .. ] after locations: the test ends here"
+        } else {
+            "write [ .. ] after locations, in front of {}"
+        };
+        return line.say_of(sentence, token);
     }
     if token.len() > MAX_NAME && !token.starts_with(b"0") && is_bare(token) {
         return line.say_with(
@@ -149,16 +150,6 @@ pub fn bad_token(line: &mut Line, place: &Place<'_>) {
             token,
         ),
     }
-}
-
-/// Of `locations`, after which this token stands, or none.
-fn no_brackets(line: &mut Line, token: &[u8]) {
-    let sentence = if token.is_empty() {
-        "write [ .. ] after locations: the test ends here"
-    } else {
-        "write [ .. ] after locations, in front of {}"
-    };
-    line.say_of(sentence, token);
 }
 
 /// Whether a text begins with a token; this is its first byte.
@@ -188,27 +179,17 @@ pub fn bad_init(line: &mut Line, place: &Place<'_>) {
     let last = place.last_word;
     if place.is_hexadecimal() {
         line.say_of(DECIMAL, place.with_last_byte());
-    } else if is_type(last) {
+    } else if is_one_of(&TYPES, last) || (last.ends_with(b"_t") && is_location_name(last)) {
         line.say_of(
             "{} is a type, and items have no types here: leave it out; if the item has no value, leave out the whole item, since 0 is its value",
             last,
         );
     } else if !says_foreign_register(line, place) {
-        let is_value = is_exactly_one_of(&["="], last);
-        unfit_item(line, is_value, place.token);
+        let sentence = if is_exactly_one_of(&["="], last) && begins_with_letter(place.token) {
+            "{} is no number, and no register can hold an address here: write the location's name in the instruction, as [x]; tools/import turns such a test into this form"
+        } else {
+            "{} doesn't fit: an item is x=1, [x]=1 or 0:EAX=1, and ; stands between items"
+        };
+        line.say_of(sentence, place.token);
     }
-}
-
-/// Of a token that doesn't fit in an item, where a value stands or elsewhere.
-fn unfit_item(line: &mut Line, is_value: bool, token: &[u8]) {
-    let sentence = if is_value && begins_with_letter(token) {
-        "{} is no number, and no register can hold an address here: write the location's name in the instruction, as [x]; tools/import turns such a test into this form"
-    } else {
-        "{} doesn't fit: an item is x=1, [x]=1 or 0:EAX=1, and ; stands between items"
-    };
-    line.say_of(sentence, token);
-}
-
-fn is_type(word: &[u8]) -> bool {
-    is_one_of(&TYPES, word) || (word.ends_with(b"_t") && is_location_name(word))
 }

@@ -145,7 +145,13 @@ fn bad_count(line: &mut Line, text: &[u8]) {
             }
         } else if entry.starts_with(b"Endorder ") {
             let entries = number.saturating_sub(start).saturating_sub(1);
-            return counted(line, number, without_return(entry), entries);
+            let sentence = if entries == 1 {
+                "{} ends an order of 1 entry"
+            } else {
+                "{} ends an order of {} entries"
+            };
+            line.say_number("line {} after ====: ", number);
+            return line.say_of_number(sentence, without_return(entry), entries);
         }
         if after.is_empty() {
             break;
@@ -153,15 +159,4 @@ fn bad_count(line: &mut Line, text: &[u8]) {
         rest = after;
     }
     line.say("no line Endorder n ends the order, where n is the number of its entries");
-}
-
-/// Of the line of this number, which ends an order of so many entries.
-fn counted(line: &mut Line, number: usize, end: &[u8], entries: usize) {
-    let sentence = if entries == 1 {
-        "{} ends an order of 1 entry"
-    } else {
-        "{} ends an order of {} entries"
-    };
-    line.say_number("line {} after ====: ", number);
-    line.say_of_number(sentence, end, entries);
 }

@@ -28,18 +28,14 @@ pub fn limit_at(alloc: Global, place: &Place<'_>) -> Result<Limit, NoMemory> {
     let body = body_of(place.before);
     let tokens = tokens_of(alloc, body)?;
     let ending = tokens_of(alloc, ending_of(body, &tokens))?;
-    Ok(limit_after(&tokens.items, &ending.items))
-}
-
-/// The limit that what stands after these tokens passes; the last of them are those of the condition, if it has begun.
-fn limit_after(tokens: &[Token<'_>], ending: &[Token<'_>]) -> Limit {
-    if !ending.is_empty() {
-        return limit_in_condition(ending);
-    }
-    match after_first(Symbol::CloseCurly, tokens) {
-        Some(rows) => limit_in_rows(rows),
-        None => Limit::Locations,
-    }
+    let limit = if !ending.items.is_empty() {
+        limit_in_condition(&ending.items)
+    } else if let Some(rows) = after_first(Symbol::CloseCurly, &tokens.items) {
+        limit_in_rows(rows)
+    } else {
+        Limit::Locations
+    };
+    Ok(limit)
 }
 
 /// What stands after the first of this symbol.
@@ -55,7 +51,8 @@ fn after_first<'a, 'b>(symbol: Symbol, tokens: &'b [Token<'a>]) -> Option<&'b [T
 fn limit_in_condition(tokens: &[Token<'_>]) -> Limit {
     let mut atoms = 0usize;
     for token in tokens {
-        if is_of_atom(token) {
+        // An atom has one such token.
+        if is_symbol(Symbol::Equals, token) || is_name(token, b"true") || is_name(token, b"false") {
             atoms = atoms.saturating_add(1);
         }
     }
@@ -64,11 +61,6 @@ fn limit_in_condition(tokens: &[Token<'_>]) -> Limit {
     } else {
         Limit::Locations
     }
-}
-
-/// Whether an atom has one such token.
-fn is_of_atom(token: &Token<'_>) -> bool {
-    is_symbol(Symbol::Equals, token) || is_name(token, b"true") || is_name(token, b"false")
 }
 
 /// The limit that what stands after these tokens of rows passes; the first row is that of the cores.

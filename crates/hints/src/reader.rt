@@ -32,9 +32,4 @@ impl Reader {
             Reader::Witness => "witness",
         }
     }
-
-    /// Whether it reads an order after the dividing line.
-    pub(crate) fn takes_order(self) -> bool {
-        matches!(self, Reader::Check | Reader::Witness)
-    }
 }

@@ -42,7 +42,8 @@ pub fn too_large(alloc: Global, line: &mut Line, place: &Place<'_>) -> Result<()
             "the test has {} bytes: at most {} may stand before the line ====",
             &[Piece::Number(length), Piece::Number(MAX_TEXT)],
         );
-    } else if begins_text(place) {
+    } else if matches!(after_gap(place.text), Ok(rest) if rest.len() == place.rest.len()) {
+        // Nothing stands before it but white space and comments.
         line.say_number("the test's name has more than {} bytes", MAX_TEST_NAME);
     } else if is_exactly_one_of(&["(", "~", "not"], token) {
         line.say_of_number(
@@ -78,9 +79,4 @@ fn one_too_many(line: &mut Line, place: &Place<'_>, limit: Limit) {
         ),
     };
     line.say_of_number(sentence, named, most);
-}
-
-/// Whether nothing stands before a place but white space and comments.
-fn begins_text(place: &Place<'_>) -> bool {
-    matches!(after_gap(place.text), Ok(rest) if rest.len() == place.rest.len())
 }

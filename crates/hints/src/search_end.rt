@@ -50,34 +50,26 @@ pub fn search_ends(line: &mut Line, end: &SearchEnd) {
         0 => Piece::Text("no"),
         finals => Piece::Number(finals),
     };
-    line.say_with(
-        "the machine can reach more than {} states, {}{}; {} final {}",
-        &[
-            Piece::Number(end.most as usize),
-            Piece::Text(limit_words(end.is_raisable, end.is_buffered)),
-            Piece::Text(condition_words(&end.sighting)),
-            met,
-            Piece::Text(met_words(end.finals, &end.sighting)),
-        ],
-    );
-}
-
-fn limit_words(is_raisable: bool, is_buffered: bool) -> &'static str {
-    match (is_raisable, is_buffered) {
+    let limit = match (end.is_raisable, end.is_buffered) {
         (true, true) => "the limit of --states: raise it, lower --depth, or ",
         (true, false) => "the limit of --states: raise it, or ",
         (false, true) => "the most that --states allows: lower --depth, or ",
         (false, false) => "the most that --states allows: ",
-    }
-}
-
-fn condition_words(sighting: &Sighting) -> &'static str {
-    match sighting {
+    };
+    let condition = match end.sighting {
         Sighting::NoCondition => "give a condition, so that only its atoms tell states apart",
-        Sighting::None | Sighting::Met(_) => {
-            "name fewer atoms in the condition; tso why needs no states"
-        }
-    }
+        _ => "name fewer atoms in the condition; tso why needs no states",
+    };
+    line.say_with(
+        "the machine can reach more than {} states, {}{}; {} final {}",
+        &[
+            Piece::Number(end.most as usize),
+            Piece::Text(limit),
+            Piece::Text(condition),
+            met,
+            Piece::Text(met_words(end.finals, &end.sighting)),
+        ],
+    );
 }
 
 /// Of so many final states, whether one of them was looked for.
@@ -99,20 +91,15 @@ fn met_words(finals: usize, sighting: &Sighting) -> &'static str {
 pub fn runs_line(alloc: Global, cause: &Cause) -> Result<String, NoMemory>
     ensures { IfOk result (λ text. (string_bytes text ≡ []) ⊎ IsRunsLine (string_bytes text)) }
 {
-    match cause {
-        Cause::TooManyStates(
-            SearchEnd {
-                sighting: Sighting::Met(choices),
-                ..
-            },
-        ) => line_of_choices(alloc, choices),
-        _ => Ok(String::new(alloc)),
-    }
-}
-
-fn line_of_choices(alloc: Global, choices: &[Choice]) -> Result<String, NoMemory>
-    ensures { IfOk result (λ text. (string_bytes text ≡ []) ⊎ IsRunsLine (string_bytes text)) }
-{
+    let Cause::TooManyStates(
+        SearchEnd {
+            sighting: Sighting::Met(choices),
+            ..
+        },
+    ) = cause
+    else {
+        return Ok(String::new(alloc));
+    };
     let choices = choices_text(alloc, choices)?;
     if choices.len() > MAX_RUNS_LINE - 18 {
         return Ok(String::new(alloc));

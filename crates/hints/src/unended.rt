@@ -49,13 +49,10 @@ pub fn choices_end(line: &mut Line, steps: usize, drains: usize, stalls: &Stalls
         sentence,
         &[Piece::Count(steps, "step"), Piece::Count(drains, "drain")],
     );
-    if stalls.count() > 0 {
-        choices_stalled(line, stalls);
+    if stalls.count() == 0 {
+        return;
     }
-}
-
-/// How many choices stalled, and for each reason the first that did.
-fn choices_stalled(line: &mut Line, stalls: &Stalls) {
+    // How many choices stalled, and for each reason the first that did.
     line.say_number("; {} stalled: ", stalls.count());
     let mut joint = "";
     for first in &stalls.firsts() {
@@ -73,19 +70,16 @@ fn choice_stalled(line: &mut Line, choice: Choice, reason: Stall) {
         Choice::Step(core) => (core, "s"),
         Choice::Drain(core) => (core, "d"),
     };
-    let core = Piece::Number(usize::from(core.0));
-    line.say_with(stall_words(reason), &[core, Piece::Text(letter), core]);
-}
-
-fn stall_words(reason: Stall) -> &'static str {
-    match reason {
+    let sentence = match reason {
         Stall::Done => "{}{} Done (at end)",
         Stall::Full => "{}{} Full ({}d first)",
         Stall::Fence => "{}{} Fence ({}d first)",
         Stall::Lock => "{}{} Lock ({}d first)",
         Stall::Empty => "{}{} Empty (no store)",
         Stall::Bus => "{}{} Bus (held)",
-    }
+    };
+    let core = Piece::Number(usize::from(core.0));
+    line.say_with(sentence, &[core, Piece::Text(letter), core]);
 }
 
 /// How many instructions the cores have, or how many plain stores alone.
@@ -100,13 +94,9 @@ pub fn count_instructions(test: &Test, only_stores: bool) -> usize {
 fn count_in(program: &[Instr], only_stores: bool) -> usize {
     let mut count = 0usize;
     for instr in program {
-        if !only_stores || is_plain_store(*instr) {
+        if !only_stores || matches!(*instr, Instr::StoreImm(..) | Instr::StoreReg(..)) {
             count = count.saturating_add(1);
         }
     }
     count
-}
-
-fn is_plain_store(instr: Instr) -> bool {
-    matches!(instr, Instr::StoreImm(..) | Instr::StoreReg(..))
 }

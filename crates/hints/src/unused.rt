@@ -8,7 +8,7 @@ use crate::place::Place;
 use crate::quotes::first_bytes;
 use litmus_tokens::{Symbol, Token, is_symbol, tokens_of};
 use std::alloc::Global;
-use tso_model::{Core, Instr, Loc, NoMemory, Test};
+use tso_model::{Action, Core, Instr, Loc, NoMemory, Test};
 
 /// Of a location that nothing but the condition names.
 pub const UNUSED: &str =
@@ -81,22 +81,16 @@ fn is_used(test: &Test, loc: Loc) -> bool {
 
 fn is_used_in(program: &[Instr], loc: Loc) -> bool {
     for instr in program {
-        if accesses(*instr, loc) {
-            return true;
+        match instr.action() {
+            Action::Store(other, _) | Action::Load(_, other) | Action::Lock(other, _, _) => {
+                if other == loc {
+                    return true;
+                }
+            }
+            Action::Move(..) | Action::Fence => {}
         }
     }
     false
-}
-
-fn accesses(instr: Instr, loc: Loc) -> bool {
-    match instr {
-        Instr::StoreImm(other, _)
-        | Instr::StoreReg(other, _)
-        | Instr::Load(_, other)
-        | Instr::Xchg(other, _)
-        | Instr::Xadd(other, _) => other == loc,
-        Instr::SetImm(..) | Instr::SetReg(..) | Instr::Fence => false,
-    }
 }
 
 /// Whether the initial state, with which these tokens begin, sets a location of this name.

@@ -55,6 +55,15 @@ fn xchg_of<'a>(first: Argument<'a>, second: Argument<'a>) -> Option<Form<'a>>
     }
 }
 
+fn xadd_of<'a>(first: Argument<'a>, second: Argument<'a>) -> Option<Form<'a>>
+    ensures { option_map shape_of result ≡ spec.xadd_of (argument_of first.entry, argument_of second.entry) }
+{
+    match (first, second) {
+        (Argument::Location(name), Argument::Register(reg)) => Some(Form::Xadd(name, reg)),
+        _ => None,
+    }
+}
+
 /// What may stand after `LOCK`.
 #[tactic(auto, unfolding(crate::specs::Forms::locked_at))]
 fn locked_form<'a>(tokens: &[Token<'a>]) -> Option<Form<'a>>
@@ -67,10 +76,7 @@ fn locked_form<'a>(tokens: &[Token<'a>]) -> Option<Form<'a>>
             return xchg_of(first, second);
         }
         if is_word(word, b"XADD") {
-            return match (first, second) {
-                (Argument::Location(name), Argument::Register(reg)) => Some(Form::Xadd(name, reg)),
-                _ => None,
-            };
+            return xadd_of(first, second);
         }
     }
     None
