@@ -61,28 +61,18 @@ fn is_same_program(program: &[Instr], other: &[Instr]) -> bool
     true
 }
 
-/// Whether two cores are alike, where nobody looks at the hidden registers.
-fn are_alike(test: &Test, hidden: &[[bool; 6]], core: u8, other: u8) -> bool
-    requires core { core < length test.now.programs }
-    requires other { other < length test.now.programs }
-    ensures { result ≡ true → CoresAreAlike test.now hidden.now (core, other) }
-{
-    if !is_same_program(test.program(Core(core)), test.program(Core(other))) {
-        return false;
-    }
-    let registers = test.initial_registers(Core(core));
-    registers == test.initial_registers(Core(other))
-        && hidden_of(hidden, core) == hidden_of(hidden, other)
-}
-
-/// The first core after this one that is like it, if there is one.
+/// The first core after this one that is like it, if there is one. Nobody looks at the hidden registers.
 fn next_alike(test: &Test, hidden: &[[bool; 6]], core: u8) -> Option<u8>
     requires { core < length test.now.programs }
     ensures { IfSome result (λ other. CoresAreAlike test.now hidden.now (core, other)) }
 {
     let cores = test.cores();
+    let registers = test.initial_registers(Core(core));
     for other in core + 1..cores {
-        if are_alike(test, hidden, core, other) {
+        if registers == test.initial_registers(Core(other))
+            && hidden_of(hidden, core) == hidden_of(hidden, other)
+            && is_same_program(test.program(Core(core)), test.program(Core(other)))
+        {
             return Some(other);
         }
     }

@@ -6,8 +6,8 @@ ghost use Rattle.flat_machine.specs.State.{state_of_snapshot, core_of_processor}
 ghost use Rattle.explorer.specs.inner.Planned.{AreDead, IsPlan};
 
 use crate::plan::Plan;
-use flat_machine::{Processor, Snapshot};
-use tso_model::{Core, Instr};
+use flat_machine::Snapshot;
+use tso_model::Core;
 
 /// Puts 0 into the registers that are dead.
 fn clear(registers: &mut [u32; 6], dead: &[bool; 6])
@@ -20,16 +20,6 @@ fn clear(registers: &mut [u32; 6], dead: &[bool; 6])
     }
 }
 
-/// Forgets the dead registers of a core.
-fn forget_core(processor: &mut Processor, program: &[Instr], dead: &[[bool; 6]])
-    requires { length dead.now ≡ length program.now + 1 }
-    ensures { (hidden : List Bool) → AreDead program.now hidden dead.now
-        → core_of_processor processor.new ≡ forgotten_core program.now hidden (core_of_processor processor.old) }
-{
-    let left = program.len().saturating_sub(usize::from(processor.place));
-    clear(&mut processor.registers, &dead[left]);
-}
-
 /// Forgets the dead registers of each core.
 pub fn forget(state: &mut Snapshot, plan: &Plan)
     requires plan { IsPlan plan.now }
@@ -39,10 +29,9 @@ pub fn forget(state: &mut Snapshot, plan: &Plan)
 {
     for core in 0..plan.test.cores() {
         let at = usize::from(core);
-        forget_core(
-            &mut state.cores[at],
-            plan.test.program(Core(core)),
-            &plan.dead[at],
-        );
+        let processor = &mut state.cores[at];
+        let program = plan.test.program(Core(core));
+        let left = program.len().saturating_sub(usize::from(processor.place));
+        clear(&mut processor.registers, &plan.dead[at][left]);
     }
 }
