@@ -1,5 +1,5 @@
 -- All information lines, one after the other.
-use Rattle.litmus_reader.proofs.Vocabulary.{sym, ◌≡◌, ℕ, suc, ◌<◌, true, false, List, length, None, Result, Ok, Err, refl, arith, gap_end, Fault, from_gap, information_end, begins_initial, braces_within, braces_at}
+use Rattle.litmus_reader.proofs.Vocabulary.{sym, ap, ◌∙◌, ◌≡◌, ℕ, suc, ◌+◌, ◌<◌, true, false, cond, List, ◌∷◌, length, drop, prefix_len, None, Result, Ok, Err, refl, arith, gap_end, Fault, from_gap, information_end, begins_initial, braces_within, braces_at, continues_key, key_value, key_line_end, first_line}
 use Rattle.litmus_reader.proofs.Loops.{After, ends, goes_on}
 
 abbrev left : List ℕ → ℕ
@@ -33,3 +33,18 @@ pub braces_line_fails : (f : Fault) (bytes at : List ℕ) (total : Result (List 
     → BracesAfter bytes total → Err f ≡ total
 unfolding braces_within
 braces_line_fails f bytes at total is more line b = shown bytes (Err f) total (λ n. rw (← is, more, ← line) refl) b
+
+-- ---- a key line, byte by byte
+
+-- what stands after the key stands after the rest of it
+pub key_on : (rest after : List ℕ) (first : ℕ) → rest ≡ first ∷ after → continues_key first ≡ true → drop (prefix_len continues_key rest) rest ≡ drop (prefix_len continues_key after) after
+key_on rest after first is q =
+    let one : 1 + prefix_len continues_key after ≡ suc (prefix_len continues_key after) = omega arith in
+    ap (λ z. drop (prefix_len continues_key z) z) is ∙ ap (λ b. drop (cond b (1 + prefix_len continues_key after) 0) (first ∷ after)) q ∙ ap (λ n. drop n (first ∷ after)) one
+
+-- the `=` ends it
+pub key_ends : (bytes rest after : List ℕ) (first : ℕ) → rest ≡ first ∷ after → first ≡ 61 → drop (prefix_len continues_key rest) rest ≡ drop (prefix_len continues_key bytes) bytes
+    → key_line_end bytes ≡ Ok (first_line after).1
+unfolding continues_key
+key_ends bytes rest after first is at same =
+    ap (key_value (length bytes)) (sym same ∙ ap (λ z. drop (prefix_len continues_key z) z) (is ∙ ap (λ b. b ∷ after) at))

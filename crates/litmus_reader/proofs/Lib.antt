@@ -44,3 +44,4 @@ pub mod GrammarTest
 pub mod Decided
 pub mod Lexed
 pub mod SectionSteps
+pub mod Scans

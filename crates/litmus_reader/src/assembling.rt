@@ -34,17 +34,11 @@ fn strings_of(alloc: Global, names: &[&[u8]]) -> Result<Vec<String>, NoMemory>
     Ok(strings)
 }
 
-fn zeros(alloc: Global, count: usize) -> Result<Vec<u32>, AllocError>
-    ensures { IfOk result (λ v. v.items ≡ replicate count 0) }
-{
-    vec![in alloc; 0; count]
-}
-
 /// Puts zeros after the words, so that they are so many in all.
 fn fill_words(alloc: Global, words: &mut Vec<u32>, count: usize) -> Result<(), AllocError>
     ensures { OnOk result (words.new.items ≡ initial.words_of count words.old.items) }
 {
-    let mut rest = zeros(alloc, count.saturating_sub(words.len()))?;
+    let mut rest = vec![in alloc; 0; count.saturating_sub(words.len())]?;
     words.append(&mut rest)
 }
 

@@ -16,7 +16,12 @@ use litmus_tokens::{Symbol, Token, is_symbol};
 pub fn argument_of(symbol: Symbol, tokens: &[Token<'_>]) -> Option<usize>
     ensures { result ≡ position (λ t. front.is_symbol symbol (piece_of t)) tokens.now }
 {
-    tokens.iter().position(|t| is_symbol(symbol, t))
+    for at in 0..tokens.len() {
+        if is_symbol(symbol, &tokens[at]) {
+            return Some(at);
+        }
+    }
+    None
 }
 
 /// The first cell of a row, and what stands after its bar, if it has one.

@@ -15,14 +15,6 @@ use litmus_cells::{Fault, Why};
 use litmus_tokens::{Stop, Symbol, Token, after_symbol};
 use tso_model::limits::MAX_CORES;
 
-/// What stands after the name of this core.
-fn after_core<'a, 'b>(core: usize, tokens: &'b [Token<'a>]) -> Option<&'b [Token<'a>]>
-    requires { core ≤ most_cores }
-    ensures { option_map (λ x. pieces x.now) result ≡ word_after (core_name core) (pieces tokens.now) }
-{
-    after_word(&[b'P', b'0' + core as u8], tokens)
-}
-
 /// How many cores the columns from this core's on make.
 #[tactic(auto, using(crate::proofs::ColumnSteps::columns_next, crate::proofs::ColumnSteps::columns_last))]
 fn columns_from(stop: Stop, core: usize, tokens: &[Token<'_>]) -> Result<usize, Fault>
@@ -31,7 +23,8 @@ fn columns_from(stop: Stop, core: usize, tokens: &[Token<'_>]) -> Result<usize, 
     ensures cores { IfOk result (λ cores. cores ≤ most_cores) }
 {
     let part = part_of(Why::BadHeaderRow, stop);
-    let rest = part.expect(tokens, after_core(core, tokens))?;
+    let name = [b'P', b'0' + core as u8];
+    let rest = part.expect(tokens, after_word(&name, tokens))?;
     if core >= MAX_CORES {
         return Err(Fault {
             why: Why::TooLarge,

@@ -66,19 +66,6 @@ fn count_atom(remaining: usize, atoms: &mut usize) -> Result<(), Fault>
     Ok(())
 }
 
-/// Whether `true` or `false` is at the front, and the tokens after it.
-#[tactic(auto, unfolding(crate::specs::Conditions::truth_at))]
-fn truth_at<'a, 'b>(tokens: &'b [Token<'a>]) -> Option<(bool, &'b [Token<'a>])>
-    ensures value { option_map (λ x. (x.0, pieces x.1.now)) result ≡ inner.truth_at (pieces tokens.now) }
-    ensures shorter { IfSome result (λ x. length x.1.now < length tokens.now) }
-{
-    if let Some(rest) = after_word(b"true", tokens) {
-        return Some((true, rest));
-    }
-    let rest = after_word(b"false", tokens)?;
-    Some((false, rest))
-}
-
 /// The atom of a register or a location at the front, and the tokens after it.
 #[tactic(auto, unfolding(crate::specs::Conditions::setting_atom))]
 fn setting_atom<'a, 'b>(
@@ -103,7 +90,7 @@ fn setting_atom<'a, 'b>(
 ///
 /// `BadCondition` at a token that doesn't fit; then, at the atom's first token, `NoSuchCore`,
 /// `BadNumber`, and `TooLarge` for a location or an atom too many.
-#[tactic(auto, unfolding(crate::specs::Conditions::atom_at))]
+#[tactic(auto, unfolding(crate::specs::Conditions::atom_at, crate::specs::Conditions::truth_at))]
 fn atom_at<'a, 'b>(
     stop: Stop,
     cores: usize,
@@ -115,9 +102,13 @@ fn atom_at<'a, 'b>(
     ensures value { GivesClaim (inner.atom_at stop cores) atoms.old names.old.items tokens.now result atoms.new names.new.items }
     ensures shorter { IfOk result (λ x. length x.1.now < length tokens.now) }
 {
-    if let Some((truth, rest)) = truth_at(tokens) {
+    if let Some(rest) = after_word(b"true", tokens) {
         count_atom(remaining_of(tokens), atoms)?;
-        return Ok((Prop::Truth(truth), rest));
+        return Ok((Prop::Truth(true), rest));
+    }
+    if let Some(rest) = after_word(b"false", tokens) {
+        count_atom(remaining_of(tokens), atoms)?;
+        return Ok((Prop::Truth(false), rest));
     }
     setting_atom(stop, cores, atoms, names, tokens)
 }

@@ -83,31 +83,17 @@ fn trimmed(bytes: &[u8]) -> &[u8]
     front
 }
 
-fn line_feed_at(bytes: &[u8]) -> Option<usize>
-    ensures { result ≡ position (λ b. b == 10) bytes.now }
-{
-    bytes.iter().position(|b| *b == b'\n')
-}
-
 /// The line at the front without its LF, and what stands after it.
-#[tactic(auto, using(crate::proofs::Lines::line_cut, crate::proofs::Lines::line_last))]
 pub fn first_line(bytes: &[u8]) -> (&[u8], &[u8])
     ensures value { (result.0.now, result.1.now) ≡ grammar.first_line bytes.now }
     ensures within { length result.1.now ≤ length bytes.now }
 {
-    match line_feed_at(bytes) {
-        Some(n) => (&bytes[..n], &bytes[n + 1..]),
-        None => (bytes, &bytes[bytes.len()..]),
+    for at in 0..bytes.len() {
+        if bytes[at] == b'\n' {
+            return (&bytes[..at], &bytes[at + 1..]);
+        }
     }
-}
-
-fn begins_blank(bytes: &[u8]) -> bool
-    ensures { result ≡ grammar.begins_blank bytes.now }
-{
-    match bytes.first() {
-        Some(first) => is_blank(*first),
-        None => false,
-    }
+    (bytes, &bytes[bytes.len()..])
 }
 
 /// The name that a header line gives, if it has the header's form.
@@ -119,10 +105,10 @@ fn name_in(line: &[u8]) -> Option<&[u8]>
         return None;
     }
     let (_, rest) = line.split_at(3);
-    if !begins_blank(rest) {
-        return None;
+    match rest.first() {
+        Some(first) if is_blank(*first) => Some(trimmed(rest)),
+        _ => None,
     }
-    Some(trimmed(rest))
 }
 
 fn is_printable(byte: u8) -> bool
@@ -134,13 +120,12 @@ fn is_printable(byte: u8) -> bool
 fn is_all_printable(bytes: &[u8]) -> bool
     ensures { result ≡ list_all names.is_printable bytes.now }
 {
-    bytes.iter().all(|b| is_printable(*b))
-}
-
-fn is_long_name(name: &[u8]) -> bool
-    ensures { result ≡ (nat_lt longest_test_name (length name.now) && list_all names.is_printable name.now) }
-{
-    name.len() > MAX_TEST_NAME && is_all_printable(name)
+    for byte in bytes {
+        if !is_printable(*byte) {
+            return false;
+        }
+    }
+    true
 }
 
 #[tactic(auto, unfolding(crate::specs::Header::judged))]
@@ -155,7 +140,7 @@ fn judged<'a>(remaining: usize, name: Option<&'a [u8]>) -> Result<&'a [u8], Faul
     };
     if is_test_name(name) {
         Ok(name)
-    } else if is_long_name(name) {
+    } else if name.len() > MAX_TEST_NAME && is_all_printable(name) {
         Err(Fault {
             why: Why::TooLarge,
             remaining,

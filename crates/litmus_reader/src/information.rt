@@ -34,29 +34,26 @@ fn continues_key(byte: u8) -> bool
     byte.is_ascii_alphanumeric() || matches!(byte, b'_' | b'-' | b' ' | b'\t')
 }
 
-fn key_len(bytes: &[u8]) -> usize
-    ensures value { result ≡ prefix_len grammar.continues_key bytes.now }
-    ensures within { result ≤ length bytes.now }
-{
-    bytes.iter().take_while(|b| continues_key(**b)).count()
-}
-
 /// What stands after the key line that begins here; `BadToken` at a key without its `=`.
 fn after_key_line(bytes: &[u8]) -> Result<&[u8], Fault>
     ensures value { mapped (λ x. x.now) result ≡ spec.key_line_end bytes.now }
     ensures shorter { IfOk result (λ x. length x.now < length bytes.now) }
 {
-    let (_, rest) = bytes.split_at(key_len(bytes));
-    match rest.split_first() {
-        Some((b'=', value)) => {
-            let (_, after) = first_line(value);
-            Ok(after)
+    let mut rest = bytes;
+    'key: while let Some((first, after)) = rest.split_first() {
+        if *first == b'=' {
+            let (_, value_end) = first_line(after);
+            return Ok(value_end);
         }
-        _ => Err(Fault {
-            why: Why::BadToken,
-            remaining: bytes.len(),
-        }),
+        if !continues_key(*first) {
+            break;
+        }
+        rest = after;
     }
+    Err(Fault {
+        why: Why::BadToken,
+        remaining: bytes.len(),
+    })
 }
 
 /// What stands after the quotation or the key line at the front.

@@ -9,7 +9,6 @@ ghost use Rattle.litmus_tokens.specs.inner.Terms.{term_of};
 ghost use Rattle.litmus_reader.specs.Keywords as keywords;
 ghost use Rattle.litmus_reader.specs.Observed as spec;
 ghost use Rattle.litmus_reader.specs.inner.Sections.{tokens_in, stop_of};
-ghost use Rattle.litmus_reader.specs.Places as places;
 
 use crate::header::past_gap;
 use crate::section::after_opening;
@@ -37,20 +36,14 @@ fn after_square(remaining: usize, bytes: &[u8]) -> Result<&[u8], Fault>
     }
 }
 
-fn from_place(text: &[u8], remaining: usize) -> &[u8]
-    ensures { result.now ≡ places.from_place text.now remaining }
-{
-    let (_, rest) = text.split_at(text.len().saturating_sub(remaining));
-    rest
-}
-
 /// What stands after the brackets with which `rest` has to begin.
 #[tactic(auto, unfolding(crate::specs::Observed::brackets_end))]
 fn after_brackets<'a>(text: &'a [u8], rest: &[u8]) -> Result<&'a [u8], Fault>
     ensures { mapped (λ x. x.now) result ≡ spec.brackets_end text.now (stop_of rest.now) (tokens_in rest.now) }
 {
     let (remaining, _) = after_opening(Symbol::OpenSquare, Why::BadToken, rest)?;
-    after_square(remaining, from_place(text, remaining))
+    let (_, from_square) = text.split_at(text.len().saturating_sub(remaining));
+    after_square(remaining, from_square)
 }
 
 fn is_locations(lexeme: Lexeme<'_>) -> bool

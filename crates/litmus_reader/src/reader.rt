@@ -112,17 +112,6 @@ fn body_of(alloc: Global, name: &[u8], text: &[u8]) -> Result<TestParts, ReadErr
     body_with(alloc, name, text, &mut names, &mut initial)
 }
 
-/// The parts of the test that the text spells.
-#[tactic(auto, using(crate::proofs::Within::name_is_text), unfolding(crate::specs::Reading::reading_of))]
-fn read_parts(alloc: Global, text: &[u8]) -> Result<TestParts, ReadError>
-    ensures { Gives (λ parts. litmus_of parts) result (inner.reading_of text.now) }
-{
-    let text = sized(text)?;
-    let (name, rest) = header_at(text)?;
-    let rest = braces_at(rest)?;
-    body_of(alloc, name, rest)
-}
-
 /// What [`test_or_fault`] answers, with the line of what is at fault.
 ///
 /// Out of memory aside, a text that spells no test is refused for the first thing in it that is at
@@ -155,11 +144,14 @@ pub fn test_or_fault(alloc: Global, text: &[u8]) -> Result<Test, ReadError>
     read_whole(alloc, text)
 }
 
-#[tactic(auto, using(crate::proofs::Within::spelled_is_test))]
+#[tactic(auto, using(crate::proofs::Within::name_is_text, crate::proofs::Within::spelled_is_test), unfolding(crate::specs::Reading::reading_of))]
 fn read_whole(alloc: Global, text: &[u8]) -> Result<Test, ReadError>
     ensures { Gives (λ test. test) result (inner.reading_of text.now) }
 {
-    let parts = read_parts(alloc, text)?;
+    let text = sized(text)?;
+    let (name, rest) = header_at(text)?;
+    let rest = braces_at(rest)?;
+    let parts = body_of(alloc, name, rest)?;
     Ok(Test::from_valid_parts(parts))
 }
 

@@ -43,11 +43,16 @@ fn row_at<'a, 'b>(stop: Stop, tokens: &'b [Token<'a>]) -> Result<&'b [Token<'a>]
 }
 
 /// How many cells a row has: one more than bars.
-#[tactic(auto, using(crate::proofs::Cells::cells_counted))]
 fn cell_count(row: &[Token<'_>]) -> usize
     ensures { result ≡ length (cells_of (pieces row.now)) }
 {
-    row.iter().filter(|t| is_symbol(Symbol::Bar, t)).count() + 1
+    let mut bars = 0usize;
+    for token in row {
+        if is_symbol(Symbol::Bar, token) {
+            bars += 1;
+        }
+    }
+    bars + 1
 }
 
 /// Reads the row of these tokens.

@@ -25,7 +25,12 @@ pub struct Onward<'a> {
 fn is_one_of(ends: &[Symbol], token: &Token<'_>) -> bool
     ensures { result ≡ is_one_of ends.now (piece_of token.now) }
 {
-    ends.iter().any(|s| is_symbol(*s, token))
+    for end in ends {
+        if is_symbol(*end, token) {
+            return true;
+        }
+    }
+    false
 }
 
 /// Puts the tokens of a text in place of those in `tokens`, up to the first of these symbols, or all where

@@ -1,0 +1,29 @@
+-- What a loop over a list finds, where it goes from one item to the next.
+use Rattle.litmus_reader.proofs.Vocabulary.{◌≡◌, ◌∙◌, ℕ, ◌+◌, ◌<◌, ◌≤◌, Bool, true, false, cond, ◌||◌, ◌&&◌, List, [], ◌∷◌, length, drop, Some, None, sym, ap, subst, arith, position, position_or_len, lt-ltb, le-ltb, prefix_len, ltb}
+use Rattle.std.proofs.Common.{slice_index_or}
+use Rattle.std.specs.List.{list_any, list_all}
+use Rattle.std.proofs.lemmas.Option.{slice_get-get_or}
+use Rattle.basic_laws.proofs.Lists.{drop-at, drop-end}
+
+module _ {X : Type 0} (p : X → Bool) where
+  pub found_at : (xs : List X) (i rest : ℕ) → i < length xs → i + rest ≡ position_or_len p xs → rest ≡ 0 → Some i ≡ position p xs
+  found_at xs i rest l so_far none =
+      let is : i ≡ position_or_len p xs = omega (arith, so_far, none) in
+      subst (λ n. Some i ≡ cond (ltb n (length xs)) (Some n) None) is (sym (ap (λ b. cond b (Some i) None) (lt-ltb i (length xs) l)))
+
+  pub found_nowhere : (xs : List X) (i rest : ℕ) → length xs ≤ i → i + rest ≡ position_or_len p xs → rest ≡ 0 → None ≡ position p xs
+  found_nowhere xs i rest l so_far none =
+      let is : i ≡ position_or_len p xs = omega (arith, so_far, none) in
+      subst (λ n. None ≡ cond (ltb n (length xs)) (Some n) None) is (sym (ap (λ b. cond b (Some i) None) (le-ltb i (length xs) l)))
+
+  pub any_on : (xs : List X) (i : ℕ) (d : X) (b : Bool) → i < length xs → p (slice_index_or xs i d) ≡ b → list_any p (drop i xs) ≡ (b || list_any p (drop (i + 1) xs))
+  any_on xs i d b l q = ap (list_any p) (drop-at xs i (slice_index_or xs i d) (slice_get-get_or xs i d l)) ∙ ap (λ b. b || list_any p (drop (i + 1) xs)) q
+
+  pub any_ends : (xs : List X) (i : ℕ) → length xs ≤ i → i ≤ length xs → list_any p (drop i xs) ≡ false
+  any_ends xs i l m = ap (list_any p) (drop-end xs i (omega (arith, l, m)))
+
+  pub all_on : (xs : List X) (i : ℕ) (d : X) (b : Bool) → i < length xs → p (slice_index_or xs i d) ≡ b → list_all p (drop i xs) ≡ (b && list_all p (drop (i + 1) xs))
+  all_on xs i d b l q = ap (list_all p) (drop-at xs i (slice_index_or xs i d) (slice_get-get_or xs i d l)) ∙ ap (λ b. b && list_all p (drop (i + 1) xs)) q
+
+  pub all_ends : (xs : List X) (i : ℕ) → length xs ≤ i → i ≤ length xs → list_all p (drop i xs) ≡ true
+  all_ends xs i l m = ap (list_all p) (drop-end xs i (omega (arith, l, m)))
