@@ -1,5 +1,5 @@
 -- What a loop over a list finds, where it goes from one item to the next.
-use Rattle.litmus_reader.proofs.Vocabulary.{◌≡◌, ◌∙◌, ℕ, ◌+◌, ◌<◌, ◌≤◌, Bool, true, false, cond, ◌||◌, ◌&&◌, List, [], ◌∷◌, length, drop, Some, None, sym, ap, subst, arith, position, position_or_len, lt-ltb, le-ltb, prefix_len, ltb}
+use Rattle.litmus_reader.proofs.Vocabulary.{◌≡◌, ◌∙◌, ℕ, ◌+◌, ◌<◌, ◌≤◌, Bool, true, false, cond, ◌||◌, ◌&&◌, List, length, drop, Some, None, sym, ap, subst, arith, position, position_or_len, lt-ltb, le-ltb, ltb}
 use Rattle.std.proofs.Common.{slice_index_or}
 use Rattle.std.specs.List.{list_any, list_all}
 use Rattle.std.proofs.lemmas.Option.{slice_get-get_or}
