@@ -171,18 +171,22 @@ fn sweep_settings(matches: &ArgMatches<'_>) -> Option<Settings>
 {
     let protocol = protocol_in(matches)?;
     let config = config_in(matches)?;
-    let plan = plan_in(matches)?;
+    let from = matches.get_one::<u32>("from")?;
+    let seeds = matches.get_one::<u32>("seeds")?;
+    let length = matches.get_one::<u32>("length")?;
     Some(Settings::Sweep {
         protocol,
         config,
-        plan,
+        plan: SweepPlan::new(from, seeds, length)?,
     })
 }
 
 fn outcomes_settings(matches: &ArgMatches<'_>) -> Option<Settings>
     ensures { IfSome result HasDepth }
 {
-    let search = search_in(matches)?;
+    let depth = matches.get_one::<u8>("depth")?;
+    let states = matches.get_one::<u32>("states")?;
+    let search = SearchPlan::new(depth, states, show_in(matches)?)?;
     let json = matches.get_flag("json");
     let assert = matches.get_flag("assert");
     Some(Settings::Outcomes {
@@ -195,7 +199,9 @@ fn outcomes_settings(matches: &ArgMatches<'_>) -> Option<Settings>
 fn why_settings(matches: &ArgMatches<'_>) -> Option<Settings>
     ensures { IfSome result HasDepth }
 {
-    let plan = reason_in(matches)?;
+    let model = model_in(matches)?;
+    let cases = matches.get_one::<u32>("cases")?;
+    let plan = ReasonPlan::new(model, cases)?;
     let json = matches.get_flag("json");
     let assert = matches.get_flag("assert");
     Some(Settings::Why { plan, json, assert })
@@ -213,33 +219,11 @@ fn witness_settings(matches: &ArgMatches<'_>) -> Option<Settings>
 
 fn config_in(matches: &ArgMatches<'_>) -> Option<Config> {
     let depth = matches.get_one::<u8>("depth")?;
-    Config::new(depth, shape_in(matches)?, bus_in(matches)?)
-}
-
-fn plan_in(matches: &ArgMatches<'_>) -> Option<SweepPlan> {
-    let from = matches.get_one::<u32>("from")?;
-    let seeds = matches.get_one::<u32>("seeds")?;
-    let length = matches.get_one::<u32>("length")?;
-    SweepPlan::new(from, seeds, length)
-}
-
-fn search_in(matches: &ArgMatches<'_>) -> Option<SearchPlan> {
-    let depth = matches.get_one::<u8>("depth")?;
-    let states = matches.get_one::<u32>("states")?;
-    SearchPlan::new(depth, states, show_in(matches)?)
-}
-
-fn reason_in(matches: &ArgMatches<'_>) -> Option<ReasonPlan> {
-    let model = model_in(matches)?;
-    let cases = matches.get_one::<u32>("cases")?;
-    ReasonPlan::new(model, cases)
-}
-
-fn shape_in(matches: &ArgMatches<'_>) -> Option<Shape> {
     let sets = matches.get_one::<u8>("sets")?;
     let ways = matches.get_one::<u8>("ways")?;
     let words = matches.get_one::<u8>("words")?;
-    Shape::new(sets, ways, words)
+    let shape = Shape::new(sets, ways, words)?;
+    Config::new(depth, shape, bus_in(matches)?)
 }
 
 fn bus_in(matches: &ArgMatches<'_>) -> Option<Bus> {
