@@ -19,13 +19,7 @@ pub list_any_map : {X Y : Type 0} (p : Y → Bool) (f : X → Y) (xs : List X) �
 list_any_map p f [] = refl
 list_any_map p f (x ∷ xs) = ap (λ b. p (f x) || b) (list_any_map p f xs)
 
--- the place that a search finds, and the length where it finds none
-pub position_found : {X : Type 0} (p : X → Bool) (xs : List X) (n : ℕ) → Some n ≡ position p xs → n ≡ position_or_len p xs
-position_found p xs n at = elim (chosen (ltb (position_or_len p xs) (length xs)) (Some (position_or_len p xs)) None (Some n) (sym at)) [
-  | inl hit ↦ cc
-  | inr miss ↦ absurd cc
-]
-
+-- a search that finds no place ends at the length
 pub position_none : {X : Type 0} (p : X → Bool) (xs : List X) → None ≡ position p xs → length xs ≡ position_or_len p xs
 position_none p xs at = elim (chosen (ltb (position_or_len p xs) (length xs)) (Some (position_or_len p xs)) None None (sym at)) [
   | inl hit ↦ absurd cc
