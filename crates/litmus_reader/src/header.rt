@@ -63,14 +63,24 @@ fn margin_in_front(bytes: &[u8]) -> usize
     ensures value { result ≡ prefix_len grammar.is_margin bytes.now }
     ensures within { result ≤ length bytes.now }
 {
-    bytes.iter().take_while(|b| is_margin(**b)).count()
+    for at in 0..bytes.len() {
+        if !is_margin(bytes[at]) {
+            return at;
+        }
+    }
+    bytes.len()
 }
 
 fn margin_at_end(bytes: &[u8]) -> usize
     ensures value { result ≡ suffix_len grammar.is_margin bytes.now }
     ensures within { result ≤ length bytes.now }
 {
-    bytes.iter().rev().take_while(|b| is_margin(**b)).count()
+    for at in 0..bytes.len() {
+        if !is_margin(bytes[bytes.len() - 1 - at]) {
+            return at;
+        }
+    }
+    bytes.len()
 }
 
 /// The bytes without spaces, tabs and CRs at the two ends.

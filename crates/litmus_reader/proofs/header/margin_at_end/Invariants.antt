@@ -1,0 +1,7 @@
+use Rattle.litmus_reader.proofs.Vocabulary.{◌≡◌, ◌+◌, drop, prefix_len}
+use Rattle.std.proofs.Common.{reverse}
+use Rattle.litmus_reader.specs.GrammarText.{is_margin}
+use Rattle.litmus_reader.proofs.header.margin_at_end.Given as goal
+
+abbrev pub invariant-loop-at : goal.invariant-loop-at
+invariant-loop-at l = l.at + prefix_len is_margin (drop l.at (reverse l.bytes)) ≡ prefix_len is_margin (reverse l.bytes)
