@@ -3,9 +3,8 @@
 //! newest store to its location from its own; that a buffer is bounded is this project's profile.)
 #![tactic(auto)]
 
-ghost use Rattle.std.specs.Prelude.{◌≡◌, ◌<◌, ◌≤◌, ◌↔◌, [], ◌∷◌, ◌++◌, IsTrue, IfOk, OnOk, IfErr, length, drop, fold, slice_get};
+ghost use Rattle.std.specs.Prelude.{◌≡◌, ◌<◌, ◌≤◌, ◌↔◌, [], ◌∷◌, ◌++◌, IsTrue, IfOk, OnOk, IfErr, length, drop, slice_get};
 ghost use Rattle.tso_model.specs.Limits.{least_depth, most_depth};
-ghost use Rattle.store_buffer.specs.inner.Newest.{newer};
 
 use circular_buffer::HeapCircularBuffer;
 use std::alloc::Global;
@@ -99,7 +98,13 @@ impl StoreBuffer {
     pub fn newest_for(&self, loc: Loc) -> Option<u32>
         ensures { result ≡ newest_for loc.0 self.now.items }
     {
-        newest_in(&self.ring, loc)
+        let mut newest = None;
+        for p in self.ring.iter() {
+            if p.loc == loc {
+                newest = Some(p.value);
+            }
+        }
+        newest
     }
 
     /// Whether nothing is pending.
@@ -116,14 +121,4 @@ impl StoreBuffer {
     {
         self.ring.is_full()
     }
-}
-
-/// The value of the last store to the location, found on one walk from the oldest on.
-fn newest_in(ring: &HeapCircularBuffer<Pending>, loc: Loc) -> Option<u32>
-    ensures { result ≡ fold (newer loc.0) None ring.now.items }
-{
-    ring.iter().fold(
-        None,
-        |newest, p| if p.loc == loc { Some(p.value) } else { newest },
-    )
 }
