@@ -65,7 +65,7 @@ pub fn begin<P: Protocol>(
         config.shape(),
         test.initial_words(),
     )?;
-    let counts = nothing_counted(alloc, test)?;
+    let counts = vec![in alloc; Counts::NONE; usize::from(test.cores())]?;
     Ok(Hardware {
         config,
         processors,
@@ -75,17 +75,6 @@ pub fn begin<P: Protocol>(
         commits: Commits::new(alloc),
         counts,
     })
-}
-
-/// Nothing counted for each core of the test.
-fn nothing_counted(alloc: Global, test: &Test) -> Result<Vec<Counts>, NoMemory>
-    ensures { IfOk result (λ counts. counts.items ≡ replicate (length test.now.programs) no_counts) }
-{
-    let mut counts = Vec::new(alloc);
-    for _ in 0..test.cores() {
-        counts.push(Counts::NONE)?;
-    }
-    Ok(counts)
 }
 
 /// Each core of the test before its first instruction, with its first registers and an empty buffer
@@ -137,15 +126,6 @@ pub fn make_choice<P: Protocol>(
     let (outcome, cache_use) = act_on_bus(hardware, test, choice)?;
     tally(&mut hardware.counts, core_of(choice), cache_use);
     Ok((outcome, cache_use))
-}
-
-/// Between the two parts of a locked instruction its core has the line in M, and no other core has it: so much is
-/// known of the hardware from this call on, which has no effect.
-pub fn know_line_is_alone<P: Protocol>(hardware: &Hardware<P>, test: &Test)
-    requires { IsHeldForAccess test.now hardware.now }
-    ensures { IsAloneIn hardware.now }
-{
-    let _holder = hardware.bus.who_holds();
 }
 
 /// The core that a choice names.

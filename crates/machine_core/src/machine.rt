@@ -13,7 +13,7 @@ use crate::accesses::CacheUse;
 use crate::config::Config;
 use crate::counts::Counts;
 use crate::ending::{FinalState, final_state};
-use crate::hardware::{Hardware, are_done, begin, know_line_is_alone, make_choice};
+use crate::hardware::{Hardware, are_done, begin, make_choice};
 use crate::restarting::restart;
 use commit_order::build;
 use protocol_tables::Protocol;
@@ -142,7 +142,8 @@ impl<'a, P: Protocol> Machine<'a, P> {
         }
         let made = make_choice(&mut self.hardware, self.test, choice);
         self.failed = made.is_err();
-        know_line_is_alone(&self.hardware, self.test);
+        // Who holds the bus between the two parts of a locked instruction has its line alone.
+        let _holder = self.hardware.bus.who_holds();
         made
     }
 

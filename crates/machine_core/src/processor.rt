@@ -110,7 +110,8 @@ pub fn step<P: Protocol>(
         Action::Load(reg, loc) => load(processor, turn, reg, loc, bus, commits),
         Action::Move(reg, operand) => {
             let value = operand.value(&processor.registers);
-            Ok((set(processor, reg, value), CacheUse::Unused))
+            advance(processor, reg, value);
+            Ok((Outcome::Moved, CacheUse::Unused))
         }
         Action::Fence => fence(processor, turn.core, commits),
         Action::Lock(loc, reg, update) => {
@@ -235,16 +236,6 @@ fn read<P: Protocol>(turn: Turn, loc: Loc, bus: &mut SnoopBus<P>) -> Result<(u32
         Way::Whole => bus.load(turn.core, loc),
         Way::Asked => bus.complete_load(turn.core, loc),
     }
-}
-
-/// A register move.
-fn set(processor: &mut Processor, reg: Reg, value: u32) -> Outcome
-    requires { processor.old.place < most_instructions }
-    ensures outcome { result ≡ Outcome.Moved }
-    ensures after { processor.new ≡ at_next processor.old (with_value processor.old.registers reg value) }
-{
-    advance(processor, reg, value);
-    Outcome::Moved
 }
 
 /// A fence waits until nothing is pending.

@@ -29,7 +29,7 @@ pub fn restart<P: Protocol>(hardware: &mut Hardware<P>, test: &Test)
     restart_cores(&mut hardware.processors, test);
     hardware.bus.restart(test.initial_words());
     hardware.commits.clear();
-    count_nothing(&mut hardware.counts);
+    hardware.counts.fill(Counts::NONE);
 }
 
 /// Each core goes back before its first instruction, with its first registers and nothing pending.
@@ -43,14 +43,5 @@ fn restart_cores(processors: &mut [Processor], test: &Test)
         let registers = test.initial_registers(Core(core));
         let processor = &mut processors[core as usize];
         processor.restart(registers);
-    }
-}
-
-/// Nothing is counted for any core.
-fn count_nothing(counts: &mut [Counts])
-    ensures { counts.new ≡ replicate (length counts.old) no_counts }
-{
-    for core in 0..counts.len() {
-        counts[core] = Counts::NONE;
     }
 }

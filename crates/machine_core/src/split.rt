@@ -147,7 +147,14 @@ pub fn access_of<P: Protocol>(hardware: &Hardware<P>, test: &Test, choice: Choic
                 Some(instr) => step_access(processor, instr),
             }
         }
-        Choice::Drain(core) => drain_access(&hardware.processors[core.0 as usize]),
+        // A drain writes the oldest pending store.
+        Choice::Drain(core) => {
+            let processor = &hardware.processors[core.0 as usize];
+            match processor.stores.oldest() {
+                None => MemoryAccess::Nothing,
+                Some(store) => MemoryAccess::Write(store.loc),
+            }
+        }
     }
 }
 
@@ -158,59 +165,27 @@ fn step_access(processor: &Processor, instr: Instr) -> MemoryAccess
     ensures known { (locations : ℕ) → KnownLocation locations instr → IsAccessAmong locations (memory_access_in result) }
 {
     match instr.action() {
-        Action::Store(loc, _) => store_access(processor, loc),
-        Action::Load(_, loc) => load_access(processor, loc),
-        Action::Lock(loc, _, _) => locked_access(processor, loc),
+        // A plain store only waits in the buffer; without one it writes.
+        Action::Store(loc, _) => {
+            if processor.stores.are_buffered() {
+                MemoryAccess::Nothing
+            } else {
+                MemoryAccess::Write(loc)
+            }
+        }
+        // A load reads, unless the core's own buffer answers it.
+        Action::Load(_, loc) => match processor.stores.newest_for(loc) {
+            None => MemoryAccess::Read(loc),
+            Some(_) => MemoryAccess::Nothing,
+        },
+        // A locked instruction waits until nothing is pending.
+        Action::Lock(loc, _, _) => {
+            if processor.stores.is_empty() {
+                MemoryAccess::Lock(loc)
+            } else {
+                MemoryAccess::Nothing
+            }
+        }
         Action::Move(..) | Action::Fence => MemoryAccess::Nothing,
-    }
-}
-
-/// A plain store only waits in the buffer; without one it writes.
-#[inline(always)]
-fn store_access(processor: &Processor, loc: Loc) -> MemoryAccess
-    ensures value { memory_access_in result ≡ store_access processor.now.stores.depth loc }
-    ensures known { (locations : ℕ) → loc.0 < locations → IsAccessAmong locations (memory_access_in result) }
-{
-    if processor.stores.are_buffered() {
-        MemoryAccess::Nothing
-    } else {
-        MemoryAccess::Write(loc)
-    }
-}
-
-/// A load reads, unless the core's own buffer answers it.
-#[inline(always)]
-fn load_access(processor: &Processor, loc: Loc) -> MemoryAccess
-    ensures value { (core : ℕ) → memory_access_in result ≡ load_access loc (filter (writes_to loc.0) (pending_in core processor.now)) }
-    ensures known { (locations : ℕ) → loc.0 < locations → IsAccessAmong locations (memory_access_in result) }
-{
-    match processor.stores.newest_for(loc) {
-        None => MemoryAccess::Read(loc),
-        Some(_) => MemoryAccess::Nothing,
-    }
-}
-
-/// A locked instruction waits until nothing is pending.
-#[inline(always)]
-fn locked_access(processor: &Processor, loc: Loc) -> MemoryAccess
-    ensures value { (core : ℕ) → memory_access_in result ≡ locked_access loc (pending_in core processor.now) }
-    ensures known { (locations : ℕ) → loc.0 < locations → IsAccessAmong locations (memory_access_in result) }
-{
-    if processor.stores.is_empty() {
-        MemoryAccess::Lock(loc)
-    } else {
-        MemoryAccess::Nothing
-    }
-}
-
-/// A drain writes the oldest pending store.
-#[inline(always)]
-fn drain_access(processor: &Processor) -> MemoryAccess
-    ensures value { (core : ℕ) → memory_access_in result ≡ drain_access (pending_in core processor.now) }
-    ensures known { (locations : ℕ) → AreKnown locations processor.now.stores → IsAccessAmong locations (memory_access_in result) }
-{
-    match processor.stores.oldest() {
-        None => MemoryAccess::Nothing,
-        Some(store) => MemoryAccess::Write(store.loc),
     }
 }

@@ -1,4 +1,4 @@
-use Rattle.machine_core.proofs.Vocabulary.{rules, refl, ap, ◌∙◌, subst, length, All, words_of, holder_of, IsCore}
+use Rattle.machine_core.proofs.Vocabulary.{rules, refl, ap, replicate, no_counts, ◌∙◌, subst, length, All, words_of, holder_of, IsCore}
 use Rattle.machine_core.proofs.Beginning.{begun-state}
 use Rattle.machine_core.proofs.TallyLemmas.{tallied-first}
 use Rattle.machine_core.proofs.Splitting.{held-freed}
@@ -16,5 +16,6 @@ returns-clause-begun g c = record {
   held = held-freed c.args.test.now _ (record { memory = words_of c.in_ok-bus.bus; cores = _ }) _ _ (ap holder_of c.in_ok-bus.ensures.exact);
   state = begun-state _ _ c.args.test.now _ _ c.in_ok-processors.ensures.states (c.in_ok-bus.ensures.words ∙ c.initial_words.ensures.value) (ap holder_of c.in_ok-bus.ensures.exact);
   commits = search rules;
-  tallied = tallied-first c.args.test.now _ _ c.cores.ensures.test c.in_ok-processors.ensures.states c.in_ok-counts.ensures (rw c.in_ok-bus.ensures.exact refl);
+  tallied = tallied-first c.args.test.now _ _ c.cores.ensures.test c.in_ok-processors.ensures.states
+      (c.in_ok-counts.ensures.items_if_clones_equal (λ y e. e) ∙ ap (λ n. replicate n no_counts) (c.from.ensures ∙ c.cores-2.ensures.value)) (rw c.in_ok-bus.ensures.exact refl);
 }

@@ -1,5 +1,6 @@
 use Rattle.machine_core.proofs.Vocabulary.{refl, sym, ap, ◌∙◌, words_of, Fence, Lock}
 use Rattle.machine_core.proofs.Stepping.{access-store, access-load, access-lock, known-store, acts-store, acts-load, acts-set, acts-fence, acts-lock, succeeds-store, succeeds-load, succeeds-by}
+use Rattle.tso_model.specs.declared.choice.Outcome.TheVariants.{Moved}
 use Rattle.machine_core.proofs.processor.step.Goals as goal
 
 pub store-requires-clause-access : goal.store-requires-clause-access
@@ -56,10 +57,10 @@ returns-in-Lock g c = record {
 
 pub returns-in-Move : goal.returns-in-Move
 returns-in-Move g c = record {
-  acts = acts-set c.args.turn c.args.instr c.args.processor.now c.args.bus.now c.in-Move.reg c.in-Move.operand c.value-value-in-Move.result c.set.new.processor c.args.commits.now c.set.result (sym c.action.ensures ∙ c.in-Move.is) c.value-value-in-Move.ensures c.requires.free c.set.ensures.outcome c.set.ensures.after;
+  acts = acts-set c.args.turn c.args.instr c.args.processor.now c.args.bus.now c.in-Move.reg c.in-Move.operand c.value-value-in-Move.result c.advance.new.processor c.args.commits.now Moved (sym c.action.ensures ∙ c.in-Move.is) c.value-value-in-Move.ensures c.requires.free refl c.advance.ensures;
   succeeds = λ _. refl;
   err = tt;
   sizes = record { cores = refl; count = refl };
-  depth = ap (λ p. p.stores.depth) c.set.ensures.after;
-  stores = rw c.set.ensures.after c.requires.stores;
+  depth = ap (λ p. p.stores.depth) c.advance.ensures;
+  stores = rw c.advance.ensures c.requires.stores;
 }

@@ -1,4 +1,5 @@
-use Rattle.machine_core.proofs.Vocabulary.{ap, ◌∙◌, sym, subst, rules, length, All, with_items_is, words_of, holder_of, awaited_of, core_states, IsCore}
+use Rattle.machine_core.proofs.Vocabulary.{◌≡◌, arith, ap, ◌∙◌, sym, subst, rules, replicate, no_counts, length, All, with_items_is, words_of, holder_of, awaited_of, core_states, IsCore}
+use Rattle.std.specs.Vec.{vec_len}
 use Rattle.machine_core.proofs.Beginning.{begun-state, begun-statistics}
 use Rattle.machine_core.proofs.TallyLemmas.{tallied-first}
 use Rattle.machine_core.proofs.Splitting.{held-freed}
@@ -8,8 +9,8 @@ pub returns-clause-begun : goal.returns-clause-begun
 returns-clause-begun g c =
     let m = c.args.hardware.now in
     let ps = with_items_is m.processors c.restart_cores.new.processors (search rules) in
-    let cs = with_items_is m.counts c.count_nothing.new.counts (search rules) in
     let before = c.deref_mut.ensures.value in
+    let counted : vec_len m.counts ≡ length c.args.test.now.programs = omega (arith, m.counts.ok.0, c.requires.counts) in
     let n = length (words_of c.restart.new.self) in
     record {
       fits = record {
@@ -23,12 +24,12 @@ returns-clause-begun g c =
       state = begun-state _ _ c.args.test.now _ _ (ap (core_states 0) ps ∙ c.restart_cores.ensures.states) (c.restart.ensures.words ∙ c.initial_words.ensures.value) (ap holder_of c.restart.ensures.exact);
       commits = search rules;
       tallied = tallied-first c.args.test.now _ _ c.requires.test (ap (core_states 0) ps ∙ c.restart_cores.ensures.states)
-          (rw (ap length c.deref_mut-2.ensures.value ∙ c.requires.counts) at (cs ∙ c.count_nothing.ensures)) (ap awaited_of c.restart.ensures.exact);
+          (c.fill.ensures.items (λ y e. e) ∙ ap (λ n. replicate n no_counts) counted) (ap awaited_of c.restart.ensures.exact);
     }
 
 pub returns-clause-statistics : goal.returns-clause-statistics
 returns-clause-statistics g c =
     let m = c.args.hardware.now in
-    let cs = with_items_is m.counts c.count_nothing.new.counts (search rules) in
-    begun-statistics m.bus c.restart.new.self c.initial_words.result.now _ c.args.test.now (length c.deref_mut-2.result.now) c.restart.ensures.exact c.requires.fits.on_bus
-    c.initial_words.ensures.value (cs ∙ c.count_nothing.ensures) (ap length c.deref_mut-2.ensures.value ∙ c.requires.counts)
+    let counted : vec_len m.counts ≡ length c.args.test.now.programs = omega (arith, m.counts.ok.0, c.requires.counts) in
+    begun-statistics m.bus c.restart.new.self c.initial_words.result.now _ c.args.test.now (vec_len m.counts) c.restart.ensures.exact c.requires.fits.on_bus
+    c.initial_words.ensures.value (c.fill.ensures.items (λ y e. e)) counted

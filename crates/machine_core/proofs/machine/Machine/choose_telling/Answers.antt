@@ -2,6 +2,7 @@ use Rattle.machine_core.proofs.Vocabulary.{◌≡◌, OnOk, subst, ap, sym, ◌�
 use Rattle.std.proofs.lemmas.Result.{IfOk-at_ok}
 use Rattle.machine_core.proofs.RunningLemmas.{Running-same, statistics_after-nothing, same-state, on-ok, possible-next}
 use Rattle.machine_core.proofs.Telling.{outcome-told, how-told, after-told, succeeds-told, refused-told}
+use Rattle.machine_core.proofs.Alone.{alone-in}
 use Rattle.machine_core.proofs.machine.Machine.choose_telling.Goals as goal
 
 pub returns-clause-stall : goal.returns-clause-stall
@@ -63,3 +64,7 @@ returns-clause-succeeds g c = λ sound. succeeds-told c.make_choice-made.result 
 
 pub returns-clause-refused : goal.returns-clause-refused
 returns-clause-refused g c = refused-told c.make_choice-made.result c.self.inside.test.now c.self.inside.hardware c.make_choice-made.new.hardware c.args.choice c.args.self.now c.self.inside.failed c.self.view_is c.is_err-self-inside.result c.make_choice-made.ensures.config c.is_err-self-inside.ensures.value c.make_choice-made.ensures.err_state c.make_choice-made.ensures.err_commits c.make_choice-made.ensures.err_statistics
+
+pub returns-clause-alone : goal.returns-clause-alone
+returns-clause-alone g c =
+    on-ok c.make_choice-made.result _ (alone-in c.self.inside.test.now c.make_choice-made.new.hardware c.make_choice-made.ensures.of_test.held c.who_holds-holder.ensures.alone)
