@@ -158,7 +158,10 @@ impl Cache {
     pub fn clear(&mut self)
         ensures { self.new ≡ map emptied self.old }
     {
-        clear_sets(&mut self.sets);
+        for at in 0..self.sets.len() {
+            let set = &mut self.sets[at];
+            set.clear();
+        }
     }
 }
 
@@ -180,14 +183,4 @@ pub fn know_sets(cache: &Cache)
     ensures home { AtHome cache.now }
 {
     let _sets = cache.len();
-}
-
-/// Every line leaves these sets.
-fn clear_sets(sets: &mut [CacheSet])
-    ensures { sets.new ≡ map emptied sets.old }
-{
-    for at in 0..sets.len() {
-        let set = &mut sets[at];
-        set.clear();
-    }
 }

@@ -8,7 +8,7 @@ ghost use Rattle.snoop_bus.specs.Copies.{copy_in, tags_of};
 ghost use Rattle.snoop_bus.specs.inner.Copies.{state_at};
 ghost use Rattle.snoop_bus.specs.Requests.{snoop_column};
 ghost use Rattle.snoop_bus.specs.inner.Requests.{HasSupplied};
-ghost use Rattle.snoop_bus.specs.inner.Finding.{nothing_found, noting};
+ghost use Rattle.snoop_bus.specs.inner.Finding.{noting};
 
 use crate::bus::MAX_CORES;
 use crate::hierarchy::Hierarchy;
@@ -31,18 +31,6 @@ pub struct Found {
 }
 
 impl Found {
-    /// Before the walk.
-    fn nothing() -> Found
-        ensures { result ≡ nothing_found }
-    {
-        Found {
-            words: None,
-            shared: false,
-            flushed: None,
-            states: [None; MAX_CORES as usize],
-        }
-    }
-
     /// One core more has a copy, which does this at the request.
     fn note(&mut self, core: usize, copy: &Line, snoop: Snoop)
         requires { core < most_cores }
@@ -69,7 +57,12 @@ impl Hierarchy {
         ensures flushed { result.flushed ≡ flusher_from 0 (snoop_column (P.table protocol.now) request) line (tags_of self.now.caches.items) }
         ensures states { (i : ℕ) → slice_index_or result.states i None ≡ state_at self.now.caches.items i line }
     {
-        let mut found = Found::nothing();
+        let mut found = Found {
+            words: None,
+            shared: false,
+            flushed: None,
+            states: [None; MAX_CORES as usize],
+        };
         for core in 0..self.caches.len() {
             if let Some(copy) = self.caches[core].look(line) {
                 let snoop = answer(protocol, request, copy.state);

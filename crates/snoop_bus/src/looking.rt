@@ -68,7 +68,12 @@ impl<P: Protocol> SnoopBus<P> {
     pub fn ranked(&self, core: Core, set: u8, rank: usize) -> Option<CachedLine>
         ensures { result ≡ ranked_line self.now core.0 set rank }
     {
-        let (line, copy) = self.ranked_copy(core, set, rank)?;
+        let cache = self.hierarchy.caches.get(usize::from(core.0))?;
+        // A line lies in its own set alone.
+        if usize::from(set) >= cache.len() {
+            return None;
+        }
+        let (line, copy) = cache.set(set).ranked(rank)?;
         let words = copy.words;
         Some(CachedLine {
             line,
@@ -77,27 +82,13 @@ impl<P: Protocol> SnoopBus<P> {
         })
     }
 
-    /// The line of this rank in a core's set with its copy, if there are so many.
-    fn ranked_copy(&self, core: Core, set: u8, rank: usize) -> Option<(u8, Line)>
-        ensures value { result ≡ slice_get (copies_of self.now core.0 set).copies rank }
-        ensures words { IfSome result (λ r. r.1.words ≡ line_of_words self.now.shape.words (words_of self.now) r.0) }
-    {
-        let cache = self.hierarchy.caches.get(usize::from(core.0))?;
-        // A line lies in its own set alone.
-        if usize::from(set) >= cache.len() {
-            return None;
-        }
-        cache.set(set).ranked(rank)
-    }
-
     /// What the line of the action that holds the bus is in until its words come; `None` where nobody holds
     /// the bus, and where nothing is awaited.
     pub fn transient(&self) -> Option<Transient>
         ensures { result ≡ option_map (λ awaited. awaited.transient) (awaited_of self.now) }
     {
-        self.held?
-            .transaction
-            .map(|transaction| transaction.transient)
+        let transaction = self.held?.transaction?;
+        Some(transaction.transient)
     }
 }
 
@@ -143,7 +134,10 @@ impl<P: Protocol> SnoopBus<P> {
         requires { core.0 < cores_of self.now }
         ensures { result ≡ tag_at core.0 line (contents_of self.now) }
     {
-        state_of(&self.hierarchy.caches, usize::from(core.0), line)
+        match self.hierarchy.caches[usize::from(core.0)].look(line) {
+            None => None,
+            Some(copy) => Some(copy.state),
+        }
     }
 
     /// The request that the other caches have seen and whose line isn't yet filled; `None` where nobody holds
@@ -152,15 +146,5 @@ impl<P: Protocol> SnoopBus<P> {
         ensures { option_map awaited_by result ≡ awaited_of self.now }
     {
         self.held?.transaction
-    }
-}
-
-fn state_of(caches: &[Cache], core: usize, line: u8) -> Option<State>
-    requires { core < length caches.now }
-    ensures { result ≡ tag_at core line (tags_of caches.now) }
-{
-    match caches[core].look(line) {
-        None => None,
-        Some(copy) => Some(copy.state),
     }
 }

@@ -18,7 +18,7 @@ loop-core-preserved g c =
     ]
 
 pub loop-core-init : goal.loop-core-init
-loop-core-init g c = rw c.nothing-found.ensures (nothing-found (snoop_column (g.P.Protocol.table c.args.protocol.now) c.args.request) c.args.line c.args.self.now.caches.items)
+loop-core-init g c = (nothing-found (snoop_column (g.P.Protocol.table c.args.protocol.now) c.args.request) c.args.line c.args.self.now.caches.items)
 
 pub returns-clause-words : goal.returns-clause-words
 returns-clause-words g c = words-found (snoop_column (g.P.Protocol.table c.args.protocol.now) c.args.request) c.args.line c.args.self.now.caches.items c.loop-core.found
