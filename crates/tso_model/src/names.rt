@@ -96,17 +96,21 @@ fn has_at_most(text: &[u8], limit: usize) -> bool
 fn all_continue(text: &[u8]) -> bool
     ensures { result ≡ list_all words.continues_name text.now }
 {
-    text.iter().all(|c| continues_name(*c))
+    for byte in text {
+        if !continues_name(*byte) {
+            return false;
+        }
+    }
+    true
 }
 
 fn is_all_printable(text: &[u8]) -> bool
     ensures { result ≡ list_all words.is_printable text.now }
 {
-    text.iter().all(|c| is_printable(*c))
-}
-
-fn is_printable(byte: u8) -> bool
-    ensures { result ≡ words.is_printable byte }
-{
-    (b' '..=b'~').contains(&byte)
+    for byte in text {
+        if !(b' '..=b'~').contains(byte) {
+            return false;
+        }
+    }
+    true
 }

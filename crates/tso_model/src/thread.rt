@@ -23,14 +23,8 @@ pub fn read_count(test: &Test, core: Core) -> usize
     requires { core.0 < length test.now.programs }
     ensures { result ≡ reads_in (slice_index_or test.now.programs core.0 []) }
 {
-    reads_of(test.program(core))
-}
-
-fn reads_of(program: &[Instr]) -> usize
-    ensures { result ≡ reads_in program.now }
-{
     let mut count = 0;
-    for instr in program {
+    for instr in test.program(core) {
         if matches!(instr.action(), Action::Load(..) | Action::Lock(..)) {
             count += 1;
         }

@@ -77,15 +77,12 @@ fn is_among(name: &str, locations: &[String]) -> bool
 fn programs_fit(programs: &[Vec<Instr>], locations: usize) -> bool
     ensures { IsTrue result ↔ All (IsProgram locations) (map (λ program. program.items) programs.now) }
 {
-    each_fits(programs, locations)
-}
-
-fn each_fits(programs: &[Vec<Instr>], locations: usize) -> bool
-    ensures { IsTrue result ↔ All (λ program. IsProgram locations program.items) programs.now }
-{
-    programs
-        .iter()
-        .all(|program| program_fits(program, locations))
+    for program in programs {
+        if !program_fits(program, locations) {
+            return false;
+        }
+    }
+    true
 }
 
 fn program_fits(program: &[Instr], locations: usize) -> bool
@@ -94,18 +91,14 @@ fn program_fits(program: &[Instr], locations: usize) -> bool
     if program.len() > MAX_INSTRUCTIONS {
         return false;
     }
-    program
-        .iter()
-        .all(|instr| has_location_below(instr, locations))
-}
-
-fn has_location_below(instr: &Instr, locations: usize) -> bool
-    ensures { IsTrue result ↔ KnownLocation locations instr.now }
-{
-    match instr.action().location() {
-        Some(loc) => (loc.0 as usize) < locations,
-        None => true,
+    for instr in program {
+        if let Some(loc) = instr.action().location() {
+            if usize::from(loc.0) >= locations {
+                return false;
+            }
+        }
     }
+    true
 }
 
 fn condition_fits(cond: &Option<Cond>, cores: usize, locations: usize) -> bool
@@ -123,16 +116,10 @@ fn claim_fits(cond: &Cond, cores: usize, locations: usize) -> bool
     if !has_negations_within(&cond.prop, MAX_OPEN) {
         return false;
     }
-    if !has_atoms_within(&cond.prop, MAX_ATOMS) {
+    if atoms_left(&cond.prop, MAX_ATOMS).is_none() {
         return false;
     }
     names_exist(&cond.prop, cores, locations)
-}
-
-fn has_atoms_within(prop: &Prop, allowed: usize) -> bool
-    ensures { IsTrue result ↔ (atoms_in (claim_of prop.now) ≤ allowed) }
-{
-    atoms_left(prop, allowed).is_some()
 }
 
 fn names_exist(prop: &Prop, cores: usize, locations: usize) -> bool
