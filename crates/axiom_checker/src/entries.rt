@@ -14,14 +14,10 @@ use tso_model::{Entry, Kind};
 pub fn is_same_but_value(e: &Entry, x: &Entry) -> bool
     ensures { result ≡ entries.same_but_value e.now x.now }
 {
-    is_same_action(e, x) && x.loc == e.loc && (x.kind != Kind::F || x.value == e.value)
-}
-
-/// Whether both are of one core, place and kind.
-fn is_same_action(x: &Entry, y: &Entry) -> bool
-    ensures { result ≡ entries.same_action x.now y.now }
-{
-    y.core == x.core && y.place == x.place && y.kind == x.kind
+    if x.core != e.core || x.place != e.place || x.kind != e.kind {
+        return false;
+    }
+    x.loc == e.loc && (x.kind != Kind::F || x.value == e.value)
 }
 
 /// Whether x is a load, or the load part of a locked instruction.
@@ -60,26 +56,16 @@ pub fn rank(x: &Entry) -> u32
 pub fn must_stand_before(a: &Entry, b: &Entry) -> bool
     ensures { result ≡ axioms.must_stand_before a.now b.now }
 {
-    is_before(a, b) && !may_be_passed(a, b)
-}
-
-/// Whether x stands before y in the program of their core.
-fn is_before(x: &Entry, y: &Entry) -> bool
-    ensures { result ≡ program_order.is_before x.now y.now }
-{
-    x.core == y.core && (x.place < y.place || is_earlier_part(x, y))
-}
-
-/// Whether, of one place, y is the store part of a locked instruction and x is not.
-fn is_earlier_part(x: &Entry, y: &Entry) -> bool
-    ensures { result ≡ program_order.is_earlier_part x.now y.now }
-{
-    x.place == y.place && y.kind == Kind::LW && x.kind != Kind::LW
-}
-
-/// Whether y may pass x in the order: a plain load may pass a plain store.
-fn may_be_passed(x: &Entry, y: &Entry) -> bool
-    ensures { result ≡ program_order.may_be_passed x.now y.now }
-{
-    x.kind == Kind::W && y.kind == Kind::R
+    if a.core != b.core {
+        return false;
+    }
+    // A plain load may pass a plain store.
+    if a.kind == Kind::W && b.kind == Kind::R {
+        return false;
+    }
+    if a.place < b.place {
+        return true;
+    }
+    // Of one place the store part of a locked instruction comes after the load part.
+    a.place == b.place && b.kind == Kind::LW && a.kind != Kind::LW
 }
