@@ -1,10 +1,28 @@
 -- Texts that are split_once at a byte, and their lines.
-use Rattle.order_builder.proofs.Vocabulary.{◌≡◌, ℕ, ◌+◌, ◌<◌, ◌≤◌, true, false, ltb, eqb, List, [], ◌∷◌, ◌++◌, length, get_or, take, drop, Option, Some, None, All, refl, sym, ap, subst, ◌∙◌, inl, inr, arith, position, position_or_len, slice_split, option_map, strip_carriage_return, bytes_eq, lt-ltb, le-ltb, ltb-false, eqb-true, nat_tests, take_at, drop_at, append_assoc, length-append, length-take, get_or-take, get_or_at, get_or_append_left, length_push, take-append-drop, drop_more, nil_from_length, All-get_or, All-from_get_or, position-Some, position_or_len_is, fails_before_first, count_by-le-length, slice_split_none, slice_split_at, length-slice_split, lines_in, lines_of, is_line_feed, split_once, halves_at}
+use Rattle.order_builder.proofs.Vocabulary.{◌≡◌, ℕ, ◌+◌, ◌-◌, ◌<◌, ◌≤◌, Bool, true, false, ltb, eqb, List, [], ◌∷◌, ◌++◌, length, get_or, take, take_all, drop, Option, Some, None, All, refl, sym, ap, subst, ◌∙◌, inl, inr, arith, position, position_or_len, slice_split, option_map, strip_carriage_return, lt-ltb, le-ltb, ltb-false, eqb-true, nat_tests, take_at, drop_at, append_assoc, length-append, length-drop, length-take, get_or-take, get_or_at, get_or_append_left, length_push, take-append-drop, drop_more, nil_from_length, All-get_or, All-from_get_or, position-Some, position_or_len_is, fails_before_first, count_by-le-length, slice_split_none, slice_split_at, length-slice_split, lines_in, lines_of, is_line_feed, split_once, halves_at}
 use Rattle.order_builder.proofs.Choosing.{chosen}
 
 -- no byte of the text is this one
 abbrev pub Lacks : ℕ → List ℕ → Type 0
 Lacks byte text = All (λ b. eqb b byte ≡ false) text
+
+-- ---- the first of some elements that passes a test
+
+pub first_at : {A : Type 0} (p : A → Bool) (xs : List A) (i : ℕ) (d : A) → i < length xs → ((k : ℕ) → k < i → p (get_or xs k d) ≡ false)
+    → p (get_or xs i d) ≡ true → position p xs ≡ Some i
+first_at p xs i d lt before here =
+    let at : position_or_len p xs ≡ i = position_or_len_is p xs i d (omega arith) before (λ _. here) in
+    let room : ltb i (length xs) ≡ true = lt-ltb _ _ lt in
+    rw (at, room) refl
+
+pub first_none : {A : Type 0} (p : A → Bool) (xs : List A) (i : ℕ) (d : A) → i ≡ length xs → ((k : ℕ) → k < i → p (get_or xs k d) ≡ false)
+    → position p xs ≡ None
+first_none p xs i d all before =
+    let at : position_or_len p xs ≡ i = position_or_len_is p xs i d (omega arith) before (λ lt. absurd (omega arith)) in
+    let room : ltb i (length xs) ≡ false = le-ltb _ _ (omega arith) in
+    rw (at, room) refl
+
+-- ---- texts that are split
 
 halved : (text : List ℕ) (o : Option ℕ) (xs ys : List ℕ) → option_map (halves_at text) o ≡ Some (xs, ys) → (i : ℕ) × (o ≡ Some i) × (take i text ≡ xs) × (drop (i + 1) text ≡ ys)
 halved text None xs ys e = absurd cc
@@ -56,6 +74,18 @@ split_once-at byte xs ys lacks =
     ap (drop (length xs + 1)) (sym (append_assoc xs (byte ∷ []) ys)) ∙ drop_at (xs ++ byte ∷ []) ys (length xs + 1) (length_push xs byte) in
     rw (at, room, front, back) refl
 
+pub split_once-first : (byte : ℕ) (text : List ℕ) (i : ℕ) → i < length text → ((k : ℕ) → k < i → eqb (get_or text k 0) byte ≡ false) → get_or text i 0 ≡ byte
+    → Some (take i text, take (length text - (i + 1)) (drop (i + 1) text)) ≡ split_once byte text
+unfolding split_once
+split_once-first byte text i lt before here =
+    let found = first_at (λ b. eqb b byte) text i 0 lt before (rw here (grind (arith, nat_tests))) in
+    rw (found, take_all (length text - (i + 1)) (drop (i + 1) text) (omega (arith, length-drop (i + 1) text))) refl
+
+pub split_once-nowhere : (byte : ℕ) (text : List ℕ) (i : ℕ) → i ≡ length text → ((k : ℕ) → k < i → eqb (get_or text k 0) byte ≡ false)
+    → None ≡ split_once byte text
+unfolding split_once
+split_once-nowhere byte text i past before = rw (first_none (λ b. eqb b byte) text i 0 past before) refl
+
 -- ---- lines
 
 more_lines : (part : List ℕ) (parts : List (List ℕ)) → 0 < length parts → lines_in (part ∷ parts) ≡ strip_carriage_return part ∷ lines_in parts
@@ -101,21 +131,3 @@ lines_in-length (part ∷ next ∷ parts) = let more = lines_in-length (next ∷
 pub lines_of-length : (text : List ℕ) → length (lines_of text) ≤ length text + 1
 unfolding lines_of
 lines_of-length text = omega (arith, lines_in-length (slice_split is_line_feed text), length-slice_split is_line_feed text, count_by-le-length is_line_feed text)
-
--- ---- the first of some names
-
-pub named_at : (names : List (List ℕ)) (name : List ℕ) (i : ℕ) → i < length names → ((k : ℕ) → k < i → bytes_eq (get_or names k []) name ≡ false)
-    → bytes_eq (get_or names i []) name ≡ true → position (λ other. bytes_eq other name) names ≡ Some i
-named_at names name i lt before here =
-    let at : position_or_len (λ other. bytes_eq other name) names ≡ i =
-    position_or_len_is (λ other. bytes_eq other name) names i [] (omega arith) before (λ _. here) in
-    let room : ltb i (length names) ≡ true = lt-ltb _ _ lt in
-    rw (at, room) refl
-
-pub named_none : (names : List (List ℕ)) (name : List ℕ) (i : ℕ) → i ≡ length names → ((k : ℕ) → k < i → bytes_eq (get_or names k []) name ≡ false)
-    → position (λ other. bytes_eq other name) names ≡ None
-named_none names name i all before =
-    let at : position_or_len (λ other. bytes_eq other name) names ≡ i =
-    position_or_len_is (λ other. bytes_eq other name) names i [] (omega arith) before (λ lt. absurd (omega arith)) in
-    let room : ltb i (length names) ≡ false = le-ltb _ _ (omega arith) in
-    rw (at, room) refl

@@ -1,7 +1,7 @@
 -- Bytes that stand in no number and in no name, and the numbers of locations.
 use Rattle.order_builder.proofs.Vocabulary.{is_ascii_digit, ◌≡◌, ◌≢◌, ℕ, zero, suc, ◌^◌, ◌<◌, Bool, true, false, not, ◌||◌, eqb, ◌⊎◌, inl, inr, List, [], ◌∷◌, length, get_or, Some, refl, sym, subst, arith, decimal, list_all, list_any, bytes_eq, and_parts, and_from, eqb-true, nat_tests, position-Some, All-cons, All-nil, Litmus, IsTest, are_distinct, is_name, is_location_name, begins_name, continues_name, is_among, location_named}
 use Rattle.order_builder.proofs.Choosing.{same_bytes, bytes_eq-same, bytes_eq-other}
-use Rattle.order_builder.proofs.LineLemmas.{Lacks, named_at}
+use Rattle.order_builder.proofs.LineLemmas.{Lacks, first_at}
 use Rattle.order_builder.proofs.NumberLaws.{is_digits-decimal}
 
 -- ---- bytes that stand in no number and in no name
@@ -75,7 +75,7 @@ differ (x ∷ xs) (suc k) (suc i) distinct before lt same =
 pub location_again : (t : Litmus) (loc : ℕ) → IsTest t → loc < length t.locations → location_named t (get_or t.locations loc []) ≡ Some loc
 unfolding location_named
 location_again t loc test known =
-    named_at t.locations (get_or t.locations loc []) loc known
+    first_at (λ other. bytes_eq other (get_or t.locations loc [])) t.locations loc [] known
     (λ k before. bytes_eq-other (get_or t.locations k []) (get_or t.locations loc []) (differ t.locations k loc test.locations_differ before known))
     (bytes_eq-same (get_or t.locations loc []))
 

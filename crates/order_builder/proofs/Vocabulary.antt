@@ -29,7 +29,7 @@ pub use Rattle.std.proofs.lemmas.Str.Parse.{IsNumeralModel, numerals_by_fold}
 unfoldable pub use Rattle.decimals.specs.inner.Decimals.{number_up_to}
 pub use Rattle.order_builder.specs.Numbers.{is_number}
 unfoldable pub use Rattle.order_builder.specs.inner.Numbers.{number_within}
-pub use Rattle.std.proofs.lemmas.List.{append_assoc, append-nil, length-append, length-map, take_all, take_more, take-append-drop, take_at, drop_at, length-take, get_or-take, get_or_at, get_or_append_left, length_push, drop_more, nil_from_length}
+pub use Rattle.std.proofs.lemmas.List.{append_assoc, append-nil, length-append, length-map, take_all, take_more, take-append-drop, take_at, drop_at, length-drop, length-take, get_or-take, get_or_at, get_or_append_left, length_push, drop_more, nil_from_length}
 pub use Rattle.std.specs.Str.Lines.{strip_carriage_return}
 pub use Rattle.std.proofs.lemmas.List.Folds.{list_all-append}
 pub use Rattle.std.specs.Option.{option_map}

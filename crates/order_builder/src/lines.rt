@@ -1,26 +1,22 @@
 //! The lines of a text, borrowed from it, with a carriage return at the end taken off.
 
-ghost use Rattle.std.specs.Prelude.{◌≡◌, ◌<◌, ◌∷◌, [], ◌==◌, length, position, IfSome, IfNone};
+ghost use Rattle.std.specs.Prelude.{◌≡◌, ◌<◌, ◌∷◌, [], length, IfSome, IfNone};
 ghost use Rattle.std.specs.Option.{option_map};
 ghost use Rattle.std.specs.Str.Lines.{strip_carriage_return};
 ghost use Rattle.order_builder.specs.Lines.{lines_of};
 ghost use Rattle.order_builder.specs.inner.Reading.{split_once, without_prefix};
 
 /// What stands before the first such byte, and what after it; `None` where there is no such byte.
-#[tactic(auto, unfolding(crate::specs::inner::Reading::split_once))]
 pub fn split_once(text: &[u8], byte: u8) -> Option<(&[u8], &[u8])>
     ensures value { option_map (λ halves. (halves.0.now, halves.1.now)) result ≡ split_once byte text.now }
     ensures shorter { IfSome result (λ halves. length halves.1.now < length text.now) }
 {
-    let at = position_of(text, byte)?;
-    Some((&text[..at], &text[at + 1..]))
-}
-
-fn position_of(text: &[u8], byte: u8) -> Option<usize>
-    ensures value { result ≡ position (λ b. b == byte) text.now }
-    ensures within { IfSome result (λ at. at < length text.now) }
-{
-    text.iter().position(|b| *b == byte)
+    for at in 0..text.len() {
+        if text[at] == byte {
+            return Some((&text[..at], &text[at + 1..]));
+        }
+    }
+    None
 }
 
 /// What stands after the prefix, where the text begins with it.
