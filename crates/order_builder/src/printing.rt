@@ -5,8 +5,8 @@
 //! kind, its location and its value; that of a fence is `Pc:p F`. Numbers are decimal and have no
 //! leading zeros.
 
-ghost use Rattle.std.specs.Prelude.{◌≡◌, ◌++◌, ◌∷◌, [], map, All, IfOk, OnOk, string_bytes};
-ghost use Rattle.order_builder.specs.PrintedOrder.{letters_of, printed_access_of, printed_entry, printed_end, printed_lines};
+ghost use Rattle.std.specs.Prelude.{◌≡◌, ◌++◌, map, All, IfOk, OnOk, string_bytes};
+ghost use Rattle.order_builder.specs.PrintedOrder.{letters_of, printed_entry, printed_lines};
 ghost use Rattle.order_builder.specs.PrintedOrder.{printed_order, HasLocation, HasWord};
 
 use std::alloc::Global;
@@ -55,7 +55,9 @@ pub fn write_order(text: &mut String, test: &Test, execution: &Execution) -> Res
     let order = execution.order.as_slice();
     text.push_str("Order\n")?;
     write_entries(text, test, order)?;
-    write_end(text, order.len())
+    let count = order.len();
+    writeln!(text, "Endorder {count}")?;
+    Ok(())
 }
 
 fn write_entries(text: &mut String, test: &Test, order: &[Entry]) -> Result<(), NoMemory>
@@ -78,18 +80,10 @@ fn write_entry(text: &mut String, test: &Test, entry: &Entry) -> Result<(), NoMe
     let core = entry.core.0;
     let place = entry.place;
     let letters = letters_of(entry.kind);
-    write!(text, "P{core}:{place} {letters}")?;
-    write_access(text, test, entry)
-}
-
-/// Where and what was read or written; of a fence there is nothing to write.
-fn write_access(text: &mut String, test: &Test, entry: &Entry) -> Result<(), NoMemory>
-    requires { HasLocation test.now entry.now }
-    ensures text { OnOk result (string_bytes text.new ≡ string_bytes text.old ++ printed_access_of test.now entry.now) }
-    ensures word { OnOk result (HasWord entry.now) }
-{
     let value = entry.value;
+    write!(text, "P{core}:{place} {letters}")?;
     match entry.kind {
+        // A fence neither reads nor writes.
         Kind::F => Ok(()),
         Kind::R | Kind::W | Kind::LR | Kind::LW => {
             let name = test.location_name(entry.loc);
@@ -97,13 +91,6 @@ fn write_access(text: &mut String, test: &Test, entry: &Entry) -> Result<(), NoM
             Ok(())
         }
     }
-}
-
-fn write_end(text: &mut String, count: usize) -> Result<(), NoMemory>
-    ensures { OnOk result (string_bytes text.new ≡ string_bytes text.old ++ (printed_end count ++ 10 ∷ [])) }
-{
-    writeln!(text, "Endorder {count}")?;
-    Ok(())
 }
 
 /// The letters that stand for a kind where an entry is printed.

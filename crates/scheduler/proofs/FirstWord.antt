@@ -1,9 +1,44 @@
 -- The first word of a text, and the words after it.
-use Rattle.scheduler.proofs.Vocabulary.{◌≡◌, ℕ, ◌+◌, ◌<◌, suc, Bool, true, false, not, List, [], ◌∷◌, length, take, drop, filter, refl, sym, ap, subst, ◌∙◌, inl, inr, eqb, arith, prefix_len, slice_split, onto_first, nat_tests, length-drop, is_space, words_of_text}
+use Rattle.scheduler.proofs.Vocabulary.{◌≡◌, ℕ, ◌+◌, ◌<◌, suc, Bool, cond, true, false, not, List, [], ◌∷◌, length, take, drop, filter, refl, sym, ap, subst, ◌∙◌, inl, inr, eqb, arith, get_or, prefix_len, slice_split, onto_first, nat_tests, length-drop, is_space, words_of_text}
+use Rattle.std.proofs.Math.Bool.{beq}
+use Rattle.std.proofs.lemmas.List.{drop_more, drop_all}
 use Rattle.scheduler.proofs.ChoiceWords.{either}
 
 abbrev is_of_word : ℕ → Bool
 is_of_word byte = not (is_space byte)
+
+-- whether a byte is white space, or is none
+abbrev pub is_of : Bool → ℕ → Bool
+is_of space byte = cond space (is_space byte) (not (is_space byte))
+
+stops : (space b : Bool) → not (beq b space) ≡ true → cond space b (not b) ≡ false
+stops true true e = absurd cc
+stops true false e = refl
+stops false true e = refl
+stops false false e = absurd cc
+
+goes-on : (space b : Bool) → not (beq b space) ≡ false → cond space b (not b) ≡ true
+goes-on true true e = refl
+goes-on true false e = absurd cc
+goes-on false true e = absurd cc
+goes-on false false e = refl
+
+pub prefix-ends : (space : Bool) (text : List ℕ) (i : ℕ) → i < length text → not (beq (is_space (get_or text i 0)) space) ≡ true
+    → prefix_len (is_of space) text ≡ i + prefix_len (is_of space) (drop i text) → i ≡ prefix_len (is_of space) text
+prefix-ends space text i lt other all =
+    let back = drop_more text i 0 lt in
+    sym (all ∙ rw (back, stops space (is_space (get_or text i 0)) other) (omega arith))
+
+pub prefix-more : (space : Bool) (text : List ℕ) (i : ℕ) → i < length text → not (beq (is_space (get_or text i 0)) space) ≡ false
+    → prefix_len (is_of space) text ≡ i + prefix_len (is_of space) (drop i text)
+    → prefix_len (is_of space) text ≡ i + 1 + prefix_len (is_of space) (drop (i + 1) text)
+prefix-more space text i lt same all =
+    let back = drop_more text i 0 lt in
+    all ∙ rw (back, goes-on space (is_space (get_or text i 0)) same) (omega arith)
+
+pub prefix-whole : (space : Bool) (text : List ℕ) (i : ℕ) → i ≡ length text
+    → prefix_len (is_of space) text ≡ i + prefix_len (is_of space) (drop i text) → length text ≡ prefix_len (is_of space) text
+prefix-whole space text i all whole = sym (whole ∙ rw (drop_all i text (omega arith)) (omega arith))
 
 abbrev is_some : List ℕ → Bool
 is_some word = not (eqb (length word) 0)
@@ -72,7 +107,7 @@ word-first b bs is =
 space-first : (b : ℕ) (bs : List ℕ) → is_space b ≡ true → words_of_text (b ∷ bs) ≡ words_of_text bs
 space-first b bs is = rw is refl
 
-pub no_words : (text : List ℕ) → length (past_space text) ≡ 0 → words_of_text text ≡ []
+no_words : (text : List ℕ) → length (past_space text) ≡ 0 → words_of_text text ≡ []
 no_words [] none = refl
 no_words (b ∷ bs) none =
     elim (either (is_space b)) [
@@ -108,8 +143,19 @@ begins (b ∷ bs) some =
           )
     ]
 
-pub word_first : (text left : List ℕ) → left ≡ past_space text → 0 < length left → words_of_text text ≡ word_in left ∷ words_of_text (drop 1 (past_word left))
+word_first : (text left : List ℕ) → left ≡ past_space text → 0 < length left → words_of_text text ≡ word_in left ∷ words_of_text (drop 1 (past_word left))
 word_first text left is some = (subst (Begins text) (sym is) (begins text (subst (λ (l : List ℕ). 0 < length l) is some))).0
 
-pub word_shorter : (text left : List ℕ) → left ≡ past_space text → 0 < length left → length (drop 1 (past_word left)) < length text
+word_shorter : (text left : List ℕ) → left ≡ past_space text → 0 < length left → length (drop 1 (past_word left)) < length text
 word_shorter text left is some = (subst (Begins text) (sym is) (begins text (subst (λ (l : List ℕ). 0 < length l) is some))).1
+
+-- the first word, as it is cut from a text part by part
+pub word_found : (text left word after rest : List ℕ) (n k : ℕ) → n ≡ prefix_len (is_of true) text → left ≡ drop n text → 0 < length left
+    → k ≡ prefix_len (is_of false) left → word ≡ take k left → after ≡ drop k left → rest ≡ drop 1 after
+    → (words_of_text text ≡ word ∷ words_of_text rest) × (length rest < length text)
+word_found text left word after rest n k n-is left-is some k-is word-is after-is rest-is =
+    let at : left ≡ past_space text = left-is ∙ ap (λ i. drop i text) n-is in
+    rw (rest-is, after-is, word-is, k-is) (word_first text left at some, word_shorter text left at some)
+
+pub none_found : (text left : List ℕ) (n : ℕ) → n ≡ prefix_len (is_of true) text → left ≡ drop n text → length left ≡ 0 → words_of_text text ≡ []
+none_found text left n n-is left-is none = no_words text (ap (λ i. length (drop i text)) (sym n-is) ∙ (ap length (sym left-is) ∙ none))

@@ -1,7 +1,7 @@
 //! The words of a text, one after the other, borrowed from it: no text is copied to be read. A word is a number where
 //! it is digits alone: a sign, a letter or nothing at all makes a word none.
 
-ghost use Rattle.std.specs.Prelude.{◌≡◌, ◌<◌, ◌≤◌, ◌∷◌, [], not, length, drop, IfSome, true, false, min};
+ghost use Rattle.std.specs.Prelude.{◌≡◌, ◌<◌, ◌≤◌, ◌∷◌, [], if◌then◌else◌, not, length, drop, IfSome, true, false, min};
 ghost use Rattle.std.specs.List.{prefix_len};
 ghost use Rattle.std.specs.Option.{IfNone};
 ghost use Rattle.scheduler.specs.Words.{is_space, words_of_text, is_numeral};
@@ -17,20 +17,17 @@ fn is_space(byte: u8) -> bool
     byte <= b' ' && matches!(byte, b' ' | b'\t' | b'\r' | b'\n')
 }
 
-/// How many bytes of white space a text begins with.
-fn space_length(text: &[u8]) -> usize
-    ensures value { result ≡ prefix_len is_space text.now }
+/// With how many bytes a text begins that are all white space, or all none.
+fn prefix_length(text: &[u8], of_space: bool) -> usize
+    ensures value { result ≡ prefix_len (λ byte. if of_space then is_space byte else not (is_space byte)) text.now }
     ensures within { result ≤ length text.now }
 {
-    text.iter().take_while(|byte| is_space(**byte)).count()
-}
-
-/// How many bytes a text has before its first white space.
-fn word_length(text: &[u8]) -> usize
-    ensures value { result ≡ prefix_len (λ byte. not (is_space byte)) text.now }
-    ensures within { result ≤ length text.now }
-{
-    text.iter().take_while(|byte| !is_space(**byte)).count()
+    for at in 0..text.len() {
+        if is_space(text[at]) != of_space {
+            return at;
+        }
+    }
+    text.len()
 }
 
 /// What stands after the first byte of a text, if it has one.
@@ -44,17 +41,16 @@ fn after_first(text: &[u8]) -> &[u8]
 }
 
 /// The first word of a text, and what stands after it and the white space that ends it.
-#[tactic(auto, using(crate::proofs::FirstWord::no_words, crate::proofs::FirstWord::word_first, crate::proofs::FirstWord::word_shorter))]
 pub fn first_word(text: &[u8]) -> Option<(&[u8], &[u8])>
     ensures none { IfNone result (words_of_text text.now ≡ []) }
     ensures some { IfSome result (λ r. words_of_text text.now ≡ r.0.now ∷ words_of_text r.1.now) }
     ensures shorter { IfSome result (λ r. length r.1.now < length text.now) }
 {
-    let (_, text) = text.split_at(space_length(text));
+    let (_, text) = text.split_at(prefix_length(text, true));
     if text.is_empty() {
         return None;
     }
-    let (word, after) = text.split_at(word_length(text));
+    let (word, after) = text.split_at(prefix_length(text, false));
     Some((word, after_first(after)))
 }
 
