@@ -5,12 +5,11 @@ ghost use Rattle.std.specs.Prelude.{◌≡◌, ◌<◌, ◌≤◌, IfOk, length}
 ghost use Rattle.serde_json.specs.Data.{array};
 ghost use Rattle.serde_json.specs.View.{view, items_of};
 ghost use Rattle.trace_report.specs.Lines.{names_in_line};
-ghost use Rattle.trace_json.specs.MachineJson.{copy_json, set_json, sets_json};
+ghost use Rattle.trace_json.specs.MachineJson.{set_json, sets_json};
 ghost use Rattle.trace_json.specs.inner.Looked.{IsMachineOfTest};
 
 use crate::moment::Moment;
 use crate::texts::line_value;
-use machine_core::CachedLine;
 use protocol_tables::Protocol;
 use serde_json::Value;
 use std::alloc::Global;
@@ -39,7 +38,7 @@ pub fn sets_value<P: Protocol>(
     Ok(Value::Array(values))
 }
 
-/// The lines of a core's set, the most recently used first.
+/// The lines of a core's set, the most recently used first: of each its locations, what it is in, and their words.
 fn set_value<P: Protocol>(
     alloc: Global,
     moment: &Moment<'_, '_, P>,
@@ -50,34 +49,21 @@ fn set_value<P: Protocol>(
     requires core { core.0 < length moment.now.test.now.programs }
     ensures { IfOk result (λ value. view value ≡ set_json moment.now.machine.now core.0 set) }
 {
-    let mut values = Vec::new(alloc);
-    while let Some(copy) = moment.machine.cached_line(core, set, values.len()) {
-        push_made(&mut values, copy_value(alloc, moment, core, &copy))?;
-    }
-    Ok(Value::Array(values))
-}
-
-/// A core's copy of a line: the line's locations, what it is in, and their words.
-fn copy_value<P: Protocol>(
-    alloc: Global,
-    moment: &Moment<'_, '_, P>,
-    core: Core,
-    copy: &CachedLine,
-) -> Result<Value, NoMemory>
-    requires shown { IsMachineOfTest moment.now.test.now moment.now.config moment.now.machine.now }
-    requires core { core.0 < length moment.now.test.now.programs }
-    ensures { IfOk result (λ value. view value ≡ copy_json moment.now.machine.now core.0 copy.now) }
-{
     let test = moment.test;
     let words = moment.config.words();
     let holder = moment.machine.bus_holder();
-    let state = line_state(moment.machine, holder, words, core, copy.line);
-    let count = locations_in(test, words, copy.line);
-    Object::new(alloc)
-        .member("line", line_value(alloc, test, words, copy.line))
-        .member("state", word_value(alloc, state_name(state)))
-        .member("words", numbers_value(alloc, &copy.words[..count]))
-        .value()
+    let mut values = Vec::new(alloc);
+    while let Some(copy) = moment.machine.cached_line(core, set, values.len()) {
+        let state = line_state(moment.machine, holder, words, core, copy.line);
+        let count = locations_in(test, words, copy.line);
+        let value = Object::new(alloc)
+            .member("line", line_value(alloc, test, words, copy.line))
+            .member("state", word_value(alloc, state_name(state)))
+            .member("words", numbers_value(alloc, &copy.words[..count]))
+            .value();
+        push_made(&mut values, value)?;
+    }
+    Ok(Value::Array(values))
 }
 
 /// How many locations a line has.

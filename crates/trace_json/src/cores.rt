@@ -1,12 +1,12 @@
 //! The cores of a machine as a value: place, registers, store buffer and cache of each, as one who draws them needs.
 
-ghost use Rattle.std.specs.Prelude.{◌≡◌, ◌<◌, IfOk, length, map};
+ghost use Rattle.std.specs.Prelude.{◌≡◌, IfOk, length, map};
 ghost use Rattle.serde_json.specs.Data.{array};
 ghost use Rattle.serde_json.specs.View.{view, items_of};
 ghost use Rattle.tso_model.specs.FlatMachine.{core_of};
 ghost use Rattle.trace_report.specs.Lines.{store_text};
 ghost use Rattle.trace_json.specs.Values.{array_of_texts};
-ghost use Rattle.trace_json.specs.MachineJson.{core_json, cores_json};
+ghost use Rattle.trace_json.specs.MachineJson.{cores_json};
 ghost use Rattle.trace_json.specs.inner.Looked.{IsMachineOfTest};
 
 use crate::copies::sets_value;
@@ -20,7 +20,7 @@ use tso_report::json::registers_value;
 use tso_report::members::push_made;
 use tso_report::objects::Object;
 
-/// The cores of a machine.
+/// The cores of a machine: of each its pending stores, the lines of its cache, its place and its registers.
 ///
 /// Errors: out of memory only.
 pub fn cores_value<P: Protocol>(
@@ -33,29 +33,18 @@ pub fn cores_value<P: Protocol>(
 {
     let mut values = Vec::new(alloc);
     for core in 0..moment.test.cores() {
-        push_made(&mut values, core_value(alloc, moment, Core(core)))?;
+        let core = Core(core);
+        let place = moment.machine.place(core).unwrap_or(0);
+        let registers = moment.machine.registers(core).unwrap_or([0, 0, 0, 0, 0, 0]);
+        let value = Object::new(alloc)
+            .member("buffer", buffer_value(alloc, moment, core))
+            .member("lines", sets_value(alloc, moment, core))
+            .member("place", Ok(Value::from(place)))
+            .member("registers", registers_value(alloc, &registers))
+            .value();
+        push_made(&mut values, value)?;
     }
     Ok(Value::Array(values))
-}
-
-/// A core: its pending stores, the lines of its cache, its place and its registers.
-fn core_value<P: Protocol>(
-    alloc: Global,
-    moment: &Moment<'_, '_, P>,
-    core: Core,
-) -> Result<Value, NoMemory>
-    requires shown { IsMachineOfTest moment.now.test.now moment.now.config moment.now.machine.now }
-    requires core { core.0 < length moment.now.test.now.programs }
-    ensures { IfOk result (λ value. view value ≡ core_json moment.now.machine.now core.0) }
-{
-    let place = moment.machine.place(core).unwrap_or(0);
-    let registers = moment.machine.registers(core).unwrap_or([0, 0, 0, 0, 0, 0]);
-    Object::new(alloc)
-        .member("buffer", buffer_value(alloc, moment, core))
-        .member("lines", sets_value(alloc, moment, core))
-        .member("place", Ok(Value::from(place)))
-        .member("registers", registers_value(alloc, &registers))
-        .value()
 }
 
 /// A core's pending stores, the oldest first.

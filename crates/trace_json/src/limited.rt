@@ -64,7 +64,9 @@ impl<O: Observer> Observer for Limited<O> {
             self.observer.choose(machine, number, choice)
         };
         let outcome = made?;
-        note_stall(&mut self.stalls, choice, outcome);
+        if let Outcome::Stalled(reason) = outcome {
+            self.stalls.note(choice, reason);
+        }
         Ok(outcome)
     }
 
@@ -74,12 +76,5 @@ impl<O: Observer> Observer for Limited<O> {
         } else {
             self.observer.end(machine)
         }
-    }
-}
-
-/// Notes a choice with this outcome, if it stalled.
-fn note_stall(stalls: &mut Stalls, choice: Choice, outcome: Outcome) {
-    if let Outcome::Stalled(reason) = outcome {
-        stalls.note(choice, reason);
     }
 }

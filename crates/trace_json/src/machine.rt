@@ -5,21 +5,20 @@ ghost use Rattle.serde_json.specs.View.{view};
 ghost use Rattle.machine_core.specs.Looking.{bus_holder_of};
 ghost use Rattle.trace_report.specs.Lines.{transient_name};
 ghost use Rattle.trace_json.specs.Values.{text_or_null};
-ghost use Rattle.trace_json.specs.MachineJson.{words_in_line, words_on_bus, holder_json, bus_json, machine_json};
+ghost use Rattle.trace_json.specs.MachineJson.{words_in_line, words_on_bus, bus_json, machine_json};
 ghost use Rattle.trace_json.specs.inner.Looked.{IsMachineOfTest};
 
 use crate::cores::cores_value;
 use crate::moment::Moment;
-use crate::texts::{choice_value, line_value, name_or_null};
-use machine_core::{BusHolder, Machine};
+use crate::texts::{choice_value, line_value};
 use protocol_tables::{Protocol, Transient};
 use serde_json::Value;
 use std::alloc::Global;
 use trace_report::names::transient_name;
 use trace_report::step::core_of;
-use tso_model::{Loc, NoMemory, Test};
+use tso_model::{Loc, NoMemory};
 use tso_report::json::memory_value;
-use tso_report::members::numbers_value;
+use tso_report::members::{numbers_value, word_value};
 use tso_report::objects::Object;
 
 /// A machine at a moment: the bus, the cores, memory, and the words that a program sees.
@@ -34,7 +33,10 @@ pub fn machine_value<P: Protocol>(
     ensures { IfOk result (λ value. view value ≡ machine_json moment.now.machine.now moment.now.memory.now) }
 {
     let test = moment.test;
-    let seen = seen_words(alloc, moment.machine, test)?;
+    let mut seen = Vec::new(alloc);
+    for loc in 0..test.locations() {
+        seen.push(moment.machine.seen(Loc(loc)).unwrap_or(0))?;
+    }
     Object::new(alloc)
         .member("bus", bus_value(alloc, moment, &seen))
         .member("cores", cores_value(alloc, moment))
@@ -43,24 +45,8 @@ pub fn machine_value<P: Protocol>(
         .value()
 }
 
-/// The words that a program sees, one for each location of the test.
-fn seen_words<P: Protocol>(
-    alloc: Global,
-    machine: &Machine<P>,
-    test: &Test,
-) -> Result<Vec<u32>, NoMemory>
-    requires { length machine.now.state.flat.memory ≡ length test.now.locations }
-    ensures words { IfOk result (λ seen. seen.items ≡ machine.now.state.flat.memory) }
-    ensures each { IfOk result (λ seen. length seen.items ≡ length test.now.locations) }
-{
-    let mut seen = Vec::new(alloc);
-    for loc in 0..test.locations() {
-        seen.push(machine.seen(Loc(loc)).unwrap_or(0))?;
-    }
-    Ok(seen)
-}
-
-/// The action that holds the bus, or `null` where nobody does.
+/// The action that holds the bus: its next choice, its core, its line, what that is in until its words come, and the
+/// words that the bus keeps; or `null` where nobody does.
 fn bus_value<P: Protocol>(
     alloc: Global,
     moment: &Moment<'_, '_, P>,
@@ -70,31 +56,17 @@ fn bus_value<P: Protocol>(
     requires seen { seen.now ≡ moment.now.machine.now.state.flat.memory }
     ensures { IfOk result (λ value. view value ≡ bus_json moment.now.machine.now (bus_holder_of moment.now.machine.now)) }
 {
-    match moment.machine.bus_holder() {
-        None => Ok(Value::Null),
-        Some(holder) => holder_value(alloc, moment.test, moment.config.words(), seen, holder),
-    }
-}
-
-/// The action that holds the bus: its next choice, its core, its line, what that is in until its words come, and the
-/// words that the bus keeps.
-fn holder_value(
-    alloc: Global,
-    test: &Test,
-    words: u8,
-    seen: &[u32],
-    holder: BusHolder,
-) -> Result<Value, NoMemory>
-    requires { 0 < words }
-    ensures { IfOk result (λ value. view value ≡ holder_json test.now words seen.now holder) }
-{
+    let Some(holder) = moment.machine.bus_holder() else {
+        return Ok(Value::Null);
+    };
+    let words = moment.config.words();
     let line = holder.loc.0 / words;
     let core = Value::from(core_of(holder.choice).0);
-    let kept = words_on_bus(holder.transient, words_in_line(words, seen, line));
+    let kept = words_on_bus(holder.transient, words, seen, line);
     Object::new(alloc)
         .member("choice", choice_value(alloc, holder.choice))
         .member("core", Ok(core))
-        .member("line", line_value(alloc, test, words, line))
+        .member("line", line_value(alloc, moment.test, words, line))
         .member("state", transient_value(alloc, holder.transient))
         .member("words", numbers_value(alloc, kept))
         .value()
@@ -104,23 +76,19 @@ fn holder_value(
 fn transient_value(alloc: Global, transient: Option<Transient>) -> Result<Value, NoMemory>
     ensures { IfOk result (λ value. view value ≡ text_or_null (option_map transient_name transient)) }
 {
-    name_or_null(alloc, transient.map(transient_name))
-}
-
-/// The words that the bus keeps for its holder: none where nothing is awaited.
-fn words_on_bus(transient: Option<Transient>, words: &[u32]) -> &[u32]
-    ensures { result.now ≡ words_on_bus transient words.now }
-{
     match transient {
-        None => &[],
-        Some(_) => words,
+        None => Ok(Value::Null),
+        Some(transient) => word_value(alloc, transient_name(transient)),
     }
 }
 
-/// The words of the locations of a line of so many words.
-fn words_in_line(words: u8, seen: &[u32], line: u8) -> &[u32]
-    ensures { result.now ≡ words_in_line words seen.now line }
+/// The words that the bus keeps for its holder: those of the line, which has so many; none where nothing is awaited.
+fn words_on_bus(transient: Option<Transient>, words: u8, seen: &[u32], line: u8) -> &[u32]
+    ensures { result.now ≡ words_on_bus transient (words_in_line words seen.now line) }
 {
+    if transient.is_none() {
+        return &[];
+    }
     let first = usize::from(line) * usize::from(words);
     let end = seen.len().min(first + usize::from(words));
     &seen[first.min(end)..end]

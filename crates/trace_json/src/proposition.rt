@@ -38,9 +38,16 @@ fn write_proposition(text: &mut String, test: &Test, prop: &Prop) -> Result<(), 
     ensures { OnOk result (string_bytes text.new ≡ string_bytes text.old ++ proposition_text test.now (claim_of prop.now)) }
 {
     match prop {
-        Prop::Truth(truth) => write_characters(text, truth_word(*truth)),
-        Prop::RegIs(core, reg, value) => write_register(text, *core, *reg, *value),
-        Prop::LocIs(loc, value) => write_word(text, test.location_name(*loc), *value),
+        Prop::Truth(true) => write_characters(text, "true"),
+        Prop::Truth(false) => write_characters(text, "false"),
+        Prop::RegIs(core, reg, value) => {
+            let (core, name) = (core.0, reg.name());
+            Ok(write!(text, "{core}:{name}={value}")?)
+        }
+        Prop::LocIs(loc, value) => {
+            let name = test.location_name(*loc);
+            Ok(write!(text, "{name}={value}")?)
+        }
         Prop::Not(inner) => {
             text.push('~')?;
             write_part(text, test, inner, is_joined(inner))
@@ -76,30 +83,6 @@ fn write_part(
     } else {
         write_proposition(text, test, part)
     }
-}
-
-/// That a core's register has a value, `0:EAX=0`.
-fn write_register(text: &mut String, core: Core, reg: Reg, value: u32) -> Result<(), NoMemory>
-    ensures { OnOk result (string_bytes text.new
-        ≡ string_bytes text.old ++ (decimal core.0 ++ (codes ":" ++ (name_of reg ++ (codes "=" ++ decimal value))))) }
-{
-    let (core, name) = (core.0, reg.name());
-    write!(text, "{core}:{name}={value}")?;
-    Ok(())
-}
-
-/// That the word of a name has a value, `x=0`.
-fn write_word(text: &mut String, name: &str, value: u32) -> Result<(), NoMemory>
-    ensures { OnOk result (string_bytes text.new ≡ string_bytes text.old ++ (name.now ++ (codes "=" ++ decimal value))) }
-{
-    write!(text, "{name}={value}")?;
-    Ok(())
-}
-
-fn truth_word(truth: bool) -> &'static str
-    ensures { result.now ≡ truth_word truth }
-{
-    if truth { "true" } else { "false" }
 }
 
 fn is_or(prop: &Prop) -> bool

@@ -12,7 +12,7 @@ ghost use Rattle.trace_json.specs.Values.{text_or_null, array_of_texts};
 ghost use Rattle.trace_json.specs.StepJson.{outcome_word, stall_in, step_json};
 
 use crate::supplied::{Source, source_value};
-use crate::texts::{choice_value, core_name, line_value, name_or_null, text_value};
+use crate::texts::{choice_value, core_name, line_value, text_value};
 use serde_json::Value;
 use snoop_bus::AccessKind;
 use std::alloc::Global;
@@ -69,7 +69,10 @@ pub fn step_value(
 fn access_value(alloc: Global, access: Option<AccessKind>) -> Result<Value, NoMemory>
     ensures { IfOk result (λ value. view value ≡ text_or_null (option_map access_name access)) }
 {
-    name_or_null(alloc, access.map(access_name))
+    match access {
+        None => Ok(Value::Null),
+        Some(kind) => word_value(alloc, access_name(kind)),
+    }
 }
 
 /// The core whose copy was sent to memory, `P1`.

@@ -7,7 +7,7 @@ ghost use Rattle.machine_core.specs.inner.Keeping.{memory_access_in};
 ghost use Rattle.tso_model.specs.FlatMachine.{chosen};
 ghost use Rattle.trace_report.specs.Shown.{shown_step};
 ghost use Rattle.trace_report.specs.inner.Told.{IsLookedAt};
-ghost use Rattle.trace_json.specs.Supplied.{found_at, found_by, is_asked, line_read, supplier_text, supplied_to, supplier_from};
+ghost use Rattle.trace_json.specs.Supplied.{found_by, line_read, supplier_text, supplied_to, supplier_from};
 ghost use Rattle.trace_json.specs.Supplied.{supplier_or_memory, supplies};
 ghost use Rattle.trace_json.specs.Values.{text_or_null};
 
@@ -49,7 +49,13 @@ pub fn found_by<P: Protocol>(
     ensures { result ≡ found_by machine.now choice }
 {
     let line = line_read(machine.access(choice), words)?;
-    Some(found_at(machine, test, core_of(choice), line))
+    if machine.copy_state(core_of(choice), line).is_some() {
+        Some(Source::Cache)
+    } else if machine.awaited().is_some() {
+        Some(Source::Bus)
+    } else {
+        Some(supplier(machine, test, line))
+    }
 }
 
 /// The line that an access reads, where lines have so many words; a store reads none.
@@ -63,41 +69,17 @@ fn line_read(access: MemoryAccess, words: u8) -> Option<u8>
     }
 }
 
-/// Where a core finds a line.
-fn found_at<P: Protocol>(machine: &Machine<P>, test: &Test, core: Core, line: u8) -> Source
-    requires test { machine.now.test ≡ test.now }
-    requires core { core.0 < length machine.now.test.programs }
-    ensures { result ≡ found_at machine.now core.0 line }
-{
-    if machine.copy_state(core, line).is_some() {
-        Source::Cache
-    } else if machine.awaited().is_some() {
-        Source::Bus
-    } else {
-        supplier_or_memory(supplier(machine, test, line))
-    }
-}
-
-fn supplier_or_memory(supplier: Option<Core>) -> Source
-    ensures { result ≡ supplier_or_memory supplier }
-{
-    match supplier {
-        Some(core) => Source::Other(core),
-        None => Source::Memory,
-    }
-}
-
-/// The first core whose copy of a line supplies it.
-fn supplier<P: Protocol>(machine: &Machine<P>, test: &Test, line: u8) -> Option<Core>
+/// The first core whose copy of a line supplies it; memory where there is none.
+fn supplier<P: Protocol>(machine: &Machine<P>, test: &Test, line: u8) -> Source
     requires { machine.now.test ≡ test.now }
-    ensures { result ≡ supplier_from machine.now line 0 (length test.now.programs) }
+    ensures { result ≡ supplier_or_memory (supplier_from machine.now line 0 (length test.now.programs)) }
 {
     for core in 0..test.cores() {
         if supplies(machine.copy_state(Core(core), line)) {
-            return Some(Core(core));
+            return Source::Other(Core(core));
         }
     }
-    None
+    Source::Memory
 }
 
 /// Whether a copy supplies its line to a core that asks for it: it is dirty, or the only one.
@@ -120,19 +102,10 @@ pub fn supplied_to(step: &Step, found: Option<Source>) -> Option<Source>
 {
     if step.forwarded {
         Some(Source::Buffer)
-    } else if step.access.is_some() || is_asked(step.outcome) {
+    } else if step.access.is_some() || matches!(step.outcome, Outcome::Asked) {
         found
     } else {
         None
-    }
-}
-
-fn is_asked(outcome: Outcome) -> bool
-    ensures { result ≡ is_asked outcome }
-{
-    match outcome {
-        Outcome::Asked => true,
-        Outcome::Committed | Outcome::Buffered | Outcome::Moved | Outcome::Stalled(_) => false,
     }
 }
 

@@ -1,13 +1,12 @@
 //! Texts as values.
 
-ghost use Rattle.std.specs.Prelude.{◌≡◌, ◌<◌, [], IfOk, option_map, slice_index_or};
+ghost use Rattle.std.specs.Prelude.{◌≡◌, ◌<◌, [], IfOk, slice_index_or};
 ghost use Rattle.std.specs.List.{flat_map};
 ghost use Rattle.serde_json.specs.Data.{string};
 ghost use Rattle.serde_json.specs.View.{view};
 ghost use Rattle.scheduler.specs.Printed.{printed_choice};
 ghost use Rattle.tso_report.specs.inner.Pieces.{line_piece};
 ghost use Rattle.trace_report.specs.Lines.{line_name, printed_core, store_text};
-ghost use Rattle.trace_json.specs.Values.{text_or_null};
 
 use serde_json::Value;
 use std::alloc::Global;
@@ -25,18 +24,6 @@ pub fn text_value(alloc: Global, pieces: &[Piece<'_>]) -> Result<Value, NoMemory
     let mut text = String::new(alloc);
     write_pieces(&mut text, pieces)?;
     Ok(Value::String(text))
-}
-
-/// A name, or `null` where there is none.
-///
-/// Errors: out of memory only.
-pub fn name_or_null(alloc: Global, name: Option<&str>) -> Result<Value, NoMemory>
-    ensures { IfOk result (λ value. view value ≡ text_or_null (option_map (λ n. n.now) name.entry)) }
-{
-    match name {
-        None => Ok(Value::Null),
-        Some(name) => word_value(alloc, name),
-    }
 }
 
 /// A core by its name, `P1`.

@@ -1,4 +1,4 @@
-use Rattle.trace_json.proofs.Vocabulary.{◌≡◌, ◌∙◌, ◌<◌, length, true, false, ap, sym, arith, supplies, supplier_from, copy_on}
+use Rattle.trace_json.proofs.Vocabulary.{◌≡◌, ◌∙◌, ◌<◌, length, true, false, ap, sym, arith, supplies, supplier_from, supplier_or_memory, copy_on}
 use Rattle.trace_json.proofs.Supplying.{next-core, this-core}
 use Rattle.trace_json.proofs.supplied.supplier.Goals as goal
 
@@ -16,4 +16,4 @@ returns-then-supplies g c =
     let cores = length c.args.test.now.programs in
     let within : c.loop-core.core < cores = omega arith in
     let sends : supplies (copy_on m c.loop-core.core c.args.line) ≡ true = sym (ap supplies c.copy_state.ensures) ∙ (sym c.supplies.ensures ∙ c.if-supplies.true) in
-    this-core m c.args.line c.loop-core.core cores (supplier_from m c.args.line 0 cores) within sends c.loop-core.invariant
+    ap supplier_or_memory (this-core m c.args.line c.loop-core.core cores (supplier_from m c.args.line 0 cores) within sends c.loop-core.invariant)
