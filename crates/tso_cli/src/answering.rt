@@ -136,22 +136,14 @@ fn warning_of(
         Status::Good | Status::NotAsClaimed if may_mislead(settings) => {
             match Cause::of_unused_location(alloc, test, spelling)? {
                 Some(cause) => Ok(Some(cause)),
-                None => left_out_of(alloc, settings, test, spelling),
+                None => match settings {
+                    Settings::Outcomes { search, .. } => {
+                        left_out(alloc, test, spelling, search.show())
+                    }
+                    _ => Ok(None),
+                },
             }
         }
-        _ => Ok(None),
-    }
-}
-
-/// What the states of an answer leave out that the test lists; of other commands than `outcomes` nothing.
-fn left_out_of(
-    alloc: Global,
-    settings: &Settings,
-    test: &Test,
-    spelling: &[u8],
-) -> Result<Option<Cause>, NoMemory> {
-    match settings {
-        Settings::Outcomes { search, .. } => left_out(alloc, test, spelling, search.show()),
         _ => Ok(None),
     }
 }

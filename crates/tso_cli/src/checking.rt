@@ -6,7 +6,7 @@ ghost use Rattle.order_builder.specs.PrintedOrder.{printed_entry, HasLocation, I
 ghost use Rattle.order_builder.specs.Spelling.{IsOrderFor};
 ghost use Rattle.tso_cli.specs.CommandAnswers.{IsCheckAnswer, IsJudgement};
 ghost use Rattle.tso_cli.specs.inner.Answers.{Says};
-ghost use Rattle.tso_cli.specs.CheckLines.{order_refusal, missing_action, missing_access, entry_with_due, entry_after};
+ghost use Rattle.tso_cli.specs.CheckLines.{order_refusal, missing_action, entry_with_due, entry_after};
 ghost use Rattle.tso_cli.specs.CheckLines.{breach_text, valid_line, invalid_line};
 ghost use Rattle.tso_cli.specs.inner.CheckLines.{CanBeNamed};
 
@@ -162,22 +162,11 @@ fn missing(
 {
     let core = core.0;
     let letters = letters_of(kind);
-    let mut text = format!(in alloc; "C1 missing P{core}:{place} {letters}")?;
-    write_location(&mut text, test, kind, loc)?;
-    Ok(text)
-}
-
-/// Where an action would read or write; a fence does neither.
-fn write_location(text: &mut String, test: &Test, kind: Kind, loc: Loc) -> Result<(), NoMemory>
-    requires { IsLocationFor test.now kind loc.0 }
-    ensures { OnOk result (string_bytes text.new ≡ string_bytes text.old ++ missing_access test.now kind loc.0) }
-{
     match kind {
-        Kind::F => Ok(()),
+        Kind::F => Ok(format!(in alloc; "C1 missing P{core}:{place} {letters}")?),
         Kind::R | Kind::W | Kind::LR | Kind::LW => {
             let name = test.location_name(loc);
-            write!(text, " {name}")?;
-            Ok(())
+            Ok(format!(in alloc; "C1 missing P{core}:{place} {letters} {name}")?)
         }
     }
 }

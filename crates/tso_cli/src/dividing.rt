@@ -51,20 +51,13 @@ fn line_length(text: &[u8]) -> usize
 fn after_divider(text: &[u8]) -> Option<&[u8]>
     ensures { option_map (λ rest. rest.now) result ≡ words.after_divider text.now }
 {
-    if text.starts_with(b"====".as_slice()) {
-        after_end(&text[4..])
-    } else {
-        None
+    if !text.starts_with(b"====".as_slice()) {
+        return None;
     }
-}
-
-fn after_end(text: &[u8]) -> Option<&[u8]>
-    ensures { option_map (λ rest. rest.now) result ≡ words.after_end text.now }
-{
-    match text.split_first() {
-        None => Some(text),
-        Some((b'\r', rest)) => after_feed(rest),
-        Some(_) => after_feed(text),
+    let end = &text[4..];
+    match end.split_first() {
+        Some((b'\r', feed)) => after_feed(feed),
+        _ => after_feed(end),
     }
 }
 

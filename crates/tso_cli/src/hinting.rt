@@ -3,7 +3,7 @@
 
 ghost use Rattle.std.specs.Prelude.{◌≡◌, IfOk, string_bytes};
 ghost use Rattle.hints.specs.Hint.{IsHint};
-ghost use Rattle.tso_cli.specs.Hints.{IsTold, IsToldOfGood, IsToldOfUnended, IsHintOrNothing, IsHintWithRuns, may_mislead, is_searched};
+ghost use Rattle.tso_cli.specs.Hints.{IsTold, IsToldOfGood, IsHintWithRuns, may_mislead, is_searched};
 
 use crate::answer::{Answer, Status};
 use command_line::Settings;
@@ -26,15 +26,17 @@ pub fn hint(
     ensures { IfOk result (λ text. IsTold settings.now answer.now.status (string_bytes text)) }
 {
     match answer.status {
-        Status::Good | Status::NotAsClaimed => good_hint(
-            alloc,
-            may_mislead(settings),
-            &answer.cause,
-            input,
-        ),
+        Status::Good | Status::NotAsClaimed => good_hint(alloc, settings, &answer.cause, input),
         Status::Invalid => Ok(String::new(alloc)),
         Status::Refused => hint_of(alloc, &answer.cause, input),
-        Status::Unended => unended_hint(alloc, is_searched(settings), &answer.cause, input),
+        Status::Unended => {
+            let hint = hint_of(alloc, &answer.cause, input)?;
+            if is_searched(settings) {
+                with_runs(alloc, hint, &answer.cause)
+            } else {
+                Ok(hint)
+            }
+        }
     }
 }
 
@@ -57,28 +59,16 @@ pub(crate) fn may_mislead(settings: &Settings) -> bool
 /// The hint beside an answer that was printed: of what may mislead, if something does.
 fn good_hint(
     alloc: Global,
-    may_mislead: bool,
+    settings: &Settings,
     cause: &Cause,
     input: &[u8],
 ) -> Result<String, NoMemory>
-    ensures { IfOk result (λ text. IsToldOfGood may_mislead (string_bytes text)) }
-{
-    if may_mislead {
-        warning(alloc, cause, input)
-    } else {
-        Ok(String::new(alloc))
-    }
-}
-
-fn warning(alloc: Global, cause: &Cause, input: &[u8]) -> Result<String, NoMemory>
-    ensures { IfOk result (λ text. IsHintOrNothing (string_bytes text)) }
+    ensures { IfOk result (λ text. IsToldOfGood (may_mislead settings.now) (string_bytes text)) }
 {
     match cause {
         Cause::Nothing => Ok(String::new(alloc)),
-        _ => {
-            let text = hint_of(alloc, cause, input)?;
-            Ok(text)
-        }
+        _ if may_mislead(settings) => hint_of(alloc, cause, input),
+        _ => Ok(String::new(alloc)),
     }
 }
 
@@ -96,23 +86,6 @@ fn is_searched(settings: &Settings) -> bool
         | Settings::Check
         | Settings::Witness { .. }
         | Settings::Tables(_) => false,
-    }
-}
-
-/// The hint beside an answer of status 3: what to do; of a search for final states also the choices to run, if it knows some.
-fn unended_hint(
-    alloc: Global,
-    is_searched: bool,
-    cause: &Cause,
-    input: &[u8],
-) -> Result<String, NoMemory>
-    ensures { IfOk result (λ text. IsToldOfUnended is_searched (string_bytes text)) }
-{
-    let hint = hint_of(alloc, cause, input)?;
-    if is_searched {
-        with_runs(alloc, hint, cause)
-    } else {
-        Ok(hint)
     }
 }
 

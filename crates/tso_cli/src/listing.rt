@@ -4,7 +4,7 @@
 use hints::{Cause, ListedName, listed_in};
 use shown_values::{Show, names_shown};
 use std::alloc::Global;
-use tso_model::{Core, Loc, NoMemory, Reg, Test};
+use tso_model::{NoMemory, Test};
 use tso_report::named::Named;
 
 /// That the states of a test, which `spelling` spells, leave out what it lists and they might show; of more than one the
@@ -33,26 +33,17 @@ pub(crate) fn left_out(
 }
 
 fn is_among(names: &[Named], listed: ListedName) -> bool {
-    names.iter().any(|named| is_the_same(*named, listed))
-}
-
-fn is_the_same(named: Named, listed: ListedName) -> bool {
-    match named {
-        Named::Register(core, reg) => is_register(listed, core, reg),
-        Named::Location(loc) => is_location(listed, loc),
+    for named in names {
+        let is_listed = match (*named, listed) {
+            (Named::Register(core, reg), ListedName::Register(other, register)) => {
+                core == other && reg.index() == register.index()
+            }
+            (Named::Location(loc), ListedName::Location(other)) => loc == other,
+            _ => false,
+        };
+        if is_listed {
+            return true;
+        }
     }
-}
-
-fn is_register(listed: ListedName, core: Core, reg: Reg) -> bool {
-    match listed {
-        ListedName::Register(other, register) => core == other && reg.index() == register.index(),
-        ListedName::Location(_) => false,
-    }
-}
-
-fn is_location(listed: ListedName, loc: Loc) -> bool {
-    match listed {
-        ListedName::Register(..) => false,
-        ListedName::Location(other) => loc == other,
-    }
+    false
 }
