@@ -4,9 +4,7 @@ use Rattle.tso_cli.specs.Vocabulary.{AnswersFit, Choice, Configuration, json_las
 use Rattle.tso_cli.specs.CommandAnswers.{status_under}
 use Rattle.tso_cli.specs.Trace.{FitsForm, IsTraceAnswer}
 use Rattle.tso_cli.specs.declared.answer.Status.{Status}
-use Rattle.tso_cli.specs.declared.answer.Status.TheVariants.{Good, Refused, Unended}
-use Rattle.simulator.specs.declared.simulation.Ending.{Ending}
-use Rattle.simulator.specs.declared.simulation.Ending.TheVariants.{Ended, Unfinished}
+use Rattle.tso_cli.specs.declared.answer.Status.TheVariants.{Refused}
 
 -- the answer to a test and the text of choices
 pub data IsLastStep (t : Litmus) (kind : ProtocolKind) (c : Configuration) (text : List ℕ) : List ℕ → Status → Type 0 where
