@@ -1,5 +1,8 @@
 -- What is looked at, one core and one location at a time.
-use Rattle.tso_report.proofs.Vocabulary.{◌≡◌, ◌∙◌, ℕ, zero, suc, ◌+◌, ◌-◌, ◌<◌, ◌≤◌, Bool, List, [], ◌∷◌, ◌++◌, length, map, filter, All, ap, sym, subst, append_assoc, arith, filter-append, All-filter, All-append, All-cons, All-nil, Litmus, Reg, Named, all_registers, is_looked_at, named_register, named_location, named_registers, named_locations, looked_at, NameExists}
+use Rattle.tso_report.proofs.Vocabulary.{◌≡◌, ◌∙◌, ℕ, zero, suc, ◌+◌, ◌-◌, ◌<◌, ◌≤◌, Bool, List, [], ◌∷◌, ◌++◌, length, map, filter, All, ap, sym, subst, append_assoc, append-nil, arith, filter-append, All-filter, All-append, All-cons, All-nil, slice_index, slice_index_or, shown_value, Litmus, Reg, Named, all_registers, is_looked_at, named_register, named_location, named_registers, named_locations, looked_at, NameExists}
+use Rattle.basic_laws.specs.Types.{Core, Loc}
+use Rattle.tso_model.specs.Registers.{index_of}
+use Rattle.tso_report.specs.declared.named.Named.TheVariants.{Register, Location}
 
 count-next : (i n : ℕ) → i < n → n - i ≡ suc (n - (i + 1))
 count-next i n h = omega arith
@@ -59,12 +62,32 @@ looked-known t =
     All-filter (is_looked_at t.condition) (NameExists (length t.programs) (length t.locations)) (named_registers 0 (length t.programs) ++ named_locations 0 (length t.locations)) (names-known t)
 
 -- all of them are noted, registers first, after nothing
-pub all-noted : (t : Litmus) (first middle list : List Named) → first ≡ [] → middle ≡ first ++ filter (is_looked_at t.condition) (named_registers 0 (length t.programs))
-    → list ≡ middle ++ filter (is_looked_at t.condition) (named_locations 0 (length t.locations)) → list ≡ looked_at t
-all-noted t first middle list none registers locations =
+pub registers-noted : (t : Litmus) (first list : List Named) → first ≡ [] → list ≡ first ++ filter (is_looked_at t.condition) (named_registers 0 (length t.programs))
+    → list ++ filter (is_looked_at t.condition) (named_locations 0 (length t.locations - 0)) ≡ looked_at t
+registers-noted t first list none is =
     let p = is_looked_at t.condition in
-    locations ∙ (ap (λ noted. noted ++ filter p (named_locations 0 (length t.locations))) (registers ∙ ap (λ noted. noted ++ filter p (named_registers 0 (length t.programs))) none)
-    ∙ sym (filter-append p (named_registers 0 (length t.programs)) (named_locations 0 (length t.locations))))
+    let registers = named_registers 0 (length t.programs) in
+    let locations = named_locations 0 (length t.locations) in
+    let all : length t.locations - 0 ≡ length t.locations = omega arith in
+    ap (λ count. list ++ filter p (named_locations 0 count)) all ∙ ap (λ noted. noted ++ filter p locations) (is ∙ ap (λ noted. noted ++ filter p registers) none) ∙ sym (filter-append p registers locations)
+
+-- and no location is left at the end
+pub all-noted : (t : Litmus) (list : List Named) (loc : ℕ) → length t.locations ≤ loc
+    → list ++ filter (is_looked_at t.condition) (named_locations loc (length t.locations - loc)) ≡ looked_at t → list ≡ looked_at t
+all-noted t list loc over so =
+    let none : length t.locations - loc ≡ 0 = omega (arith, over) in
+    sym (append-nil list) ∙ (sym (ap (λ count. list ++ filter (is_looked_at t.condition) (named_locations loc count)) none) ∙ so)
 
 pub noted-known : (t : Litmus) (list : List Named) → list ≡ looked_at t → All (NameExists (length t.programs) (length t.locations)) list
 noted-known t list is = subst (All (NameExists (length t.programs) (length t.locations))) (sym is) (looked-known t)
+
+-- ---- the value of what is looked at
+
+pub register-shown : (registers : List (List ℕ)) (memory : List ℕ) (named : Named) (core : Core) (reg : Reg) (index value : ℕ) → named ≡ Register core reg → index ≡ index_of reg
+    → value ≡ slice_index (slice_index_or registers core.0 []) index → value ≡ shown_value registers memory named
+register-shown registers memory named core reg index value is index_is value_is =
+    value_is ∙ (ap (slice_index (slice_index_or registers core.0 [])) index_is ∙ sym (ap (shown_value registers memory) is))
+
+pub location-shown : (registers : List (List ℕ)) (memory : List ℕ) (named : Named) (loc : Loc) (value : ℕ) → named ≡ Location loc
+    → value ≡ slice_index memory loc.0 → value ≡ shown_value registers memory named
+location-shown registers memory named loc value is value_is = value_is ∙ sym (ap (shown_value registers memory) is)

@@ -1,10 +1,24 @@
 -- What a tally is tallied_in as, and what it holds.
-use Rattle.tso_report.proofs.Vocabulary.{◌≡◌, ◌∙◌, ℕ, Bool, List, ◌++◌, length, All, sym, ap, subst, append_assoc, Litmus, Named, looked_at, sweep_line, counted_state_lines, observation, tally_text, Tallied, NameExists, counted_states, counts_in, IsKept}
+use Rattle.tso_report.proofs.Vocabulary.{◌≡◌, ◌∙◌, ℕ, Bool, true, false, List, [], ◌++◌, length, sum, values_of, zero, Vec, refl, arith, All, sym, ap, subst, append_assoc, Litmus, Named, looked_at, sweep_line, counted_state_lines, observation, tally_text, Tallied, NameExists, counted_states, counts_in, IsKept}
+use Rattle.std.proofs.Common.{BTreeMap, Global, if◌then◌else◌}
 use Rattle.tso_report.specs.declared.counters.Counters.{Counters}
 use Rattle.tso_report.proofs.Looking.{looked-known}
 
 abbrev tallied_in : Litmus → Counters → Tallied
 tallied_in t counters = record { test = t; counts = counts_in counters }
+
+-- nothing is counted
+pub nothing-kept : (judged : Bool) (states : BTreeMap (Vec ℕ Global) ℕ) → states.entries ≡ []
+    → IsKept judged (record { states = states; ended = 0; held = 0; failed = 0; unfinished = 0 })
+nothing-kept judged states none = record {
+  ended = sym (ap (λ entries. sum (values_of (counted_states entries))) none);
+  verdicts = none-judged judged;
+  room = omega arith;
+}
+  where
+    none-judged : (b : Bool) → zero ≡ (if b then zero else zero)
+    none-judged true = refl
+    none-judged false = refl
 
 -- what is looked at is there in each state of the test
 pub known-in-state : (t : Litmus) (counters : Counters) (tally : Tallied) (registers : List (List ℕ)) (memory : List ℕ) (names list : List Named) → tallied_in t counters ≡ tally

@@ -1,5 +1,7 @@
 -- Texts made piece by piece.
-use Rattle.tso_report.proofs.Vocabulary.{◌≡◌, ℕ, List, [], ◌∷◌, ◌++◌, length, codes, append-nil, ◌⊎◌, inl, inr, refl, sym, ap, ◌∙◌, Litmus, Named, printed_value, printed_values}
+use Rattle.tso_report.proofs.Vocabulary.{◌≡◌, ℕ, List, [], ◌∷◌, ◌++◌, length, codes, append-nil, ◌⊎◌, inl, inr, refl, sym, ap, ◌∙◌, Litmus, Named, Counts, ◌+◌, decimal, all_registers, register_line, register_lines, cache_line, cache_lines, printed_value, printed_values}
+use Rattle.tso_model.specs.Thread.{value_in}
+use Rattle.basic_laws.specs.Types.{Eax, Ebx, Ecx, Edx, Esi, Edi}
 use Rattle.std.proofs.lemmas.List.{append_assoc}
 
 -- what was written so far, after which a piece and then a rest come
@@ -13,12 +15,6 @@ seven_pieces a b c d e f g second third fourth fifth sixth all is_second is_thir
     is ∙ (rest-after f g fifth sixth is_sixth ∙ (rest-after e (f ++ g) fourth fifth is_fifth ∙ (rest-after d (e ++ (f ++ g)) third fourth is_fourth
     ∙ (rest-after c (d ++ (e ++ (f ++ g))) second third is_third ∙ rest-after b (c ++ (d ++ (e ++ (f ++ g)))) a second is_second))))
 
--- a line written in two pieces and its end
-pub ended_line : (old front text first second all : List ℕ) → first ≡ old ++ front → second ≡ first ++ text → all ≡ second ++ 10 ∷ []
-    → all ≡ old ++ (front ++ (text ++ 10 ∷ []))
-ended_line old front text first second all is_first is_second is =
-    is ∙ (rest-after text (10 ∷ []) first second is_second ∙ rest-after front (text ++ 10 ∷ []) old first is_first)
-
 -- lines whose last words have a text of their own
 
 pub sweep_nested : (from runs length ended unfinished : List ℕ)
@@ -31,12 +27,40 @@ pub observed_nested : (name word held failed : List ℕ)
     ≡ codes "Observation " ++ (name ++ ((codes " " ++ (word ++ (codes " " ++ (held ++ (codes " " ++ failed))))) ++ 10 ∷ []))
 observed_nested name word held failed = simp append_assoc
 
-pub cache_nested : (core hits misses upgrades forwards backs flushes : List ℕ)
+registers_nested : (front core a eax b ebx c ecx d edx e esi f edi end : List ℕ)
+    → front ++ (core ++ (a ++ (eax ++ (b ++ (ebx ++ (c ++ (ecx ++ (d ++ (edx ++ (e ++ (esi ++ (f ++ (edi ++ end)))))))))))))
+    ≡ front ++ (core ++ (((a ++ eax) ++ ((b ++ ebx) ++ ((c ++ ecx) ++ ((d ++ edx) ++ ((e ++ esi) ++ ((f ++ edi) ++ [])))))) ++ end))
+registers_nested front core a eax b ebx c ecx d edx e esi f edi end = simp (append_assoc, append-nil)
+
+cache_nested : (core hits misses upgrades forwards backs flushes : List ℕ)
     → codes "Cache P" ++ (core ++ (codes " hits=" ++ (hits ++ (codes " misses=" ++ (misses ++ (codes " upgrades=" ++ (upgrades
     ++ (codes " forwards=" ++ (forwards ++ (codes " write_backs=" ++ (backs ++ (codes " flushes=" ++ (flushes ++ 10 ∷ [])))))))))))))
     ≡ codes "Cache P" ++ (core ++ (codes " hits=" ++ (hits ++ (codes " misses=" ++ (misses ++ (codes " upgrades=" ++ (upgrades
     ++ ((codes " forwards=" ++ (forwards ++ (codes " write_backs=" ++ (backs ++ (codes " flushes=" ++ flushes))))) ++ 10 ∷ []))))))))
 cache_nested core hits misses upgrades forwards backs flushes = simp append_assoc
+
+-- ---- a line for each core
+
+pub next-registers : (core : ℕ) (r : List ℕ) (rs all : List (List ℕ)) (before after whole : List ℕ)
+    → after ≡ before ++ (codes "Registers P" ++ (decimal core ++ (codes " EAX=" ++ (decimal (value_in r Eax) ++ (codes " EBX=" ++ (decimal (value_in r Ebx)
+    ++ (codes " ECX=" ++ (decimal (value_in r Ecx) ++ (codes " EDX=" ++ (decimal (value_in r Edx) ++ (codes " ESI=" ++ (decimal (value_in r Esi)
+    ++ (codes " EDI=" ++ (decimal (value_in r Edi) ++ 10 ∷ []))))))))))))))
+    → all ≡ r ∷ rs → before ++ register_lines core all ≡ whole → after ++ register_lines (core + 1) rs ≡ whole
+unfolding all_registers
+next-registers core r rs all before after whole is next was =
+    rest-after (register_line core r) (register_lines (core + 1) rs) before after
+    (is ∙ ap (λ line. before ++ line) (registers_nested (codes "Registers P") (decimal core) (codes " EAX=") (decimal (value_in r Eax)) (codes " EBX=") (decimal (value_in r Ebx))
+    (codes " ECX=") (decimal (value_in r Ecx)) (codes " EDX=") (decimal (value_in r Edx)) (codes " ESI=") (decimal (value_in r Esi)) (codes " EDI=") (decimal (value_in r Edi)) (10 ∷ [])))
+    ∙ (sym (ap (λ list. before ++ register_lines core list) next) ∙ was)
+
+pub next-cache : (core : ℕ) (n : Counts) (ns all : List Counts) (before after whole : List ℕ)
+    → after ≡ before ++ (codes "Cache P" ++ (decimal core ++ (codes " hits=" ++ (decimal n.hits ++ (codes " misses=" ++ (decimal n.misses ++ (codes " upgrades=" ++ (decimal n.upgrades
+    ++ (codes " forwards=" ++ (decimal n.forwards ++ (codes " write_backs=" ++ (decimal n.write_backs ++ (codes " flushes=" ++ (decimal n.flushes ++ 10 ∷ []))))))))))))))
+    → all ≡ n ∷ ns → before ++ cache_lines core all ≡ whole → after ++ cache_lines (core + 1) ns ≡ whole
+next-cache core n ns all before after whole is next was =
+    rest-after (cache_line core n) (cache_lines (core + 1) ns) before after
+    (is ∙ ap (λ line. before ++ line) (cache_nested (decimal core) (decimal n.hits) (decimal n.misses) (decimal n.upgrades) (decimal n.forwards) (decimal n.write_backs) (decimal n.flushes)))
+    ∙ (sym (ap (λ list. before ++ cache_lines core list) next) ∙ was)
 
 -- ---- values beside what they are of
 

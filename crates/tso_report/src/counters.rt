@@ -1,12 +1,11 @@
 //! The counts of a sweep's runs. Each run is counted once: by its values where it ended, and as unfinished where it didn't;
 //! one that was left out would make a rare state look rarer.
 
-ghost use Rattle.std.specs.Prelude.{◌≡◌, ◌+◌, ◌<◌, ◌^◌, ◌-◌, Bool, OnOk, OnErr, sum, is_some};
+ghost use Rattle.std.specs.Prelude.{◌≡◌, ◌+◌, ◌<◌, ◌^◌, ◌-◌, OnOk, OnErr, sum, is_some};
 ghost use Rattle.std.specs.Map.{values_of};
-ghost use Rattle.tso_report.specs.Tally.{nothing_counted, with_values, with_state_counted, with_verdict, with_unfinished, runs_in};
+ghost use Rattle.tso_report.specs.Tally.{with_values, with_state_counted, with_verdict, runs_in};
 ghost use Rattle.tso_report.specs.inner.Counted.{counted_states, counts_in, IsKept};
 
-use std::alloc::Global;
 use std::collections::BTreeMap;
 use tso_model::NoMemory;
 
@@ -24,20 +23,6 @@ pub struct Counters {
     pub failed: u32,
     /// How many runs didn't end.
     pub unfinished: u32,
-}
-
-/// Nothing is counted.
-pub fn no_runs(alloc: Global) -> Counters
-    ensures nothing { counts_in result ≡ nothing_counted }
-    ensures kept { (judged : Bool) → IsKept judged result }
-{
-    Counters {
-        states: BTreeMap::new(alloc),
-        ended: 0,
-        held: 0,
-        failed: 0,
-        unfinished: 0,
-    }
 }
 
 /// One more run that ended, with these values and this verdict.
@@ -74,14 +59,4 @@ fn raise(states: &mut BTreeMap<Vec<u32>, u32>, values: Vec<u32>) -> Result<(), N
     let count = states.get(&values).copied().unwrap_or(0);
     states.insert(values, count + 1)?;
     Ok(())
-}
-
-/// One more run that didn't end.
-pub fn count_unfinished(counters: &mut Counters)
-    requires kept { (judged : Bool) × IsKept judged counters.old }
-    requires room { runs_in (counts_in counters.old) < 2 ^ 32 - 1 }
-    ensures counts { counts_in counters.new ≡ with_unfinished (counts_in counters.old) }
-    ensures kept { (judged : Bool) → IsKept judged counters.old → IsKept judged counters.new }
-{
-    counters.unfinished += 1;
 }

@@ -1,15 +1,14 @@
 //! The report of a run as JSON, for programs to read. It is one line, and its objects have their keys in the order of
 //! their bytes.
 
-ghost use Rattle.std.specs.Prelude.{◌≡◌, ◌++◌, ◌∷◌, [], false, IfOk, OnOk, All, string_bytes, length};
-ghost use Rattle.serde_json.specs.Data.{Data, string};
+ghost use Rattle.std.specs.Prelude.{◌≡◌, false, IfOk, All, string_bytes, length};
 ghost use Rattle.serde_json.specs.Written.{compact_text, has_float};
 ghost use Rattle.serde_json.specs.View.{view, members_view};
-ghost use Rattle.order_builder.specs.PrintedOrder.{HasLocation, printed_entry};
+ghost use Rattle.order_builder.specs.PrintedOrder.{HasLocation};
 ghost use Rattle.tso_report.specs.Shown.{shown_run, IsRunOf};
 ghost use Rattle.tso_report.specs.Report.{line};
-ghost use Rattle.tso_report.specs.Json.{counts_value, cache_value, choices_value, condition_value, machine_value};
-ghost use Rattle.tso_report.specs.Json.{memory_members, memory_value, order_value, registers_value, cores_value};
+ghost use Rattle.tso_report.specs.Json.{cache_value, condition_value, machine_value};
+ghost use Rattle.tso_report.specs.Json.{memory_value, order_value, registers_value, cores_value};
 ghost use Rattle.tso_report.specs.inner.Json.{unfinished_search_value};
 ghost use Rattle.tso_report.specs.Json.{run_members, unfinished_members, json_report, json_unfinished};
 
@@ -116,10 +115,14 @@ pub fn run_members(
     ensures { IfOk result (λ members. members_view members.entries ≡ run_members test.now protocol config (shown_run run.now)) }
 {
     let left = &run.left;
-    let choices = choices_value(alloc, run.used, run.stalled, run.unused);
+    let choices = [
+        ("stalled", Datum::Number(run.stalled as u64)),
+        ("unused", Datum::Number(run.unused as u64)),
+        ("used", Datum::Number(run.used as u64)),
+    ];
     Object::new(alloc)
         .member("cache", cache_value(alloc, &left.counts))
-        .member("choices", choices)
+        .member("choices", object_of(alloc, &choices))
         .member("condition", condition_value(alloc, test, run.holds))
         .member("machine", machine_value(alloc, protocol, config))
         .member("memory", memory_value(alloc, test, &left.state.memory))
@@ -134,39 +137,17 @@ fn cache_value(alloc: Global, counts: &[Counts]) -> Result<Value, NoMemory>
 {
     let mut values = Vec::new(alloc);
     for counts in counts {
-        push_made(&mut values, counts_value(alloc, *counts))?;
+        let numbers = [
+            ("flushes", Datum::Number(counts.flushes as u64)),
+            ("forwards", Datum::Number(counts.forwards as u64)),
+            ("hits", Datum::Number(counts.hits as u64)),
+            ("misses", Datum::Number(counts.misses as u64)),
+            ("upgrades", Datum::Number(counts.upgrades as u64)),
+            ("write_backs", Datum::Number(counts.write_backs as u64)),
+        ];
+        push_made(&mut values, object_of(alloc, &numbers))?;
     }
     Ok(Value::Array(values))
-}
-
-fn counts_value(alloc: Global, counts: Counts) -> Result<Value, NoMemory>
-    ensures { IfOk result (λ value. view value ≡ counts_value counts) }
-{
-    let numbers = [
-        ("flushes", Datum::Number(counts.flushes as u64)),
-        ("forwards", Datum::Number(counts.forwards as u64)),
-        ("hits", Datum::Number(counts.hits as u64)),
-        ("misses", Datum::Number(counts.misses as u64)),
-        ("upgrades", Datum::Number(counts.upgrades as u64)),
-        ("write_backs", Datum::Number(counts.write_backs as u64)),
-    ];
-    object_of(alloc, &numbers)
-}
-
-fn choices_value(
-    alloc: Global,
-    used: usize,
-    stalled: usize,
-    unused: usize,
-) -> Result<Value, NoMemory>
-    ensures { IfOk result (λ value. view value ≡ choices_value used stalled unused) }
-{
-    let numbers = [
-        ("stalled", Datum::Number(stalled as u64)),
-        ("unused", Datum::Number(unused as u64)),
-        ("used", Datum::Number(used as u64)),
-    ];
-    object_of(alloc, &numbers)
 }
 
 fn condition_value(alloc: Global, test: &Test, holds: Option<bool>) -> Result<Value, NoMemory>
@@ -226,16 +207,10 @@ pub fn order_value(alloc: Global, test: &Test, order: &[Entry]) -> Result<Value,
 {
     let mut values = Vec::new(alloc);
     for entry in order {
-        push_made(&mut values, entry_value(alloc, test, entry))?;
+        let text = entry_text(alloc, test, entry)?;
+        values.push(Value::String(text))?;
     }
     Ok(Value::Array(values))
-}
-
-fn entry_value(alloc: Global, test: &Test, entry: &Entry) -> Result<Value, NoMemory>
-    requires { HasLocation test.now entry.now }
-    ensures { IfOk result (λ value. view value ≡ string (printed_entry test.now entry.now)) }
-{
-    Ok(Value::String(entry_text(alloc, test, entry)?))
 }
 
 fn cores_value(alloc: Global, registers: &[[u32; 6]]) -> Result<Value, NoMemory>

@@ -28,21 +28,10 @@ pub fn object_of(alloc: Global, fields: &[(&str, Datum<'_>)]) -> Result<Value, N
     ensures { IfOk result (λ value. view value ≡ object (with_data fields.now no_members)) }
 {
     let mut members = Map::new(alloc);
-    put_data(&mut members, alloc, fields)?;
-    Ok(Value::Object(members))
-}
-
-fn put_data(
-    members: &mut Map<String, Value>,
-    alloc: Global,
-    fields: &[(&str, Datum<'_>)],
-) -> Result<(), NoMemory>
-    ensures { OnOk result (members_view members.new.entries ≡ with_data fields.now (members_view members.old.entries)) }
-{
     for (key, datum) in fields {
-        put_made(members, alloc, key, datum_value(alloc, *datum))?;
+        put_made(&mut members, alloc, key, datum_value(alloc, *datum))?;
     }
-    Ok(())
+    Ok(Value::Object(members))
 }
 
 fn datum_value(alloc: Global, datum: Datum<'_>) -> Result<Value, NoMemory>

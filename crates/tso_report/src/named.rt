@@ -3,9 +3,9 @@
 
 ghost use Rattle.std.specs.Prelude.{◌≡◌, ◌<◌, ◌∷◌, [], IfOk, OnOk, All, length, map};
 ghost use Rattle.tso_model.specs.Condition.{claim_of};
-ghost use Rattle.tso_report.specs.Tally.{claim_names_register, claim_names_location, is_looked_at, named_register};
-ghost use Rattle.tso_report.specs.inner.Tally.{AreNoted, NameExists};
-ghost use Rattle.tso_report.specs.Tally.{named_registers, named_locations, looked_at, shown_value};
+ghost use Rattle.tso_report.specs.Tally.{is_looked_at, named_register};
+ghost use Rattle.tso_report.specs.inner.Tally.{AreNoted, NameExists, claim_names};
+ghost use Rattle.tso_report.specs.Tally.{named_registers, looked_at, shown_value};
 
 use std::alloc::Global;
 use tso_model::{Core, Loc, NoMemory, Prop, Reg, Test};
@@ -29,7 +29,9 @@ pub fn looked_at(alloc: Global, test: &Test) -> Result<Vec<Named>, NoMemory>
 {
     let mut list = Vec::new(alloc);
     note_registers(&mut list, test)?;
-    note_locations(&mut list, test)?;
+    for loc in 0..test.locations() {
+        note(&mut list, test, Named::Location(Loc(loc)))?;
+    }
     Ok(list)
 }
 
@@ -51,15 +53,6 @@ fn note_each(list: &mut Vec<Named>, test: &Test, core: u8, regs: &[Reg]) -> Resu
     Ok(())
 }
 
-fn note_locations(list: &mut Vec<Named>, test: &Test) -> Result<(), NoMemory>
-    ensures { OnOk result (AreNoted test.now.condition (named_locations 0 (length test.now.locations)) list.old.items list.new.items) }
-{
-    for loc in 0..test.locations() {
-        note(list, test, Named::Location(Loc(loc)))?;
-    }
-    Ok(())
-}
-
 fn note(list: &mut Vec<Named>, test: &Test, named: Named) -> Result<(), NoMemory>
     ensures { OnOk result (AreNoted test.now.condition (named ∷ []) list.old.items list.new.items) }
 {
@@ -74,35 +67,24 @@ pub fn is_looked_at(test: &Test, named: Named) -> bool
     ensures { result ≡ is_looked_at test.now.condition named }
 {
     match (test.cond(), named) {
-        (Some(cond), Named::Register(core, reg)) => claim_names_register(&cond.prop, core, reg),
-        (Some(cond), Named::Location(loc)) => claim_names_location(&cond.prop, loc),
+        (Some(cond), _) => claim_names(&cond.prop, named),
         (None, Named::Register(..)) => false,
         (None, Named::Location(_)) => true,
     }
 }
 
-fn claim_names_register(prop: &Prop, core: Core, reg: Reg) -> bool
-    ensures { result ≡ claim_names_register (claim_of prop.now) core.0 reg }
+fn claim_names(prop: &Prop, named: Named) -> bool
+    ensures { result ≡ claim_names (claim_of prop.now) named }
 {
-    match prop {
-        Prop::Truth(_) | Prop::LocIs(..) => false,
-        Prop::RegIs(other, named, _) => other.0 == core.0 && named.index() == reg.index(),
-        Prop::Not(inner) => claim_names_register(inner, core, reg),
-        Prop::And(left, right) | Prop::Or(left, right) => {
-            claim_names_register(left, core, reg) || claim_names_register(right, core, reg)
+    match (prop, named) {
+        (Prop::RegIs(other, other_reg, _), Named::Register(core, reg)) => {
+            other.0 == core.0 && other_reg.index() == reg.index()
         }
-    }
-}
-
-fn claim_names_location(prop: &Prop, loc: Loc) -> bool
-    ensures { result ≡ claim_names_location (claim_of prop.now) loc.0 }
-{
-    match prop {
-        Prop::Truth(_) | Prop::RegIs(..) => false,
-        Prop::LocIs(named, _) => named.0 == loc.0,
-        Prop::Not(inner) => claim_names_location(inner, loc),
-        Prop::And(left, right) | Prop::Or(left, right) => {
-            claim_names_location(left, loc) || claim_names_location(right, loc)
+        (Prop::LocIs(other, _), Named::Location(loc)) => other.0 == loc.0,
+        (Prop::Truth(_) | Prop::RegIs(..) | Prop::LocIs(..), _) => false,
+        (Prop::Not(inner), _) => claim_names(inner, named),
+        (Prop::And(left, right) | Prop::Or(left, right), _) => {
+            claim_names(left, named) || claim_names(right, named)
         }
     }
 }
@@ -121,17 +103,11 @@ pub fn values_at(
 {
     let mut values = Vec::new(alloc);
     for named in list {
-        values.push(value_at(*named, registers, memory))?;
+        let value = match *named {
+            Named::Register(core, reg) => registers[core.0 as usize][reg.index()],
+            Named::Location(loc) => memory[loc.0 as usize],
+        };
+        values.push(value)?;
     }
     Ok(values)
-}
-
-fn value_at(named: Named, registers: &[[u32; 6]], memory: &[u32]) -> u32
-    requires { NameExists (length registers.now) (length memory.now) named }
-    ensures { result ≡ shown_value registers.now memory.now named }
-{
-    match named {
-        Named::Register(core, reg) => registers[core.0 as usize][reg.index()],
-        Named::Location(loc) => memory[loc.0 as usize],
-    }
 }

@@ -25,7 +25,12 @@ pub fn write_pieces(text: &mut String, pieces: &[Piece<'_>]) -> Result<(), NoMem
     ensures { OnOk result (string_bytes text.new ≡ string_bytes text.old ++ flat_map line_piece pieces.now) }
 {
     for piece in pieces {
-        write_piece(text, *piece)?;
+        match piece {
+            Piece::Text(characters) => text.push_str(characters)?,
+            Piece::Number(number) => write!(text, "{number}")?,
+            Piece::Truth(true) => text.push_str("true")?,
+            Piece::Truth(false) => text.push_str("false")?,
+        }
     }
     Ok(())
 }
@@ -43,17 +48,6 @@ pub fn write_named(text: &mut String, name: &str, value: u32) -> Result<(), NoMe
         Piece::Number(value as u64),
     ];
     write_pieces(text, &pieces)
-}
-
-fn write_piece(text: &mut String, piece: Piece<'_>) -> Result<(), NoMemory>
-    ensures { OnOk result (string_bytes text.new ≡ string_bytes text.old ++ line_piece piece.entry) }
-{
-    match piece {
-        Piece::Text(characters) => write_characters(text, characters),
-        Piece::Number(number) => Ok(write!(text, "{number}")?),
-        Piece::Truth(true) => write_characters(text, "true"),
-        Piece::Truth(false) => write_characters(text, "false"),
-    }
 }
 
 /// Adds these characters.

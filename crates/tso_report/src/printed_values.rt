@@ -2,7 +2,7 @@
 //! sweep's states and for those that a search found.
 
 ghost use Rattle.std.specs.Prelude.{◌≡◌, ◌++◌, OnOk, All, string_bytes, length};
-ghost use Rattle.tso_report.specs.Tally.{printed_value, printed_values};
+ghost use Rattle.tso_report.specs.Tally.{printed_values};
 ghost use Rattle.tso_report.specs.inner.Tally.{NameExists};
 
 use crate::named::Named;
@@ -22,28 +22,20 @@ pub fn write_values(
     ensures { OnOk result (string_bytes text.new ≡ string_bytes text.old ++ printed_values test.now names.now values.now) }
 {
     for (named, value) in names.iter().zip(values.iter()) {
-        write_value(text, test, *named, *value)?;
+        match *named {
+            Named::Register(core, reg) => {
+                let pieces = [
+                    Piece::Text(" "),
+                    Piece::Number(core.0 as u64),
+                    Piece::Text(":"),
+                    Piece::Text(reg.name()),
+                    Piece::Text("="),
+                    Piece::Number(*value as u64),
+                ];
+                write_pieces(text, &pieces)?;
+            }
+            Named::Location(loc) => write_named(text, test.location_name(loc), *value)?,
+        }
     }
     Ok(())
-}
-
-/// ` c:EAX=v`, or ` x=v`.
-fn write_value(text: &mut String, test: &Test, named: Named, value: u32) -> Result<(), NoMemory>
-    requires { NameExists (length test.now.programs) (length test.now.locations) named }
-    ensures { OnOk result (string_bytes text.new ≡ string_bytes text.old ++ printed_value test.now named value) }
-{
-    match named {
-        Named::Register(core, reg) => {
-            let pieces = [
-                Piece::Text(" "),
-                Piece::Number(core.0 as u64),
-                Piece::Text(":"),
-                Piece::Text(reg.name()),
-                Piece::Text("="),
-                Piece::Number(value as u64),
-            ];
-            write_pieces(text, &pieces)
-        }
-        Named::Location(loc) => write_named(text, test.location_name(loc), value),
-    }
 }

@@ -1,13 +1,11 @@
 //! The report of a run, line by line. The order stands in it as it is read again, so that a report can be checked by
 //! itself.
 
-ghost use Rattle.std.specs.Prelude.{◌≡◌, ◌++◌, ◌∷◌, [], IfOk, OnOk, string_bytes, length, slice_index_or, Option, is_some, All};
-ghost use Rattle.order_builder.specs.PrintedOrder.{printed_order, HasWord};
+ghost use Rattle.std.specs.Prelude.{◌≡◌, ◌++◌, IfOk, OnOk, string_bytes, length, All};
+ghost use Rattle.order_builder.specs.PrintedOrder.{HasWord};
 ghost use Rattle.tso_report.specs.Shown.{shown_run, IsRunOf};
-ghost use Rattle.tso_report.specs.Report.{report, head, body, line, test_line, machine_line, bus_text};
-ghost use Rattle.tso_report.specs.Report.{printed_register, printed_registers, register_line, register_lines};
-ghost use Rattle.tso_report.specs.Report.{printed_words, memory_line, printed_verdict, condition_line, choices_line};
-ghost use Rattle.tso_report.specs.Report.{printed_quantifier, printed_truth, cache_line, cache_lines};
+ghost use Rattle.tso_report.specs.Report.{report, head, body, test_line, bus_text, register_lines};
+ghost use Rattle.tso_report.specs.Report.{memory_line, condition_line, printed_quantifier, cache_lines};
 
 use crate::pieces::{Piece, write_characters, write_named, write_pieces};
 use crate::run::Run;
@@ -51,9 +49,17 @@ pub fn write_body(text: &mut String, test: &Test, run: &Run) -> Result<(), NoMem
     write_registers(text, &run.left.state.registers)?;
     write_memory(text, test, &run.left.state.memory)?;
     write_condition(text, test, run.holds)?;
-    write_choices(text, run)?;
-    write_caches(text, &run.left.counts)?;
-    Ok(())
+    let choices = [
+        Piece::Text("Choices used="),
+        Piece::Number(run.used as u64),
+        Piece::Text(" stalled="),
+        Piece::Number(run.stalled as u64),
+        Piece::Text(" unused="),
+        Piece::Number(run.unused as u64),
+        Piece::Text("\n"),
+    ];
+    write_pieces(text, &choices)?;
+    write_caches(text, &run.left.counts)
 }
 
 /// The first two lines of a report, and of what is printed of many runs: the test, and the machine with
@@ -70,27 +76,6 @@ pub fn head_text(
 {
     let mut text = String::new(alloc);
     write_test(&mut text, test)?;
-    write_machine(&mut text, protocol, config)?;
-    Ok(text)
-}
-
-/// `Test NAME`.
-///
-/// Errors: out of memory only.
-pub fn write_test(text: &mut String, test: &Test) -> Result<(), NoMemory>
-    ensures { OnOk result (string_bytes text.new ≡ string_bytes text.old ++ test_line test.now) }
-{
-    let pieces = [
-        Piece::Text("Test "),
-        Piece::Text(test.name()),
-        Piece::Text("\n"),
-    ];
-    write_pieces(text, &pieces)
-}
-
-fn write_machine(text: &mut String, protocol: ProtocolKind, config: Config) -> Result<(), NoMemory>
-    ensures { OnOk result (string_bytes text.new ≡ string_bytes text.old ++ machine_line protocol config) }
-{
     let pieces = [
         Piece::Text("Machine "),
         Piece::Text(protocol.name()),
@@ -103,6 +88,21 @@ fn write_machine(text: &mut String, protocol: ProtocolKind, config: Config) -> R
         Piece::Text(" words="),
         Piece::Number(config.words() as u64),
         Piece::Text(bus_text(config.bus())),
+        Piece::Text("\n"),
+    ];
+    write_pieces(&mut text, &pieces)?;
+    Ok(text)
+}
+
+/// `Test NAME`.
+///
+/// Errors: out of memory only.
+pub fn write_test(text: &mut String, test: &Test) -> Result<(), NoMemory>
+    ensures { OnOk result (string_bytes text.new ≡ string_bytes text.old ++ test_line test.now) }
+{
+    let pieces = [
+        Piece::Text("Test "),
+        Piece::Text(test.name()),
         Piece::Text("\n"),
     ];
     write_pieces(text, &pieces)
@@ -122,27 +122,25 @@ fn write_registers(text: &mut String, registers: &[[u32; 6]]) -> Result<(), NoMe
     ensures { OnOk result (string_bytes text.new ≡ string_bytes text.old ++ register_lines 0 registers.now) }
 {
     for (core, values) in registers.iter().enumerate() {
-        write_core(text, core, values)?;
-    }
-    Ok(())
-}
-
-fn write_core(text: &mut String, core: usize, values: &[u32; 6]) -> Result<(), NoMemory>
-    ensures { OnOk result (string_bytes text.new ≡ string_bytes text.old ++ register_line core values.now) }
-{
-    write_pieces(
-        text,
-        &[Piece::Text("Registers P"), Piece::Number(core as u64)],
-    )?;
-    write_values(text, values, &Reg::ALL)?;
-    write_characters(text, "\n")
-}
-
-fn write_values(text: &mut String, values: &[u32; 6], regs: &[Reg]) -> Result<(), NoMemory>
-    ensures { OnOk result (string_bytes text.new ≡ string_bytes text.old ++ printed_registers values.now regs.now) }
-{
-    for reg in regs {
-        write_named(text, reg.name(), values[reg.index()])?;
+        let [eax, ebx, ecx, edx, esi, edi] = *values;
+        let pieces = [
+            Piece::Text("Registers P"),
+            Piece::Number(core as u64),
+            Piece::Text(" EAX="),
+            Piece::Number(eax as u64),
+            Piece::Text(" EBX="),
+            Piece::Number(ebx as u64),
+            Piece::Text(" ECX="),
+            Piece::Number(ecx as u64),
+            Piece::Text(" EDX="),
+            Piece::Number(edx as u64),
+            Piece::Text(" ESI="),
+            Piece::Number(esi as u64),
+            Piece::Text(" EDI="),
+            Piece::Number(edi as u64),
+            Piece::Text("\n"),
+        ];
+        write_pieces(text, &pieces)?;
     }
     Ok(())
 }
@@ -187,49 +185,28 @@ pub fn quantifier_text(quantifier: Quantifier) -> &'static str
     }
 }
 
-fn write_choices(text: &mut String, run: &Run) -> Result<(), NoMemory>
-    ensures { OnOk result (string_bytes text.new ≡ string_bytes text.old ++ choices_line run.now.used run.now.stalled run.now.unused) }
-{
-    let pieces = [
-        Piece::Text("Choices used="),
-        Piece::Number(run.used as u64),
-        Piece::Text(" stalled="),
-        Piece::Number(run.stalled as u64),
-        Piece::Text(" unused="),
-        Piece::Number(run.unused as u64),
-        Piece::Text("\n"),
-    ];
-    write_pieces(text, &pieces)
-}
-
 fn write_caches(text: &mut String, counts: &[Counts]) -> Result<(), NoMemory>
     ensures { OnOk result (string_bytes text.new ≡ string_bytes text.old ++ cache_lines 0 counts.now) }
 {
     for (core, counts) in counts.iter().enumerate() {
-        write_cache(text, core, *counts)?;
+        let pieces = [
+            Piece::Text("Cache P"),
+            Piece::Number(core as u64),
+            Piece::Text(" hits="),
+            Piece::Number(counts.hits as u64),
+            Piece::Text(" misses="),
+            Piece::Number(counts.misses as u64),
+            Piece::Text(" upgrades="),
+            Piece::Number(counts.upgrades as u64),
+            Piece::Text(" forwards="),
+            Piece::Number(counts.forwards as u64),
+            Piece::Text(" write_backs="),
+            Piece::Number(counts.write_backs as u64),
+            Piece::Text(" flushes="),
+            Piece::Number(counts.flushes as u64),
+            Piece::Text("\n"),
+        ];
+        write_pieces(text, &pieces)?;
     }
     Ok(())
-}
-
-fn write_cache(text: &mut String, core: usize, counts: Counts) -> Result<(), NoMemory>
-    ensures { OnOk result (string_bytes text.new ≡ string_bytes text.old ++ cache_line core counts) }
-{
-    let pieces = [
-        Piece::Text("Cache P"),
-        Piece::Number(core as u64),
-        Piece::Text(" hits="),
-        Piece::Number(counts.hits as u64),
-        Piece::Text(" misses="),
-        Piece::Number(counts.misses as u64),
-        Piece::Text(" upgrades="),
-        Piece::Number(counts.upgrades as u64),
-        Piece::Text(" forwards="),
-        Piece::Number(counts.forwards as u64),
-        Piece::Text(" write_backs="),
-        Piece::Number(counts.write_backs as u64),
-        Piece::Text(" flushes="),
-        Piece::Number(counts.flushes as u64),
-        Piece::Text("\n"),
-    ];
-    write_pieces(text, &pieces)
 }

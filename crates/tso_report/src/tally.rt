@@ -6,11 +6,12 @@ ghost use Rattle.tso_report.specs.Shown.{shown_run};
 ghost use Rattle.tso_report.specs.Tally.{nothing_counted, with_unfinished, runs_in, ended_in, tally_text};
 ghost use Rattle.tso_report.specs.inner.Tally.{with_run, with_ended};
 
-use crate::counters::{Counters, count_ended, count_unfinished, no_runs};
+use crate::counters::{Counters, count_ended};
 use crate::named::{Named, looked_at, values_at};
 use crate::run::Run;
 use crate::tally_text::{write_observation, write_states, write_sweep};
 use std::alloc::Global;
+use std::collections::BTreeMap;
 use std::marker::Model;
 use tso_model::{NoMemory, Test};
 
@@ -51,7 +52,13 @@ impl<'a> Tally<'a> {
         ensures { IfOk result (λ tally. tally ≡ record { test = test.now; counts = nothing_counted }) }
     {
         let names = looked_at(alloc, test)?;
-        let counters = no_runs(alloc);
+        let counters = Counters {
+            states: BTreeMap::new(alloc),
+            ended: 0,
+            held: 0,
+            failed: 0,
+            unfinished: 0,
+        };
         Ok(Tally {
             test,
             names,
@@ -105,7 +112,7 @@ impl<'a> Tally<'a> {
         ensures counts { self.new.counts ≡ with_unfinished self.old.counts }
         ensures test { self.new.test ≡ self.old.test }
     {
-        count_unfinished(&mut self.counters);
+        self.counters.unfinished += 1;
     }
 
     /// How many runs were counted, those that ended and those that didn't.

@@ -2,7 +2,7 @@
 //! which order the runs were counted has no part in it.
 
 ghost use Rattle.std.specs.Prelude.{◌≡◌, ◌+◌, ◌<◌, ◌^◌, ◌++◌, OnOk, string_bytes};
-ghost use Rattle.tso_report.specs.Tally.{looked_at, counted_state_line, counted_state_lines, sweep_line, observation};
+ghost use Rattle.tso_report.specs.Tally.{looked_at, counted_state_lines, sweep_line, observation};
 ghost use Rattle.tso_report.specs.inner.Counted.{counted_states};
 
 use crate::counters::Counters;
@@ -40,7 +40,7 @@ pub fn write_sweep(
     write_pieces(text, &pieces)
 }
 
-/// A line for each list of values. Errors: out of memory only.
+/// A line for each list of values, `State COUNT 0:EAX=v x=v ..`. Errors: out of memory only.
 pub fn write_states(
     text: &mut String,
     test: &Test,
@@ -51,25 +51,11 @@ pub fn write_states(
     ensures { OnOk result (string_bytes text.new ≡ string_bytes text.old ++ counted_state_lines test.now (counted_states counters.now.states.entries)) }
 {
     for (values, count) in counters.states.iter() {
-        write_state(text, test, names, values, *count)?;
+        write_pieces(text, &[Piece::Text("State "), Piece::Number(*count as u64)])?;
+        write_values(text, test, names, values)?;
+        write_characters(text, "\n")?;
     }
     Ok(())
-}
-
-/// `State COUNT 0:EAX=v x=v ..`.
-fn write_state(
-    text: &mut String,
-    test: &Test,
-    names: &[Named],
-    values: &[u32],
-    count: u32,
-) -> Result<(), NoMemory>
-    requires { names.now ≡ looked_at test.now }
-    ensures { OnOk result (string_bytes text.new ≡ string_bytes text.old ++ counted_state_line test.now (values.now, count)) }
-{
-    write_pieces(text, &[Piece::Text("State "), Piece::Number(count as u64)])?;
-    write_values(text, test, names, values)?;
-    write_characters(text, "\n")
 }
 
 /// `Observation NAME Sometimes P Q`, where the test has a condition. Errors: out of memory only.

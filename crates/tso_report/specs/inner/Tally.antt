@@ -1,15 +1,20 @@
 -- What a tally of the code holds, and one more run in it: only its values and its verdict are looked at.
 use Rattle.std.specs.Prelude.{ℕ, ◌≡◌, ◌<◌, Bool, Option, List, ◌++◌, filter}
 use Rattle.tso_model.specs.Litmus.{Litmus}
-use Rattle.tso_model.specs.Condition.{Condition}
+use Rattle.tso_model.specs.Condition.{Claim, Condition}
 use Rattle.tso_report.specs.declared.named.Named.{Named}
 use Rattle.tso_report.specs.declared.named.Named.TheVariants.{Register, Location}
 use Rattle.tso_report.specs.Shown.{ShownRun}
-use Rattle.tso_report.specs.Tally.{RunCounts, is_looked_at, values_in, with_state_counted, with_verdict}
+use Rattle.tso_report.specs.Tally.{RunCounts, claim_names_register, claim_names_location, is_looked_at, values_in, with_state_counted, with_verdict}
 
 -- of these names those that are looked at are put after the list
 abbrev pub AreNoted : Option Condition → List Named → List Named → List Named → Type 0
 AreNoted condition names old new = new ≡ old ++ filter (is_looked_at condition) names
+
+-- whether an atom of the claim names it
+abbrev pub claim_names : Claim → Named → Bool
+claim_names claim (Register core reg) = claim_names_register claim core.0 reg
+claim_names claim (Location loc) = claim_names_location claim loc.0
 
 -- the core or the location is below these numbers
 abbrev pub NameExists : ℕ → ℕ → Named → Type 0

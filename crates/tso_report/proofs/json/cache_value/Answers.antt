@@ -7,7 +7,7 @@ loop-counts-preserved c =
     let xs = c.args.counts.now in
     let i = c.loop-counts.counts-index in
     listed (map view c.loop-counts.values.items) (map view c.push_made.new.values.items) _ (map counts_value (drop (i + 1) xs)) (map counts_value (drop i xs)) (map counts_value xs)
-    (c.in_ok-push_made.ensures _ c.counts_value.ensures) (ap (map counts_value) (drop_more xs i _ c.loop-counts-test.true)) c.loop-counts.invariant
+    (c.in_ok-push_made.ensures _ c.object_of.ensures) (ap (map counts_value) (drop_more xs i _ c.loop-counts-test.true)) c.loop-counts.invariant
 
 pub returns : goal.returns
 returns c =

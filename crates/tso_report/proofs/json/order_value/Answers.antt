@@ -1,5 +1,5 @@
 use Rattle.tso_report.proofs.Vocabulary.{◌∙◌, ◌+◌, ap, drop, drop_more, map, view, view-Array, array, items_of, string, Entry, printed_entry}
-use Rattle.tso_report.proofs.Listed.{listed, all-made}
+use Rattle.tso_report.proofs.Listed.{listed, all-made, text-pushed}
 use Rattle.tso_report.proofs.json.order_value.Goals as goal
 
 pub loop-entry-preserved : goal.loop-entry-preserved
@@ -7,8 +7,8 @@ loop-entry-preserved c =
     let value = λ (e : Entry). string (printed_entry c.args.test.now e) in
     let xs = c.args.order.now in
     let i = c.loop-entry.entry-index in
-    listed (map view c.loop-entry.values.items) (map view c.push_made.new.values.items) _ (map value (drop (i + 1) xs)) (map value (drop i xs)) (map value xs)
-    (c.in_ok-push_made.ensures _ c.entry_value.ensures) (ap (map value) (drop_more xs i _ c.loop-entry-test.true)) c.loop-entry.invariant
+    listed (map view c.loop-entry.values.items) (map view c.push.new.self.items) _ (map value (drop (i + 1) xs)) (map value (drop i xs)) (map value xs)
+    (text-pushed c.loop-entry.values.items c.push.new.self.items c.in_ok-text.text _ c.in_ok-push.ensures.items c.in_ok-text.ensures) (ap (map value) (drop_more xs i _ c.loop-entry-test.true)) c.loop-entry.invariant
 
 pub returns : goal.returns
 returns c =

@@ -15,4 +15,4 @@ returns c =
     (put (codes "machine") (machine_value c.args.protocol c.args.config) (put (codes "condition") (condition_value t.condition s.holds) (put (codes "choices") (choices_value s.used s.stalled s.unused)
     (put (codes "cache") (cache_value (counts i)) no_members))))))))
     (c.members.ensures _ (c.member-8.ensures _ _ (c.member-7.ensures _ _ (c.member-6.ensures _ _ (c.member-5.ensures _ _ (c.member-4.ensures _ _ (c.member-3.ensures _ _ (c.member-2.ensures _ _ (c.member.ensures _ _ c.new.ensures c.cache_value.ensures)
-    c.choices_value-choices.ensures) c.condition_value.ensures) c.machine_value.ensures) c.memory_value.ensures) c.order_value.ensures) c.cores_value.ensures) c.word_value.ensures))
+    c.object_of.ensures) c.condition_value.ensures) c.machine_value.ensures) c.memory_value.ensures) c.order_value.ensures) c.cores_value.ensures) c.word_value.ensures))

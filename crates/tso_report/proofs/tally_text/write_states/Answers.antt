@@ -1,6 +1,6 @@
 use Rattle.tso_report.proofs.Vocabulary.{All, length, sym, subst, NameExists}
 use Rattle.tso_report.proofs.Looking.{looked-known}
-use Rattle.tso_report.proofs.tally_text.write_state.Goals as goal
+use Rattle.tso_report.proofs.tally_text.write_states.Goals as goal
 
 pub write_values-requires : goal.write_values-requires
 write_values-requires c =

@@ -1,5 +1,5 @@
 use Rattle.tso_report.proofs.Vocabulary.{◌∙◌, ◌+◌, ap, sym, drop, drop_more, with_data, members_view}
-use Rattle.tso_report.proofs.members.put_data.Goals as goal
+use Rattle.tso_report.proofs.members.object_of.Goals as goal
 
 pub loop-key-preserved : goal.loop-key-preserved
 loop-key-preserved c =

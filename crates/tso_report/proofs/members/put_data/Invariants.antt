@@ -1,6 +1,0 @@
-use Rattle.tso_report.proofs.Vocabulary.{◌≡◌, drop, members_view, with_data}
-use Rattle.tso_report.proofs.members.put_data.Given as goal
-
-abbrev pub invariant-loop-key : goal.invariant-loop-key
-invariant-loop-key l =
-    with_data (drop l.key-index l.fields) (members_view l.members.entries) ≡ with_data l.fields (members_view l.initial.members.entries)

@@ -1,7 +1,0 @@
-use Rattle.tso_report.proofs.Vocabulary.{◌≡◌, ◌-◌, ◌++◌, length, filter, is_looked_at, named_locations}
-use Rattle.tso_report.proofs.named.note_locations.Given as goal
-
-abbrev pub invariant-loop-loc : goal.invariant-loop-loc
-invariant-loop-loc l =
-    l.list.items ++ filter (is_looked_at l.test.condition) (named_locations l.loc (length l.test.locations - l.loc))
-    ≡ l.initial.list.items ++ filter (is_looked_at l.test.condition) (named_locations 0 (length l.test.locations))
