@@ -1,5 +1,6 @@
 pub mod Vocabulary
 pub mod LineNames
+pub mod Writing
 pub mod Effects
 pub mod Places
 pub mod Named

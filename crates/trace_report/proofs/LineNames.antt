@@ -1,5 +1,5 @@
 -- The name of a line, made name by name.
-use Rattle.trace_report.proofs.Vocabulary.{◌≡◌, ◌∙◌, ℕ, ◌+◌, ◌<◌, ◌≤◌, List, [], ◌∷◌, ◌++◌, length, take, drop, get_or, codes, Option, Some, sym, ap, append_assoc, append-nil, arith, drop_of_length-le, drop_more, get_or-take, length-take, Litmus, after_plus, joined_by_plus, line_name, write_back_text}
+use Rattle.trace_report.proofs.Vocabulary.{◌≡◌, ◌∙◌, ℕ, ◌+◌, ◌<◌, ◌≤◌, List, [], ◌∷◌, ◌++◌, length, take, drop, get_or, codes, sym, ap, append_assoc, append-nil, arith, drop_of_length-le, drop_more, get_or-take, length-take, after_plus, joined_by_plus}
 
 -- what is left of the first names from a place before their end
 left : (names : List (List ℕ)) (stop i : ℕ) → i < stop → i < length names → drop i (take stop names) ≡ get_or names i [] ∷ drop (i + 1) (take stop names)
@@ -27,10 +27,3 @@ all-named names words first i old begun text some there past began was =
     sym (append-nil text) ∙ (sym (ap (λ rest. text ++ after_plus rest) (drop_of_length-le listed past)) ∙ (was
     ∙ (ap (λ front. front ++ after_plus (drop (first + 1) listed)) began ∙ (append_assoc old (get_or names first []) (after_plus (drop (first + 1) listed))
     ∙ sym (ap (λ list. old ++ joined_by_plus list) (left names (first + words) first within there))))))
-
--- the words of a line that was written back, if one was
-pub one-written_back : (t : Litmus) (words : ℕ) (wrote_back : Option ℕ) (number : ℕ) (old middle text : List ℕ) → wrote_back ≡ Some number
-    → middle ≡ old ++ codes " write-back " → text ≡ middle ++ line_name t words number → text ≡ old ++ write_back_text t words wrote_back
-one-written_back t words wrote_back number old middle text some begun is =
-    is ∙ (ap (λ front. front ++ line_name t words number) begun ∙ (append_assoc old (codes " write-back ") (line_name t words number)
-    ∙ sym (ap (λ w. old ++ write_back_text t words w) some)))

@@ -10,7 +10,7 @@ use crate::step::LineRequest;
 use machine_core::{CacheUse, MemoryAccess};
 use protocol_tables::Request;
 use snoop_bus::{AccessKind, Transaction};
-use tso_model::{Bus, Core, Loc, Outcome};
+use tso_model::{Bus, Core, Outcome};
 
 /// What goes on the bus and to memory.
 #[derive(Clone, Copy)]
@@ -33,23 +33,13 @@ pub fn request_at(access: MemoryAccess, words: u8) -> Option<LineRequest>
     requires { 0 < words }
     ensures { result ≡ request_at words (memory_access_in access) }
 {
-    match access {
-        MemoryAccess::Nothing => None,
-        MemoryAccess::Read(loc) => Some(request_for(Request::GetS, loc, words)),
-        MemoryAccess::Write(loc) | MemoryAccess::Lock(loc) => {
-            Some(request_for(Request::GetM, loc, words))
-        }
-    }
-}
-
-fn request_for(request: Request, loc: Loc, words: u8) -> LineRequest
-    requires { 0 < words }
-    ensures { result ≡ record { request = request; line = loc.0 / words } }
-{
-    LineRequest {
-        request,
-        line: loc.0 / words,
-    }
+    let (request, loc) = match access {
+        MemoryAccess::Nothing => return None,
+        MemoryAccess::Read(loc) => (Request::GetS, loc),
+        MemoryAccess::Write(loc) | MemoryAccess::Lock(loc) => (Request::GetM, loc),
+    };
+    let line = loc.0 / words;
+    Some(LineRequest { request, line })
 }
 
 /// What a choice sends, on either bus: on the atomic bus with its access, on a split bus where it asks.

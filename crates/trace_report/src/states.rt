@@ -4,8 +4,8 @@
 ghost use Rattle.std.specs.Prelude.{◌≡◌, ◌<◌, ◌++◌, IfOk, OnOk, length};
 ghost use Rattle.std.specs.Int.{div_ceil};
 ghost use Rattle.machine_core.specs.Looking.{bus_holder_of};
-ghost use Rattle.trace_report.specs.Steps.{awaited_at, line_state, placed, line_states, number_of_lines, states_of, number_of_state};
-ghost use Rattle.trace_report.specs.Steps.{change_of, changes_in};
+ghost use Rattle.trace_report.specs.Steps.{awaited_at, line_state, line_states, number_of_lines, states_of, number_of_state};
+ghost use Rattle.trace_report.specs.Steps.{changes_in};
 ghost use Rattle.trace_report.specs.inner.Told.{IsLookedAt};
 
 use crate::step::{LineState, StateChange, core_of};
@@ -108,27 +108,17 @@ pub fn changes_in(
 {
     let mut changes = Vec::new(alloc);
     for at in 0..before.len().min(after.len()) {
-        note_change(&mut changes, before[at], after[at])?;
+        let (before, after) = (before[at], after[at]);
+        if number_of_state(before.state) != number_of_state(after.state) {
+            changes.push(StateChange {
+                core: before.core,
+                line: before.line,
+                before: before.state,
+                after: after.state,
+            })?;
+        }
     }
     Ok(changes)
-}
-
-fn note_change(
-    changes: &mut Vec<StateChange>,
-    before: PlacedState,
-    after: PlacedState,
-) -> Result<(), NoMemory>
-    ensures { OnOk result (changes.new.items ≡ changes.old.items ++ change_of before after) }
-{
-    if number_of_state(before.state) != number_of_state(after.state) {
-        changes.push(StateChange {
-            core: before.core,
-            line: before.line,
-            before: before.state,
-            after: after.state,
-        })?;
-    }
-    Ok(())
 }
 
 /// A number of each state, by which states are told apart; that of I is 0.

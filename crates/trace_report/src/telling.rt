@@ -3,7 +3,6 @@
 
 ghost use Rattle.std.specs.Prelude.{◌≡◌, ◌<◌, ◌+◌, ◌^◌, ◌++◌, IfOk, OnOk, length, drop};
 ghost use Rattle.std.specs.Option.{option_map};
-ghost use Rattle.tso_model.specs.Litmus.{IsTest};
 ghost use Rattle.tso_model.specs.Actions.{action_of};
 ghost use Rattle.tso_model.specs.FlatMachine.{chosen, core_of};
 ghost use Rattle.tso_model.specs.Runs.{stall_count};
@@ -93,7 +92,7 @@ pub fn tell_or_stall<P: Protocol>(
     // Between the two parts of a locked instruction no write of another core to its location hits.
     ensures answer { OnOk result (AnswerFits machine.old choice) }
 {
-    know_test(test);
+    test.know_limits();
     let core = core_of(choice);
     let place = machine.place(core).unwrap_or(0);
     let committed = machine.committed().len();
@@ -110,16 +109,17 @@ pub fn tell_or_stall<P: Protocol>(
     };
     let left = left_behind(alloc, machine, states, test, config, made)?;
     let sent = sent_on(config.bus(), outcome, request, cache_use, machine.awaited());
+    let (forwarded, access, wrote_back) = answered_by(cache_use, victim);
     Ok(Told::Made(Step {
         choice,
         outcome,
         entries: left.entries,
         moved: moved_in(machine, test, choice, place),
-        forwarded: is_forwarded(cache_use),
-        access: access_kind_in(cache_use),
+        forwarded,
+        access,
         request: sent.request,
         flushed: sent.flushed,
-        wrote_back: wrote_back_by(cache_use, victim),
+        wrote_back,
         changes: left.changes,
         buffer: left.buffer,
     }))
@@ -143,13 +143,6 @@ fn stalled_step(alloc: Global, choice: Choice, stall: Stall) -> Step
         changes: Vec::new(alloc),
         buffer: None,
     }
-}
-
-/// A test is within the limits.
-fn know_test(test: &Test)
-    ensures { IsTest test.now }
-{
-    let _cores = test.cores();
 }
 
 /// A choice that was made, its outcome, and how many entries were committed before it.
@@ -283,31 +276,20 @@ fn moved_by<P: Protocol>(machine: &Machine<P>, core: Core, instr: Instr) -> Opti
     }
 }
 
-fn is_forwarded(cache_use: CacheUse) -> bool
-    ensures { result ≡ is_forwarded cache_use }
+/// Whether the core's own pending stores answered the choice; what its access was; and where that sent a dirty line away, the
+/// line that gave way.
+fn answered_by(cache_use: CacheUse, victim: Option<u8>) -> (bool, Option<AccessKind>, Option<u8>)
+    ensures forwarded { result.0 ≡ is_forwarded cache_use }
+    ensures access { result.1 ≡ access_kind_in cache_use }
+    ensures wrote_back { result.2 ≡ wrote_back_by cache_use victim }
 {
     match cache_use {
-        CacheUse::Forwarded => true,
-        CacheUse::Unused | CacheUse::Through(_) => false,
-    }
-}
-
-fn access_kind_in(cache_use: CacheUse) -> Option<AccessKind>
-    ensures { result ≡ access_kind_in cache_use }
-{
-    match cache_use {
-        CacheUse::Unused | CacheUse::Forwarded => None,
-        CacheUse::Through(access) => Some(access.kind),
-    }
-}
-
-/// Where the access sent a dirty line away, the line that gave way.
-fn wrote_back_by(cache_use: CacheUse, victim: Option<u8>) -> Option<u8>
-    ensures { result ≡ wrote_back_by cache_use victim }
-{
-    match cache_use {
-        CacheUse::Through(access) if access.wrote_back => victim,
-        CacheUse::Unused | CacheUse::Forwarded | CacheUse::Through(_) => None,
+        CacheUse::Unused => (false, None, None),
+        CacheUse::Forwarded => (true, None, None),
+        CacheUse::Through(access) => {
+            let wrote_back = if access.wrote_back { victim } else { None };
+            (false, Some(access.kind), wrote_back)
+        }
     }
 }
 

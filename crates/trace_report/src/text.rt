@@ -1,16 +1,15 @@
 //! The lines of a trace: one for each choice that was used. A line tells what the choice did and nothing that stayed as it
 //! was.
 
-ghost use Rattle.std.specs.Prelude.{◌≡◌, ◌++◌, OnOk, All, IfSome, Some, codes, string_bytes};
+ghost use Rattle.std.specs.Prelude.{◌≡◌, ◌++◌, OnOk, All, IfSome, codes, option_map, string_bytes};
 ghost use Rattle.std.specs.Fmt.{decimal};
-ghost use Rattle.scheduler.specs.Printed.{printed_choice};
 ghost use Rattle.order_builder.specs.PrintedOrder.{HasLocation};
 ghost use Rattle.trace_report.specs.Shown.{shown_step};
 ghost use Rattle.protocol_tables.specs.PrintedTable.{line};
 ghost use Rattle.trace_report.specs.Lines.{line_name, entries_text, moved_text, access_text, outcome_name, outcome_text};
 ghost use Rattle.trace_report.specs.Lines.{request_text, flush_text, write_back_text, changes_text};
-ghost use Rattle.trace_report.specs.Lines.{printed_move, printed_request, printed_change};
-ghost use Rattle.trace_report.specs.Lines.{store_text, later_stores, stores_text, buffer_text, done_text, bus_traffic_text, left_text};
+ghost use Rattle.trace_report.specs.Lines.{printed_request, printed_change};
+ghost use Rattle.trace_report.specs.Lines.{stores_text, buffer_text, done_text};
 ghost use Rattle.trace_report.specs.Lines.{trace_step_line, end_line};
 ghost use Rattle.trace_report.specs.Known.{IsLine, IsAt, StepNamesExist};
 ghost use Rattle.trace_report.specs.Stalls.{stall_line};
@@ -59,8 +58,11 @@ pub fn write_step(
 {
     write_outcome(text, number, step.choice, step.outcome)?;
     write_done(text, alloc, test, step)?;
-    write_bus(text, test, words, step)?;
-    write_left(text, test, words, step)?;
+    write_request(text, test, words, step.request)?;
+    write_flush(text, step.flushed)?;
+    write_write_back(text, test, words, step.wrote_back)?;
+    write_changes(text, test, words, &step.changes)?;
+    write_buffer(text, test, core_of(step.choice), &step.buffer)?;
     write_word(text, "\n")
 }
 
@@ -88,10 +90,14 @@ fn write_outcome(
 ) -> Result<(), NoMemory>
     ensures { OnOk result (string_bytes text.new ≡ string_bytes text.old ++ outcome_text number choice outcome) }
 {
+    let (core, letter) = match choice {
+        Choice::Step(core) => (core, "s "),
+        Choice::Drain(core) => (core, "d "),
+    };
     write_number(text, number)?;
     text.push(' ')?;
-    write_choice(text, choice)?;
-    text.push(' ')?;
+    write_number(text, usize::from(core.0))?;
+    write_word(text, letter)?;
     write_outcome_name(text, outcome)
 }
 
@@ -115,18 +121,6 @@ fn write_word(text: &mut String, word: &str) -> Result<(), NoMemory>
     ensures { OnOk result (string_bytes text.new ≡ string_bytes text.old ++ word.now) }
 {
     Ok(text.push_str(word)?)
-}
-
-/// `0d`.
-fn write_choice(text: &mut String, choice: Choice) -> Result<(), NoMemory>
-    ensures { OnOk result (string_bytes text.new ≡ string_bytes text.old ++ printed_choice choice) }
-{
-    let (core, letter) = match choice {
-        Choice::Step(core) => (core, "s"),
-        Choice::Drain(core) => (core, "d"),
-    };
-    write_number(text, usize::from(core.0))?;
-    write_word(text, letter)
 }
 
 /// A number, in decimal. It goes past `write!`, which would take longer for it than the rest of a short line does.
@@ -176,22 +170,11 @@ fn write_moved(text: &mut String, moved: Option<Moved>) -> Result<(), NoMemory>
 {
     match moved {
         None => Ok(()),
-        Some(moved) => {
-            text.push(' ')?;
-            write_move(text, moved)
+        Some(Moved { reg, value }) => {
+            let name = reg.name();
+            Ok(write!(text, " {name}={value}")?)
         }
     }
-}
-
-/// Writes `EAX=5`.
-///
-/// Errors: out of memory only.
-pub fn write_move(text: &mut String, moved: Moved) -> Result<(), NoMemory>
-    ensures { OnOk result (string_bytes text.new ≡ string_bytes text.old ++ printed_move moved) }
-{
-    let (name, value) = (moved.reg.name(), moved.value);
-    write!(text, "{name}={value}")?;
-    Ok(())
 }
 
 fn write_access(text: &mut String, access: Option<AccessKind>) -> Result<(), NoMemory>
@@ -204,16 +187,6 @@ fn write_access(text: &mut String, access: Option<AccessKind>) -> Result<(), NoM
             write_word(text, access_name(kind))
         }
     }
-}
-
-/// What went on the bus and to memory.
-fn write_bus(text: &mut String, test: &Test, words: u8, step: &Step) -> Result<(), NoMemory>
-    requires { StepNamesExist test.now words (shown_step step.now) }
-    ensures { OnOk result (string_bytes text.new ≡ string_bytes text.old ++ bus_traffic_text test.now words (shown_step step.now)) }
-{
-    write_request(text, test, words, step.request)?;
-    write_flush(text, step.flushed)?;
-    write_write_back(text, test, words, step.wrote_back)
 }
 
 fn write_request(
@@ -272,11 +245,13 @@ fn write_write_back(
     requires { IfSome wrote_back (IsLine test.now words) }
     ensures { OnOk result (string_bytes text.new ≡ string_bytes text.old ++ write_back_text test.now words wrote_back) }
 {
-    if let Some(number) = wrote_back {
-        text.push_str(" write-back ")?;
-        write_line_name(text, test, words, number)?;
+    match wrote_back {
+        None => Ok(()),
+        Some(line) => {
+            write_word(text, " write-back ")?;
+            write_line_name(text, test, words, line)
+        }
     }
-    Ok(())
 }
 
 /// Writes the names of the locations of a line, with `+` between them.
@@ -300,18 +275,6 @@ pub fn write_line_name(
         write!(text, "+{name}")?;
     }
     Ok(())
-}
-
-/// The lines whose state changed, and the core's pending stores where they changed.
-fn write_left(text: &mut String, test: &Test, words: u8, step: &Step) -> Result<(), NoMemory>
-    requires { StepNamesExist test.now words (shown_step step.now) }
-    ensures { OnOk result (string_bytes text.new ≡ string_bytes text.old ++ left_text test.now words (shown_step step.now)) }
-{
-    write_changes(text, test, words, &step.changes)?;
-    match &step.buffer {
-        None => Ok(()),
-        Some(stores) => write_buffer(text, test, core_of(step.choice), stores),
-    }
 }
 
 fn write_changes(
@@ -350,16 +313,19 @@ pub fn write_change(
     Ok(())
 }
 
-/// ` P0[x=1 y=2]`.
+/// The core's pending stores where they changed, ` P0[x=1 y=2]`.
 fn write_buffer(
     text: &mut String,
     test: &Test,
     core: Core,
-    stores: &[Entry],
+    buffer: &Option<Vec<Entry>>,
 ) -> Result<(), NoMemory>
-    requires { All (IsAt test.now) stores.now }
-    ensures { OnOk result (string_bytes text.new ≡ string_bytes text.old ++ buffer_text test.now core.0 (Some stores.now)) }
+    requires { IfSome buffer.now (λ stores. All (IsAt test.now) stores.items) }
+    ensures { OnOk result (string_bytes text.new ≡ string_bytes text.old ++ buffer_text test.now core.0 (option_map (λ stores. stores.items) buffer.now)) }
 {
+    let Some(stores) = buffer else {
+        return Ok(());
+    };
     let core = core.0;
     write!(text, " P{core}[")?;
     write_stores(text, test, stores)?;
@@ -371,32 +337,10 @@ fn write_stores(text: &mut String, test: &Test, stores: &[Entry]) -> Result<(), 
     requires { All (IsAt test.now) stores.now }
     ensures { OnOk result (string_bytes text.new ≡ string_bytes text.old ++ stores_text test.now stores.now) }
 {
-    let Some((first, later)) = stores.split_first() else {
-        return Ok(());
-    };
-    write_store(text, test, first)?;
-    write_later(text, test, later)
-}
-
-fn write_later(text: &mut String, test: &Test, stores: &[Entry]) -> Result<(), NoMemory>
-    requires { All (IsAt test.now) stores.now }
-    ensures { OnOk result (string_bytes text.new ≡ string_bytes text.old ++ later_stores test.now stores.now) }
-{
-    for store in stores {
-        text.push(' ')?;
-        write_store(text, test, store)?;
+    for (at, store) in stores.iter().enumerate() {
+        let space = if at == 0 { "" } else { " " };
+        let (name, value) = (test.location_name(store.loc), store.value);
+        write!(text, "{space}{name}={value}")?;
     }
-    Ok(())
-}
-
-/// Writes a pending store, `x=1`.
-///
-/// Errors: out of memory only; the text may have grown then.
-pub fn write_store(text: &mut String, test: &Test, store: &Entry) -> Result<(), NoMemory>
-    requires { IsAt test.now store.now }
-    ensures { OnOk result (string_bytes text.new ≡ string_bytes text.old ++ store_text test.now store.now) }
-{
-    let (name, value) = (test.location_name(store.loc), store.value);
-    write!(text, "{name}={value}")?;
     Ok(())
 }

@@ -23,25 +23,25 @@ returns-in-Stalled-clause-step g c = bare g c
 pub returns-in-Stalled-clause-known : goal.returns-in-Stalled-clause-known
 returns-in-Stalled-clause-known g c =
     subst (StepNamesExist c.args.test.now c.args.config.shape.words) (sym (bare g c))
-    (step-known c.args.test.now c.args.config c.args.machine.now c.args.choice c.know_test.ensures c.requires.told.machine (subst IsLineSize c.words.ensures.value c.words.ensures.within))
+    (step-known c.args.test.now c.args.config c.args.machine.now c.args.choice c.know_limits.ensures c.requires.told.machine (subst IsLineSize c.words.ensures.value c.words.ensures.within))
 
 pub returns-in-Stalled-clause-same : goal.returns-in-Stalled-clause-same
 returns-in-Stalled-clause-same g c = λ _. unchanged g c
 
 pub returns-in-Stalled-clause-told : goal.returns-in-Stalled-clause-told
 returns-in-Stalled-clause-told g c =
-    told-next c.args.test.now c.args.config c.args.machine.now c.choose_telling.new.self c.args.choice c.args.states.now.items c.know_test.ensures c.requires.told.machine
+    told-next c.args.test.now c.args.config c.args.machine.now c.choose_telling.new.self c.args.choice c.args.states.now.items c.know_limits.ensures c.requires.told.machine
     c.in_ok-outcome.ensures.after (c.requires.told.states_are ∙ sym (ap states_of (same g c)))
 
 -- ---- any other choice
 
 pub left_behind-requires : goal.left_behind-requires
 left_behind-requires g c =
-    looked-next c.args.test.now c.args.config c.args.machine.now c.choose_telling.new.self c.args.choice c.know_test.ensures c.requires.told.machine
+    looked-next c.args.test.now c.args.config c.args.machine.now c.choose_telling.new.self c.args.choice c.know_limits.ensures c.requires.told.machine
     c.in_ok-outcome.ensures.after (subst IsLineSize c.words.ensures.value c.words.ensures.within)
 
 -- what was looked at again
-leaves : (g : _) (c : goal.After-wrote_back_by g) → Leaves c.args.machine.now c.args.choice c.in_ok-left.left
+leaves : (g : _) (c : goal.After-moved_in g) → Leaves c.args.machine.now c.args.choice c.in_ok-left.left
 leaves g c =
     let m = c.args.machine.now in
     let there : chosen c.args.choice < length m.state.flat.cores = subst (λ n. chosen c.args.choice < n) (sym c.requires.told.machine.cores) c.requires.core in
@@ -50,7 +50,7 @@ leaves g c =
 
 pub returns-clause-told : goal.returns-clause-told
 returns-clause-told g c =
-    told-next c.args.test.now c.args.config c.args.machine.now c.choose_telling.new.self c.args.choice c.left_behind.new.states.items c.know_test.ensures c.requires.told.machine
+    told-next c.args.test.now c.args.config c.args.machine.now c.choose_telling.new.self c.args.choice c.left_behind.new.states.items c.know_limits.ensures c.requires.told.machine
     c.in_ok-outcome.ensures.after (c.in_ok-left.ensures.states ∙ ap states_of c.in_ok-outcome.ensures.after)
 
 pub returns-clause-step : goal.returns-clause-step
@@ -75,12 +75,12 @@ returns-clause-step g c =
       left_is = leaves g c;
     } in
     told-whole c.args.test.now c.args.config m next choice how c.in_ok-outcome.outcome c.unwrap_or-place.result c.request_at-request.result c.giving_way-victim.result c.sent_on-sent.result left
-    c.moved_in.result c.is_forwarded.result c.access_kind_in.result c.wrote_back_by.result looked c.moved_in.ensures c.is_forwarded.ensures c.access_kind_in.ensures c.wrote_back_by.ensures
+    c.moved_in.result c.answered_by-forwarded.result.0 c.answered_by-forwarded.result.1 c.answered_by-forwarded.result.2 looked c.moved_in.ensures c.answered_by-forwarded.ensures.forwarded c.answered_by-forwarded.ensures.access c.answered_by-forwarded.ensures.wrote_back
 
 pub returns-clause-known : goal.returns-clause-known
 returns-clause-known g c =
     subst (StepNamesExist c.args.test.now c.args.config.shape.words) (sym (returns-clause-step g c))
-    (step-known c.args.test.now c.args.config c.args.machine.now c.args.choice c.know_test.ensures c.requires.told.machine (subst IsLineSize c.words.ensures.value c.words.ensures.within))
+    (step-known c.args.test.now c.args.config c.args.machine.now c.args.choice c.know_limits.ensures c.requires.told.machine (subst IsLineSize c.words.ensures.value c.words.ensures.within))
 
 -- ---- what the machine's own clauses say
 

@@ -1,13 +1,14 @@
-use Rattle.std.proofs.lemmas.Result.{on_ok_weaker}
-use Rattle.trace_report.specs.Lines.{store_text, stores_text}
-use Rattle.trace_report.proofs.Vocabulary.{◌∙◌, ◌++◌, ap, sym, append_assoc, string_bytes, later_stores}
+use Rattle.trace_report.proofs.Vocabulary.{◌+◌, ap, inl, inr, drop, drop_more, string_bytes}
+use Rattle.trace_report.proofs.Writing.{one-store}
 use Rattle.trace_report.proofs.text.write_stores.Goals as goal
+use Rattle.trace_report.proofs.text.write_stores.Goals.{then-at-eq0, else-at-eq0}
 
-pub returns : goal.returns
-returns c =
-    let t = c.args.test.now in
-    let old = string_bytes c.args.text.now in
-    let first = store_text t c.in-Some.first.now in
-    let later = later_stores t c.in-Some.later.now in
-    on_ok_weaker c.write_later.result
-    (λ e. e ∙ (ap (λ z. z ++ later) c.in_ok-write_store.ensures ∙ (append_assoc old first later ∙ ap (λ es. old ++ stores_text t es) (sym c.in-Some.ensures.cases.0)))) c.write_later.ensures
+pub loop-at-preserved : goal.loop-at-preserved
+loop-at-preserved c =
+    let xs = c.args.stores.now in
+    let at = c.loop-at.at in
+    one-store c.args.test.now at _ (drop (at + 1) xs) (drop at xs) c.if-at-eq0.space.now c.location_name-name.result.now (string_bytes c.loop-at.text) (string_bytes c.write.new.self) _
+    (elim c.if-at-eq0.branch [
+      | then-at-eq0 w ↦ inl (w.if-at-eq0.true, ap (λ s. s.now) w.space-is)
+      | else-at-eq0 w ↦ inr (w.if-at-eq0.false, ap (λ s. s.now) w.space-is)
+    ]) c.location_name-name.ensures c.in_ok-write.ensures.bytes (drop_more xs at _ c.loop-at-test.true) c.loop-at.invariant

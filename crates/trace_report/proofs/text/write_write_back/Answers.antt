@@ -1,8 +1,13 @@
-use Rattle.trace_report.proofs.Vocabulary.{string_bytes}
-use Rattle.trace_report.proofs.LineNames.{one-written_back}
+use Rattle.std.proofs.lemmas.Result.{on_ok_weaker}
+use Rattle.trace_report.proofs.Vocabulary.{◌∙◌, ◌++◌, ap, sym, append_assoc, codes, string_bytes, line_name, write_back_text}
 use Rattle.trace_report.proofs.text.write_write_back.Goals as goal
 
-pub returns-in_ok-write_line_name : goal.returns-in_ok-write_line_name
-returns-in_ok-write_line_name c =
-    one-written_back c.args.test.now c.args.words c.args.wrote_back c.in-Some.number (string_bytes c.args.text.now) (string_bytes c.push_str.new.self)
-    (string_bytes c.write_line_name.new.text) c.in-Some.is c.in_ok-push_str.ensures.bytes c.in_ok-write_line_name.ensures
+pub returns-in_ok-write_word-in-Some : goal.returns-in_ok-write_word-in-Some
+returns-in_ok-write_word-in-Some c =
+    let t = c.args.test.now in
+    let words = c.args.words in
+    let old = string_bytes c.args.text.now in
+    let name = line_name t words c.in-Some.line in
+    on_ok_weaker c.write_line_name.result
+    (λ e. e ∙ (ap (λ front. front ++ name) c.in_ok-write_word-in-Some.ensures ∙ (append_assoc old (codes " write-back ") name ∙ sym (ap (λ w. old ++ write_back_text t words w) c.in-Some.is))))
+    c.write_line_name.ensures
