@@ -17,8 +17,12 @@ pub is_present : (o : Option Line) (copy : Line) → o ≡ Some copy → IsSome 
 is_present o copy e = rw e refl
 
 -- a copy that is written in place goes to M
-pub in_m : (t : Table) → WritesInPlace t.written → (s next : State) → t.written s ≡ Some next → t.written s ≡ Some M
-in_m t law s next e = e ∙ ap (λ (n : State). Some n) (written_m s next (sym (law s) ∙ e))
+pub written_is : (t : Table) → WritesInPlace t.written → (s : State) → is_some (t.written s) ≡ true → t.written s ≡ Some M
+written_is t law s e = by_next (t.written s) refl e
+  where
+    by_next : (next : Option State) → t.written s ≡ next → is_some next ≡ true → t.written s ≡ Some M
+    by_next None is e1 = cc
+    by_next (Some next) is e1 = is ∙ ap (λ (n : State). Some n) (written_m s next (sym (law s) ∙ is))
 
 -- nobody holds the bus
 pub is_free : (held : Option HeldBus) → is_some held ≡ false → held ≡ None

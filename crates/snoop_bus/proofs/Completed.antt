@@ -1,9 +1,9 @@
 -- What a bus has once the access of its holder was completed.
-use Rattle.snoop_bus.proofs.Vocabulary.{◌≡◌, ◌/◌, ◌%◌, ℕ, Option, Some, None, List, length, slice_index, slice_set, refl, sym, ap, ◌∙◌, Core, Loc, Table, Transient, SmD, Access, Hierarchy, HeldBus, Stage, Locked, M, Transaction, Geometry, Words, state_of_copy, Sets, copy_at, ways_of, victim_at, counted_copies_of, counted_in, holder, held_by, BusModel, bus_with, words_of, holder_of, program_words, current_words, IsSameMachine, IsBus, awaited_in, completed_memory, completed_memory_in, IsCurrentWord, CompletesAt, words_due, Completes, KeepsWords, SetsWord}
+use Rattle.snoop_bus.proofs.Vocabulary.{◌≡◌, ◌/◌, ◌%◌, ℕ, Option, Some, None, List, length, slice_index, refl, sym, ap, ◌∙◌, Core, Loc, Table, Transient, SmD, Access, Hierarchy, HeldBus, Stage, Locked, M, Transaction, Geometry, Words, state_of_copy, Sets, copy_at, ways_of, victim_at, counted_copies_of, counted_in, holder, held_by, BusModel, bus_with, words_of, holder_of, program_words, current_words, IsSameMachine, IsBus, awaited_in, completed_memory, completed_memory_in, IsCurrentWord, CompletesAt, words_due, Completes, KeepsWords}
 use Rattle.snoop_bus.specs.declared.target.Target.{Target}
 use Rattle.snoop_bus.proofs.MemoryLemmas.{length-written_back}
-use Rattle.snoop_bus.proofs.WordLemmas.{words-get, words-same, words-set}
-use Rattle.snoop_bus.proofs.NewLemmas.{same_cores, bus-kept, bus-set}
+use Rattle.snoop_bus.proofs.WordLemmas.{words-get, words-same}
+use Rattle.snoop_bus.proofs.NewLemmas.{same_cores, bus-kept}
 use Rattle.snoop_bus.proofs.HolderLemmas.{Holds, holds, same_held}
 use Rattle.snoop_bus.proofs.UpgradeAsk.{now_held}
 use Rattle.snoop_bus.proofs.RowLemmas.{table_of-rows}
@@ -77,16 +77,3 @@ module _ (t : Table) (shape : Geometry) (locations : ℕ) (held : Option HeldBus
           (bus-kept shape locations old new held (Some (held_by core loc Locked (loc.0 / shape.words) None)) s.bus (size access ok) there s.ways
           (now_held old.caches.items new.caches.items old.memory.items new.memory.items core loc Locked (loc.0 / shape.words) None s.ways known.core_in known.some_set known.within (size access ok) (rw s.target_is at own))
           (record { loc_in = known.loc_in; line_is = refl }))
-
-    -- one word was written
-    module _ (value : ℕ) (sets : SetsWord target.line target.offset value (counted_in target.core target.line h.transaction old.caches.items) new.caches.items old.memory.items new.memory.items) where
-      here : SetsWord (loc.0 / shape.words) (loc.0 % shape.words) value (counted_copies_of held old.caches.items) new.caches.items old.memory.items new.memory.items
-      here = rw known.held_is (rw s.target_is at sets)
-
-      pub word_set : program_words shape locations new.caches.items new.memory.items ≡ slice_set (words_of now) loc.0 value
-      word_set = rw (← s.now_is)
-          (words-set shape.words locations (length old.memory.items) (current_words (counted_copies_of held old.caches.items) old.memory.items) (current_words new.caches.items new.memory.items) loc.0 value
-          s.bus.some_word s.bus.enough_lines known.loc_in here.offset_in here.lines)
-
-      pub written : (access : Access) → Completes t h.transaction target.core target.line old new access → IsBus shape locations new.caches.items new.memory.items None
-      written access ok = bus-set shape locations old new held loc.0 value s.bus (size access ok) known.loc_in here s.ways

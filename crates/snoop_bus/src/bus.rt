@@ -21,7 +21,7 @@ use crate::hierarchy::Hierarchy;
 use crate::holding::{HeldBus, Stage, held_at};
 use crate::lines::lines_of;
 use crate::shape::Shape;
-use crate::target::{Change, Wanted};
+use crate::target::{Target, Wanted};
 use protocol_tables::Protocol;
 use std::alloc::Global;
 use std::marker::Model;
@@ -193,11 +193,18 @@ impl<P: Protocol> SnoopBus<P> {
         ensures machine { IsSameMachine self.old self.new }
     {
         let target = self.shape.target_of(core, loc);
-        let change = Change { update, value };
-        Ok(
-            self.hierarchy
-                .update(&self.protocol, self.held, target, change),
-        )
+        let Target { core, line, offset } = target;
+        let (words, access) = self
+            .hierarchy
+            .acquire(&self.protocol, self.held, core, line);
+        let before = words[usize::from(offset)];
+        let after = update.apply(before, value);
+        self.hierarchy.write(target, after);
+        Ok(Updated {
+            before,
+            after,
+            access,
+        })
     }
 
     /// Whether an access would be a hit, which needs no bus. While another core's write access holds the bus,
@@ -274,12 +281,8 @@ impl<P: Protocol> SnoopBus<P> {
         ensures coherent { IsCoherent self.new }
         ensures machine { IsSameMachine self.old self.new }
     {
-        let held = self.held.unwrap();
-        let target = self.shape.target_of(core, loc);
-        let access = self
-            .hierarchy
-            .complete_store(&self.protocol, target, held.transaction, value);
-        self.held = None;
+        let (_, access) = self.complete_read(core, loc)?;
+        self.complete_write(core, loc, value);
         Ok(access)
     }
 
@@ -301,12 +304,16 @@ impl<P: Protocol> SnoopBus<P> {
         ensures machine { IsSameMachine self.old self.new }
     {
         let held = self.held.unwrap();
-        let target = self.shape.target_of(core, loc);
-        let done = self
+        let Target {
+            core: at,
+            line,
+            offset,
+        } = self.shape.target_of(core, loc);
+        let (words, access) = self
             .hierarchy
-            .complete_read(&self.protocol, target, held.transaction);
+            .acquire_asked(&self.protocol, at, line, held.transaction);
         self.held = Some(held_at(core, loc, Stage::Locked, held.line, None));
-        Ok(done)
+        Ok((words[usize::from(offset)], access))
     }
 
     /// The write of a locked instruction that has read; then nobody holds the bus. No other word that is

@@ -82,6 +82,7 @@ impl Cache {
     pub fn look(&self, line: u8) -> Option<&Line>
         ensures found { option_copied result ≡ copy_in self.now line }
         ensures valid { IsCacheSet (set_at self.now line) }
+        ensures some { 0 < length self.now }
         ensures home { AtHome self.now }
         ensures not_invalid { IfSome (copy_in self.now line) (λ copy. copy.state ≢ State.I) }
     {

@@ -12,8 +12,7 @@ ghost use Rattle.snoop_bus.specs.Held.{with_counted_copy, counted_in};
 ghost use Rattle.snoop_bus.specs.Copies.{cache_of, copy_at, tags_of};
 ghost use Rattle.snoop_bus.specs.inner.Copies.{ways_of};
 ghost use Rattle.snoop_bus.specs.Bus.{AllCoherent};
-ghost use Rattle.snoop_bus.specs.inner.Accessing.{KeepsWords, SetsWord};
-ghost use Rattle.snoop_bus.specs.Coherent.{state_of_copy};
+ghost use Rattle.snoop_bus.specs.inner.Accessing.{KeepsWords};
 ghost use Rattle.snoop_bus.specs.declared.access.AccessKind.TheVariants.{Miss};
 
 use crate::access::{Access, AccessKind};
@@ -113,48 +112,5 @@ impl Hierarchy {
         let Target { core, line, offset } = target;
         let access = self.fill_asked(protocol, core, line, transaction);
         (transaction.copy.words[usize::from(offset)], access)
-    }
-
-    /// Completes a store at an offset in a line. Answers what the access was.
-    pub fn complete_store<P: Protocol>(
-        &mut self,
-        protocol: &P,
-        target: Target,
-        transaction: Option<Transaction>,
-        value: u32,
-    ) -> Access
-        requires awaited { IsAwaited Write transaction target.core target.line self.old }
-        requires offset { target.offset < most_words }
-
-        ensures ok { Completes (P.table protocol.now) transaction target.core target.line self.old self.new result }
-        ensures words { SetsWord target.line target.offset value (counted_in target.core target.line transaction self.old.caches.items) self.new.caches.items self.old.memory.items self.new.memory.items }
-        ensures ways { ways_of self.new.caches.items ≡ ways_of self.old.caches.items }
-    {
-        let Target { core, line, .. } = target;
-        let (_, access) = self.acquire_asked(protocol, core, line, transaction);
-        self.write(target, value);
-        access
-    }
-
-    /// Completes the read of a locked instruction at an offset in a line. Answers the word, and what the access was; the core's copy
-    /// is then in M.
-    pub fn complete_read<P: Protocol>(
-        &mut self,
-        protocol: &P,
-        target: Target,
-        transaction: Option<Transaction>,
-    ) -> (u32, Access)
-        requires awaited { IsAwaited Write transaction target.core target.line self.old }
-        requires offset { target.offset < most_words }
-
-        ensures word { result.0 ≡ slice_index (words_due transaction target.core target.line self.old) target.offset }
-        ensures ok { Completes (P.table protocol.now) transaction target.core target.line self.old self.new result.1 }
-        ensures own { state_of_copy (copy_at self.new.caches.items target.core target.line) ≡ M }
-        ensures words { KeepsWords (counted_in target.core target.line transaction self.old.caches.items) self.new.caches.items self.old.memory.items self.new.memory.items }
-        ensures ways { ways_of self.new.caches.items ≡ ways_of self.old.caches.items }
-    {
-        let Target { core, line, offset } = target;
-        let (words, access) = self.acquire_asked(protocol, core, line, transaction);
-        (words[usize::from(offset)], access)
     }
 }

@@ -21,11 +21,9 @@ pub fn lines_of(
     ensures value { IfOk result (λ lines. lines.items ≡ lines_of_words shape.words words.now (div_ceil (length words.now) shape.words)) }
     ensures size { (1 ≤ shape.words) × (shape.words ≤ most_words) }
 {
-    let size = usize::from(shape.words());
-    let mut lines = Vec::new(alloc);
-    for line in 0..words.len().div_ceil(size) {
-        lines.push(line_at(words, size, line))?;
-    }
+    let count = words.len().div_ceil(usize::from(shape.words()));
+    let mut lines = vec![in alloc; [0; MAX_WORDS]; count]?;
+    put_lines(&mut lines, shape, words);
     Ok(lines)
 }
 

@@ -5,10 +5,9 @@
 ghost use Rattle.std.specs.Prelude.{◌≡◌, ◌<◌, ◌⊎◌, None, IsSome};
 ghost use Rattle.cache_set.specs.Limits.{most_words};
 ghost use Rattle.snoop_bus.specs.Copies.{copy_at};
-ghost use Rattle.snoop_bus.specs.inner.Accessing.{IsReady, Loads, KeepsWords, KeepsBeside};
+ghost use Rattle.snoop_bus.specs.inner.Accessing.{IsReady, Loads, KeepsBeside};
 
 use crate::access::{Access, AccessKind};
-use crate::cache::know_sets;
 use crate::hierarchy::Hierarchy;
 use crate::holding::HeldBus;
 use crate::target::Target;
@@ -41,20 +40,7 @@ impl Hierarchy {
         }
         // Only a hit goes on beside an action that holds the bus.
         prove!(held.is_none());
-        self.load_miss(protocol, target)
-    }
-
-    /// A load of a line that the core doesn't have, in its two halves.
-    fn load_miss<P: Protocol>(&mut self, protocol: &P, target: Target) -> (u32, Access)
-        requires ready { IsReady None target.core target.line self.old }
-        requires offset { target.offset < most_words }
-        requires absent { copy_at self.old.caches.items target.core target.line ≡ None }
-
-        ensures ok { Loads (P.table protocol.now) None target.core target.line target.offset self.old.caches.items self.new.caches.items self.old.memory.items self.new.memory.items result.0 result.1 }
-        ensures words { KeepsWords self.old.caches.items self.new.caches.items self.old.memory.items self.new.memory.items }
-    {
-        know_sets(&self.caches[target.core]);
-        let transaction = self.ask_load(protocol, target.core, target.line);
+        let transaction = self.ask_load(protocol, core, line);
         self.complete_load(protocol, target, Some(transaction))
     }
 }

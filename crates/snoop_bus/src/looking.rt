@@ -2,7 +2,6 @@
 //! look is no access, moves no line to the front, and isn't counted.
 
 ghost use Rattle.std.specs.Prelude.{◌≡◌, ◌<◌, IfSome, length, option_map, slice_get};
-ghost use Rattle.snoop_bus.specs.Lines.{line_of_words};
 ghost use Rattle.snoop_bus.specs.Bus.{words_of, cores_of, IsFree, IsCoherent, words_among, current_words, AllCoherent};
 ghost use Rattle.snoop_bus.specs.inner.Bus.{HasLines};
 ghost use Rattle.snoop_bus.specs.Held.{counted_copies_of};
@@ -10,7 +9,6 @@ ghost use Rattle.snoop_bus.specs.inner.Held.{IsHeld, kept_words};
 ghost use Rattle.snoop_bus.specs.Accesses.{awaited_of, contents_of, line_of_location, IsCurrentWord};
 ghost use Rattle.snoop_bus.specs.inner.Accesses.{copies_of, ranked_line, memory_words_of, IsClean};
 ghost use Rattle.snoop_bus.specs.Asks.{tag_at, awaited_by};
-ghost use Rattle.snoop_bus.specs.Copies.{tags_of};
 
 use crate::bus::SnoopBus;
 use crate::cache::Cache;
@@ -87,8 +85,10 @@ impl<P: Protocol> SnoopBus<P> {
     pub fn transient(&self) -> Option<Transient>
         ensures { result ≡ option_map (λ awaited. awaited.transient) (awaited_of self.now) }
     {
-        let transaction = self.held?.transaction?;
-        Some(transaction.transient)
+        match self.awaited() {
+            None => None,
+            Some(transaction) => Some(transaction.transient),
+        }
     }
 }
 
@@ -145,6 +145,9 @@ impl<P: Protocol> SnoopBus<P> {
     pub fn awaited(&self) -> Option<Transaction>
         ensures { option_map awaited_by result ≡ awaited_of self.now }
     {
-        self.held?.transaction
+        match self.held {
+            None => None,
+            Some(held) => held.transaction,
+        }
     }
 }

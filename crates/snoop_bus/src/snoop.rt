@@ -7,7 +7,7 @@ ghost use Rattle.snoop_bus.specs.CacheContents.{requested, dirty_in};
 ghost use Rattle.snoop_bus.specs.Copies.{tags_of, cache_of};
 ghost use Rattle.snoop_bus.specs.inner.Copies.{ways_of, ways_in, copy_state_in, state_at, OnlyAt};
 ghost use Rattle.snoop_bus.specs.Requests.{snoop_column};
-ghost use Rattle.snoop_bus.specs.inner.Requests.{after_request, copy_left_by, SeenAt, LeftAt, LeftByOthers};
+ghost use Rattle.snoop_bus.specs.inner.Requests.{after_request, copy_left_by, LeftByOthers};
 ghost use Rattle.snoop_bus.specs.MemoryAfter.{written_back};
 
 use crate::bus::MAX_CORES;
@@ -16,14 +16,6 @@ use crate::hierarchy::Hierarchy;
 use cache_set::{MAX_WORDS, Victim};
 use protocol_tables::{Protocol, Request, Snoop, State};
 use tso_model::Core;
-
-/// A core's request for a line, as the other caches see it.
-#[derive(Clone, Copy)]
-struct Seen {
-    request: Request,
-    core: usize,
-    line: u8,
-}
 
 /// What a copy in this state does when another core's request for its line is seen.
 pub fn answer<P: Protocol>(protocol: &P, request: Request, state: State) -> Snoop
@@ -58,29 +50,6 @@ fn snoop_one<P: Protocol>(
 }
 
 impl Hierarchy {
-    /// A cache, whose copy of the line is in this state, sees a core's request for the line, if it isn't that
-    /// core's own.
-    fn snoop_at<P: Protocol>(
-        &mut self,
-        protocol: &P,
-        seen: Seen,
-        other: usize,
-        state: Option<State>,
-    )
-        requires other { other < length self.old.caches.items }
-        requires state { other ≢ seen.core → state ≡ state_at self.old.caches.items other seen.line }
-        ensures seen { SeenAt other (snoop_column (P.table protocol.now) seen.request) seen.core seen.line self.old.caches.items self.new.caches.items }
-        ensures copies { LeftAt other (snoop_column (P.table protocol.now) seen.request) seen.core seen.line self.old.caches.items self.new.caches.items }
-        ensures ways { ways_of self.new.caches.items ≡ ways_of self.old.caches.items }
-        ensures memory { self.new.memory.items ≡ self.old.memory.items }
-    {
-        if other == seen.core {
-            return;
-        }
-        let cache = &mut self.caches[other];
-        snoop_one(cache, protocol, seen.request, seen.line, state);
-    }
-
     /// Every cache but the core's own sees its request for a line. Their copies of it are in these states, core
     /// by core.
     pub fn snoop_others<P: Protocol>(
@@ -99,13 +68,11 @@ impl Hierarchy {
         ensures ways { ways_of self.new.caches.items ≡ ways_of self.old.caches.items }
         ensures memory { self.new.memory.items ≡ self.old.memory.items }
     {
-        let seen = Seen {
-            request,
-            core,
-            line,
-        };
         for other in 0..self.caches.len() {
-            self.snoop_at(protocol, seen, other, states[other]);
+            if other != core {
+                let cache = &mut self.caches[other];
+                snoop_one(cache, protocol, request, line, states[other]);
+            }
         }
     }
 

@@ -1,7 +1,7 @@
 //! What an access is to, and what a write access makes of it: a line asked of the bus, and one word of it that is read or
 //! written.
 
-use tso_model::{Core, Loc, Update};
+use tso_model::{Core, Loc};
 
 /// A word of a line, for a core: the line's number, and the word's offset in it.
 #[derive(Clone, Copy)]
@@ -9,13 +9,6 @@ pub struct Target {
     pub core: usize,
     pub line: u8,
     pub offset: u8,
-}
-
-/// What a write access makes of a word: what the update makes of it and of this value.
-#[derive(Clone, Copy)]
-pub struct Change {
-    pub update: Update,
-    pub value: u32,
 }
 
 /// What a core asks the bus for: the line of a location, to read the word or to write it.

@@ -1,63 +1,27 @@
 //! Stores and locked accesses: what writes a word of a line. First the core's copy must be in M and no other core may have
 //! one; a write in S or O has to ask by GetM (an upgrade), and one in M or E needs no bus. (Primer, chapters 6 and 7.)
 
-ghost use Rattle.std.specs.Prelude.{◌≡◌, ◌≢◌, ◌<◌, true, false, None, Some, IsSome, IfSome, length, option_map};
-ghost use Rattle.tso_model.specs.Thread.{updated};
+ghost use Rattle.std.specs.Prelude.{◌≡◌, ◌≢◌, ◌<◌, Some, IsSome, length, option_map};
 ghost use Rattle.cache_set.specs.Limits.{most_words};
 ghost use Rattle.cache_set.specs.inner.Copy.{with_state, with_word};
-ghost use Rattle.snoop_bus.specs.Asks.{hits};
 ghost use Rattle.snoop_bus.specs.CacheContents.{used_by};
 ghost use Rattle.snoop_bus.specs.Copies.{copy_at, tags_of};
 ghost use Rattle.snoop_bus.specs.inner.Copies.{ways_of};
-ghost use Rattle.snoop_bus.specs.Held.{counted_copies_of};
-ghost use Rattle.snoop_bus.specs.inner.Held.{IsHeld};
-ghost use Rattle.snoop_bus.specs.Bus.{AllCoherent};
 ghost use Rattle.snoop_bus.specs.inner.Requests.{ChangesCopy};
-ghost use Rattle.snoop_bus.specs.inner.Accessing.{IsReady, MayWrite, Acquires, Updates, KeepsWords, KeepsBeside};
+ghost use Rattle.snoop_bus.specs.inner.Accessing.{IsReady, MayWrite, Acquires, KeepsBeside};
 
-use crate::access::{Access, AccessKind, Updated};
-use crate::cache::know_sets;
+use crate::access::{Access, AccessKind};
 use crate::hierarchy::Hierarchy;
 use crate::holding::HeldBus;
-use crate::target::{Change, Target};
-use cache_set::{Line, MAX_WORDS};
+use crate::target::Target;
+use cache_set::MAX_WORDS;
 use protocol_tables::{Protocol, State};
 
 impl Hierarchy {
-    /// A core's write access to a line, which makes this change to the word. Answers the word before and after, and what the access was.
-    #[inline(always)]
-    pub fn update<P: Protocol>(
-        &mut self,
-        protocol: &P,
-        held: Option<HeldBus>,
-        target: Target,
-        change: Change,
-    ) -> Updated
-        requires ready { IsReady held target.core target.line self.old }
-        requires offset { target.offset < most_words }
-        requires free { MayWrite (P.table protocol.now) held target.core target.line (tags_of self.old.caches.items) }
-
-        ensures ok { Updates (P.table protocol.now) held target.core target.line target.offset self.old.caches.items self.new.caches.items self.old.memory.items self.new.memory.items result }
-        ensures after { result.after ≡ updated change.update result.before change.value }
-        ensures coherent { AllCoherent (counted_copies_of held self.new.caches.items) self.new.memory.items }
-        ensures awaited { IfSome held (IsHeld self.new.caches.items self.new.memory.items) }
-        ensures ways { ways_of self.new.caches.items ≡ ways_of self.old.caches.items }
-    {
-        let (words, access) = self.acquire(protocol, held, target.core, target.line);
-        let before = words[usize::from(target.offset)];
-        let after = change.update.apply(before, change.value);
-        self.write(target, after);
-        Updated {
-            before,
-            after,
-            access,
-        }
-    }
-
     /// A core's write access to a line, but for the word that it writes: the core's copy is then in M, and
     /// no other core has one. Answers the words that the line has, and what the access was.
     #[inline(always)]
-    fn acquire<P: Protocol>(
+    pub fn acquire<P: Protocol>(
         &mut self,
         protocol: &P,
         held: Option<HeldBus>,
@@ -70,45 +34,15 @@ impl Hierarchy {
         ensures ok { Acquires (P.table protocol.now) held core line self.old.caches.items self.new.caches.items self.old.memory.items self.new.memory.items result.0 result.1 }
         ensures kept { KeepsBeside held self.old.caches.items self.new.caches.items self.old.memory.items self.new.memory.items }
     {
-        if let Some(copy) = self.copy_in_place(protocol, core, line) {
-            let words = copy.words;
-            self.enter(core, line, State::M);
-            return (words, Access::quiet(AccessKind::Hit));
+        if let Some(copy) = self.caches[core].look(line).copied() {
+            if protocol.written(copy.state).is_some() {
+                let words = copy.words;
+                self.enter(core, line, State::M);
+                return (words, Access::quiet(AccessKind::Hit));
+            }
         }
         // Only a hit goes on beside an action that holds the bus.
         prove!(held.is_none());
-        self.acquire_by_request(protocol, core, line)
-    }
-
-    /// A core's copy of a line, if it is written in place, which needs no bus.
-    #[inline(always)]
-    fn copy_in_place<P: Protocol>(&self, protocol: &P, core: usize, line: u8) -> Option<Line>
-        requires { core < length self.now.caches.items }
-        ensures found { IfSome result (λ copy. (copy_at self.now.caches.items core line ≡ Some copy) × ((P.table protocol.now).written copy.state ≡ Some State.M)) }
-        ensures misses { result ≡ None → hits (P.table protocol.now) core line true (tags_of self.now.caches.items) ≡ false }
-    {
-        match self.caches[core].look(line).copied() {
-            None => None,
-            Some(copy) => match protocol.written(copy.state) {
-                None => None,
-                Some(_) => Some(copy),
-            },
-        }
-    }
-
-    /// A write access that has to ask, but for the word that it writes, in its two halves.
-    fn acquire_by_request<P: Protocol>(
-        &mut self,
-        protocol: &P,
-        core: usize,
-        line: u8,
-    ) -> ([u32; MAX_WORDS], Access)
-        requires ready { IsReady None core line self.old }
-
-        ensures ok { Acquires (P.table protocol.now) None core line self.old.caches.items self.new.caches.items self.old.memory.items self.new.memory.items result.0 result.1 }
-        ensures words { KeepsWords self.old.caches.items self.new.caches.items self.old.memory.items self.new.memory.items }
-    {
-        know_sets(&self.caches[core]);
         let transaction = self.ask_write(protocol, core, line);
         self.acquire_asked(protocol, core, line, transaction)
     }
