@@ -1,5 +1,5 @@
 -- What an ask answers and leaves.
-use Rattle.snoop_bus.proofs.Vocabulary.{get_or-set_same, get_or-set_other, length-set, list_any, ◌≡◌, ◌⊎◌, inl, inr, ℕ, ◌<◌, true, false, Option, Some, None, is_some, List, [], length, refl, sym, ap, subst, ◌∙◌, slice_set, if◌then◌else◌, is_dirty, GivesUp, Shares, CleansByMemory, Supplies, FillsExclusiveOnlyAlone, Table, State, I, M, Snoop, GetS, GetM, IsD, ImD, Core, Line, copy_with, Words, line_in, Coherent, state_of_copy, is_held, flusher_from, Sets, copy_in, copy_at, cache_of, tags_of, ways_of, current_words, AllCoherent, flushed, sent_words, copy_left_by, LeftByOthers, Supplied, KeepsWords, with_counted_copy, asked_memory, transacting, cases_Bool}
+use Rattle.snoop_bus.proofs.Vocabulary.{get_or-set_same, get_or-set_other, length-set, list_any, ◌≡◌, ◌⊎◌, inl, inr, ℕ, ◌<◌, true, false, Option, Some, None, is_some, List, [], length, refl, sym, ap, subst, ◌∙◌, slice_set, if◌then◌else◌, is_dirty, GivesUp, Shares, CleansByMemory, Supplies, FillsExclusiveOnlyAlone, Table, State, I, M, Snoop, GetS, GetM, Transient, IsD, Core, Line, copy_with, Words, line_in, Coherent, state_of_copy, is_held, flusher_from, Sets, copy_in, copy_at, cache_of, tags_of, ways_of, current_words, AllCoherent, flushed, sent_words, copy_left_by, LeftByOthers, Supplied, KeepsWords, with_counted_copy, asked_memory, transacting, cases_Bool}
 use Rattle.snoop_bus.proofs.CacheTags.{is_held-copies}
 use Rattle.snoop_bus.proofs.Coherence.{shared-coherent, fill-coherent, write-coherent}
 use Rattle.snoop_bus.proofs.Asked.{Asked, own_line, others_line, asked-keeps}
@@ -106,6 +106,6 @@ module _ (t : Table) (gives : GivesUp t.on_get_m) (c0 c1 : List Sets) (m : List 
         (write-coherent w (line_in m line) core (λ i. copy_at new i line) (own_line t.on_get_m c0 c1 m m core line (copy_with M w) write_asked)
         (λ i d. others_line t.on_get_m c0 c1 m m core line (copy_with M w) write_asked i d ∙ gives_up t.on_get_m gives (copy_at c0 i line))))
 
-    pub write_ask-transaction : record { transient = ImD; copy = copy_with M w; flushed = None } ≡ transacting t GetM line (current_words c0 m line) (tags_of c0) ImD
+    pub write_ask-transaction : (x : Transient) → record { transient = x; copy = copy_with M w; flushed = None } ≡ transacting t GetM line (current_words c0 m line) (tags_of c0) x
     unfolding transacting
-    write_ask-transaction = rw h.words refl
+    write_ask-transaction x = rw h.words refl

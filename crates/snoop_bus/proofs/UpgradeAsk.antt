@@ -1,5 +1,5 @@
--- An ask for a write access to a line that the core has.
-use Rattle.snoop_bus.proofs.Vocabulary.{◌≡◌, ◌⊎◌, inl, inr, ℕ, ◌<◌, Bool, true, false, not, IsTrue, IsSome, is_some, Option, Some, None, option_map, List, length, refl, sym, ap, ◌∙◌, Core, Loc, Table, transient_of, State, M, GetS, GetM, Transient, IsD, ImD, Line, copy_with, Words, state_of_copy, TagSets, requested, Sets, copy_at, cache_of, tags_of, ways_of, current_words, HeldBus, Transaction, Stage, Load, Write, stage_for, Awaits, IsHeld, held_by, hits, request_for, asked_for, asked_caches, or_invalid, transacting, transaction_of, next_in_place}
+-- An ask for a write access, and what an ask leaves.
+use Rattle.snoop_bus.proofs.Vocabulary.{◌≢◌, IfSome, I, S, E, O, SmD, in_place, ◌≡◌, ◌⊎◌, inl, inr, ℕ, ◌<◌, Bool, true, false, not, IsTrue, IsSome, is_some, Option, Some, None, option_map, List, length, refl, sym, ap, ◌∙◌, Core, Loc, Table, transient_of, State, M, GetS, GetM, Transient, IsD, ImD, Line, copy_with, Words, state_of_copy, TagSets, requested, Sets, copy_at, cache_of, tags_of, ways_of, current_words, HeldBus, Transaction, Stage, Load, Write, stage_for, Awaits, IsHeld, held_by, hits, request_for, asked_for, asked_caches, or_invalid, transacting, transaction_of, next_in_place}
 use Rattle.snoop_bus.proofs.NewLemmas.{same_cores}
 use Rattle.snoop_bus.proofs.AccessLemmas.{tag_here}
 use Rattle.snoop_bus.proofs.HeldLemmas.{same_sets}
@@ -12,25 +12,25 @@ asked_by-copy caches core line = ap (λ (o : Option State). transient_of (or_inv
     by_copy None = refl
     by_copy (Some copy) = refl
 
-pub asked_by-found : (caches : List Sets) (core line : ℕ) (copy : Line) → copy_at caches core line ≡ Some copy → asked_for GetM core line (tags_of caches) ≡ transient_of copy.state GetM
-asked_by-found caches core line copy found = asked_by-copy caches core line ∙ rw found refl
+-- what its copy is then, and what it is where nothing is asked for
+pub write_ask-awaits : (own : Option Line) (x : Transient) (w : Words) → transient_of (state_of_copy own) GetM ≡ Some x → IfSome own (λ copy. copy.state ≢ I) → ((copy : Line) → own ≡ Some copy → copy.words ≡ w) →
+    Awaits Write (Some (record { transient = x; copy = copy_with M w; flushed = None })) own
+write_ask-awaits None x w asks valid same = let is : x ≡ ImD = cc in rw is (λ p. cc, (refl, refl))
+write_ask-awaits (Some copy) x w asks valid same = by_state copy.state refl asks
+  where
+    by_state : (s : State) → copy.state ≡ s → transient_of s GetM ≡ Some x → Awaits Write (Some (record { transient = x; copy = copy_with M w; flushed = None })) (Some copy)
+    by_state I e a = absurd (valid e)
+    by_state S e a = let is : x ≡ SmD = cc in rw is (λ p. cc, (inl (ap (λ (y : Line). Some y) (rw (← same copy refl, ← e) refl)), refl))
+    by_state E e a = cc
+    by_state O e a = let is : x ≡ SmD = cc in rw is (λ p. cc, (inr (ap (λ (y : Line). Some y) (rw (← same copy refl, ← e) refl)), refl))
+    by_state M e a = cc
 
-pub asked_by-absent : (caches : List Sets) (core line : ℕ) → copy_at caches core line ≡ None → asked_for GetM core line (tags_of caches) ≡ Some ImD
-asked_by-absent caches core line absent = asked_by-copy caches core line ∙ rw absent refl
-
--- one that misses asks for all
-pub miss-awaits : (t : Table) (core line : ℕ) (words : Words) (tags : List TagSets) (own : Option Line) (x : Transaction) → x ≡ transacting t GetM line words tags ImD → own ≡ None → Awaits Write (Some x) own
-unfolding transacting
-miss-awaits t core line words tags own x e absent = rw e (λ p. cc, (absent, refl))
-
-module _ (t : Table) (c0 : List Sets) (core line : ℕ) (copy : Line) (x : Transient) (found : copy_at c0 core line ≡ Some copy) (asks : transient_of copy.state GetM ≡ Some x) where
-  -- the transaction of an upgrade keeps the words that the core has
-  pub upgrade_ask-transaction : (words : Words) → copy.words ≡ words → Some (record { transient = x; copy = copy_with M copy.words; flushed = None }) ≡ transaction_of t GetM core line words (tags_of c0)
-  unfolding transacting
-  upgrade_ask-transaction words is = rw (asked_by-found c0 core line copy found, asks, is) refl
-
-  pub upgrade_ask-tags : (new : List TagSets) → new ≡ requested t.on_get_m core line (tags_of c0) → new ≡ asked_caches t GetM core line (tags_of c0)
-  upgrade_ask-tags new tags = tags ∙ rw (asked_by-found c0 core line copy found, asks) refl
+pub unasked-placed : (s : State) → transient_of s GetM ≡ None → in_place s ≡ Some M
+unasked-placed I e = cc
+unasked-placed S e = cc
+unasked-placed E e = refl
+unasked-placed O e = cc
+unasked-placed M e = refl
 
 -- a load asks where there is no copy
 pub load_asks : (caches : List Sets) (core line : ℕ) → copy_at caches core line ≡ None → asked_for GetS core line (tags_of caches) ≡ Some IsD

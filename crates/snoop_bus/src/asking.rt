@@ -12,7 +12,7 @@ ghost use Rattle.snoop_bus.specs.inner.Copies.{ways_of};
 ghost use Rattle.snoop_bus.specs.inner.Accessing.{IsReady, KeepsWords};
 ghost use Rattle.snoop_bus.specs.declared.holding.Stage.TheVariants.{Write};
 ghost use Rattle.protocol_tables.specs.declared.requests.Request.TheVariants.{GetS, GetM};
-ghost use Rattle.protocol_tables.specs.declared.requests.Transient.TheVariants.{IsD, ImD};
+ghost use Rattle.protocol_tables.specs.declared.requests.Transient.TheVariants.{IsD};
 
 use crate::cache::know_sets;
 use crate::hierarchy::Hierarchy;
@@ -107,49 +107,23 @@ impl Hierarchy {
         ensures ways { ways_of self.new.caches.items ≡ ways_of self.old.caches.items }
         ensures memory { self.new.memory.items ≡ self.old.memory.items }
     {
-        match self.caches[core].look(line).copied() {
-            None => Some(self.ask_write_miss(protocol, core, line)),
-            Some(copy) => match transient(copy.state, Request::GetM) {
-                None => None,
-                Some(transient) => {
-                    let found = self.find(protocol, Request::GetM, line);
-                    self.snoop_others(protocol, Request::GetM, core, line, &found.states);
-                    let words = copy.words;
-                    let state = State::M;
-                    Some(Transaction {
-                        transient,
-                        copy: Line { state, words },
-                        flushed: None,
-                    })
-                }
-            },
-        }
-    }
-
-    /// A core asks for a line that it doesn't have, to write it.
-    fn ask_write_miss<P: Protocol>(&mut self, protocol: &P, core: usize, line: u8) -> Transaction
-        requires ready { IsReady None core line self.old }
-        requires some_set { 0 < length (cache_of self.old.caches.items core) }
-        requires absent { copy_at self.old.caches.items core line ≡ None }
-
-        ensures transaction { result ≡ transacting_at (P.table protocol.now) GetM line self.old.caches.items self.old.memory.items ImD }
-        ensures tags { tags_of self.new.caches.items ≡ requested (P.table protocol.now).on_get_m core line (tags_of self.old.caches.items) }
-        ensures own { copy_at self.new.caches.items core line ≡ None }
-        ensures words { KeepsWords self.old.caches.items (with_counted_copy core line result.copy self.new.caches.items) self.old.memory.items self.old.memory.items }
-        ensures cache { cache_of self.new.caches.items core ≡ cache_of self.old.caches.items core }
-        ensures ways { ways_of self.new.caches.items ≡ ways_of self.old.caches.items }
-        ensures memory { self.new.memory.items ≡ self.old.memory.items }
-    {
+        // A line that isn't there is in I.
+        let state = match self.caches[core].look(line).copied() {
+            None => State::I,
+            Some(copy) => copy.state,
+        };
+        let transient = transient(state, Request::GetM)?;
         let found = self.find(protocol, Request::GetM, line);
         let words = found.words.unwrap_or(self.memory[usize::from(line)]);
         self.snoop_others(protocol, Request::GetM, core, line, &found.states);
-        Transaction {
-            transient: Transient::ImD,
-            copy: Line {
-                state: State::M,
-                words,
-            },
+        let copy = Line {
+            state: State::M,
+            words,
+        };
+        Some(Transaction {
+            transient,
+            copy,
             flushed: None,
-        }
+        })
     }
 }
