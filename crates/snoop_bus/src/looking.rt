@@ -1,18 +1,16 @@
 //! What a bus holds, for one who only looks: words, states of lines, and what is awaited. No call changes anything: a
 //! look is no access, moves no line to the front, and isn't counted.
 
-ghost use Rattle.std.specs.Prelude.{◌≡◌, ◌<◌, IfSome, length, option_map, slice_get};
-ghost use Rattle.snoop_bus.specs.Bus.{words_of, cores_of, IsFree, IsCoherent, words_among, current_words, AllCoherent};
+ghost use Rattle.std.specs.Prelude.{◌≡◌, ◌<◌, length, option_map, slice_get};
+ghost use Rattle.snoop_bus.specs.Bus.{words_of, cores_of, IsFree, IsCoherent, words_among};
 ghost use Rattle.snoop_bus.specs.inner.Bus.{HasLines};
-ghost use Rattle.snoop_bus.specs.Held.{counted_copies_of};
-ghost use Rattle.snoop_bus.specs.inner.Held.{IsHeld, kept_words};
+ghost use Rattle.snoop_bus.specs.inner.Held.{kept_words};
 ghost use Rattle.snoop_bus.specs.Accesses.{awaited_of, contents_of, line_of_location, IsCurrentWord};
 ghost use Rattle.snoop_bus.specs.inner.Accesses.{copies_of, ranked_line, memory_words_of, IsClean};
 ghost use Rattle.snoop_bus.specs.Asks.{tag_at, awaited_by};
 
 use crate::bus::SnoopBus;
 use crate::cache::Cache;
-use crate::hierarchy::Hierarchy;
 use crate::holding::{HeldBus, Transaction};
 use cache_set::{CacheSet, Line, MAX_WORDS};
 use protocol_tables::{Protocol, State, Transient};
@@ -34,7 +32,10 @@ impl<P: Protocol> SnoopBus<P> {
     {
         let line = self.shape.line_of(loc);
         let offset = self.shape.offset_of(loc);
-        self.hierarchy.seen(self.held, line)[usize::from(offset)]
+        let words = kept_words(self.held, line)
+            .or(copied_words(&self.hierarchy.caches, line))
+            .unwrap_or(self.hierarchy.memory[usize::from(line)]);
+        words[usize::from(offset)]
     }
 
     /// Memory's own word at a location, which may be stale where a cache has a dirty copy, or an action holds
@@ -71,13 +72,17 @@ impl<P: Protocol> SnoopBus<P> {
         if usize::from(set) >= cache.len() {
             return None;
         }
-        let (line, copy) = cache.set(set).ranked(rank)?;
-        let words = copy.words;
-        Some(CachedLine {
-            line,
-            state: copy.state,
-            words,
-        })
+        match cache.set(set).ranked(rank) {
+            None => None,
+            Some((line, copy)) => {
+                let words = copy.words;
+                Some(CachedLine {
+                    line,
+                    state: copy.state,
+                    words,
+                })
+            }
+        }
     }
 
     /// What the line of the action that holds the bus is in until its words come; `None` where nobody holds
@@ -92,28 +97,17 @@ impl<P: Protocol> SnoopBus<P> {
     }
 }
 
-impl Hierarchy {
-    /// The words of a line that a program sees: a copy's where there is one, and else memory's. What the bus keeps
-    /// for its holder counts as a copy.
-    fn seen(&self, held: Option<HeldBus>, line: u8) -> [u32; MAX_WORDS]
-        requires coherent { AllCoherent (counted_copies_of held self.now.caches.items) self.now.memory.items }
-        requires awaited { IfSome held (IsHeld self.now.caches.items self.now.memory.items) }
-        requires line { line < length self.now.memory.items }
-        ensures { result ≡ current_words (counted_copies_of held self.now.caches.items) self.now.memory.items line }
-    {
-        kept_words(held, line)
-            .or(copied_words(&self.caches, line))
-            .unwrap_or(self.memory[usize::from(line)])
-    }
-}
-
 /// The words that the bus keeps for its holder, if they are this line's.
 fn kept_words(held: Option<HeldBus>, line: u8) -> Option<[u32; MAX_WORDS]>
     ensures { result ≡ kept_words held line }
 {
-    let held = held?;
-    let transaction = held.transaction?;
-    (held.line == line).then_some(transaction.copy.words)
+    match held {
+        None => None,
+        Some(held) => match held.transaction {
+            None => None,
+            Some(transaction) => (held.line == line).then_some(transaction.copy.words),
+        },
+    }
 }
 
 /// The words of a line in the first cache that has a copy.

@@ -3,8 +3,8 @@ use Rattle.snoop_bus.specs.inner.Accesses.{copies_of}
 use Rattle.snoop_bus.proofs.LookingLemmas.{as_cached, cache_here, found_words, line_ranked}
 use Rattle.snoop_bus.proofs.bus.SnoopBus.ranked.Goals as goal
 
-pub returns : goal.returns
-returns g c =
+pub returns-in-Some : goal.returns-in-Some
+returns-in-Some g c =
     let core = c.args.core.0 in
     let caches = c.self.inside.hierarchy.caches.items in
     let got = rw (c.from.ensures, c.deref.ensures.value) at c.in_ok-cache.ensures.lookup in
@@ -12,7 +12,7 @@ returns g c =
     let set : c.args.set < length c.in_ok-cache.cache.now = rw (c.from-2.ensures, c.len.ensures.value) at c.if-from-len.false in
     let ranked : c.ranked.result ≡ slice_get (copies_of c.args.self.now core c.args.set).copies c.args.rank =
     rw (← c.self.view_is) (c.ranked.ensures.value ∙ ap (λ s. slice_get s.copies c.args.rank) (c.set.ensures ∙ ap (λ sets. slice_index_or sets c.args.set (contents [] 1)) here)) in
-    sym (ap (option_map as_cached) c.in_ok-line.was)
+    sym (ap (option_map as_cached) c.in-Some.is)
     ∙ line_ranked c.args.self.now.shape.words core c.args.set c.args.rank (words_of c.args.self.now) c.args.self.now.caches c.ranked.result ranked
     (rw (← c.self.view_is)
     (found_words c.self.inside.shape c.self.inside.locations caches c.self.inside.hierarchy.memory.items c.self.inside.held core c.args.set c.ranked.result c.set.result.now c.self.invariant
