@@ -1,12 +1,9 @@
 -- The values that are printed have no float, so that their text is known.
-use Rattle.reason_report.proofs.Vocabulary.{filter, writes_to, Entry, printed_entry, Named, value_members, put, reason_step_of, outcomes_verdict_value, reading_value, coherence_members_by, with_coherence, ◌≡◌, ◌+◌, ℕ, Bool, false, List, [], ◌∷◌, map, Option, Some, None, refl, string, array, Members, items_of, has_float, items_have_float, members_have_float, Litmus, Condition, count, key_of, Place, Answer, From, Before, Closing, Uniproc, Cycle, Amid, False, ReasonStep, Leaf, source_text, edge_value, edges_value, answer_value, place_members, closing_value, step_value, asked_value}
+use Rattle.reason_report.proofs.Vocabulary.{filter, writes_to, Entry, Choice, printed_entry, Named, Model, value_members, outcomes_verdict_value, Reading, reading_value, coherence_members_by, with_coherence, ◌≡◌, ◌+◌, ℕ, Bool, true, false, List, [], ◌∷◌, map, Option, Some, None, refl, string, array, Members, items_of, has_float, items_have_float, members_have_float, Litmus, Condition, count, key_of, Place, Answer, From, Before, Closing, Uniproc, Cycle, Amid, False, ReasonStep, Leaf, source_text, edge_value, edges_value, answer_value, place_members, closing_value, step_value, asked_value, never_value_of}
 use Rattle.reason_report.specs.declared.steps.Edge.{Edge}
 use Rattle.reason_report.specs.Steps.{Case, So, Endcases}
 use Rattle.tso_report.proofs.NoFloats.{neither, one_more, each}
-use Rattle.std.specs.Borrow.{Bor}
-use Rattle.reason_report.specs.declared.pieces.Section.{Section}
-use Rattle.reason_report.specs.declared.pieces.Section.TheVariants as sections
-use Rattle.reason_report.specs.inner.Pieces.{section_value, with_sections}
+use Rattle.reason_report.proofs.Shown.{value-from}
 
 places : (t : Litmus) (ps : List Place) → members_have_float (place_members t ps) ≡ false
 places t [] = refl
@@ -56,20 +53,17 @@ named t [] vs = refl
 named t (n ∷ ns) [] = refl
 named t (n ∷ ns) (v ∷ vs) = one_more (key_of t n) (count v) (value_members t ns vs) refl (named t ns vs)
 
-section : (t : Litmus) (s : Section) → has_float (section_value t s) ≡ false
-section t (sections.Text text) = refl
-section t (sections.Answer word) = refl
-section t (sections.Number n) = refl
-section t sections.Asked = asked t.condition
-section t (sections.Verdict allowed) = verdict t.condition allowed
-section t (sections.Steps steps) = each (step_value t) (step t) (map reason_step_of steps.now)
-section t (sections.Readings readings) = each (reading_value t) (λ x. refl) readings.now
-section t (sections.Coherence order) = writes t order.now 0 t.locations
-section t (sections.Choices choices) = refl
-section t (sections.Values names values) = named t names.now values.now
+pub never-has-no-float : (model : Model) (t : Litmus) (ss : List ReasonStep) → has_float (never_value_of model t ss) ≡ false
+never-has-no-float model t ss =
+    neither (has_float (asked_value t.condition)) _ (asked t.condition)
+    (neither (items_have_float (items_of (map (step_value t) ss))) _ (each (step_value t) (step t) ss)
+    (neither (has_float (outcomes_verdict_value t.condition false)) false (verdict t.condition false) refl))
 
-pub sections_have_no_float : (t : Litmus) (ss : List (Bor (List ℕ) × Bor (List ℕ) × Section)) (ms : Members) → members_have_float ms ≡ false
-    → members_have_float (with_sections t ss ms) ≡ false
-sections_have_no_float t [] ms h = h
-sections_have_no_float t (s ∷ ss) ms h =
-    sections_have_no_float t ss (put s.1.now (section_value t s.2) ms) (one_more s.1.now (section_value t s.2) ms (section t s.2) h)
+pub allowed-has-no-float : (t : Litmus) (order : List Entry) (xs : List Reading) (choices : List Choice) (n m : List ℕ) (ns : List Named) (vs : List ℕ)
+    → has_float (value-from t choices n m (map (reading_value t) xs) (coherence_members_by t order 0 t.locations) (value_members t ns vs)) ≡ false
+allowed-has-no-float t order xs choices n m ns vs =
+    neither (has_float (asked_value t.condition)) _ (asked t.condition)
+    (neither (members_have_float (coherence_members_by t order 0 t.locations)) _ (writes t order 0 t.locations)
+    (neither (items_have_float (items_of (map (reading_value t) xs))) _ (each (reading_value t) (λ x. refl) xs)
+    (neither (members_have_float (value_members t ns vs)) _ (named t ns vs)
+    (neither (has_float (outcomes_verdict_value t.condition true)) false (verdict t.condition true) refl))))

@@ -1,5 +1,5 @@
--- What is shown of an execution is its candidate.
-use Rattle.reason_report.proofs.Vocabulary.{ℕ, suc, zero, ◌+◌, ◌||◌, ◌≡◌, ◌≤◌, ◌<◌, Bool, true, false, cond, List, [], ◌∷◌, ◌++◌, length, drop, get_or, map, Option, Some, None, refl, sym, ap, ◌∙◌, arith, subst, append_assoc, All, filter, slice_get, codes, flat_map, list_any, at_drop_more, append-nil, drop_all, Data, Members, no_members, member, put, object, array, string, items_of, Litmus, is_read, writes_to, is_before, made, final_words, final_registers, Choice, Entry, IsIn, IsCandidateOf, LeaveTheSame, last_in, IsExecutionOf, Model, value_members, printed_entry, line, test_line, looked_at, verdict_line, outcomes_verdict_value, model_name, asked_line, from_line, reads_of, coherence_lines, coherence_line, allowed_text, asked_value, from_value, coherence_members, with_coherence, allowed_value, Reading, Named, NameExists, allowed_in, ShowsExecution, last_or, ReadsIt, AreIn, AreReadings, IsShown, read_with_source, reading_line, reading_value, coherence_by, coherence_members_by, drop-cons, values_in, shown_value}
+-- What is shown of an execution is its candidate; what is shown of a refutation, its lines.
+use Rattle.reason_report.proofs.Vocabulary.{ℕ, suc, zero, ◌+◌, ◌||◌, ◌≡◌, ◌≤◌, ◌<◌, Bool, true, false, cond, List, [], ◌∷◌, ◌++◌, length, take, take_all, length-drop, ◌-◌, drop, get_or, map, Option, Some, None, refl, sym, ap, ◌∙◌, arith, subst, append_assoc, All, filter, slice_get, slice_index_or, codes, flat_map, list_any, at_drop_more, drop_more, append-nil, drop_all, Data, Members, no_members, member, put, object, array, string, items_of, Litmus, is_read, writes_to, is_before, made, final_words, final_registers, Choice, Entry, IsIn, IsCandidateOf, LeaveTheSame, last_in, IsExecutionOf, Model, value_members, printed_entry, line, test_line, looked_at, verdict_line, outcomes_verdict_value, model_name, asked_line, from_line, reads_of, coherence_lines, coherence_line, allowed_text, asked_value, from_value, coherence_members, with_coherence, allowed_value, Reading, Named, NameExists, allowed_in, ShowsExecution, last_or, ReadsIt, AreIn, AreReadings, IsShown, read_with_source, reading_line, reading_value, coherence_by, coherence_members_by, drop-cons, values_in, shown_value}
 use Rattle.tso_model.specs.Axioms.{counting, IsTsoExecution}
 use Rattle.relational_model.specs.Candidates.{Candidate, words_left}
 use Rattle.refutation_laws.specs.declared.model.Model.TheVariants.{Tso, Sequential}
@@ -58,6 +58,23 @@ last-more p xs i j x within more is b e last =
         ≡ last_or (cond c (Some x) last) (filter p (drop (i + 1) xs))
     by-case true = refl
     by-case false = refl
+
+-- the last one of those before a read, and then of those of its own program behind it
+pub reads-last : (order : List Entry) (r : Entry) (at n m : ℕ) (before after : Option Entry) (w : Option Event)
+    → order ≡ take at order ++ (r ∷ drop (at + 1) order)
+    → last_in (filter (writes_to r.loc.0) (take at order)) ≡ last_or before (filter (writes_to r.loc.0) (drop n (take at order)))
+    → length (take at order) ≤ n → (back : List Entry) → back ≡ take (length order - (at + 1)) (drop (at + 1) order)
+    → last_or before (filter (writes_to r.loc.0) (filter (λ (e : Entry). is_before e r) back))
+    ≡ last_or after (filter (writes_to r.loc.0) (filter (λ (e : Entry). is_before e r) (drop m back)))
+    → length back ≤ m → w ≡ event_of_write after → ReadsIt order r w
+reads-last order r at n m before after w place first past back is second over e = record {
+  front = take at order;
+  back = back;
+  place = place ∙ ap (λ es. take at order ++ (r ∷ es)) (sym (is ∙ take_all (length order - (at + 1)) (drop (at + 1) order) (omega (arith, length-drop (at + 1) order))));
+  source = e ∙ ap event_of_write (last-counting r (take at order) back before after
+      (sym (first ∙ ap (λ es. last_or before (filter (writes_to r.loc.0) es)) (drop_all n (take at order) past)))
+      (sym (second ∙ ap (λ es. last_or after (filter (writes_to r.loc.0) (filter (λ (x : Entry). is_before x r) es))) (drop_all m back over))));
+}
 
 -- ---- the reads
 
@@ -145,7 +162,7 @@ abbrev lines-from : (n m a r q b v w : List ℕ) → List ℕ
 lines-from n m a r q b v w =
     (codes "Test " ++ line n) ++ (codes "Allowed " ++ (line m ++ (a ++ (r ++ (q ++ ((codes "By" ++ line b) ++ ((codes "State" ++ line v) ++ w)))))))
 
-abbrev value-from : Litmus → List Choice → List ℕ → List ℕ → List Data → Members → Members → Data
+abbrev pub value-from : Litmus → List Choice → List ℕ → List ℕ → List Data → Members → Members → Data
 value-from t choices n m d ms vs =
     object (member (codes "answer") (string (codes "allowed"))
     (member (codes "asked") (asked_value t.condition)
@@ -157,10 +174,14 @@ value-from t choices n m d ms vs =
     (member (codes "values") (object vs)
     (member (codes "verdict") (outcomes_verdict_value t.condition true) no_members)))))))))
 
-joined : (n m a r q b v w : List ℕ)
-    → (codes "Test " ++ n) ++ ((10 ∷ (codes "Allowed " ++ m)) ++ ((10 ∷ a) ++ (r ++ (q ++ ((codes "By" ++ b) ++ ((10 ∷ (codes "State" ++ v)) ++ ((10 ∷ w) ++ [])))))))
-    ≡ lines-from n m a r q b v w
-joined n m a r q b v w = simp (append_assoc, append-nil)
+-- the test, and the model that allows what it asks
+abbrev head-of : (n m : List ℕ) → List ℕ
+head-of n m = codes "Test " ++ (n ++ ((10 ∷ codes "Allowed ") ++ (m ++ ((10 ∷ []) ++ []))))
+
+joined : (o n m a r q b v w : List ℕ)
+    → (((((((((o ++ head-of n m) ++ a) ++ r) ++ q) ++ codes "By") ++ b) ++ (10 ∷ codes "State")) ++ v) ++ (10 ∷ [])) ++ w
+    ≡ o ++ lines-from n m a r q b v w
+joined o n m a r q b v w = simp (append_assoc, append-nil)
 
 module _ (model : Model) (t : Litmus) (order : List Entry) (xs : List Reading) (vs : List ℕ) (choices : List Choice) (c : Candidate)
     (shown : IsShown t order xs vs c) (n m : List ℕ) (ns : List Named) (hn : n ≡ t.name) (hm : m ≡ model_name model) (hs : ns ≡ looked_at t) where
@@ -173,13 +194,14 @@ module _ (model : Model) (t : Litmus) (order : List Entry) (xs : List Reading) (
   abbrev w : List ℕ
   w = verdict_line t.condition true
 
-  pub text-is : (codes "Test " ++ n) ++ ((10 ∷ (codes "Allowed " ++ m)) ++ ((10 ∷ asked_line t.condition) ++ (flat_map (reading_line t) xs
-      ++ (coherence_by t order 0 t.locations ++ ((codes "By" ++ printed_after choices) ++ ((10 ∷ (codes "State" ++ printed_values t ns vs))
-      ++ ((10 ∷ verdict_line t.condition true) ++ [])))))))
-      ≡ allowed_text model t c choices
-  text-is =
-      joined n m a (flat_map (reading_line t) xs) q (printed_after choices) (printed_values t ns vs) w
-      ∙ (ap (λ z. lines-from z m a (flat_map (reading_line t) xs) q (printed_after choices) (printed_values t ns vs) w) hn
+  pub text-is : (o : List ℕ)
+      → (((((((((o ++ head-of n m) ++ a) ++ flat_map (reading_line t) xs) ++ q) ++ codes "By") ++ printed_after choices) ++ (10 ∷ codes "State"))
+      ++ printed_values t ns vs) ++ (10 ∷ [])) ++ w
+      ≡ o ++ allowed_text model t c choices
+  text-is o =
+      joined o n m a (flat_map (reading_line t) xs) q (printed_after choices) (printed_values t ns vs) w
+      ∙ ap (λ lines. o ++ lines)
+      (ap (λ z. lines-from z m a (flat_map (reading_line t) xs) q (printed_after choices) (printed_values t ns vs) w) hn
       ∙ (ap (λ z. lines-from t.name z a (flat_map (reading_line t) xs) q (printed_after choices) (printed_values t ns vs) w) hm
       ∙ (ap (λ z. lines-from t.name (model_name model) a (flat_map (reading_line t) xs) q (printed_after choices) (printed_values t z vs) w) hs
       ∙ (ap (λ r. lines-with model t choices r q vs) (ap (flat_map (reading_line t)) shown.readings ∙ reads-lines t order c shown.coherence (reads_of t c))
@@ -196,6 +218,17 @@ module _ (model : Model) (t : Litmus) (order : List Entry) (xs : List Reading) (
       ∙ (ap (λ (ms : Members). value-from t choices t.name (model_name model) (map (from_value t c) (reads_of t c)) ms (value_members t (looked_at t) vs))
       (locations-members t order c shown.coherence t.locations 0)
       ∙ ap (λ v. value-from t choices t.name (model_name model) (map (from_value t c) (reads_of t c)) (coherence_members t c 0 t.locations) (value_members t (looked_at t) v)) shown.values))))
+
+-- ---- a refutation
+
+abbrev pub never-from : (n m d a s v : List ℕ) → List ℕ
+never-from n m d a s v = (codes "Test " ++ line n) ++ ((codes "Never " ++ (m ++ (codes " leaves=" ++ line d))) ++ (a ++ (s ++ v)))
+
+abbrev pub never-head : (n m d : List ℕ) → List ℕ
+never-head n m d = codes "Test " ++ (n ++ ((10 ∷ codes "Never ") ++ (m ++ (codes " leaves=" ++ (d ++ ((10 ∷ []) ++ []))))))
+
+pub never-joined : (n m d a s v : List ℕ) → ((([] ++ never-head n m d) ++ a) ++ s) ++ v ≡ never-from n m d a s v
+never-joined n m d a s v = simp (append_assoc, append-nil)
 
 -- ---- where no write goes, and where one does
 
@@ -229,6 +262,25 @@ member-is t name p xs ms h =
     let some : (x : Entry) × (ys : List Entry) × (filter p xs ≡ x ∷ ys) = some-go p xs h in
     ap (λ ws. with_coherence t name ws ms) some.2
     ∙ sym (ap (λ ws. put name (array (items_of (map (λ v. string (printed_entry t v)) ws))) ms) some.2)
+
+-- the line of a location, and the lines of those after it
+pub coherence-more : (t : Litmus) (order : List Entry) (names : List (List ℕ)) (n : ℕ) (old new whole : List ℕ) → n < length names
+    → new ≡ old ++ coherence_line t (slice_index_or names n []) (filter (writes_to n) order)
+    → old ++ coherence_by t order n (drop n names) ≡ whole → new ++ coherence_by t order (n + 1) (drop (n + 1) names) ≡ whole
+coherence-more t order names n old new whole w e h =
+    let here = coherence_line t (slice_index_or names n []) (filter (writes_to n) order) in
+    let rest = coherence_by t order (n + 1) (drop (n + 1) names) in
+    ap (λ z. z ++ rest) e ∙ (append_assoc old here rest ∙ (sym (ap (λ ns. old ++ coherence_by t order n ns) (drop_more names n [] w)) ∙ h))
+
+-- the member of a location, and the members of those after it
+pub members-more : (t : Litmus) (order : List Entry) (names : List (List ℕ)) (n m : ℕ) (old new : Members) → n < length names → m ≡ n + 1
+    → new ≡ with_coherence t (slice_index_or names n []) (filter (writes_to n) order) old
+    → old ≡ coherence_members_by t order m (drop m names) → new ≡ coherence_members_by t order n (drop n names)
+members-more t order names n m old new w next e h =
+    e
+    ∙ (ap (λ (ms : Members). with_coherence t (slice_index_or names n []) (filter (writes_to n) order) ms)
+    (h ∙ ap (λ i. coherence_members_by t order i (drop i names)) next)
+    ∙ sym (ap (λ ns. coherence_members_by t order n ns) (drop_more names n [] w)))
 
 -- ---- the readings, one by one
 

@@ -1,20 +1,24 @@
 //! A report as lines of text.
 
-ghost use Rattle.std.specs.Prelude.{◌≡◌, ◌++◌, ◌∷◌, ◌<◌, [], OnOk, IfOk, string_bytes, length, map, filter, slice_index_or};
+ghost use Rattle.std.specs.Prelude.{◌≡◌, ◌++◌, ◌∷◌, [], All, OnOk, IfOk, string_bytes, length, map};
 ghost use Rattle.std.specs.List.{flat_map, list_any};
 ghost use Rattle.tso_model.specs.ProgramOrder as program_order;
+ghost use Rattle.relational_model.specs.Candidates.{Candidate};
+ghost use Rattle.tso_report.specs.Tally.{looked_at};
+ghost use Rattle.tso_report.specs.inner.Tally.{NameExists};
 ghost use Rattle.reason_report.specs.ReasonText as spec;
 ghost use Rattle.reason_report.specs.Views.{reason_step_of};
-ghost use Rattle.reason_report.specs.inner.Pieces.{field_text, titled_text, section_text, IsKnown, SectionsAreKnown};
-ghost use Rattle.reason_report.specs.inner.Shown.{reading_line, coherence_by};
+ghost use Rattle.reason_report.specs.inner.Pieces.{field_text};
+ghost use Rattle.reason_report.specs.inner.Shown.{IsShown, reading_line, coherence_by};
 
-use crate::asked::write_asked;
-use crate::fields::{never_sections, reading_fields, step_fields};
+use crate::allowed::Shown;
+use crate::asked::{model_name, write_asked};
+use crate::fields::{reading_fields, step_fields};
 use crate::items::{Written, write_each};
-use crate::pieces::{Field, Piece, Section, Titled};
+use crate::pieces::{Field, Piece};
 use crate::pieces_text::{write_piece, write_writes};
 use crate::readings::Reading;
-use crate::steps::Step;
+use crate::steps::{Step, leaves_in};
 use outcome_report::verdict::write_verdict;
 use refutation_laws::Model;
 use refutations::events::writes_to;
@@ -23,25 +27,6 @@ use std::alloc::Global;
 use tso_model::{Entry, Loc, NoMemory, Test};
 use tso_report::pieces::{Piece as Printed, write_characters, write_pieces};
 use tso_report::printed_values::write_values;
-
-/// A report of these sections as lines of text.
-///
-/// Errors: out of memory only.
-pub fn sections_text(
-    alloc: Global,
-    test: &Test,
-    sections: &[Titled<'_>],
-) -> Result<String, NoMemory>
-    requires { SectionsAreKnown test.now sections.now }
-    ensures { IfOk result (λ text. string_bytes text ≡ flat_map (titled_text test.now) sections.now) }
-{
-    let mut text = String::new(alloc);
-    for (before, _key, section) in sections {
-        write_characters(&mut text, before)?;
-        write_section(&mut text, test, *section)?;
-    }
-    Ok(text)
-}
 
 /// A refutation of what the test asks, as lines of text: the test; that it is refuted, and in how many leaves; what is asked; the
 /// steps; and herd's verdict.
@@ -55,8 +40,71 @@ pub fn never_text(
 ) -> Result<String, NoMemory>
     ensures { IfOk result (λ text. string_bytes text ≡ spec.never_lines model test.now (map reason_step_of steps.now)) }
 {
-    let sections = never_sections(test, model, steps);
-    sections_text(alloc, test, &sections)
+    let head = [
+        Printed::Text("Test "),
+        Printed::Text(test.name()),
+        Printed::Text("\nNever "),
+        Printed::Text(model_name(model)),
+        Printed::Text(" leaves="),
+        Printed::Number(leaves_in(steps) as u64),
+        Printed::Text("\n"),
+    ];
+    let mut text = String::new(alloc);
+    write_pieces(&mut text, &head)?;
+    write_asked(&mut text, test)?;
+    write_each(&mut text, test, "", steps)?;
+    write_verdict(&mut text, test, false)?;
+    Ok(text)
+}
+
+/// An execution in which what the test asks is so, as lines of text: the test; the model; what is asked; what each read reads from; the
+/// writes to each location in their order; choices that lead there; the values at the end; and herd's verdict.
+///
+/// Errors: out of memory only.
+pub fn allowed_text(
+    alloc: Global,
+    test: &Test,
+    model: Model,
+    shown: &Shown<'_>,
+) -> Result<String, NoMemory>
+    requires known { All (NameExists (length test.now.programs) (length test.now.locations)) shown.now.names.now }
+    requires names { shown.now.names.now ≡ looked_at test.now }
+    ensures { IfOk result (λ text. (c : Candidate) → IsShown test.now shown.now.order.now shown.now.readings.now shown.now.values.now c
+        → string_bytes text ≡ spec.allowed_text model test.now c shown.now.choices.now) }
+{
+    let mut text = String::new(alloc);
+    write_allowed(&mut text, test, model, shown)?;
+    Ok(text)
+}
+
+fn write_allowed(
+    text: &mut String,
+    test: &Test,
+    model: Model,
+    shown: &Shown<'_>,
+) -> Result<(), NoMemory>
+    requires known { All (NameExists (length test.now.programs) (length test.now.locations)) shown.now.names.now }
+    requires names { shown.now.names.now ≡ looked_at test.now }
+    ensures { OnOk result ((c : Candidate) → IsShown test.now shown.now.order.now shown.now.readings.now shown.now.values.now c
+        → string_bytes text.new ≡ string_bytes text.old ++ spec.allowed_text model test.now c shown.now.choices.now) }
+{
+    let head = [
+        Printed::Text("Test "),
+        Printed::Text(test.name()),
+        Printed::Text("\nAllowed "),
+        Printed::Text(model_name(model)),
+        Printed::Text("\n"),
+    ];
+    write_pieces(text, &head)?;
+    write_asked(text, test)?;
+    write_each(text, test, "", shown.readings)?;
+    write_coherence(text, test, shown.order)?;
+    write_characters(text, "By")?;
+    write_after(text, shown.choices)?;
+    write_characters(text, "\nState")?;
+    write_values(text, test, shown.names, shown.values)?;
+    write_characters(text, "\n")?;
+    write_verdict(text, test, true)
 }
 
 /// The line of a search that met its limit.
@@ -73,24 +121,6 @@ pub fn unfinished_text(alloc: Global, limit: u32) -> Result<String, NoMemory>
     let mut text = String::new(alloc);
     write_pieces(&mut text, &pieces)?;
     Ok(text)
-}
-
-fn write_section(text: &mut String, test: &Test, section: Section<'_>) -> Result<(), NoMemory>
-    requires { IsKnown test.now section }
-    ensures { OnOk result (string_bytes text.new ≡ string_bytes text.old ++ section_text test.now section.entry) }
-{
-    match section {
-        Section::Text(characters) => write_characters(text, characters),
-        Section::Answer(_) => Ok(()),
-        Section::Number(number) => write_pieces(text, &[Printed::Number(number as u64)]),
-        Section::Asked => write_asked(text, test),
-        Section::Verdict(allowed) => write_verdict(text, test, allowed),
-        Section::Steps(steps) => write_each(text, test, "", steps),
-        Section::Readings(readings) => write_each(text, test, "", readings),
-        Section::Coherence(order) => write_coherence(text, test, order),
-        Section::Choices(choices) => write_after(text, choices),
-        Section::Values(names, values) => write_values(text, test, names, values),
-    }
 }
 
 /// Adds a line.
@@ -128,31 +158,23 @@ impl Written for Reading {
     }
 }
 
+/// `Coherence x P0:0 W x=1 ..` for each location to which a write goes.
 fn write_coherence(text: &mut String, test: &Test, order: &[Entry]) -> Result<(), NoMemory>
     ensures { OnOk result (string_bytes text.new ≡ string_bytes text.old ++ coherence_by test.now order.now 0 test.now.locations) }
 {
-    for loc in 0..test.locations() {
-        write_location(text, test, order, Loc(loc))?;
+    for number in 0..test.locations() {
+        let loc = Loc(number);
+        if has_write(order, loc) {
+            let head = [
+                Printed::Text("Coherence "),
+                Printed::Text(test.location_name(loc)),
+            ];
+            write_pieces(text, &head)?;
+            write_writes(text, test, order, loc)?;
+            write_characters(text, "\n")?;
+        }
     }
     Ok(())
-}
-
-/// `Coherence x P0:0 W x=1 ..`; nothing where no write goes.
-fn write_location(text: &mut String, test: &Test, order: &[Entry], loc: Loc) -> Result<(), NoMemory>
-    requires { loc.0 < length test.now.locations }
-    ensures { OnOk result (string_bytes text.new ≡ string_bytes text.old
-        ++ spec.coherence_line test.now (slice_index_or test.now.locations loc.0 []) (filter (program_order.writes_to loc.0) order.now)) }
-{
-    if !has_write(order, loc) {
-        return Ok(());
-    }
-    let pieces = [
-        Printed::Text("Coherence "),
-        Printed::Text(test.location_name(loc)),
-    ];
-    write_pieces(text, &pieces)?;
-    write_writes(text, test, order, loc)?;
-    write_characters(text, "\n")
 }
 
 /// Whether an entry of the order writes to the location.

@@ -1,21 +1,18 @@
-//! What a step, a reading and a refutation show, once for lines of text and for JSON.
+//! What a step and a reading show, once for lines of text and for JSON.
 
-ghost use Rattle.std.specs.Prelude.{◌≡◌, ◌++◌, ◌∷◌, [], map};
+ghost use Rattle.std.specs.Prelude.{◌≡◌, ◌++◌, ◌∷◌, []};
 ghost use Rattle.std.specs.List.{flat_map};
 ghost use Rattle.serde_json.specs.Data.{object, no_members};
 ghost use Rattle.tso_model.specs.Litmus.{Litmus};
 ghost use Rattle.reason_report.specs.ReasonText as text;
 ghost use Rattle.reason_report.specs.ReasonJson as json;
 ghost use Rattle.reason_report.specs.Views.{answer_of, closing_of, reason_step_of};
-ghost use Rattle.reason_report.specs.inner.Pieces.{field_text, head_members, piece_text, titled_text, with_field, with_fields, with_sections, SectionsAreKnown};
+ghost use Rattle.reason_report.specs.inner.Pieces.{field_text, head_members, piece_text, with_field, with_fields};
 ghost use Rattle.reason_report.specs.inner.Shown.{reading_line, reading_value};
 
-use crate::asked::model_name;
-use crate::pieces::{Field, Piece, Section, Titled};
+use crate::pieces::{Field, Piece};
 use crate::readings::Reading;
-use crate::steps::{Answer, Closing, Step, leaves_in};
-use refutation_laws::Model;
-use tso_model::Test;
+use crate::steps::{Answer, Closing, Step};
 
 /// Nothing more in a line, and no further key.
 const NOTHING: Field<'static> = ("", "", Piece::Nothing);
@@ -121,22 +118,5 @@ pub fn reading_fields(reading: &Reading) -> [Field<'_>; 2]
     [
         ("From ", "read", Piece::Event(&reading.read)),
         (" ", "write", Piece::Source(&reading.write)),
-    ]
-}
-
-/// What a refutation with these steps shows.
-pub fn never_sections<'a>(test: &'a Test, model: Model, steps: &'a [Step]) -> [Titled<'a>; 7]
-    ensures known { SectionsAreKnown test.now result }
-    ensures lines { flat_map (titled_text test.now) result ≡ text.never_lines model test.now (map reason_step_of steps.now) }
-    ensures value { object (with_sections test.now result no_members) ≡ json.never_value_of model test.now (map reason_step_of steps.now) }
-{
-    [
-        ("Test ", "test", Section::Text(test.name())),
-        ("\nNever ", "model", Section::Text(model_name(model))),
-        (" leaves=", "leaves", Section::Number(leaves_in(steps))),
-        ("\n", "asked", Section::Asked),
-        ("", "answer", Section::Answer("never")),
-        ("", "steps", Section::Steps(steps)),
-        ("", "verdict", Section::Verdict(false)),
     ]
 }

@@ -5,6 +5,7 @@
 //! that a leaf closes at once, so that most reasons read as a chain.
 #![tactic(auto)]
 
+pub mod allowed;
 pub mod as_json;
 pub mod as_text;
 pub mod asked;

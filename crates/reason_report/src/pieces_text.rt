@@ -8,7 +8,7 @@ ghost use Rattle.tso_model.specs.declared.execution.Entry as declared;
 ghost use Rattle.order_builder.specs.PrintedOrder.{printed_entry};
 ghost use Rattle.reason_report.specs.ReasonText as spec;
 ghost use Rattle.reason_report.specs.inner.Pieces.{piece_text};
-ghost use Rattle.reason_report.specs.inner.Views.{hop_end, known_access, place_end};
+ghost use Rattle.reason_report.specs.inner.Views.{hop_end, place_end};
 
 use crate::items::{Written, write_each, write_separated};
 use crate::pieces::Piece;
@@ -19,7 +19,7 @@ use outcome_report::keys::{name_of, write_key};
 use refutation_laws::Relation;
 use refutations::events::writes_to;
 use tso_model::{Entry, Kind, Loc, NoMemory, Test};
-use tso_report::pieces::{Piece as Printed, write_characters, write_pieces};
+use tso_report::pieces::{Piece as Printed, write_characters, write_named, write_pieces};
 
 /// Adds a piece to a line.
 ///
@@ -152,28 +152,12 @@ fn write_event(text: &mut String, test: &Test, event: &Event) -> Result<(), NoMe
         Printed::Text(letters_of(entry.kind)),
     ];
     write_pieces(text, &pieces)?;
-    write_access(text, test, event)
-}
-
-/// ` y=0`, or ` y` where the value isn't known; of a fence there is nothing to write.
-fn write_access(text: &mut String, test: &Test, event: &Event) -> Result<(), NoMemory>
-    ensures { OnOk result (string_bytes text.new
-        ≡ string_bytes text.old ++ known_access test.now event.now.entry.kind event.now.entry.loc.0 event.now.value) }
-{
-    if let Kind::F = event.entry.kind {
+    if let Kind::F = entry.kind {
         return Ok(());
     }
-    let name = Printed::Text(name_of(test, event.entry.loc));
+    let name = name_of(test, entry.loc);
     match event.value {
-        None => write_pieces(text, &[Printed::Text(" "), name]),
-        Some(value) => {
-            let pieces = [
-                Printed::Text(" "),
-                name,
-                Printed::Text("="),
-                Printed::Number(value as u64),
-            ];
-            write_pieces(text, &pieces)
-        }
+        None => write_pieces(text, &[Printed::Text(" "), Printed::Text(name)]),
+        Some(value) => write_named(text, name, value),
     }
 }

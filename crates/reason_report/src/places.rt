@@ -1,8 +1,8 @@
 //! Why a proposition is false by the values that are known: the registers and locations that suffice to tell it.
 
-ghost use Rattle.std.specs.Prelude.{◌≡◌, ◌==◌, ◌||◌, IfOk, OnOk, length, map};
+ghost use Rattle.std.specs.Prelude.{◌≡◌, ◌==◌, ◌||◌, IfOk, length, map};
 ghost use Rattle.std.specs.List.{list_any};
-ghost use Rattle.tso_model.specs.Condition.{NamesExist, claim_of, RegClaim, LocClaim};
+ghost use Rattle.tso_model.specs.Condition.{NamesExist, claim_of};
 ghost use Rattle.refutation_laws.specs.Known.{events_of};
 ghost use Rattle.refutation_laws.specs.Refutations.{asked_claim};
 ghost use Rattle.refutation_laws.specs.Values as values;
@@ -12,31 +12,26 @@ ghost use Rattle.tso_report.specs.inner.Tally.{NameExists};
 ghost use Rattle.reason_report.specs.Places as spec;
 ghost use Rattle.reason_report.specs.inner.Parts.{IsLayoutReady};
 ghost use Rattle.reason_report.specs.inner.Closed.{IsGiven};
-ghost use Rattle.reason_report.specs.inner.Views.{with_new_word};
+ghost use Rattle.reason_report.specs.inner.Views.{names_place};
 
 use crate::asked::truth_asked;
 use crate::closed::Given;
 use crate::parts::Refutation;
 use refutations::propositions::{allows, register_at_end, words_at_end};
 use std::alloc::Global;
-use tso_model::{Core, Loc, NoMemory, Prop, Reg};
+use tso_model::{NoMemory, Prop};
 use tso_report::named::Named;
 
-fn is_register(core: Core, reg: Reg, value: u32, place: Named) -> bool
-    ensures { result ≡ spec.is_named (RegClaim core.0 reg value) place }
+/// Whether a proposition without parts is one of this place.
+fn names_place(prop: &Prop, place: Named) -> bool
+    ensures { result ≡ names_place (claim_of prop.now) place }
 {
-    match place {
-        Named::Register(other, named) => core.0 == other.0 && reg.index() == named.index(),
-        Named::Location(_) => false,
-    }
-}
-
-fn is_location(loc: Loc, value: u32, place: Named) -> bool
-    ensures { result ≡ spec.is_named (LocClaim loc.0 value) place }
-{
-    match place {
-        Named::Register(..) => false,
-        Named::Location(named) => loc.0 == named.0,
+    match (prop, place) {
+        (Prop::RegIs(core, reg, _), Named::Register(other, named)) => {
+            core.0 == other.0 && reg.index() == named.index()
+        }
+        (Prop::LocIs(loc, _), Named::Location(named)) => loc.0 == named.0,
+        _ => false,
     }
 }
 
@@ -72,7 +67,7 @@ fn judge(tree: Refutation<'_>, given: &Given, prop: &Prop, truth: bool, place: N
             is_allowed: *value == truth,
             is_told: false,
         },
-        Prop::RegIs(core, reg, value) => Judged {
+        Prop::RegIs(..) | Prop::LocIs(..) => Judged {
             is_allowed: allows(
                 tree.test,
                 tree.events,
@@ -81,40 +76,20 @@ fn judge(tree: Refutation<'_>, given: &Given, prop: &Prop, truth: bool, place: N
                 prop,
                 truth,
             ),
-            is_told: is_register(*core, *reg, *value, place),
-        },
-        Prop::LocIs(loc, value) => Judged {
-            is_allowed: allows(
-                tree.test,
-                tree.events,
-                &given.answers,
-                &given.facts,
-                prop,
-                truth,
-            ),
-            is_told: is_location(*loc, *value, place),
+            is_told: names_place(prop, place),
         },
         Prop::Not(inner) => judge(tree, given, inner, !truth, place),
-        Prop::And(left, right) => {
+        Prop::And(left, right) | Prop::Or(left, right) => {
+            let needs_both = matches!(prop, Prop::And(..)) == truth;
             let first = judge(tree, given, left, truth, place);
-            if !truth {
-                return either(first, judge(tree, given, right, truth, place));
+            if needs_both && !first.is_allowed {
+                return first;
             }
-            if first.is_allowed {
-                judge(tree, given, right, truth, place)
+            let second = judge(tree, given, right, truth, place);
+            if needs_both {
+                second
             } else {
-                first
-            }
-        }
-        Prop::Or(left, right) => {
-            let first = judge(tree, given, left, truth, place);
-            if truth {
-                return either(first, judge(tree, given, right, truth, place));
-            }
-            if first.is_allowed {
-                judge(tree, given, right, truth, place)
-            } else {
-                first
+                either(first, second)
             }
         }
     }
@@ -211,20 +186,12 @@ pub fn distinct_words(alloc: Global, words: &[Option<u32>]) -> Result<Vec<u32>, 
     let mut values = Vec::new(alloc);
     for word in words {
         if let Some(value) = word {
-            add_word(&mut values, *value)?;
+            if !is_among(&values, *value) {
+                values.push(*value)?;
+            }
         }
     }
     Ok(values)
-}
-
-/// Adds a word, if it doesn't stand there yet.
-fn add_word(values: &mut Vec<u32>, value: u32) -> Result<(), NoMemory>
-    ensures { OnOk result (values.new.items ≡ with_new_word values.old.items value) }
-{
-    if !is_among(values, value) {
-        values.push(value)?;
-    }
-    Ok(())
 }
 
 fn is_among(values: &[u32], value: u32) -> bool

@@ -4,12 +4,9 @@
 ghost use Rattle.std.specs.Prelude.{◌≡◌, ◌↔◌, ◌∷◌, ◌++◌, ◌+◌, ◌<◌, IfOk, IsTrue, filter, take, drop, length};
 ghost use Rattle.tso_model.specs.ProgramEntries.{made};
 ghost use Rattle.tso_model.specs.ProgramOrder as program_order;
-ghost use Rattle.tso_model.specs.Axioms.{counting};
-ghost use Rattle.tso_model.specs.declared.execution.Entry as declared;
 ghost use Rattle.relational_model.specs.Events.{IsIn};
-ghost use Rattle.relational_model.specs.CandidatesOfOrders.{last_in};
 ghost use Rattle.reason_report.specs.inner.Shown as shown;
-ghost use Rattle.reason_report.specs.inner.Shown.{last_or, AreIn, ReadsIt, AreReadings};
+ghost use Rattle.reason_report.specs.inner.Shown.{AreIn, ReadsIt, AreReadings};
 
 use crate::steps::Event;
 use execution_check::final_state::entries_made;
@@ -54,13 +51,24 @@ pub fn readings(alloc: Global, test: &Test, order: &[Entry]) -> Result<Vec<Readi
     Ok(all)
 }
 
-/// The write that an entry of the order reads from.
+/// The write that an entry of the order reads from: the last one that counts for it.
 fn source_in(order: &[Entry], read: &Entry) -> Option<Event>
     requires { IsIn order.now read.now }
     ensures { ReadsIt order.now read.now result }
 {
     let at = place_in(order, read);
-    match last_counting(read, &order[..at], &order[at + 1..]) {
+    let mut last = None;
+    for e in &order[..at] {
+        if writes_to(read.loc.0, e) {
+            last = Some(*e);
+        }
+    }
+    for e in &order[at + 1..] {
+        if is_before(e, read) && writes_to(read.loc.0, e) {
+            last = Some(*e);
+        }
+    }
+    match last {
         None => None,
         Some(write) => Some(event_of(&write)),
     }
@@ -84,39 +92,4 @@ fn is_same(x: &Entry, y: &Entry) -> bool
     ensures { IsTrue result ↔ x.now ≡ y.now }
 {
     x == y
-}
-
-/// The last of the writes that count for a read: those before it in the order, and those of its own program before it.
-fn last_counting(read: &Entry, front: &[Entry], back: &[Entry]) -> Option<Entry>
-    ensures { result ≡ last_in (counting read.now front.now back.now) }
-{
-    let before = last_write(read.loc.0, front);
-    last_of_program(read, back, before)
-}
-
-/// The last write to the location with this number.
-fn last_write(loc: u8, entries: &[Entry]) -> Option<Entry>
-    ensures { result ≡ last_in (filter (program_order.writes_to loc) entries.now) }
-{
-    let mut last = None;
-    for e in entries {
-        if writes_to(loc, e) {
-            last = Some(*e);
-        }
-    }
-    last
-}
-
-/// The last write of the read's program before it, to its location; else what was the last one.
-fn last_of_program(read: &Entry, entries: &[Entry], before: Option<Entry>) -> Option<Entry>
-    ensures { result ≡ last_or before (filter (program_order.writes_to read.now.loc.0)
-        (filter (λ (e : declared.Entry). program_order.is_before e read.now) entries.now)) }
-{
-    let mut last = before;
-    for e in entries {
-        if is_before(e, read) && writes_to(read.loc.0, e) {
-            last = Some(*e);
-        }
-    }
-    last
 }

@@ -1,13 +1,10 @@
 //! The answers to a question, as the branches of a refutation stand.
 
-ghost use Rattle.std.specs.Prelude.{◌≡◌, ◌≤◌, IfOk, map, filter, length};
-ghost use Rattle.tso_model.specs.ProgramOrder as program_order;
+ghost use Rattle.std.specs.Prelude.{◌≡◌, IfOk, length};
 ghost use Rattle.refutation_laws.specs.Known.{events_of};
-ghost use Rattle.refutation_laws.specs.Refutations.{sources_of};
 ghost use Rattle.refutations.specs.Trees.{node_of};
 ghost use Rattle.refutations.specs.inner.Trees.{known_of};
 ghost use Rattle.reason_report.specs.Steps as spec;
-ghost use Rattle.reason_report.specs.declared.replies.Reply.TheVariants.{Reads};
 
 use refutations::events::writes_to;
 use refutations::{Answers, Node, with_pair, with_source};
@@ -37,24 +34,18 @@ pub fn reply_count(test: &Test, events: &[Entry], node: &Node) -> usize
     ensures { result ≡ length (spec.replies test.now (node_of node.now)) }
 {
     match node {
-        Node::ReadsFrom(read) => 1 + write_count(events, read.loc.0),
+        Node::ReadsFrom(read) => {
+            let mut count = 1;
+            for w in events {
+                if writes_to(read.loc.0, w) {
+                    count += 1;
+                }
+            }
+            count
+        }
         Node::ComesFirst(..) => 2,
         _ => 0,
     }
-}
-
-/// How many of the events write to the location with this number.
-fn write_count(events: &[Entry], loc: u8) -> usize
-    ensures value { result ≡ length (filter (program_order.writes_to loc) events.now) }
-    ensures within { result ≤ length events.now }
-{
-    let mut count = 0;
-    for w in events {
-        if writes_to(loc, w) {
-            count += 1;
-        }
-    }
-    count
 }
 
 /// The answers to a question; none to a leaf.
@@ -69,31 +60,21 @@ pub fn replies(
     requires { events.now ≡ events_of test.now }
     ensures { IfOk result (λ all. all.items ≡ spec.replies test.now (node_of node.now)) }
 {
-    match node {
-        Node::ReadsFrom(read) => sources(alloc, test, events, *read),
-        Node::ComesFirst(first, second) => {
-            let both = [Reply::First(*first, *second), Reply::First(*second, *first)];
-            Ok(Vec::from_slice(alloc, &both)?)
-        }
-        _ => Ok(Vec::new(alloc)),
-    }
-}
-
-fn sources(
-    alloc: Global,
-    test: &Test,
-    events: &[Entry],
-    read: Entry,
-) -> Result<Vec<Reply>, NoMemory>
-    requires { events.now ≡ events_of test.now }
-    ensures { IfOk result (λ all. all.items ≡ map (Reads read) (sources_of test.now read)) }
-{
     let mut all = Vec::new(alloc);
-    all.push(Reply::Reads(read, None))?;
-    for w in events {
-        if writes_to(read.loc.0, w) {
-            all.push(Reply::Reads(read, Some(*w)))?;
+    match node {
+        Node::ReadsFrom(read) => {
+            all.push(Reply::Reads(*read, None))?;
+            for w in events {
+                if writes_to(read.loc.0, w) {
+                    all.push(Reply::Reads(*read, Some(*w)))?;
+                }
+            }
         }
+        Node::ComesFirst(first, second) => {
+            all.push(Reply::First(*first, *second))?;
+            all.push(Reply::First(*second, *first))?;
+        }
+        _ => {}
     }
     Ok(all)
 }

@@ -2,20 +2,17 @@
 
 ghost use Rattle.std.specs.Prelude.{◌≡◌, All, IfOk, length, map, string_bytes};
 ghost use Rattle.tso_model.specs.FinalState.{final_registers, final_words};
-ghost use Rattle.relational_model.specs.Candidates.{Candidate};
 ghost use Rattle.refutation_laws.specs.Models.{IsExecutionOf};
 ghost use Rattle.refutations.specs.Trees.{node_of};
-ghost use Rattle.tso_report.specs.Tally.{looked_at, shown_value};
+ghost use Rattle.tso_report.specs.Tally.{shown_value};
 ghost use Rattle.tso_report.specs.inner.Tally.{NameExists};
-ghost use Rattle.reason_report.specs.Printed.{allowed_in, refutation_in, unfinished_cases_in, ShowsExecution};
-ghost use Rattle.reason_report.specs.inner.Shown.{IsShown};
+ghost use Rattle.reason_report.specs.Printed.{refutation_in, unfinished_cases_in, ShowsExecution};
 
-use crate::as_json::{never_json, sections_json, unfinished_reason_json};
-use crate::as_text::{never_text, sections_text, unfinished_text};
-use crate::asked::model_name;
+use crate::allowed::Shown;
+use crate::as_json::{allowed_json, never_json, unfinished_reason_json};
+use crate::as_text::{allowed_text, never_text, unfinished_text};
 use crate::layout::steps_of;
-use crate::pieces::Section;
-use crate::readings::{Reading, readings};
+use crate::readings::readings;
 use execution_check::final_state::{registers_left, words_left};
 use refutation_laws::Model;
 use refutations::Node;
@@ -43,20 +40,6 @@ pub fn refutation_report(
     } else {
         never_text(alloc, test, model, &steps)
     }
-}
-
-/// An execution as it is shown.
-#[derive(Clone, Copy)]
-struct Shown<'a> {
-    order: &'a [Entry],
-    /// What each read reads from.
-    readings: &'a [Reading],
-    /// What is looked at.
-    names: &'a [Named],
-    /// The values that it has at the end.
-    values: &'a [u32],
-    /// Choices that lead there.
-    choices: &'a [Choice],
 }
 
 /// What is printed of an execution of the model in which what the test asks is so, and of choices that lead there, as lines of text
@@ -88,7 +71,11 @@ pub fn allowed_report(
         values: &values,
         choices,
     };
-    shown_report(alloc, test, model, shown, json)
+    if json {
+        allowed_json(alloc, test, model, &shown)
+    } else {
+        allowed_text(alloc, test, model, &shown)
+    }
 }
 
 /// The values that an order leaves where these names are.
@@ -105,42 +92,6 @@ fn values_left(
     let registers = registers_left(alloc, test, order)?;
     let words = words_left(alloc, test, order)?;
     values_at(alloc, names, &registers, &words)
-}
-
-/// What is printed of an execution as it is shown.
-fn shown_report<'a>(
-    alloc: Global,
-    test: &'a Test,
-    model: Model,
-    shown: Shown<'a>,
-    json: bool,
-) -> Result<String, NoMemory>
-    requires known { All (NameExists (length test.now.programs) (length test.now.locations)) shown.names.now }
-    requires names { shown.names.now ≡ looked_at test.now }
-    requires values { length shown.values.now ≡ length shown.names.now }
-    ensures { IfOk result (λ text. (c : Candidate) → IsShown test.now shown.entry.order.now shown.entry.readings.now shown.entry.values.now c
-        → string_bytes text ≡ allowed_in json model test.now c shown.entry.choices.now) }
-{
-    let sections = [
-        ("Test ", "test", Section::Text(test.name())),
-        ("\nAllowed ", "model", Section::Text(model_name(model))),
-        ("\n", "asked", Section::Asked),
-        ("", "answer", Section::Answer("allowed")),
-        ("", "sources", Section::Readings(shown.readings)),
-        ("", "coherence", Section::Coherence(shown.order)),
-        ("By", "choices", Section::Choices(shown.choices)),
-        (
-            "\nState",
-            "values",
-            Section::Values(shown.names, shown.values),
-        ),
-        ("\n", "verdict", Section::Verdict(true)),
-    ];
-    if json {
-        sections_json(alloc, test, &sections)
-    } else {
-        sections_text(alloc, test, &sections)
-    }
 }
 
 /// What is printed where the search met its limit, of so many cases: one line with that number, as text or with `json` as a JSON

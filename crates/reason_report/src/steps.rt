@@ -1,6 +1,6 @@
 //! A refutation as it is printed, step by step: what is asked and answered, and why each case is closed.
 
-ghost use Rattle.std.specs.Prelude.{◌≡◌, if◌then◌else◌, map};
+ghost use Rattle.std.specs.Prelude.{◌≡◌, map};
 ghost use Rattle.reason_report.specs.Steps as spec;
 ghost use Rattle.reason_report.specs.Views.{reason_step_of};
 
@@ -67,19 +67,13 @@ pub enum Step {
     Endcases(usize),
 }
 
-fn is_leaf(step: &Step) -> bool
-    ensures { (if result then 1 else 0) ≡ spec.leaves_in_step (reason_step_of step.now) }
-{
-    matches!(step, Step::Leaf(..))
-}
-
 /// How many of these steps close a case.
 pub fn leaves_in(steps: &[Step]) -> usize
     ensures { result ≡ spec.leaves_in (map reason_step_of steps.now) }
 {
     let mut leaves = 0;
     for step in steps {
-        if is_leaf(step) {
+        if let Step::Leaf(..) = step {
             leaves += 1;
         }
     }

@@ -1,18 +1,14 @@
 -- Steps as the code holds them, and the definitions' own that they stand for.
-use Rattle.std.specs.Prelude.{ℕ, ◌==◌, if◌then◌else◌, ◌++◌, List, [], ◌∷◌, Option, Some, None, codes}
-use Rattle.std.specs.List.{flat_map, list_any}
-use Rattle.reason_report.specs.Vocabulary.{key_of, Kind, Litmus, printed_access}
+use Rattle.std.specs.Prelude.{ℕ, Bool, false, ◌++◌, List, [], ◌∷◌, Option, Some, None, codes}
+use Rattle.std.specs.List.{flat_map}
+use Rattle.reason_report.specs.Vocabulary.{Claim, key_of, Litmus, LocClaim, Named, RegClaim}
+use Rattle.reason_report.specs.Places.{is_named}
 use Rattle.reason_report.specs.declared.steps.Closing.{Closing}
 use Rattle.reason_report.specs.declared.steps.Edge.{Edge}
 use Rattle.reason_report.specs.declared.steps.Place.{Place}
-use Rattle.reason_report.specs.ReasonText.{event_text, location_text, relation_text, words_text}
+use Rattle.reason_report.specs.ReasonText.{event_text, relation_text, words_text}
 use Rattle.reason_report.specs.Steps as spec
 use Rattle.reason_report.specs.Views.{closing_of}
-
--- ` x=v`, or ` x` where the value isn't known
-abbrev pub known_access : Litmus → Kind → ℕ → Option ℕ → List ℕ
-known_access t kind loc None = location_text t kind loc
-known_access t kind loc (Some value) = printed_access t kind loc value
 
 -- `po P0:1 W y=1`, and `1:EAX=0` or `x=1|2`: what stands in a line after a blank
 abbrev pub hop_end : Litmus → Edge → List ℕ
@@ -26,9 +22,11 @@ abbrev pub leaf_of : ℕ → Option Closing → List spec.ReasonStep
 leaf_of depth None = []
 leaf_of depth (Some c) = spec.Leaf depth (closing_of c) ∷ []
 
--- one more word, if it doesn't stand there yet
-abbrev pub with_new_word : List ℕ → ℕ → List ℕ
-with_new_word values value = if list_any (λ v. v == value) values then values else values ++ (value ∷ [])
+-- whether a claim without parts is one of this place
+abbrev pub names_place : Claim → Named → Bool
+names_place (RegClaim core reg value) place = is_named (RegClaim core reg value) place
+names_place (LocClaim loc value) place = is_named (LocClaim loc value) place
+names_place _ place = false
 
 -- what is made of each item, with this between them
 abbrev pub separated : {X : Type 0} → List ℕ → (X → List ℕ) → List X → List ℕ

@@ -1,4 +1,4 @@
-use Rattle.reason_report.proofs.Vocabulary.{◌∙◌, ◌-◌, ◌++◌, [], ◌∷◌, ap, sym, arith, refl, take, get_or}
+use Rattle.reason_report.proofs.Vocabulary.{◌∙◌, ◌-◌, ◌++◌, [], ◌∷◌, ap, sym, arith, refl, take}
 use Rattle.reason_report.proofs.Laying.{taken, next-ended, part-ended}
 use Rattle.reason_report.proofs.layout.end_all.Goals as goal
 

@@ -1,6 +1,6 @@
 use Rattle.reason_report.proofs.Vocabulary.{◌≡◌, ◌++◌, drop, map, Some, filter, writes_to, sources_of}
 use Rattle.reason_report.specs.declared.replies.Reply.TheVariants.{Reads}
-use Rattle.reason_report.proofs.replies.sources.Given as goal
+use Rattle.reason_report.proofs.replies.replies.Given as goal
 
 -- the writes that were gone over have their answers
 abbrev pub invariant-loop-w : goal.invariant-loop-w
