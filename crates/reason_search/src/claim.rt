@@ -12,6 +12,8 @@ pub struct Demand {
     pub number: u32,
     /// Whether it has to be this number.
     pub truth: bool,
+    /// Another part that asks of the same read or location, if one does.
+    pub other: usize,
 }
 
 /// A part of what is asked.
@@ -60,7 +62,13 @@ fn term_part(term: Term, number: u32, truth: bool) -> Part {
     if term.first == NONE {
         Part::Fixed((term.number == number) == truth)
     } else {
-        Part::Value(term.first, Demand { number, truth })
+        let other = NONE;
+        let demand = Demand {
+            number,
+            truth,
+            other,
+        };
+        Part::Value(term.first, demand)
     }
 }
 
@@ -79,13 +87,12 @@ fn add_parts(
             parts.push(term_part(held, *number, truth));
         }
         Prop::LocIs(loc, number) => {
-            let number = *number;
             let x = usize::from(loc.0);
-            parts.push(if problem.writes_to.next(x, 0) == NONE {
-                term_part(problem.terms.at(x), number, truth)
-            } else {
-                Part::Value(x, Demand { number, truth })
-            });
+            let mut last = problem.terms.at(x);
+            if problem.writes_to.next(x, 0) != NONE {
+                last.first = x;
+            }
+            parts.push(term_part(last, *number, truth));
         }
         Prop::Not(inner) => add_parts(parts, problem, registers, inner, !truth),
         Prop::And(left, right) | Prop::Or(left, right) => {
@@ -107,58 +114,60 @@ fn add_parts(
     }
 }
 
-/// The parts of what a test asks.
+/// The parts of what a test asks; without a condition it is so, whatever the events do.
 pub fn parts_of(
     alloc: Global,
     problem: &Problem,
     registers: &List<Term>,
     test: &Test,
 ) -> List<Part> {
-    let mut parts = List::new(alloc, Part::Fixed(true));
+    let mut parts = List::new(alloc, 0, Part::Fixed(true));
     if let Some(cond) = test.cond() {
         let truth = !matches!(cond.quantifier, Quantifier::Forall);
         add_parts(&mut parts, problem, registers, &cond.prop, truth);
+    } else {
+        parts.push(Part::Fixed(true));
     }
     parts
 }
 
-/// Marks the locations of what is marked, and the reads on which the values hang that those may get. Whether any is new.
-fn mark_more(problem: &mut Problem) -> bool {
-    let before = problem.reads.count(RELEVANT);
-    for a in 0..problem.size {
-        let loc = problem.location(a);
-        if problem.reads.has(RELEVANT, a) {
-            problem.reads.add(RELEVANT, loc);
+/// Marks the locations of what is marked, and the reads on which the values hang that those may get, until none is new.
+fn mark_more(problem: &mut Problem) {
+    for _round in 0..problem.size {
+        let before = problem.reads.count(RELEVANT);
+        for a in 0..problem.size {
+            let loc = problem.events.at(a).location;
+            if problem.reads.has(RELEVANT, a) {
+                problem.reads.add(RELEVANT, loc);
+            }
+            if problem.reads.has(RELEVANT, loc) && problem.is_write_to(loc, a) {
+                add_reads(&mut problem.reads, RELEVANT, problem.terms.at(a));
+            }
         }
-        if problem.reads.has(RELEVANT, loc) && problem.is_write_to(loc, a) {
-            add_reads(&mut problem.reads, RELEVANT, problem.terms.at(a));
+        if problem.reads.count(RELEVANT) == before {
+            break;
         }
     }
-    problem.reads.count(RELEVANT) != before
 }
 
 /// Marks the locations and reads that what is asked names, and those on whose values theirs may hang.
 pub fn mark_relevant(problem: &mut Problem) {
     let mut has_choice = false;
     for i in 0..problem.claim.len() {
-        let mut other = NONE;
         match problem.claim.at(i) {
-            Part::Value(r, _) => {
-                other = problem.parts_on.at(r);
+            Part::Value(r, demand) => {
+                let other = problem.parts_on.at(r);
+                let part = Part::Value(r, Demand { other, ..demand });
+                problem.claim.put(i, part);
                 problem.parts_on.put(r, i);
                 problem.reads.add(RELEVANT, r);
             }
             Part::Either(_) => has_choice = true,
             Part::Both(_) | Part::Fixed(_) => {}
         }
-        problem.other_parts.push(other);
     }
     if has_choice {
         problem.reads.join_own(STORED, RELEVANT);
     }
-    for _round in 0..problem.size {
-        if !mark_more(problem) {
-            break;
-        }
-    }
+    mark_more(problem);
 }

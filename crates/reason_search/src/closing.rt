@@ -1,11 +1,12 @@
 //! The tree of a reason: a leaf, with questions above it where the definition wants answers that only follow.
 
 use crate::branch::Branch;
-use crate::evidence::{Closing, reset, use_facts};
+use crate::evidence::{Closing, reset};
 use crate::facts::Turned;
-use crate::growing::{Growth, add_cycle, add_node, put_branch};
+use crate::growing::{Growth, add_node, put_branch};
 use crate::offers::{Desk, show_order};
 use crate::problem::{Problem, Relations};
+use std::mem::swap;
 
 /// The question which of two writes comes first, with the tree of the other order and of this one.
 pub fn ask_order(desk: &mut Desk, a: usize, b: usize, other: usize, tree: usize) -> usize {
@@ -15,17 +16,30 @@ pub fn ask_order(desk: &mut Desk, a: usize, b: usize, other: usize, tree: usize)
     question
 }
 
-/// The leaf in hand, a cycle of these relations.
-pub fn add_trial(desk: &mut Desk, relations: Relations) -> usize {
-    use_facts(&desk.trial, &mut desk.used);
-    add_cycle(&mut desk.trees, relations, &desk.trial.cycle)
-}
-
-/// Two writes, of which one comes before the other.
-#[derive(Clone, Copy)]
-struct Pair {
-    first: usize,
-    second: usize,
+/// Adds the leaf in hand, and what it uses to what is used: where no reason was found, all answers above.
+pub fn add_leaf(desk: &mut Desk) -> usize {
+    for i in 0..desk.trial.facts.len() {
+        desk.used.add(0, desk.trial.facts.at(i));
+    }
+    let cycle = &desk.trial.cycle;
+    let growth = match desk.trial.closing {
+        Closing::Cycle(relations) => {
+            let start = desk.trees.events.len();
+            for i in 0..cycle.len() {
+                desk.trees.events.push(cycle.at(i));
+            }
+            Growth::Cycle(relations, start, cycle.len())
+        }
+        Closing::Between => Growth::Between(cycle.at(0), cycle.at(1), cycle.at(2)),
+        Closing::False => Growth::False,
+        Closing::None => {
+            for fact in 0..desk.above {
+                desk.used.add(0, fact);
+            }
+            Growth::False
+        }
+    };
+    add_node(&mut desk.trees, growth, 1)
 }
 
 /// A tree that goes by an order. Where an answer above says it, that is used. Where none does, and it isn't the one that is turned, it
@@ -35,10 +49,10 @@ fn add_pair_above(
     branch: &Branch,
     desk: &mut Desk,
     turned: Turned,
-    pair: Pair,
+    first: usize,
+    second: usize,
     tree: usize,
 ) -> usize {
-    let Pair { first, second } = pair;
     let is_turned = first == turned.second && second == turned.first;
     if is_turned || problem.is_initial(first) {
         return tree;
@@ -52,12 +66,12 @@ fn add_pair_above(
     desk.trial.cycle.push(first);
     show_order(problem, branch, desk, first, second, turned.edges);
     desk.trial.cycle.push(second);
-    let cycle = add_trial(desk, Relations::OnLocation);
+    let cycle = add_leaf(desk);
     ask_order(desk, first, second, cycle, tree)
 }
 
 /// The tree of the best reason, for a read of `s`, or where this order is supposed to be turned; what it uses is used then. A write
-/// between two parts has above it the pairs that only follow from chains. Where there is no reason, all answers are used.
+/// between two parts has above it the pairs that only follow from chains.
 pub fn add_best(
     problem: &Problem,
     branch: &Branch,
@@ -65,34 +79,14 @@ pub fn add_best(
     s: usize,
     turned: Turned,
 ) -> usize {
-    use_facts(&desk.best, &mut desk.used);
-    match desk.best.closing {
-        Closing::Cycle(relations) => add_cycle(&mut desk.trees, relations, &desk.best.cycle),
-        Closing::Between => {
-            let v = desk.best.cycle.at(1);
-            let own = desk.best.cycle.at(2);
-            let growth = Growth::Between(desk.best.cycle.at(0), v, own);
-            let leaf = add_node(&mut desk.trees, growth, 1);
-            let later = Pair {
-                first: v,
-                second: own,
-            };
-            let earlier = Pair {
-                first: s,
-                second: v,
-            };
-            let tree = add_pair_above(problem, branch, desk, turned, later, leaf);
-            add_pair_above(problem, branch, desk, turned, earlier, tree)
-        }
-        Closing::False => add_node(&mut desk.trees, Growth::False, 1),
-        Closing::None => add_false(desk),
+    swap(&mut desk.best, &mut desk.trial);
+    let v = desk.trial.cycle.at(1);
+    let own = desk.trial.cycle.at(2);
+    let is_between = matches!(desk.trial.closing, Closing::Between);
+    let leaf = add_leaf(desk);
+    if !is_between {
+        return leaf;
     }
-}
-
-/// A leaf where no reason is found: all answers above are used.
-pub fn add_false(desk: &mut Desk) -> usize {
-    for fact in 0..desk.above {
-        desk.used.add(0, fact);
-    }
-    add_node(&mut desk.trees, Growth::False, 1)
+    let tree = add_pair_above(problem, branch, desk, turned, v, own, leaf);
+    add_pair_above(problem, branch, desk, turned, s, v, tree)
 }

@@ -68,7 +68,7 @@ pub fn add_edge(problem: &Problem, branch: &mut Branch, relations: Relations, li
         relations,
         next,
     });
-    if a == b || branch.is_known(relations, b, a) {
+    if branch.is_known(relations, b, a) {
         branch.conflict = Conflict::Cycle(number);
         return false;
     }
@@ -87,7 +87,7 @@ pub fn add_edge(problem: &Problem, branch: &mut Branch, relations: Relations, li
     widen_each(branch, earlier, first_after, later);
     widen_each(branch, later, first_before, earlier);
     if matches!(relations, Relations::Coherence) {
-        let loc = problem.location(a);
+        let loc = problem.events.at(a).location;
         branch.sets.join(DIRTY, &problem.readers_of, loc);
     }
     true
@@ -133,7 +133,7 @@ fn add_program(problem: &Problem, branch: &mut Branch, relations: Relations, a: 
 
 /// A write comes before those to its location that stand later in its program.
 fn put_before_later(problem: &Problem, branch: &mut Branch, a: usize) {
-    let loc = problem.location(a);
+    let loc = problem.events.at(a).location;
     let row = branch.row(Relations::OnLocation, a);
     let mut b = problem.program.next(row, a);
     for _later in a..problem.size {

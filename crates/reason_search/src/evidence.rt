@@ -2,7 +2,6 @@
 
 use crate::lists::{List, NONE};
 use crate::problem::Relations;
-use crate::rows::Rows;
 use std::alloc::Global;
 
 /// What kind of leaf closes a case.
@@ -28,8 +27,8 @@ pub struct Evidence {
 pub fn make_evidence(alloc: Global) -> Evidence {
     Evidence {
         closing: Closing::None,
-        cycle: List::new(alloc, NONE),
-        facts: List::new(alloc, NONE),
+        cycle: List::new(alloc, 0, NONE),
+        facts: List::new(alloc, 0, NONE),
         cost: NONE,
     }
 }
@@ -51,12 +50,5 @@ pub fn reset(evidence: &mut Evidence, closing: Closing) {
 pub fn need(evidence: &mut Evidence, fact: usize) {
     if fact != NONE {
         evidence.facts.push(fact);
-    }
-}
-
-/// Adds what a leaf uses to what is used.
-pub fn use_facts(evidence: &Evidence, used: &mut Rows) {
-    for i in 0..evidence.facts.len() {
-        used.add(0, evidence.facts.at(i));
     }
 }

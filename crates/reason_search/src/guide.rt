@@ -1,13 +1,14 @@
 //! What a search proposes: nodes of a tree, from the root on, or the order of an execution.
 
-use crate::growing::{Proposal, is_short, next_node, no_trees, offer_tree};
+use crate::growing::{Growth, Proposal, cycle_of, no_trees};
 use crate::hunting::{Find, Hunt, hunt_again, hunt_for, is_refused, make_hunt};
 use crate::lists::{List, NONE};
 use crate::ordering::make_order;
-use crate::problem::{Problem, make_problem};
+use crate::problem::{Problem, Relations, make_problem};
 use refutation_laws::Model;
 use refutations::Node;
 use std::alloc::Global;
+use std::mem::swap;
 use tso_model::{Entry, Execution, NoMemory, Test};
 
 /// How many cases a search looks at before it gives up.
@@ -32,20 +33,27 @@ fn search(guide: &mut Guide) {
         return;
     }
     let hunt = &mut guide.hunt;
-    let found = hunt_for(&guide.problem, hunt, MOST_CASES);
+    let mut found = hunt_for(&guide.problem, hunt, MOST_CASES);
     guide.is_allowed = matches!(found, Find::Allowed);
-    let Find::Refuted(root) = found else {
-        return;
-    };
     let effort = hunt.cases.wrapping_add(20);
-    let mut leaves = offer_tree(&mut guide.proposal, &mut hunt.desk.trees, root, NONE);
-    for tries in 0..MOST_TRIES {
-        if leaves < 3 || tries.wrapping_mul(effort) > 4_000 || is_refused(hunt) {
+    let mut leaves = NONE;
+    for tries in 0..usize::MAX {
+        if let Find::Refuted(root) = found {
+            let fewer = hunt.desk.trees.twigs.at(root).leaves;
+            if fewer < leaves {
+                leaves = fewer;
+                // The trees that were proposed stand there from now on.
+                swap(&mut guide.proposal.trees, &mut hunt.desk.trees);
+                guide.proposal.open.cut(0);
+                guide.proposal.open.push(root);
+            }
+        }
+        let is_small = leaves < 3 || leaves == NONE;
+        let is_late = tries == MOST_TRIES || tries.wrapping_mul(effort) > 4_000;
+        if is_small || is_late || is_refused(hunt) {
             break;
         }
-        if let Find::Refuted(other) = hunt_again(&guide.problem, hunt, effort) {
-            leaves = offer_tree(&mut guide.proposal, &mut hunt.desk.trees, other, leaves);
-        }
+        found = hunt_again(&guide.problem, hunt, effort);
     }
 }
 
@@ -59,7 +67,7 @@ pub fn make_guide(alloc: Global, test: &Test, events: &[Entry], model: Model) ->
         is_allowed: false,
         proposal: Proposal {
             trees: no_trees(alloc),
-            open: List::new(alloc, NONE),
+            open: List::new(alloc, 0, NONE),
         },
     };
     search(&mut guide);
@@ -70,7 +78,11 @@ pub fn make_guide(alloc: Global, test: &Test, events: &[Entry], model: Model) ->
 ///
 /// Errors: out of memory only, for this or for the search.
 pub fn proposed_order(alloc: Global, guide: &Guide) -> Result<Option<Execution>, NoMemory> {
-    if guide.problem.is_refused() | is_refused(&guide.hunt) | is_short(&guide.proposal) {
+    if guide.problem.is_refused()
+        | is_refused(&guide.hunt)
+        | guide.proposal.trees.twigs.is_refused
+        | guide.proposal.trees.events.is_refused
+    {
         return Err(NoMemory);
     }
     if !guide.is_allowed {
@@ -80,11 +92,42 @@ pub fn proposed_order(alloc: Global, guide: &Guide) -> Result<Option<Execution>,
     Ok(Some(Execution { order }))
 }
 
-/// The next node of the tree that is proposed, if there is one: they come in the order in which a tree lists them.
+/// The next node of the tree that is proposed, if there is one: they come in the order in which a tree lists them, each before its
+/// branches. Those that stand behind it are opened.
 ///
 /// Errors: out of memory only.
 pub fn propose(alloc: Global, guide: &mut Guide) -> Result<Option<Node>, NoMemory> {
-    next_node(alloc, &guide.problem, &mut guide.proposal)
+    let problem = &guide.problem;
+    let proposal = &mut guide.proposal;
+    if proposal.open.len() == 0 {
+        return Ok(None);
+    }
+    let number = proposal.open.pop();
+    let twig = proposal.trees.twigs.at(number);
+    if twig.beside != NONE {
+        proposal.open.push(twig.beside);
+    }
+    if twig.child != NONE {
+        proposal.open.push(twig.child);
+    }
+    if proposal.open.is_refused {
+        return Err(NoMemory);
+    }
+    Ok(Some(match twig.growth {
+        Growth::ReadsFrom(r) => Node::ReadsFrom(problem.entry(r)),
+        Growth::ComesFirst(a, b) => Node::ComesFirst(problem.entry(a), problem.entry(b)),
+        Growth::Cycle(relations, start, length) => {
+            let cycle = cycle_of(alloc, problem, &proposal.trees.events, start, length)?;
+            match relations {
+                Relations::Global => Node::Globally(cycle),
+                _ => Node::OnLocation(cycle),
+            }
+        }
+        Growth::Between(r, v, w) => {
+            Node::Between(problem.entry(r), problem.entry(v), problem.entry(w))
+        }
+        Growth::False => Node::FalseClaim,
+    }))
 }
 
 /// Forgets what was proposed and isn't taken yet.

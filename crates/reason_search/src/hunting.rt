@@ -3,7 +3,7 @@
 
 use crate::branch::{Branch, DIRTY, Mark, VALUED, look_at_all, make_branch, mark_here, undo};
 use crate::chance::{Chance, FIRST_CHANCE};
-use crate::choosing::{Ask, choose};
+use crate::choosing::{Ask, Choice, choose};
 use crate::edges::{put_before, put_program};
 use crate::evidence::make_evidence;
 use crate::growing::no_trees;
@@ -63,7 +63,7 @@ pub fn make_hunt(alloc: Global, problem: &Problem) -> Hunt {
             trees: no_trees(alloc),
             used: Rows::new(alloc, 1, most_facts),
             above: 0,
-            branches: List::filled(alloc, size, NONE),
+            branches: List::new(alloc, size, NONE),
             weights: Weights::new(alloc, size),
         },
         questions: Questions::none(alloc),
@@ -79,30 +79,18 @@ pub fn is_refused(hunt: &Hunt) -> bool {
     hunt.branch.is_refused() | hunt.desk.is_refused() | hunt.questions.is_refused()
 }
 
-/// What came of the next answer of a question.
-#[derive(Clone, Copy)]
-enum Next {
-    Open,
-    Closed,
-    None,
-}
-
-/// Tries the next answer of the last question.
-fn try_next(problem: &Problem, hunt: &mut Hunt, frame: &Frame) -> Next {
-    let answer = hunt.questions.next_answer(frame);
-    if answer == NONE {
-        return Next::None;
-    }
-    let branch = &mut hunt.branch;
-    let is_open = match frame.ask {
+/// Tries an answer of a question. False where that closes the branch.
+fn put_answer(problem: &Problem, branch: &mut Branch, ask: Ask, answer: usize) -> bool {
+    match ask {
         Ask::Source(r) => put_source(problem, branch, r, answer, true),
         Ask::Order(a, b) => {
-            let (first, second) = if answer == 0 { (b, a) } else { (a, b) };
-            put_before(problem, branch, first, second, true)
+            if answer == 0 {
+                put_before(problem, branch, b, a, true)
+            } else {
+                put_before(problem, branch, a, b, true)
+            }
         }
-        Ask::Nothing => true,
-    };
-    if is_open { Next::Open } else { Next::Closed }
+    }
 }
 
 /// Goes back to the last question with the tree of its answer. The question's tree, where all its answers are closed; else `NONE`.
@@ -114,12 +102,14 @@ fn go_back_one(problem: &Problem, hunt: &mut Hunt, frame: &Frame, tree: usize) -
         return tree;
     }
     hunt.questions.keep(frame, tree, &hunt.desk.used);
-    match try_next(problem, hunt, frame) {
-        Next::Open => return NONE,
-        Next::Closed => return add_conflict(problem, &mut hunt.branch, &mut hunt.desk),
-        Next::None => {}
-    }
+    let answer = hunt.questions.next_answer(frame);
     let desk = &mut hunt.desk;
+    if answer != NONE {
+        if put_answer(problem, &mut hunt.branch, frame.ask, answer) {
+            return NONE;
+        }
+        return add_conflict(problem, &mut hunt.branch, desk);
+    }
     hunt.questions
         .put_trees(frame, &mut desk.branches, &mut desk.used);
     hunt.questions.take_back(frame);
@@ -133,7 +123,6 @@ fn go_back_one(problem: &Problem, hunt: &mut Hunt, frame: &Frame, tree: usize) -
             desk.branches.put(1, NONE);
             add_order_question(desk, a, b, first, second)
         }
-        Ask::Nothing => NONE,
     }
 }
 
@@ -144,10 +133,11 @@ fn go_back(problem: &Problem, hunt: &mut Hunt) -> usize {
         if is_refused(hunt) {
             return NONE;
         }
-        if hunt.questions.frames.len() == 0 {
+        let asked = hunt.questions.frames.len();
+        if asked == 0 {
             return wrap(problem, &mut hunt.branch, &mut hunt.desk, 0, tree);
         }
-        let frame = hunt.questions.frames.from_end(0);
+        let frame = hunt.questions.frames.at(asked.wrapping_sub(1));
         let next = frame.mark.facts.wrapping_add(1);
         tree = wrap(problem, &mut hunt.branch, &mut hunt.desk, next, tree);
         tree = go_back_one(problem, hunt, &frame, tree);
@@ -175,8 +165,13 @@ fn search(problem: &Problem, hunt: &mut Hunt) -> Find {
             return Find::Paused;
         }
         if deduce(problem, &mut hunt.branch) {
-            let ask = choose(problem, &hunt.branch, &hunt.desk.weights, hunt.round);
-            if matches!(ask, Ask::Nothing) {
+            let Choice { ask, weight } = choose(
+                problem,
+                &hunt.branch,
+                &hunt.desk.weights,
+                hunt.round,
+            );
+            if weight == NONE {
                 find_all_values(problem, &mut hunt.branch);
                 return Find::Allowed;
             }
@@ -189,7 +184,8 @@ fn search(problem: &Problem, hunt: &mut Hunt) -> Find {
                 ask,
                 by_chance,
             );
-            if !matches!(try_next(problem, hunt, &frame), Next::Closed) {
+            let answer = hunt.questions.next_answer(&frame);
+            if put_answer(problem, &mut hunt.branch, ask, answer) {
                 continue;
             }
         }
@@ -226,29 +222,19 @@ pub fn hunt_for(problem: &Problem, hunt: &mut Hunt, most: usize) -> Find {
     Find::Paused
 }
 
-/// Looks at one event after the other in an order of chance, with all that follows. False where that closes the branch.
-fn look_by_chance(problem: &Problem, branch: &mut Branch, chance: &mut Chance) -> bool {
-    branch.sets.clear(DIRTY);
-    for _event in 0..problem.size {
-        branch.sets.add(DIRTY, chance.below(problem.size));
-        if !deduce(problem, branch) {
-            return false;
-        }
-    }
-    look_at_all(branch);
-    true
-}
-
-/// Begins anew, with another order in which things follow, and looks at so many cases at most: it may find a smaller tree.
+/// Begins anew, and looks at so many cases at most: it may find a smaller tree, since it looks first at one event after the other in an
+/// order of chance, with all that follows.
 pub fn hunt_again(problem: &Problem, hunt: &mut Hunt, most: usize) -> Find {
     start_anew(hunt);
     hunt.pause = hunt.cases.wrapping_add(most);
-    if look_by_chance(problem, &mut hunt.branch, &mut hunt.chance) {
-        return search(problem, hunt);
+    hunt.branch.sets.clear(DIRTY);
+    for _event in 0..problem.size {
+        let next = hunt.chance.below(problem.size);
+        hunt.branch.sets.add(DIRTY, next);
+        if !deduce(problem, &mut hunt.branch) {
+            break;
+        }
     }
-    let tree = go_back(problem, hunt);
-    if tree == NONE {
-        return Find::Paused;
-    }
-    Find::Refuted(tree)
+    look_at_all(&mut hunt.branch);
+    search(problem, hunt)
 }

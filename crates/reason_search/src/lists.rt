@@ -16,17 +16,8 @@ pub struct List<T: Copy> {
 }
 
 impl<T: Copy> List<T> {
-    /// An empty list.
-    pub fn new(alloc: Global, none: T) -> List<T> {
-        List {
-            items: Vec::new(alloc),
-            none,
-            is_refused: false,
-        }
-    }
-
     /// So many times `none`.
-    pub fn filled(alloc: Global, count: usize, none: T) -> List<T> {
+    pub fn new(alloc: Global, count: usize, none: T) -> List<T> {
         let items = vec![in alloc; none; count].unwrap_or(Vec::new(alloc));
         List {
             is_refused: items.len() != count,
@@ -45,11 +36,6 @@ impl<T: Copy> List<T> {
         self.items.get(i).copied().unwrap_or(self.none)
     }
 
-    /// The item at a place, counted from the end.
-    pub fn from_end(&self, i: usize) -> T {
-        self.at(self.items.len().wrapping_sub(1).wrapping_sub(i))
-    }
-
     /// Adds an item.
     pub fn push(&mut self, item: T) {
         self.is_refused |= self.items.push(item).is_err();
@@ -64,13 +50,6 @@ impl<T: Copy> List<T> {
     pub fn put(&mut self, i: usize, item: T) {
         if let Some(place) = self.items.get_mut(i) {
             *place = item;
-        }
-    }
-
-    /// Writes `none` at each place.
-    pub fn blank(&mut self) {
-        for place in &mut self.items {
-            *place = self.none;
         }
     }
 

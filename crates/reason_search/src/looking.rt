@@ -98,7 +98,7 @@ fn word_earlier(branch: &Branch, a: usize, k: usize) -> u64 {
 
 /// Writes that are after this one by one of the relations are after it in coherence.
 fn look_at_write(problem: &Problem, branch: &mut Branch, a: usize) -> bool {
-    let loc = problem.location(a);
+    let loc = problem.events.at(a).location;
     for k in 0..branch.rows.width {
         let later = branch.word_after(Relations::OnLocation, a, k)
             | branch.word_after(Relations::Global, a, k);
@@ -109,36 +109,6 @@ fn look_at_write(problem: &Problem, branch: &mut Branch, a: usize) -> bool {
         }
     }
     true
-}
-
-/// No write comes between the source of a load part and its store part.
-fn keep_together(
-    problem: &Problem,
-    branch: &mut Branch,
-    s: usize,
-    own: usize,
-    k: usize,
-    them: u64,
-) -> bool {
-    let later = branch.word_after(Relations::Coherence, s, k);
-    let own_later = branch.word_after(Relations::Coherence, own, k);
-    if !put_each(
-        problem,
-        branch,
-        Put::After(own),
-        k,
-        later & them & !own_later,
-    ) {
-        return false;
-    }
-    put_before_source(
-        problem,
-        branch,
-        s,
-        branch.word_before(Relations::Coherence, own, k),
-        k,
-        them,
-    )
 }
 
 /// These writes are before a source, unless it is the initial write.
@@ -154,18 +124,24 @@ fn put_before_source(
     problem.is_initial(s) || put_each(problem, branch, Put::Before(s), k, earlier & them & !known)
 }
 
-/// What follows at a read whose source is known.
+/// What follows at a read whose source is known; no write comes between the source of a load part and its store part.
 fn look_at_known(problem: &Problem, branch: &mut Branch, r: usize, s: usize) -> bool {
-    let loc = problem.location(r);
-    let own = problem.partner(r);
+    let loc = problem.events.at(r).location;
+    let own = problem.events.at(r).partner;
     for k in 0..branch.rows.width {
         let them = problem.writes_to.word(loc, k);
         let later = branch.word_after(Relations::Coherence, s, k);
         let passed = branch.word_after(Relations::OnLocation, r, k)
             & branch.word_after(Relations::Global, r, k);
-        let is_open = put_each(problem, branch, Put::FromRead(r), k, later & !passed & them)
-            && put_before_source(problem, branch, s, word_earlier(branch, r, k), k, them)
-            && (own == NONE || keep_together(problem, branch, s, own, k, them));
+        let mut is_open = put_each(problem, branch, Put::FromRead(r), k, later & !passed & them)
+            && put_before_source(problem, branch, s, word_earlier(branch, r, k), k, them);
+        if is_open && own != NONE {
+            let later = branch.word_after(Relations::Coherence, s, k)
+                & !branch.word_after(Relations::Coherence, own, k);
+            let earlier = branch.word_before(Relations::Coherence, own, k);
+            is_open = put_each(problem, branch, Put::After(own), k, later & them)
+                && put_before_source(problem, branch, s, earlier, k, them);
+        }
         if !is_open {
             return false;
         }
@@ -175,8 +151,8 @@ fn look_at_known(problem: &Problem, branch: &mut Branch, r: usize, s: usize) -> 
 
 /// Notes the writes to its location that are known to come before a read, or its store part, and then those before one of them.
 fn note_parted(problem: &Problem, branch: &mut Branch, r: usize) {
-    let loc = problem.location(r);
-    let own = problem.partner(r);
+    let loc = problem.events.at(r).location;
+    let own = problem.events.at(r).partner;
     for k in 0..branch.rows.width {
         let mut earlier = word_earlier(branch, r, k);
         if own != NONE {
@@ -197,32 +173,32 @@ fn note_parted(problem: &Problem, branch: &mut Branch, r: usize) {
     }
 }
 
-/// Takes sources of a word from a read.
-fn take_sources(problem: &Problem, branch: &mut Branch, r: usize, k: usize, taken: u64) {
+/// Takes from a read the sources that it is known to be before, and those before the last one that it is known to be after; where
+/// `is_tested` doesn't say that this was done, those of a wrong value too.
+fn take_sources(problem: &Problem, branch: &mut Branch, r: usize, is_tested: bool) {
     let row = branch.candidates(r);
-    let bits = branch.rows.word(row, k) & !taken;
-    change_word(branch, row, k, bits);
-    let mut left = taken;
-    for _source in 0..64u8 {
-        if left == 0 {
-            break;
+    let core = problem.events.at(r).core;
+    for k in 0..branch.rows.width {
+        let own = problem.events_of.word(core, k);
+        let barred = branch.word_after(Relations::OnLocation, r, k)
+            | branch.word_after(Relations::Global, r, k) & !own
+            | branch.sets.word(PARTED, k);
+        let sources = branch.rows.word(row, k);
+        let mut kept = sources;
+        let mut left = if is_tested { sources & barred } else { sources };
+        for _source in 0..64u8 {
+            if left == 0 {
+                break;
+            }
+            let s = lowest(k, left);
+            left &= left.wrapping_sub(1);
+            if barred & bit(s) != 0 || is_wrong_source(problem, branch, r, s) {
+                kept &= !bit(s);
+                put_moment(problem, branch, r, s);
+            }
         }
-        put_moment(problem, branch, r, lowest(k, left));
-        left &= left.wrapping_sub(1);
-    }
-}
-
-/// Takes from a read those sources of a word that it can't have for their values.
-fn take_by_value(problem: &Problem, branch: &mut Branch, r: usize, k: usize) {
-    let mut left = branch.rows.word(branch.candidates(r), k);
-    for _source in 0..64u8 {
-        if left == 0 {
-            break;
-        }
-        let s = lowest(k, left);
-        left &= left.wrapping_sub(1);
-        if is_wrong_source(problem, branch, r, s) {
-            take_sources(problem, branch, r, k, bit(s));
+        if kept != sources {
+            change_word(branch, row, k, kept);
         }
     }
 }
@@ -231,26 +207,10 @@ fn take_by_value(problem: &Problem, branch: &mut Branch, r: usize, k: usize) {
 /// those of a wrong value.
 fn look_at_open(problem: &Problem, branch: &mut Branch, r: usize) -> bool {
     note_parted(problem, branch, r);
-    let row = branch.candidates(r);
-    let core = usize::from(problem.core(r));
     let is_tested = !branch.sets.has(UNTESTED, r);
-    for k in 0..branch.rows.width {
-        let own = if problem.sequential {
-            0
-        } else {
-            problem.events_of.word(core, k)
-        };
-        let later = branch.word_after(Relations::OnLocation, r, k)
-            | branch.word_after(Relations::Global, r, k) & !own;
-        let taken = branch.rows.word(row, k) & (later | branch.sets.word(PARTED, k));
-        if taken != 0 {
-            take_sources(problem, branch, r, k, taken);
-        }
-        if !is_tested {
-            take_by_value(problem, branch, r, k);
-        }
-    }
+    take_sources(problem, branch, r, is_tested);
     branch.sets.remove(UNTESTED, r);
+    let row = branch.candidates(r);
     match branch.rows.count(row) {
         0 => {
             branch.conflict = Conflict::NoSource(r);
@@ -315,6 +275,9 @@ fn look_at_one(problem: &Problem, branch: &mut Branch, a: usize) -> bool {
 
 /// Notes all that follows, first of all the values that are known. False where the branch is closed.
 pub fn deduce(problem: &Problem, branch: &mut Branch) -> bool {
+    if !matches!(branch.conflict, Conflict::Open) {
+        return false;
+    }
     for _step in 0..u64::MAX {
         if branch.facts.is_refused {
             // What follows can't be noted any more, so it would follow again and again.

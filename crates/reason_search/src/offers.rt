@@ -53,15 +53,6 @@ struct Way {
     to: usize,
 }
 
-/// A write between the parts of a locked instruction, that is so by the order of two writes.
-#[derive(Clone, Copy)]
-struct Parting {
-    load: usize,
-    between: usize,
-    first: usize,
-    second: usize,
-}
-
 /// Adds to the leaf in hand the facts that one write comes before another one, and to its cycle the writes that stand between them.
 pub fn show_order(
     problem: &Problem,
@@ -80,10 +71,10 @@ pub fn show_order(
     if !find(problem, branch, &mut desk.inner, edges, b) {
         return;
     }
-    for i in 0..desk.inner.path.len() {
-        let step = desk.inner.path.from_end(i);
+    for i in (0..desk.inner.path.len()).rev() {
+        let step = desk.inner.path.at(i);
         need(&mut desk.trial, branch.edges.at(step.edge).link.fact);
-        if i != 0 {
+        if step.from != a {
             desk.trial.cycle.push(step.from);
         }
     }
@@ -108,13 +99,9 @@ pub fn close_cycle(problem: &Problem, branch: &Branch, desk: &mut Desk, edge: Ed
         from: to,
         to: from,
     };
-    if to == from {
-        reset(&mut desk.trial, Closing::Cycle(relations));
-        desk.trial.cycle.push(from);
-    } else if !take_path(problem, branch, desk, back) {
-        return;
+    if take_path(problem, branch, desk, back) {
+        need_edge(problem, branch, desk, edge, limit);
     }
-    need_edge(problem, branch, desk, edge, limit);
 }
 
 /// Offers the leaf in hand: the better one is the best then. It costs as much as it uses facts that aren't used yet, and is long: a
@@ -148,8 +135,8 @@ fn take_cycle(
         return false;
     }
     reset(&mut desk.trial, Closing::Cycle(edges.relations));
-    for i in 0..desk.paths.path.len() {
-        let step = desk.paths.path.from_end(i);
+    for i in (0..desk.paths.path.len()).rev() {
+        let step = desk.paths.path.at(i);
         desk.trial.cycle.push(step.from);
         if step.edge != NONE {
             need_edge(problem, branch, desk, branch.edges.at(step.edge), step.edge);
@@ -172,7 +159,7 @@ fn offer_write_between(problem: &Problem, desk: &mut Desk, r: usize, v: usize) {
     desk.trial.cycle.cut(0);
     desk.trial.cycle.push(r);
     desk.trial.cycle.push(v);
-    desk.trial.cycle.push(problem.partner(r));
+    desk.trial.cycle.push(problem.events.at(r).partner);
     offer(desk);
 }
 
@@ -221,7 +208,7 @@ fn offer_between(
     s: usize,
     limit: usize,
 ) {
-    let own = problem.partner(r);
+    let own = problem.events.at(r).partner;
     let edges = Edges {
         relations: Relations::Coherence,
         limit,
@@ -230,7 +217,7 @@ fn offer_between(
     begin(&mut desk.paths);
     for x in problem.locations..problem.size {
         if desk.inner.events.has(STARTS, x)
-            && problem.core(x) != problem.core(r)
+            && problem.events.at(x).core != problem.events.at(r).core
             && branch.is_known(Relations::Coherence, x, own)
         {
             start_from(&mut desk.paths, x);
@@ -266,7 +253,7 @@ pub fn find_why_not(problem: &Problem, branch: &mut Branch, desk: &mut Desk, r: 
     }
     offer_orders(problem, branch, desk, on_location, r, s);
     offer_orders(problem, branch, desk, global, r, s);
-    if problem.partner(r) != NONE {
+    if problem.events.at(r).partner != NONE {
         offer_between(problem, branch, desk, r, s, limit);
     }
 }
@@ -301,7 +288,7 @@ fn offer_paths(
 
 /// Finds the best reason why an order that a fact tells can't be turned.
 pub fn find_why_before(problem: &Problem, branch: &mut Branch, desk: &mut Desk, turned: Turned) {
-    let loc = problem.location(turned.first);
+    let loc = problem.events.at(turned.first).location;
     reset(&mut desk.best, Closing::None);
     offer_paths(problem, branch, desk, turned, turned.second, NONE);
     if problem.is_asked(loc) {
@@ -314,62 +301,44 @@ pub fn find_why_before(problem: &Problem, branch: &mut Branch, desk: &mut Desk, 
         }
     }
     for r in problem.locations..problem.size {
-        if branch.source.at(r) < turned.fact && problem.location(r) == loc {
+        if branch.source.at(r) < turned.fact && problem.events.at(r).location == loc {
             offer_read(problem, branch, desk, turned, r);
         }
     }
 }
 
-/// Offers the reasons by a read of their location why an order can't be turned.
+/// Offers the reasons by a read of their location why an order can't be turned: it is before the second one then; or one of the two
+/// would stand between the parts of a locked instruction, by an order of two writes that is known.
 fn offer_read(problem: &Problem, branch: &Branch, desk: &mut Desk, turned: Turned, r: usize) {
     let (a, b) = (turned.first, turned.second);
-    let own = problem.partner(r);
+    let own = problem.events.at(r).partner;
     let s = branch.source_of(r);
+    let edges = Edges {
+        relations: Relations::Coherence,
+        limit: turned.edges,
+    };
+    let mut way = Way {
+        edges,
+        from: s,
+        to: b,
+    };
+    let mut between = b;
+    let mut is_parted = own == a;
     if s == b {
         // b before a: r is before a
         offer_paths(problem, branch, desk, turned, r, branch.source.at(r));
-        if own != NONE && own != a {
-            let parting = Parting {
-                load: r,
-                between: a,
-                first: a,
-                second: own,
-            };
-            offer_parting(problem, branch, desk, turned.edges, parting);
-        }
-    } else if own == a {
-        let parting = Parting {
-            load: r,
-            between: b,
-            first: s,
-            second: b,
-        };
-        offer_parting(problem, branch, desk, turned.edges, parting);
+        way.from = a;
+        way.to = own;
+        between = a;
+        is_parted = own != a;
     }
-}
-
-/// Offers a write of another core between the parts of a locked instruction, where the order of the two writes is known.
-fn offer_parting(
-    problem: &Problem,
-    branch: &Branch,
-    desk: &mut Desk,
-    limit: usize,
-    parting: Parting,
-) {
-    let Parting { load, between, .. } = parting;
-    let way = Way {
-        edges: Edges {
-            relations: Relations::Coherence,
-            limit,
-        },
-        from: parting.first,
-        to: parting.second,
-    };
-    if branch.is_known(Relations::Coherence, way.from, way.to)
-        && problem.core(between) != problem.core(load)
+    if is_parted
+        && own != NONE
+        && branch.is_known(Relations::Coherence, way.from, way.to)
+        && problem.events.at(between).core != problem.events.at(r).core
         && take_path(problem, branch, desk, way)
     {
-        need(&mut desk.trial, branch.source.at(load));
-        offer_write_between(problem, desk, load, between);
+        need(&mut desk.trial, branch.source.at(r));
+        offer_write_between(problem, desk, r, between);
     }
 }

@@ -6,7 +6,7 @@ use crate::problem::{NO_EVENT, Problem, Relations};
 use crate::rows::{Rows, lowest};
 use crate::values::written;
 use std::alloc::Global;
-use tso_model::{Entry, Kind, NoMemory};
+use tso_model::{Entry, NoMemory};
 
 /// An order while events are placed.
 #[derive(Drop)]
@@ -16,31 +16,26 @@ struct Placing {
     order: List<Entry>,
 }
 
-/// Whether a fence stands between an event and one that stands before it in its program and is still to come, or is one of them.
-fn is_fenced(problem: &Problem, placing: &Placing, a: usize) -> bool {
-    let mut is_fenced = problem.is_fence(a);
-    for b in (0..a).rev() {
-        if problem.core(b) != problem.core(a) {
+/// Whether an event waits for one that is still to come, other than its other part: one of the two is a fence that stands in the same
+/// program, or the other one is known to be before it.
+fn is_waiting(problem: &Problem, branch: &Branch, placing: &Placing, a: usize) -> bool {
+    let event = problem.events.at(a);
+    for k in 0..branch.rows.width {
+        let left = branch.word_before(Relations::Global, a, k) & placing.left.word(0, k);
+        if left != 0 && (left & left.wrapping_sub(1) != 0 || lowest(k, left) != event.partner) {
+            return true;
+        }
+    }
+    for b in (problem.locations..a).rev() {
+        let earlier = problem.events.at(b);
+        if earlier.core != event.core {
             break;
         }
-        is_fenced |= problem.is_fence(b);
-        if is_fenced && placing.left.has(0, b) {
+        if placing.left.has(0, b) && !(event.is_access && earlier.is_access) {
             return true;
         }
     }
     false
-}
-
-/// Whether an event waits for one that is still to come, other than its other part.
-fn is_waiting(problem: &Problem, branch: &Branch, placing: &Placing, a: usize) -> bool {
-    let partner = problem.partner(a);
-    for k in 0..branch.rows.width {
-        let left = branch.word_before(Relations::Global, a, k) & placing.left.word(0, k);
-        if left != 0 && (left & left.wrapping_sub(1) != 0 || lowest(k, left) != partner) {
-            return true;
-        }
-    }
-    is_fenced(problem, placing, a)
 }
 
 /// Places an event with its value. A fence has 0.
@@ -59,30 +54,22 @@ fn place(problem: &Problem, branch: &Branch, placing: &mut Placing, a: usize) {
     });
 }
 
-/// Places an event if it waits for none; both parts of a locked instruction side by side.
-fn place_ready(problem: &Problem, branch: &Branch, placing: &mut Placing, a: usize) {
-    if !placing.left.has(0, a) {
-        return;
-    }
-    let event = problem.events.at(a);
-    let is_second = matches!(event.entry.kind, Kind::LW);
-    if is_second || is_waiting(problem, branch, placing, a) {
-        return;
-    }
-    if event.partner == NONE {
-        place(problem, branch, placing, a);
-    } else if !is_waiting(problem, branch, placing, event.partner) {
-        place(problem, branch, placing, a);
-        place(problem, branch, placing, event.partner);
-    }
-}
-
-/// Places all events that can be placed, round by round.
+/// Places all events that can be placed, round by round: those that wait for none, both parts of a locked instruction side by side.
 fn place_all(problem: &Problem, branch: &Branch, placing: &mut Placing) {
     for _round in 0..problem.size {
         let placed = placing.order.len();
         for a in problem.locations..problem.size {
-            place_ready(problem, branch, placing, a);
+            let own = problem.events.at(a).partner;
+            let is_second = own < a;
+            if is_second || !placing.left.has(0, a) || is_waiting(problem, branch, placing, a) {
+                continue;
+            }
+            if own == NONE {
+                place(problem, branch, placing, a);
+            } else if !is_waiting(problem, branch, placing, own) {
+                place(problem, branch, placing, a);
+                place(problem, branch, placing, own);
+            }
         }
         if placing.order.len() == placed {
             break;
@@ -101,7 +88,7 @@ pub fn make_order(
     let size = problem.size;
     let mut placing = Placing {
         left: Rows::new(alloc, 1, size),
-        order: List::new(alloc, NO_EVENT.entry),
+        order: List::new(alloc, 0, NO_EVENT.entry),
     };
     for a in problem.locations..size {
         placing.left.add(0, a);

@@ -46,11 +46,11 @@ pub struct Paths {
 /// Paths over the events of a problem.
 pub fn make_paths(alloc: Global, size: usize) -> Paths {
     Paths {
-        steps: List::filled(alloc, size, NO_STEP),
-        queue: List::new(alloc, NONE),
+        steps: List::new(alloc, size, NO_STEP),
+        queue: List::new(alloc, 0, NONE),
         next: 0,
         events: Rows::new(alloc, 2, size),
-        path: List::new(alloc, NO_STEP),
+        path: List::new(alloc, 0, NO_STEP),
     }
 }
 

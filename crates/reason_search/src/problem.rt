@@ -1,8 +1,6 @@
 //! What a search works on: the events by number, what program order keeps of them, what each write writes in terms of what is read,
 //! and what is asked. The initial write of each location stands before the events.
 
-ghost use Rattle.std.specs.Prelude.{◌<◌, length};
-
 use crate::claim::{Part, mark_relevant, parts_of};
 use crate::lists::{List, NONE};
 use crate::program_order::add_program_order;
@@ -24,10 +22,13 @@ pub struct Term {
 #[derive(Clone, Copy)]
 pub struct Event {
     pub entry: Entry,
+    pub core: usize,
     pub location: usize,
     pub reads: bool,
     /// Whether it is a write, and not an initial one.
     pub writes: bool,
+    /// Whether it reads or writes: others are fences and initial writes.
+    pub is_access: bool,
     /// The other part of a locked instruction, which stands beside it; `NONE` for others.
     pub partner: usize,
 }
@@ -44,9 +45,11 @@ pub const NO_EVENT: Event = Event {
         loc: Loc(0),
         value: 0,
     },
+    core: 255,
     location: 0,
     reads: false,
     writes: false,
+    is_access: false,
     partner: NONE,
 };
 
@@ -86,15 +89,14 @@ pub struct Problem {
     pub most_writes: usize,
     /// The reads of each location, and its initial write.
     pub readers_of: Rows,
-    /// The events of each core.
+    /// The events of each core, from which its reads may read before others see them; none for sequential consistency.
     pub events_of: Rows,
     /// The edges of each of the relations that the program alone tells.
     pub program: Rows,
     /// What is asked.
     pub claim: List<Part>,
-    /// The last part that asks something of a read or location, and for each part another one that asks of the same.
+    /// The last part that asks something of a read or location.
     pub parts_on: List<usize>,
-    pub other_parts: List<usize>,
     /// Sets of reads, a row for each of those that are named above.
     pub reads: Rows,
 }
@@ -103,26 +105,6 @@ impl Problem {
     /// An event as the entry of an order has it.
     pub fn entry(&self, i: usize) -> Entry {
         self.events.at(i).entry
-    }
-
-    /// The location of an event.
-    pub fn location(&self, i: usize) -> usize {
-        self.events.at(i).location
-    }
-
-    /// The other part of a locked instruction.
-    pub fn partner(&self, i: usize) -> usize {
-        self.events.at(i).partner
-    }
-
-    /// The core of an event.
-    pub fn core(&self, i: usize) -> u8 {
-        self.events.at(i).entry.core.0
-    }
-
-    /// Whether this is a fence.
-    pub fn is_fence(&self, i: usize) -> bool {
-        matches!(self.events.at(i).entry.kind, Kind::F)
     }
 
     /// Whether this is the initial write of a location.
@@ -142,7 +124,7 @@ impl Problem {
 
     /// Whether a read from this write is an edge of the global relations.
     pub fn is_global_source(&self, w: usize, r: usize) -> bool {
-        self.sequential || self.core(w) != self.core(r)
+        !self.events_of.has(self.events.at(r).core, w)
     }
 
     /// Adds an edge that the program tells.
@@ -162,7 +144,6 @@ impl Problem {
             | self.program.words.is_refused
             | self.reads.words.is_refused
             | self.parts_on.is_refused
-            | self.other_parts.is_refused
     }
 }
 
@@ -181,48 +162,50 @@ pub fn add_reads(rows: &mut Rows, row: usize, term: Term) {
     rows.add(row, term.second);
 }
 
-/// Notes the events, after the initial writes.
+/// Notes the events, after the initial writes: for each location what writes to it and what reads it, and the reads on whose values
+/// hangs what writes write. The initial write of a location is before all others.
 fn add_events(problem: &mut Problem, events: &[Entry]) {
     for location in 0..problem.locations {
         problem.events.push(Event {
             location,
             ..NO_EVENT
         });
+        problem.readers_of.add(location, location);
+        problem.ranks.push(0);
     }
     for entry in events {
-        let i = problem.events.len();
-        problem.events.push(Event {
+        let a = problem.events.len();
+        let location = usize::from(entry.loc.0);
+        let reads = is_read(entry);
+        let writes = is_write(entry);
+        let event = Event {
             entry: *entry,
-            location: usize::from(entry.loc.0),
-            reads: is_read(entry),
-            writes: is_write(entry),
+            core: usize::from(entry.core.0),
+            location,
+            reads,
+            writes,
+            is_access: reads || writes,
             partner: match entry.kind {
-                Kind::LR => i.wrapping_add(1),
-                Kind::LW => i.wrapping_sub(1),
+                Kind::LR => a.wrapping_add(1),
+                Kind::LW => a.wrapping_sub(1),
                 _ => NONE,
             },
-        });
-        problem.events_of.add(usize::from(entry.core.0), i);
-    }
-}
-
-/// Notes for each location what writes to it and what reads it, and the reads on whose values hangs what writes write. Its initial
-/// write is before all others.
-fn add_accesses(problem: &mut Problem) {
-    for a in 0..problem.size {
-        let event = problem.events.at(a);
-        let loc = event.location;
-        if event.writes {
-            problem.writes_to.add(loc, a);
-            problem.add_edge(Relations::OnLocation, loc, a);
-            problem.add_edge(Relations::Global, loc, a);
-            problem.add_edge(Relations::Coherence, loc, a);
+        };
+        problem.events.push(event);
+        if !problem.sequential {
+            problem.events_of.add(event.core, a);
+        }
+        if reads {
+            problem.readers_of.add(location, a);
+        }
+        if writes {
+            problem.writes_to.add(location, a);
+            problem.add_edge(Relations::OnLocation, location, a);
+            problem.add_edge(Relations::Global, location, a);
+            problem.add_edge(Relations::Coherence, location, a);
             add_reads(&mut problem.reads, STORED, problem.terms.at(a));
         }
-        if event.reads || problem.is_initial(a) {
-            problem.readers_of.add(loc, a);
-        }
-        let rank = problem.writes_to.count(loc);
+        let rank = problem.writes_to.count(location);
         problem.ranks.push(rank);
         problem.most_writes = problem.most_writes.max(rank);
     }
@@ -276,25 +259,18 @@ fn add_terms(terms: &mut List<Term>, registers: &mut List<Term>, core: Core, act
     }
 }
 
-/// The terms of a core's events; adds what its registers hold at the end.
-fn run_core(terms: &mut List<Term>, registers: &mut List<Term>, test: &Test, core: Core)
-    requires { core.0 < length test.now.programs }
-{
-    for word in test.initial_registers(core) {
-        registers.push(bare_number(word));
-    }
-    for instr in test.program(core) {
-        add_terms(terms, registers, core, instr.action());
-    }
-}
-
 /// The terms of all events, and of all registers at the end.
 fn run_cores(terms: &mut List<Term>, registers: &mut List<Term>, test: &Test) {
     for word in test.initial_words() {
         terms.push(bare_number(*word));
     }
     for core in 0..test.cores() {
-        run_core(terms, registers, test, Core(core));
+        for word in test.initial_registers(Core(core)) {
+            registers.push(bare_number(word));
+        }
+        for instr in test.program(Core(core)) {
+            add_terms(terms, registers, Core(core), instr.action());
+        }
     }
 }
 
@@ -306,25 +282,23 @@ pub fn make_problem(alloc: Global, test: &Test, events: &[Entry], model: Model) 
         size,
         locations,
         sequential: matches!(model, Model::Sequential),
-        events: List::new(alloc, NO_EVENT),
-        terms: List::new(alloc, bare_number(0)),
+        events: List::new(alloc, 0, NO_EVENT),
+        terms: List::new(alloc, 0, bare_number(0)),
         writes_to: Rows::new(alloc, locations, size),
-        ranks: List::new(alloc, 0),
+        ranks: List::new(alloc, 0, 0),
         most_writes: 0,
         readers_of: Rows::new(alloc, locations, size),
         events_of: Rows::new(alloc, MOST_CORES, size),
         program: Rows::new(alloc, size.wrapping_mul(3), size),
-        claim: List::new(alloc, Part::Fixed(true)),
-        parts_on: List::filled(alloc, size, NONE),
-        other_parts: List::new(alloc, NONE),
+        claim: List::new(alloc, 0, Part::Fixed(true)),
+        parts_on: List::new(alloc, size, NONE),
         reads: Rows::new(alloc, 2, size),
     };
-    let mut registers = List::new(alloc, bare_number(0));
+    let mut registers = List::new(alloc, 0, bare_number(0));
     run_cores(&mut problem.terms, &mut registers, test);
     // What is asked hangs on both lists, and this one ends here.
     problem.terms.is_refused |= registers.is_refused;
     add_events(&mut problem, events);
-    add_accesses(&mut problem);
     add_program_order(&mut problem);
     problem.claim = parts_of(alloc, &problem, &registers, test);
     mark_relevant(&mut problem);

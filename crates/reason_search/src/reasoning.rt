@@ -2,8 +2,8 @@
 //! that follows.
 
 use crate::branch::{Branch, Conflict};
-use crate::closing::{add_best, add_false, add_trial, ask_order};
-use crate::evidence::use_facts;
+use crate::closing::{add_best, add_leaf, ask_order};
+use crate::evidence::{Closing, reset};
 use crate::facts::{Answer, Turned};
 use crate::growing::{Growth, add_node, put_branch};
 use crate::lists::NONE;
@@ -26,17 +26,6 @@ fn close_source(problem: &Problem, branch: &mut Branch, desk: &mut Desk, r: usiz
     }
 }
 
-/// Puts the trees of all sources below a question.
-fn put_branches(desk: &mut Desk, question: usize, size: usize) {
-    for s in (0..size).rev() {
-        let tree = desk.branches.at(s);
-        if tree != NONE {
-            desk.branches.put(s, NONE);
-            put_branch(&mut desk.trees, question, tree);
-        }
-    }
-}
-
 /// The question what a read reads from: some sources have their trees in `branches`, the others are closed.
 pub fn add_source_question(
     problem: &Problem,
@@ -44,7 +33,7 @@ pub fn add_source_question(
     desk: &mut Desk,
     r: usize,
 ) -> usize {
-    let loc = problem.location(r);
+    let loc = problem.events.at(r).location;
     for s in problem.locations..problem.size {
         if problem.is_write_to(loc, s) {
             close_source(problem, branch, desk, r, s);
@@ -53,7 +42,13 @@ pub fn add_source_question(
     close_source(problem, branch, desk, r, loc);
     desk.weights.heed(r);
     let question = add_node(&mut desk.trees, Growth::ReadsFrom(r), 0);
-    put_branches(desk, question, problem.size);
+    for s in (0..problem.size).rev() {
+        let tree = desk.branches.at(s);
+        if tree != NONE {
+            desk.branches.put(s, NONE);
+            put_branch(&mut desk.trees, question, tree);
+        }
+    }
     question
 }
 
@@ -71,7 +66,20 @@ pub fn add_order_question(
 }
 
 /// The tree where the order that a fact tells is turned.
-fn add_other(problem: &Problem, branch: &mut Branch, desk: &mut Desk, turned: Turned) -> usize {
+fn add_other(
+    problem: &Problem,
+    branch: &mut Branch,
+    desk: &mut Desk,
+    first: usize,
+    second: usize,
+    fact: usize,
+) -> usize {
+    let turned = Turned {
+        first,
+        second,
+        fact,
+        edges: branch.facts.at(fact).edges,
+    };
     find_why_before(problem, branch, desk, turned);
     let s = branch.source_of(desk.best.cycle.at(0));
     add_best(problem, branch, desk, s, turned)
@@ -91,19 +99,13 @@ fn add_closed_cycle(
     if let Answer::Before(first, second) = fact.answer {
         let known = branch.moment(problem, second, first).facts;
         if known != NONE && !fact.tried {
-            let turned = Turned {
-                first,
-                second,
-                fact: number,
-                edges: fact.edges,
-            };
-            let tree = add_other(problem, branch, desk, turned);
+            let tree = add_other(problem, branch, desk, first, second, number);
             desk.used.add(0, known);
             return tree;
         }
     }
     close_cycle(problem, branch, desk, edge);
-    add_trial(desk, edge.relations)
+    add_leaf(desk)
 }
 
 /// The tree of a branch that is closed. What it uses is used then, and nothing else.
@@ -114,15 +116,12 @@ pub fn add_conflict(problem: &Problem, branch: &mut Branch, desk: &mut Desk) -> 
     match branch.conflict {
         Conflict::Cycle(edge) => add_closed_cycle(problem, branch, desk, edge),
         Conflict::NoSource(r) => add_source_question(problem, branch, desk, r),
-        Conflict::False => {
+        Conflict::False | Conflict::Open => {
+            reset(&mut desk.trial, Closing::None);
             let known = known_facts(branch.facts.len());
-            if !need_falsity(problem, branch, known, &mut desk.trial) {
-                return add_false(desk);
-            }
-            use_facts(&desk.trial, &mut desk.used);
-            add_node(&mut desk.trees, Growth::False, 1)
+            let _is_false = need_falsity(problem, branch, known, &mut desk.trial);
+            add_leaf(desk)
         }
-        Conflict::Open => add_false(desk),
     }
 }
 
@@ -148,13 +147,7 @@ pub fn wrap(
                 add_source_question(problem, branch, desk, r)
             }
             Answer::Before(first, second) => {
-                let turned = Turned {
-                    first,
-                    second,
-                    fact: number,
-                    edges: fact.edges,
-                };
-                let other = add_other(problem, branch, desk, turned);
+                let other = add_other(problem, branch, desk, first, second, number);
                 add_order_question(desk, first, second, whole, other)
             }
         };

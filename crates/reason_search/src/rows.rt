@@ -26,7 +26,7 @@ impl Rows {
     pub fn new(alloc: Global, count: usize, most: usize) -> Rows {
         let width = most / 64 + 1;
         Rows {
-            words: List::filled(alloc, count.wrapping_mul(width), 0),
+            words: List::new(alloc, count.wrapping_mul(width), 0),
             width,
         }
     }

@@ -57,30 +57,26 @@ fn source(branch: &Branch, known: Known, r: usize) -> usize {
     }
 }
 
-/// Notes the values that hang on those that are noted. Whether others may hang on a new one.
-fn find_more_values(problem: &Problem, branch: &mut Branch, known: Known) -> bool {
-    let mut changed = false;
-    let mut r = branch.sets.next(VALUED, problem.locations);
-    for _read in 0..problem.size {
-        if r == NONE {
-            break;
-        }
-        let s = source(branch, known, r);
-        if s != NONE && branch.values.at(r) == NONE {
-            let value = written(problem, branch, s);
-            branch.values.put(r, value);
-            changed |= value != NONE && problem.reads.has(STORED, r);
-        }
-        r = branch.sets.next(VALUED, r.wrapping_add(1));
-    }
-    changed
-}
-
-/// Notes what each read returns that matters to what is asked, by what is known: they hang on one another alone.
+/// Notes what each read returns that matters to what is asked, by what is known: they hang on one another alone. So there is another
+/// round while others may hang on a new one.
 pub fn find_values(problem: &Problem, branch: &mut Branch, known: Known) {
-    branch.values.blank();
+    for r in problem.locations..problem.size {
+        branch.values.put(r, NONE);
+    }
     for _round in 0..problem.size {
-        if !find_more_values(problem, branch, known) {
+        let mut changed = false;
+        for r in problem.locations..problem.size {
+            if !branch.sets.has(VALUED, r) || branch.values.at(r) != NONE {
+                continue;
+            }
+            let s = source(branch, known, r);
+            if s != NONE {
+                let value = written(problem, branch, s);
+                branch.values.put(r, value);
+                changed |= value != NONE && problem.reads.has(STORED, r);
+            }
+        }
+        if !changed {
             break;
         }
     }
@@ -91,7 +87,7 @@ fn overwriting(problem: &Problem, branch: &Branch, known: Known, w: usize) -> us
     if known.first == w {
         return known.limit;
     }
-    let loc = problem.location(w);
+    let loc = problem.events.at(w).location;
     for v in problem.locations..problem.size {
         if problem.is_write_to(loc, v) {
             let fact = branch.moment(problem, w, v).facts;
@@ -122,31 +118,21 @@ fn word_can_be(
     false
 }
 
-/// A read, or a location at the end, and the value that it is supposed to have.
-#[derive(Clone, Copy)]
-struct Supposed {
-    place: usize,
-    value: usize,
-}
-
-const NOTHING: Supposed = Supposed {
-    place: NONE,
-    value: NONE,
-};
-
-/// The parts of what is asked that can be so.
+/// The parts of what is asked that can be so, where a read, or a location at the end, is supposed to have this value; a `place` that is
+/// `NONE` is none.
 fn parts_that_can_be(
     problem: &Problem,
     branch: &Branch,
     known: Known,
-    supposed: Supposed,
+    place: usize,
+    value: usize,
 ) -> Parts {
     let mut parts = NO_PARTS;
     for i in (0..problem.claim.len()).rev() {
         let can = match problem.claim.at(i) {
             Part::Value(r, demand) => {
-                if r == supposed.place {
-                    can_be(demand, supposed.value)
+                if r == place {
+                    can_be(demand, value)
                 } else if problem.is_initial(r) {
                     word_can_be(problem, branch, known, r, demand)
                 } else {
@@ -164,7 +150,7 @@ fn parts_that_can_be(
 
 /// Whether what is asked is false by the values that are noted.
 pub fn is_false(problem: &Problem, branch: &Branch, known: Known) -> bool {
-    problem.claim.len() != 0 && !parts_that_can_be(problem, branch, known, NOTHING).has(0)
+    !parts_that_can_be(problem, branch, known, NONE, NONE).has(0)
 }
 
 /// Whether what is asked is false where a read has this source.
@@ -198,21 +184,18 @@ pub fn is_wrong_value(problem: &Problem, branch: &Branch, place: usize, w: usize
     let value = written(problem, branch, w);
     if problem.reads.has(STORED, place) {
         let known = known_facts(branch.facts.len());
-        let supposed = Supposed { place, value };
-        return value != NONE && !parts_that_can_be(problem, branch, known, supposed).has(0);
+        return value != NONE && !parts_that_can_be(problem, branch, known, place, value).has(0);
     }
     // Then one part that asks of this place suffices to bar the value.
     let mut i = problem.parts_on.at(place);
     for _part in 0..problem.claim.len() {
-        if let Part::Value(_, demand) = problem.claim.at(i) {
-            if !can_be(demand, value) {
-                return true;
-            }
-        }
-        i = problem.other_parts.at(i);
-        if i == NONE {
+        let Part::Value(_, demand) = problem.claim.at(i) else {
             break;
+        };
+        if !can_be(demand, value) {
+            return true;
         }
+        i = demand.other;
     }
     false
 }
@@ -277,31 +260,26 @@ fn need_parts(
     }
 }
 
-/// Adds the sources from which needed values come, each once: its value is forgotten. Whether any hangs on another one.
-fn need_more_sources(
-    problem: &Problem,
-    branch: &mut Branch,
-    known: Known,
-    evidence: &mut Evidence,
-) -> bool {
-    let mut changed = false;
-    let mut r = branch.sets.next(NEEDED, 0);
-    for _read in 0..problem.size {
-        if r == NONE {
+/// Adds the sources from which needed values come, each once: its value is forgotten. There is another round while any hangs on another
+/// one.
+fn need_sources(problem: &Problem, branch: &mut Branch, known: Known, evidence: &mut Evidence) {
+    for _round in 0..problem.size {
+        let mut changed = false;
+        for r in problem.locations..problem.size {
+            if branch.sets.has(NEEDED, r) && branch.values.at(r) != NONE {
+                branch.values.put(r, NONE);
+                if r != known.read {
+                    need(evidence, branch.source.at(r));
+                }
+                let term = problem.terms.at(source(branch, known, r));
+                add_reads(&mut branch.sets, NEEDED, term);
+                changed |= term.first != NONE;
+            }
+        }
+        if !changed {
             break;
         }
-        if branch.values.at(r) != NONE {
-            branch.values.put(r, NONE);
-            if r != known.read {
-                need(evidence, branch.source.at(r));
-            }
-            let term = problem.terms.at(source(branch, known, r));
-            add_reads(&mut branch.sets, NEEDED, term);
-            changed |= term.first != NONE;
-        }
-        r = branch.sets.next(NEEDED, r.wrapping_add(1));
     }
-    changed
 }
 
 /// Whether what is asked is false by what is known. Adds the facts by which it is.
@@ -312,17 +290,13 @@ pub fn need_falsity(
     evidence: &mut Evidence,
 ) -> bool {
     find_values(problem, branch, known);
-    let can = parts_that_can_be(problem, branch, known, NOTHING);
-    if problem.claim.len() == 0 || can.has(0) {
+    let can = parts_that_can_be(problem, branch, known, NONE, NONE);
+    if can.has(0) {
         return false;
     }
     reset(evidence, Closing::False);
     branch.sets.clear(NEEDED);
     need_parts(problem, branch, known, evidence, &can);
-    for _round in 0..problem.size {
-        if !need_more_sources(problem, branch, known, evidence) {
-            break;
-        }
-    }
+    need_sources(problem, branch, known, evidence);
     true
 }

@@ -8,6 +8,8 @@ use std::alloc::Global;
 pub struct Weights {
     /// The weight of each event.
     pub of: List<usize>,
+    /// The greatest of them.
+    pub most: usize,
     step: usize,
 }
 
@@ -15,24 +17,17 @@ impl Weights {
     /// No event stood in one.
     pub fn new(alloc: Global, size: usize) -> Weights {
         Weights {
-            of: List::filled(alloc, size, 0),
+            of: List::new(alloc, size, 0),
+            most: 0,
             step: 1024,
         }
-    }
-
-    /// The greatest weight of all.
-    pub fn most(&self) -> usize {
-        let mut most = 0;
-        for a in 0..self.of.len() {
-            most = most.max(self.of.at(a));
-        }
-        most
     }
 
     /// An event stood in a question that was needed.
     pub fn heed(&mut self, a: usize) {
         let weight = self.of.at(a).wrapping_add(self.step);
         self.of.put(a, weight);
+        self.most = self.most.max(weight);
     }
 
     /// Makes each step count more than the ones before. Where it grows too great, all weights are made lower with it.
@@ -40,6 +35,7 @@ impl Weights {
         self.step = self.step.wrapping_add(self.step / 50);
         if self.step > 1_099_511_627_776 {
             self.step /= 1_073_741_824;
+            self.most /= 1_073_741_824;
             for a in 0..self.of.len() {
                 let weight = self.of.at(a) / 1_073_741_824;
                 self.of.put(a, weight);
