@@ -95,16 +95,11 @@ pub struct Branch {
 }
 
 impl Branch {
-    /// The row of what is after an event.
-    pub fn row(&self, relations: Relations, a: usize) -> usize {
-        relations.row(self.size, a)
-    }
-
     /// The row of what is before an event.
     pub fn before(&self, relations: Relations, a: usize) -> usize {
         self.size
             .wrapping_mul(3)
-            .wrapping_add(self.row(relations, a))
+            .wrapping_add(relations.row(self.size, a))
     }
 
     /// The row of the sources that a read may still have.
@@ -114,12 +109,12 @@ impl Branch {
 
     /// Whether one event is known to be before another one.
     pub fn is_known(&self, relations: Relations, a: usize, b: usize) -> bool {
-        self.rows.has(self.row(relations, a), b)
+        self.rows.has(relations.row(self.size, a), b)
     }
 
     /// A word of what is after an event.
     pub fn word_after(&self, relations: Relations, a: usize, k: usize) -> u64 {
-        self.rows.word(self.row(relations, a), k)
+        self.rows.word(relations.row(self.size, a), k)
     }
 
     /// A word of what is before an event.
@@ -145,6 +140,11 @@ impl Branch {
             Answer::Source(_, s) => s,
             Answer::Before(..) => NONE,
         }
+    }
+
+    /// Whether something closes the branch.
+    pub fn is_closed(&self) -> bool {
+        !matches!(self.conflict, Conflict::Open)
     }
 
     /// Whether memory was refused.

@@ -53,14 +53,14 @@ fn widen_each(branch: &mut Branch, some: Ends, first: usize, added: Ends) {
     }
 }
 
-/// Adds an edge, and what follows: what is before its source gets all that is after its target, and the other way round. False where
-/// it closes a cycle.
-pub fn add_edge(problem: &Problem, branch: &mut Branch, relations: Relations, link: Link) -> bool {
+/// Adds an edge, unless the branch is closed, and what follows: what is before its source gets all that is after its target, and the
+/// other way round. It may close a cycle.
+pub fn add_edge(problem: &Problem, branch: &mut Branch, relations: Relations, link: Link) {
     let Link { from: a, to: b, .. } = link;
-    if branch.is_known(relations, a, b) {
-        return true;
+    if branch.is_closed() || branch.is_known(relations, a, b) {
+        return;
     }
-    let place = branch.row(relations, a);
+    let place = relations.row(branch.size, a);
     let next = branch.heads.at(place);
     let number = branch.edges.len();
     branch.edges.push(Edge {
@@ -70,7 +70,7 @@ pub fn add_edge(problem: &Problem, branch: &mut Branch, relations: Relations, li
     });
     if branch.is_known(relations, b, a) {
         branch.conflict = Conflict::Cycle(number);
-        return false;
+        return;
     }
     branch.trail.push(Change::Head(place, next));
     branch.heads.put(place, number);
@@ -79,10 +79,10 @@ pub fn add_edge(problem: &Problem, branch: &mut Branch, relations: Relations, li
         also: a,
     };
     let later = Ends {
-        row: branch.row(relations, b),
+        row: relations.row(branch.size, b),
         also: b,
     };
-    let first_after = branch.row(relations, 0);
+    let first_after = relations.row(branch.size, 0);
     let first_before = branch.before(relations, 0);
     widen_each(branch, earlier, first_after, later);
     widen_each(branch, later, first_before, earlier);
@@ -90,19 +90,13 @@ pub fn add_edge(problem: &Problem, branch: &mut Branch, relations: Relations, li
         let loc = problem.events.at(a).location;
         branch.sets.join(DIRTY, &problem.readers_of, loc);
     }
-    true
 }
 
-/// Adds an edge of both relations. False where it closes a cycle.
-pub fn add_edges(problem: &Problem, branch: &mut Branch, link: Link) -> bool {
-    add_edge(problem, branch, Relations::OnLocation, link)
-        && add_edge(problem, branch, Relations::Global, link)
-}
-
-/// One write comes before another one. False where that closes a cycle.
-pub fn put_before(problem: &Problem, branch: &mut Branch, a: usize, b: usize, tried: bool) -> bool {
-    if problem.is_initial(a) || branch.is_known(Relations::Coherence, a, b) {
-        return true;
+/// One write comes before another one, unless the branch is closed. Each is before itself.
+pub fn put_before(problem: &Problem, branch: &mut Branch, a: usize, b: usize, tried: bool) {
+    let is_known = problem.is_initial(a) || branch.is_known(Relations::Coherence, a, b);
+    if a == b || is_known || branch.is_closed() {
+        return;
     }
     put_moment(problem, branch, a, b);
     let link = Link {
@@ -111,12 +105,14 @@ pub fn put_before(problem: &Problem, branch: &mut Branch, a: usize, b: usize, tr
         fact: add_fact(branch, Answer::Before(a, b), tried),
         is_from_read: false,
     };
-    add_edge(problem, branch, Relations::Coherence, link) && add_edges(problem, branch, link)
+    add_edge(problem, branch, Relations::Coherence, link);
+    add_edge(problem, branch, Relations::OnLocation, link);
+    add_edge(problem, branch, Relations::Global, link);
 }
 
 /// Notes what is after an event in its program, where what is after those is known.
 fn add_program(problem: &Problem, branch: &mut Branch, relations: Relations, a: usize) {
-    let row = branch.row(relations, a);
+    let row = relations.row(branch.size, a);
     branch.rows.join(row, &problem.program, row);
     let mut b = branch.rows.next(row, a);
     for _event in a..problem.size {
@@ -124,7 +120,7 @@ fn add_program(problem: &Problem, branch: &mut Branch, relations: Relations, a: 
             break;
         }
         let before = branch.before(relations, b);
-        let later = branch.row(relations, b);
+        let later = relations.row(branch.size, b);
         branch.rows.add(before, a);
         branch.rows.join_own(row, later);
         b = branch.rows.next(row, b.wrapping_add(1));
@@ -134,11 +130,11 @@ fn add_program(problem: &Problem, branch: &mut Branch, relations: Relations, a: 
 /// A write comes before those to its location that stand later in its program.
 fn put_before_later(problem: &Problem, branch: &mut Branch, a: usize) {
     let loc = problem.events.at(a).location;
-    let row = branch.row(Relations::OnLocation, a);
+    let row = Relations::OnLocation.row(branch.size, a);
     let mut b = problem.program.next(row, a);
     for _later in a..problem.size {
         if problem.is_write_to(loc, b) {
-            let _open = put_before(problem, branch, a, b, false);
+            put_before(problem, branch, a, b, false);
         }
         b = problem.program.next(row, b.wrapping_add(1));
         if b == NONE {

@@ -91,6 +91,7 @@ fn put_answer(problem: &Problem, branch: &mut Branch, ask: Ask, answer: usize) -
             }
         }
     }
+    !branch.is_closed()
 }
 
 /// Goes back to the last question with the tree of its answer. The question's tree, where all its answers are closed; else `NONE`.

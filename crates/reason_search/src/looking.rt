@@ -3,7 +3,7 @@
 use crate::branch::{
     Branch, Change, Conflict, DIRTY, EARLIER, PARTED, UNTESTED, add_fact, change_word, put_moment,
 };
-use crate::edges::{add_edge, add_edges, put_before};
+use crate::edges::{add_edge, put_before};
 use crate::facts::{Answer, Link};
 use crate::lists::NONE;
 use crate::problem::{Problem, RELEVANT, Relations, STORED};
@@ -27,8 +27,8 @@ fn look_at_dependents(problem: &Problem, branch: &mut Branch, r: usize, all: boo
     }
 }
 
-/// A read has this source; what its value may change is to be looked at. False where that closes a cycle.
-pub fn put_source(problem: &Problem, branch: &mut Branch, r: usize, w: usize, tried: bool) -> bool {
+/// A read has this source; what its value may change is to be looked at.
+pub fn put_source(problem: &Problem, branch: &mut Branch, r: usize, w: usize, tried: bool) {
     let fact = add_fact(branch, Answer::Source(r, w), tried);
     let link = Link {
         from: w,
@@ -47,8 +47,10 @@ pub fn put_source(problem: &Problem, branch: &mut Branch, r: usize, w: usize, tr
     }
     // What no other value hangs on was tested as a source.
     branch.claim_is_dirty |= hangs || is_stored;
-    add_edge(problem, branch, Relations::OnLocation, link)
-        && (!problem.is_global_source(w, r) || add_edge(problem, branch, Relations::Global, link))
+    add_edge(problem, branch, Relations::OnLocation, link);
+    if problem.is_global_source(w, r) {
+        add_edge(problem, branch, Relations::Global, link);
+    }
 }
 
 /// Where each of some writes is put.
@@ -62,8 +64,8 @@ enum Put {
     FromRead(usize),
 }
 
-/// Puts each write of a word in its place. False where that closes the branch.
-fn put_each(problem: &Problem, branch: &mut Branch, put: Put, k: usize, some: u64) -> bool {
+/// Puts each write of a word in its place.
+fn put_each(problem: &Problem, branch: &mut Branch, put: Put, k: usize, some: u64) {
     let mut left = some;
     for _write in 0..64u8 {
         if left == 0 {
@@ -71,9 +73,9 @@ fn put_each(problem: &Problem, branch: &mut Branch, put: Put, k: usize, some: u6
         }
         let v = lowest(k, left);
         left &= left.wrapping_sub(1);
-        let is_open = match put {
-            Put::Before(w) => v == w || put_before(problem, branch, v, w, false),
-            Put::After(w) => v == w || put_before(problem, branch, w, v, false),
+        match put {
+            Put::Before(w) => put_before(problem, branch, v, w, false),
+            Put::After(w) => put_before(problem, branch, w, v, false),
             Put::FromRead(r) => {
                 let link = Link {
                     from: r,
@@ -81,14 +83,11 @@ fn put_each(problem: &Problem, branch: &mut Branch, put: Put, k: usize, some: u6
                     fact: branch.source.at(r),
                     is_from_read: true,
                 };
-                add_edges(problem, branch, link)
+                add_edge(problem, branch, Relations::OnLocation, link);
+                add_edge(problem, branch, Relations::Global, link);
             }
-        };
-        if !is_open {
-            return false;
         }
     }
-    true
 }
 
 /// A word of what is before an event on its location or globally.
@@ -97,56 +96,41 @@ fn word_earlier(branch: &Branch, a: usize, k: usize) -> u64 {
 }
 
 /// Writes that are after this one by one of the relations are after it in coherence.
-fn look_at_write(problem: &Problem, branch: &mut Branch, a: usize) -> bool {
+fn look_at_write(problem: &Problem, branch: &mut Branch, a: usize) {
     let loc = problem.events.at(a).location;
     for k in 0..branch.rows.width {
         let later = branch.word_after(Relations::OnLocation, a, k)
             | branch.word_after(Relations::Global, a, k);
         let them = problem.writes_to.word(loc, k);
         let known = branch.word_after(Relations::Coherence, a, k);
-        if !put_each(problem, branch, Put::After(a), k, later & them & !known) {
-            return false;
-        }
+        put_each(problem, branch, Put::After(a), k, later & them & !known);
     }
-    true
 }
 
-/// These writes are before a source, unless it is the initial write.
-fn put_before_source(
-    problem: &Problem,
-    branch: &mut Branch,
-    s: usize,
-    earlier: u64,
-    k: usize,
-    them: u64,
-) -> bool {
-    let known = branch.word_before(Relations::Coherence, s, k);
-    problem.is_initial(s) || put_each(problem, branch, Put::Before(s), k, earlier & them & !known)
-}
-
-/// What follows at a read whose source is known; no write comes between the source of a load part and its store part.
-fn look_at_known(problem: &Problem, branch: &mut Branch, r: usize, s: usize) -> bool {
-    let loc = problem.events.at(r).location;
-    let own = problem.events.at(r).partner;
+/// What follows at a read whose source is known: writes that come before the read, or its store part, come before the source, and those
+/// after the source come after the read. No write comes between the source of a load part and its store part.
+fn look_at_known(problem: &Problem, branch: &mut Branch, r: usize, s: usize) {
+    let event = problem.events.at(r);
+    let own = event.partner;
     for k in 0..branch.rows.width {
-        let them = problem.writes_to.word(loc, k);
+        let them = problem.writes_to.word(event.location, k);
+        // None comes before an initial write.
+        let others = if problem.is_initial(s) { 0 } else { them };
         let later = branch.word_after(Relations::Coherence, s, k);
         let passed = branch.word_after(Relations::OnLocation, r, k)
             & branch.word_after(Relations::Global, r, k);
-        let mut is_open = put_each(problem, branch, Put::FromRead(r), k, later & !passed & them)
-            && put_before_source(problem, branch, s, word_earlier(branch, r, k), k, them);
-        if is_open && own != NONE {
+        put_each(problem, branch, Put::FromRead(r), k, later & !passed & them);
+        let earlier = word_earlier(branch, r, k) & !branch.word_before(Relations::Coherence, s, k);
+        put_each(problem, branch, Put::Before(s), k, earlier & others);
+        if own != NONE {
             let later = branch.word_after(Relations::Coherence, s, k)
                 & !branch.word_after(Relations::Coherence, own, k);
-            let earlier = branch.word_before(Relations::Coherence, own, k);
-            is_open = put_each(problem, branch, Put::After(own), k, later & them)
-                && put_before_source(problem, branch, s, earlier, k, them);
-        }
-        if !is_open {
-            return false;
+            put_each(problem, branch, Put::After(own), k, later & them);
+            let earlier = branch.word_before(Relations::Coherence, own, k)
+                & !branch.word_before(Relations::Coherence, s, k);
+            put_each(problem, branch, Put::Before(s), k, earlier & others);
         }
     }
-    true
 }
 
 /// Notes the writes to its location that are known to come before a read, or its store part, and then those before one of them.
@@ -205,22 +189,19 @@ fn take_sources(problem: &Problem, branch: &mut Branch, r: usize, is_tested: boo
 
 /// What follows at a read whose source is open: it can't have those that it is known to be before, nor any but the last before it, nor
 /// those of a wrong value.
-fn look_at_open(problem: &Problem, branch: &mut Branch, r: usize) -> bool {
+fn look_at_open(problem: &Problem, branch: &mut Branch, r: usize) {
     note_parted(problem, branch, r);
     let is_tested = !branch.sets.has(UNTESTED, r);
     take_sources(problem, branch, r, is_tested);
     branch.sets.remove(UNTESTED, r);
     let row = branch.candidates(r);
     match branch.rows.count(row) {
-        0 => {
-            branch.conflict = Conflict::NoSource(r);
-            false
-        }
+        0 => branch.conflict = Conflict::NoSource(r),
         1 => {
             let only = branch.rows.next(row, 0);
-            put_source(problem, branch, r, only, false)
+            put_source(problem, branch, r, only, false);
         }
-        _ => true,
+        _ => {}
     }
 }
 
@@ -228,7 +209,10 @@ fn look_at_open(problem: &Problem, branch: &mut Branch, r: usize) -> bool {
 pub fn next_last(problem: &Problem, branch: &Branch, loc: usize, from: usize) -> usize {
     for a in from..problem.size {
         if problem.is_write_to(loc, a)
-            && branch.rows.next(branch.row(Relations::Coherence, a), 0) == NONE
+            && branch
+                .rows
+                .next(Relations::Coherence.row(branch.size, a), 0)
+                == NONE
             && !is_wrong_value(problem, branch, loc, a)
         {
             return a;
@@ -238,50 +222,41 @@ pub fn next_last(problem: &Problem, branch: &Branch, loc: usize, from: usize) ->
 }
 
 /// What follows at a location of which something is asked, where only one write can be its last one.
-fn look_at_last(problem: &Problem, branch: &mut Branch, loc: usize) -> bool {
+fn look_at_last(problem: &Problem, branch: &mut Branch, loc: usize) {
     let only = next_last(problem, branch, loc, 0);
     branch.claim_is_dirty = true;
     if only == NONE || next_last(problem, branch, loc, only.wrapping_add(1)) != NONE {
-        return true;
+        return;
     }
     for k in 0..branch.rows.width {
         let known = branch.word_before(Relations::Coherence, only, k);
         let others = problem.writes_to.word(loc, k) & !known;
-        if !put_each(problem, branch, Put::Before(only), k, others) {
-            return false;
-        }
+        put_each(problem, branch, Put::Before(only), k, others);
     }
-    true
 }
 
-fn look_at_one(problem: &Problem, branch: &mut Branch, a: usize) -> bool {
-    if problem.is_initial(a) {
-        return !problem.is_asked(a) || look_at_last(problem, branch, a);
-    }
+fn look_at_one(problem: &Problem, branch: &mut Branch, a: usize) {
     let event = problem.events.at(a);
     if event.writes {
-        return look_at_write(problem, branch, a);
-    }
-    if !event.reads {
-        return true;
-    }
-    let s = branch.source_of(a);
-    if s != NONE {
-        look_at_known(problem, branch, a, s)
-    } else {
-        look_at_open(problem, branch, a)
+        look_at_write(problem, branch, a);
+    } else if event.reads {
+        let s = branch.source_of(a);
+        if s == NONE {
+            look_at_open(problem, branch, a);
+        } else {
+            look_at_known(problem, branch, a, s);
+        }
+    } else if problem.is_asked(a) {
+        look_at_last(problem, branch, a);
     }
 }
 
 /// Notes all that follows, first of all the values that are known. False where the branch is closed.
 pub fn deduce(problem: &Problem, branch: &mut Branch) -> bool {
-    if !matches!(branch.conflict, Conflict::Open) {
-        return false;
-    }
     for _step in 0..u64::MAX {
-        if branch.facts.is_refused {
-            // What follows can't be noted any more, so it would follow again and again.
-            return true;
+        // What follows can't be noted where memory is refused, so it would follow again and again.
+        if branch.is_closed() || branch.facts.is_refused {
+            break;
         }
         if branch.claim_is_dirty {
             branch.claim_is_dirty = false;
@@ -290,18 +265,15 @@ pub fn deduce(problem: &Problem, branch: &mut Branch) -> bool {
             branch.sets.join(UNTESTED, &problem.reads, RELEVANT);
             if is_false(problem, branch, known) {
                 branch.conflict = Conflict::False;
-                return false;
             }
             continue;
         }
         let next = branch.sets.next(DIRTY, 0);
         if next == NONE {
-            return true;
+            break;
         }
         branch.sets.remove(DIRTY, next);
-        if !look_at_one(problem, branch, next) {
-            return false;
-        }
+        look_at_one(problem, branch, next);
     }
-    true
+    !branch.is_closed()
 }

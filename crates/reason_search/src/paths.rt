@@ -105,7 +105,7 @@ fn reach_by_program(problem: &Problem, paths: &mut Paths, relations: Relations, 
 }
 
 fn reach_by_answers(branch: &Branch, paths: &mut Paths, edges: Edges, a: usize) {
-    let mut number = branch.heads.at(branch.row(edges.relations, a));
+    let mut number = branch.heads.at(edges.relations.row(branch.size, a));
     for _edge in 0..branch.edges.len() {
         if number == NONE {
             break;
