@@ -1,7 +1,7 @@
-"""Starts programs many times: each is loaded once, and each start is a fork of it, made where it would begin (many_starts.c).
+"""Starts programs many times: each is loaded once, and begins again and again with the memory that it had then (many_starts.c).
 
-A start of its own costs three times the processor time, and the gate makes some hundred thousand. Without a C compiler each start is
-one of its own.
+A start of its own costs ten times the processor time, and the gate makes some hundred thousand. Those of tests/run_rows.py are their own.
+Without a C compiler each start is one of its own.
 """
 import functools
 import multiprocessing.util
