@@ -154,7 +154,7 @@ def judge_program(program, tally):
     texts = [cycles.test_of(cycle).text() for cycle in edges.cycles(4, True)]
     texts += [importer.Importer(text).test().text() for _, text, _ in READ]
     for text in texts:
-        ended = subprocess.run([program, "sweep"], input=text.encode(), capture_output=True)
+        ended = judging.run(program, ["sweep"], text.encode())
         tally.add(text.split("\n")[0], None if ended.returncode in (0, 3) else ended.stdout.decode().strip())
 
 

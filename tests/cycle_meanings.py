@@ -64,14 +64,22 @@ REFUSED = (
 # ---- the cycles
 
 def may_close(path):
-    """Whether these edges meet at their ends and lead over two cores or more, and back to their location."""
-    meet = all(edge.target == after.source for edge, after in zip(path, path[1:] + path[:1]))
+    """Whether these edges, which meet, meet at the ends too and lead over two cores or more, and back to their location."""
+    meet = path[-1].target == path[0].source
     return meet and sum(edge.leaves_core for edge in path) >= 2 and sum(edge.leaves_location for edge in path) != 1
+
+
+def paths(length):
+    """All lists of so many edges that meet, one after the other."""
+    found = [[edge] for edge in NAMES]
+    for _ in range(length - 1):
+        found = [path + [edge] for path in found for edge in NAMES if edge.source == path[-1].target]
+    return found
 
 
 def all_cycles(length):
     """All cycles of so many edges, each once."""
-    return sorted({edges.turned(list(path)) for path in itertools.product(NAMES, repeat=length) if may_close(list(path))}, key=edges.names)
+    return sorted({edges.turned(path) for path in paths(length) if may_close(path)}, key=edges.names)
 
 
 def drawn_cycles():

@@ -14,7 +14,7 @@ import litmus
 from scripts import COULD_NOT, INTERRUPTED
 
 # Of each test of the gallery.
-SECONDS = "0.025"
+SECONDS = "0.01"
 
 # A state that each processor shows soon: both cores one after the other.
 SEEN_SOON = "State 0:EAX=0 1:EAX=1 against=yes\n"
@@ -133,7 +133,7 @@ def judge(program, tally):
         compared = tool("compare", "--within", seen, log)
         tally.add("a processor's log beside that of all outcomes", None if compared.returncode == 0 else described(compared))
         named, file = write(os.path.join(room, "named"), OTHER_NAME_LOG), write(os.path.join(room, "SB.litmus"), OTHER_NAME)
-        done = tool("hardware", "--allowed", named, "--seconds", "0.2", file)
+        done = tool("hardware", "--allowed", named, "--runs", "1000", file)
         tally.add("a table in the names of the file", None if done.returncode == 0 and "1 tests, " in done.stdout else described(done))
         cut = write(os.path.join(room, "cut"), OUTCOMES.replace(SEEN_SOON, ""))
         done = tool("hardware", "--allowed", cut, test_file("SB"))

@@ -20,6 +20,7 @@ What can't be made or seen here (no Node, no proved crates, no wasm-opt, no hist
 at the page in a browser. The last line is 'N passed, M failed'.
 """
 import argparse
+import json
 import os
 import re
 import shutil
@@ -35,6 +36,7 @@ from judging import TESTS, TOP, content
 from page_answers import Served
 
 VIEW = os.path.join(TOP, "view")
+HISTORIES = os.path.join(TESTS, "view", "histories.js")
 MODULE = os.path.join("crates", "page_exports", "out", "page.wasm")
 WIDE = os.path.join("crates", "page_exports", "out", "page.wide.wasm")
 
@@ -219,8 +221,16 @@ def faults_of_histories(program):
     if shutil.which("node") is None:
         print("left out, the histories of steps: node isn't there: apt-get install -y nodejs")
         return []
-    done = subprocess.run([os.path.join(TESTS, "view", "histories.js"), program], capture_output=True, text=True)
+    calls = subprocess.run([HISTORIES, "--calls"], capture_output=True, text=True).stdout.splitlines()
+    answers = "".join(answer_line(program, **json.loads(call)) for call in calls)
+    done = subprocess.run([HISTORIES, "--answers"], input=answers, capture_output=True, text=True)
     return [] if done.returncode == 0 else (done.stdout + done.stderr).strip().splitlines()[-5:]
+
+
+def answer_line(program, words, input):
+    """The program's answer to this call, as histories.js takes it."""
+    done = judging.run(program, words, input.encode())
+    return json.dumps({"status": done.returncode, "output": done.stdout.decode()}) + "\n"
 
 
 def main():

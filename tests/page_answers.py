@@ -4,6 +4,7 @@ A module of the sources that stand is held against the rows and the program that
 program of its own. A group is a name and its works: pairs of a name and a function of a module's faults.
 """
 import base64
+import functools
 import json
 import os
 import subprocess
@@ -18,6 +19,8 @@ import run_rows
 PAGE_PROGRAM = os.path.join(judging.TESTS, "page_program.js")
 # What Node needs for addresses of 64 bits, as long as it asks for a word.
 WIDE_FLAG = "--experimental-wasm-memory64"
+# Node compiles a module once more, for calls that are made often: that takes longer than all its answers here.
+QUICK_FLAG = "--liftoff-only"
 SEED = 48
 
 
@@ -26,7 +29,7 @@ class Served:
     longer than all its answers."""
 
     def __init__(self, module, flags=()):
-        words = ["node", "--no-warnings", *flags, PAGE_PROGRAM, "--serve"]
+        words = ["node", "--no-warnings", *known_flag(QUICK_FLAG), *flags, PAGE_PROGRAM, "--serve"]
         self.server = subprocess.Popen(words, stdin=subprocess.PIPE, stdout=subprocess.PIPE, env=dict(os.environ, TSO_MODULE=module))
         self.turn = threading.Lock()
 
@@ -46,9 +49,15 @@ class Served:
         return subprocess.CompletedProcess(words, answer["status"], base64.b64decode(answer["output"]), base64.b64decode(answer["errors"]))
 
 
+@functools.cache
+def known_flag(flag):
+    """This flag for Node, or none where it knows no such flag."""
+    return (flag,) if subprocess.run(["node", flag, "-e", ""], stderr=subprocess.DEVNULL).returncode == 0 else ()
+
+
 def wide_flags():
-    """The flags of Node for a module with addresses of 64 bits: none where it knows no such flag."""
-    return (WIDE_FLAG,) if subprocess.run(["node", WIDE_FLAG, "-e", ""], stderr=subprocess.DEVNULL).returncode == 0 else ()
+    """The flags of Node for a module with addresses of 64 bits."""
+    return known_flag(WIDE_FLAG)
 
 
 # What is asked.

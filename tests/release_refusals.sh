@@ -64,6 +64,8 @@ make_checkout() {
   (cd "$top" && files | tar -cf - --null -T -) | tar -x -C "$room/clone"
   grep -E "^($(IFS='|' && echo "${crates[*]}"))[ :]" "$top/crates.txt" > "$room/clone/crates.txt"
   git_in init -q
+  # Nothing is packed for long here.
+  git_in config core.compression 0 && git_in config pack.window 0
   commit "the sources" && mkdir -p "$room/built/crates"
   cp -r "$room/clone/." "$room/built/"
   install -D -m 755 "$program" "$room/built/crates/tso/out/tso"

@@ -42,24 +42,26 @@ def test_file(name):
 
 # Tools that are called often. The first call of each is a start of its own; later ones are forks of this process, which has loaded what
 # they need: a start takes longer than what most calls ask for.
-CALLED_OFTEN, _started = ("compare", "cycles"), set()
+CALLED_OFTEN, _started = ("campaign", "compare", "cycles", "graph", "import", "theory"), set()
 
 
 def tool(name, *words, **how):
     """What a tool answers. It needs the standard library alone, so Python doesn't look for more (-S): that takes longer than most tools."""
     path = os.path.join(TOOLS, name)
-    if name in _started and not how.keys() - {"cwd"}:
+    if name in _started and not how.keys() - {"cwd", "input"}:
         return forked(path, words, **how)
     _started.update({name} & set(CALLED_OFTEN))
     return subprocess.run([sys.executable, "-S", path, *words], capture_output=True, text=True, **how)
 
 
-def forked(path, words, cwd=None):
+def forked(path, words, cwd=None, input=None):
     """The same by a fork of this process."""
-    with tempfile.TemporaryFile("w+") as output, tempfile.TemporaryFile("w+") as errors:
+    with tempfile.TemporaryFile("w+") as given, tempfile.TemporaryFile("w+") as output, tempfile.TemporaryFile("w+") as errors:
+        given.write(input or "")
+        given.seek(0)
         child = os.fork()
         if child == 0:
-            os._exit(carried_out(path, words, output, errors, cwd))
+            os._exit(carried_out(path, words, (given, output, errors), cwd))
         _, status = os.waitpid(child, 0)
         texts = []
         for file in (output, errors):
@@ -68,13 +70,14 @@ def forked(path, words, cwd=None):
     return subprocess.CompletedProcess([path, *words], os.waitstatus_to_exitcode(status), *texts)
 
 
-def carried_out(path, words, output, errors, cwd):
-    """The status with which the script of this path ends, in this process, where it writes to these files."""
+def carried_out(path, words, files, cwd):
+    """The status with which the script of this path ends, in this process, whose standard input, output and error are these files."""
     status = 0
     try:
-        os.dup2(output.fileno(), 1)
-        os.dup2(errors.fileno(), 2)
-        sys.argv, sys.stdout, sys.stderr = [path, *words], open(1, "w", closefd=False), open(2, "w", closefd=False)
+        for number, file in enumerate(files):
+            os.dup2(file.fileno(), number)
+        sys.stdin, sys.stdout, sys.stderr = open(0, closefd=False), open(1, "w", closefd=False), open(2, "w", closefd=False)
+        sys.argv = [path, *words]
         os.chdir(cwd or ".")
         runpy.run_path(path, run_name="__main__")
     except SystemExit as end:

@@ -2,6 +2,9 @@
 // Holds the page's histories, and the machine that stands in for the module, against a built program:
 //
 //   tests/view/histories.js PROGRAM
+//   tests/view/histories.js --calls               prints what the program is asked: a line of JSON with words and input for each call
+//   tests/view/histories.js --answers < ANSWERS   takes its answers in this order, each a line of JSON with status and output: for a
+//                                                 script that starts a program at less cost
 //
 // For each example and each text of the gallery under a seed, on several machines:
 //
@@ -38,21 +41,25 @@ function texts() {
     .map(name => [name, fs.readFileSync(path.join(folder, name), 'utf8').split(DIVIDING_LINE)[0] + DIVIDING_LINE + CHOICES]));
 }
 
-function told(program, command, options, input) {
-  const words = Object.entries(options).flatMap(([name, value]) => (value === true ? [`--${name}`] : [`--${name}`, String(value)]));
-  const { status, stdout } = spawnSync(program, [command, ...words], { input });
-  return { status, text: stdout.toString() };
+/** What the program is asked of a run on a machine: its report as JSON, and its trace. */
+function callsOf(options, input) {
+  const words = Object.entries(options).flatMap(([name, value]) => [`--${name}`, String(value)]);
+  return [{ words: ['run', ...words, '--json'], input }, { words: ['trace', ...words], input }];
+}
+
+function told(program, { words, input }) {
+  const { status, stdout } = spawnSync(program, words, { input });
+  return { status, output: stdout.toString() };
 }
 
 /** The lines of a trace in a program's report. */
 const stepsIn = text => /^Trace\n[^]*?^Endtrace \d+\n/m.exec(text)?.[0];
 
-function faultsOf(program, options, input) {
-  const line = told(program, 'run', { ...options, json: true }, input).text, run = JSON.parse(line), standIn = new StandIn(null);
+function faultsOf([{ output: line }, traced], options, input) {
+  const run = JSON.parse(line), standIn = new StandIn(null);
   const own = JSON.parse(standIn.answer({ ...options, command: 'trace', json: true }, input).text);
   const faults = SAME.flatMap(name => differs(`${name} of the stand-in`, own[name], run[name]));
-  const traced = told(program, 'trace', options, input);
-  if (traced.status !== BAD_LINE) faults.push(...differs('the lines of the stand-in', stepsIn(standIn.answer({ ...options, command: 'trace' }, input).text), stepsIn(traced.text)));
+  if (traced.status !== BAD_LINE) faults.push(...differs('the lines of the stand-in', stepsIn(standIn.answer({ ...options, command: 'trace' }, input).text), stepsIn(traced.output)));
   const trace = readTrace(JSON.stringify(own)), history = trace.steps.reduce((made, step) => made.with(step), new History({ ...Tso.DEFAULTS, ...options }, trace));
   return faults.concat(run.unfinished ? [] : faultsOfHistory(history, readLine(line)), faultsOfCuts(history, trace.steps));
 }
@@ -78,16 +85,24 @@ function faultsOfCuts(history, steps) {
   return [...differs('the history of steps made again', JSON.stringify(again), before), ...differs('the history that they were taken from', JSON.stringify(history), before)];
 }
 
-function main([program]) {
+function judge(works, answer) {
   let passed = 0, failed = 0;
-  for (const [name, input] of texts()) for (const options of MACHINES) {
-    const faults = faultsOf(path.resolve(program), options, input);
+  for (const { name, options, input, calls } of works) {
+    const faults = faultsOf(calls.map(answer), options, input);
     passed += faults.length === 0;
     failed += faults.length > 0;
     for (const fault of faults.slice(0, 3)) console.log(`${name} ${JSON.stringify(options)}: ${fault.slice(0, 400)}`);
   }
   console.log(`${passed} passed, ${failed} failed`);
   process.exitCode = failed > 0 || passed === 0 ? 1 : 0;
+}
+
+function main([word]) {
+  const works = texts().flatMap(([name, input]) => MACHINES.map(options => ({ name, options, input, calls: callsOf(options, input) })));
+  if (word === '--calls') return works.forEach(({ calls }) => calls.forEach(call => console.log(JSON.stringify(call))));
+  if (word !== '--answers') return judge(works, call => told(path.resolve(word), call));
+  const answers = fs.readFileSync(0, 'utf8').trim().split('\n').map(line => JSON.parse(line));
+  judge(works, () => answers.shift());
 }
 
 main(process.argv.slice(2));
