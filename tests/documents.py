@@ -20,6 +20,7 @@ of definitions, the lists of files that a further protocol or command touches (d
 numbers (tests/document_tables.py). The last line is 'N passed, M failed'.
 """
 import difflib
+import functools
 import glob
 import os
 import re
@@ -202,7 +203,8 @@ def faults_of_crates_files():
 
 # A protocol and the commands by their names, as code, scripts and texts spell them. A change of these kinds touches each file that has them.
 PROTOCOL = re.compile(r"\bmosi\b", re.IGNORECASE)
-COMMANDS = [re.compile(r"\b[%s%s]%s\b" % (name[0], name[0].upper(), name[1:])) for name in ("trace", "sweep", "outcomes", "check", "witness")]
+COMMANDS = {name[1:]: re.compile(r"\b[%s%s]%s\b" % (name[0], name[0].upper(), name[1:]))
+            for name in ("trace", "sweep", "outcomes", "check", "witness")}
 # Such files need no line in a list: what documents tell, data, what is built or written by a script, and laws that name single commands.
 UNLISTED = ("CHANGELOG.md", "docs/", "examples/", "release/", "tests/data/", "view/module.js", "view/texts.js", "view/whole.js", "view/bench.js")
 
@@ -234,18 +236,28 @@ def faults_of_list(heading, has_it):
     for name in tracked_files():
         if name.startswith(UNLISTED) or any(name == told or name.startswith(told.rstrip("/") + "/") for told in listed):
             continue
-        try:
-            text = content(os.path.join(TOP, name))
-        except (UnicodeDecodeError, OSError):
-            continue
-        if has_it(text):
+        if has_it(text_of(name)):
             faults.append("%s isn't in the list of '%s'" % (name, heading))
     return faults
 
 
+@functools.cache
+def text_of(name):
+    """The text of a file, its path from the top; an empty one where it is none."""
+    try:
+        return content(os.path.join(TOP, name))
+    except (UnicodeDecodeError, OSError):
+        return ""
+
+
+def lists_the_protocols(text):
+    return "mosi" in text.lower() and PROTOCOL.search(text) is not None
+
+
 def lists_the_commands(text):
     """Whether a text names all but one of these commands or more, so that it goes by commands."""
-    return sum(bool(name.search(text)) for name in COMMANDS) >= len(COMMANDS) - 1
+    there = [name for rest, name in COMMANDS.items() if rest in text]
+    return len(there) >= len(COMMANDS) - 1 and sum(bool(name.search(text)) for name in there) >= len(COMMANDS) - 1
 
 
 def faults_of_defined_names():
@@ -325,7 +337,7 @@ def rows_of(program):
     yield "names of refusals", faults_of_names
     yield "scripts of tests/", faults_of_scripts
     yield "files of crates in docs/HACKING.md", faults_of_crates_files
-    yield "files that a further protocol touches", lambda: faults_of_list("A further protocol", PROTOCOL.search)
+    yield "files that a further protocol touches", lambda: faults_of_list("A further protocol", lists_the_protocols)
     yield "files that a further command touches", lambda: faults_of_list("A further command or option", lists_the_commands)
     yield "names in docs/DEFINITIONS.md", faults_of_defined_names
     yield "types that the headline rests on", faults_of_declared

@@ -109,13 +109,8 @@ def ends(test, depth):
 
 
 @functools.lru_cache(16)
-def test_of(given):
-    return reading.read_test(given)
-
-
-@functools.lru_cache(16)
 def ends_of(given, depth):
-    return ends(test_of(given), depth)
+    return ends(reading.read_test(given), depth)
 
 
 def depth_that_counts(test, depth):
@@ -205,7 +200,7 @@ def faults_of_way(report, shown, values, way):
 
 def faults_at(program, given, depth, asked):
     """The faults of a test at a depth; `asked` says by a value of --show which of the words below are asked with it too."""
-    test = test_of(given)
+    test = reading.read_test(given)
     found = ends_of(given, depth_that_counts(test, depth))
     report_by = functools.cache(lambda way: report_of(program, given, depth, way))
     return [fault for show in SHOWN

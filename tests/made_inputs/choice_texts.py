@@ -25,10 +25,8 @@ def ending_length(test):
 
 def spelled(draw, words):
     """Words with white space of every kind between them."""
-    plain = draw.random() < 0.4
-    text = draw.choice(("", "", " ", "\n", "\t"))
-    for word in words:
-        text += word + (" " if plain else draw.choice(SEPARATORS))
+    gaps = [" "] * len(words) if draw.random() < 0.4 else draw.choices(SEPARATORS, k=len(words))
+    text = draw.choice(("", "", " ", "\n", "\t")) + "".join(map("".join, zip(words, gaps)))
     return text if draw.random() < 0.6 else text.rstrip(" \t\r\n")
 
 

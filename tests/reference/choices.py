@@ -31,7 +31,9 @@ def generator(state, stream):
     state = state + stream & BITS_64
     while True:
         state = state * MULTIPLIER + stream & BITS_64
-        yield output_of(state)
+        word, by = (state >> 18 ^ state) >> 27 & BITS_32, state >> 59
+        # as output_of has it
+        yield (word >> by | word << 32 - by) & BITS_32
 
 
 def generator_of_seed(seed):

@@ -11,7 +11,8 @@ DIGITS = b"0123456789"
 
 NUMBER, NAME, SYMBOL, END = "number", "name", "symbol", "end"
 
-TOKEN = re.compile(rb"([0-9]+)|([A-Za-z_][A-Za-z0-9_]*)|(/\\|\\/|[=;:\[\]{}|,$~()])")
+# A token after white space alone; what begins a comment is none.
+TOKEN = re.compile(rb"[ \t\r\n]*(?:(?P<number>[0-9]+)|(?P<name>[A-Za-z_][A-Za-z0-9_]*)|(?P<symbol>/\\|\\/|[=;:\[\]{}|,$~)]|\((?!\*)))")
 
 # Numbers of more digits than this are beyond every limit; what they say exactly is never asked.
 MANY_DIGITS = 40
@@ -113,14 +114,15 @@ class Tokens:
 
     def read(self, where):
         given = self.text.bytes
-        place = self.text.gap_end(self.place, where)
-        if place == len(given):
-            return Token(END, "", place), place
-        found = TOKEN.match(given, place)
+        found = TOKEN.match(given, self.place)
         if found is None:
-            raise Fault("BadToken", place, "a byte that begins nothing " + where)
-        number, name, symbol = found.groups()
-        if name is not None and len(name) > litmus.LONGEST_LOCATION_NAME:
-            raise Fault("BadToken", place, "a name of more than 32 bytes " + where)
-        kind = NUMBER if number is not None else NAME if name is not None else SYMBOL
-        return Token(kind, found.group().decode(), place), found.end()
+            place = self.text.gap_end(self.place, where)
+            if place == len(given):
+                return Token(END, "", place), place
+            found = TOKEN.match(given, place)
+            if found is None:
+                raise Fault("BadToken", place, "a byte that begins nothing " + where)
+        token = Token(found.lastgroup, found[found.lastgroup].decode(), found.start(found.lastgroup))
+        if token.kind == NAME and len(token.text) > litmus.LONGEST_LOCATION_NAME:
+            raise Fault("BadToken", token.place, "a name of more than 32 bytes " + where)
+        return token, found.end()

@@ -70,7 +70,7 @@ class Found:
     def printed(self, with_json, told):
         ways = ways_in(told, with_json)
         ways += [NO_WAY] * (len(self.states) - len(ways))
-        with seen.uncounted():
+        with seen.apart():
             ways = [way if self.leads_to(values, way) else NO_WAY for values, way in zip(self.states, ways)]
         self.note_answer(ways, form_of(with_json))
         return printing.as_json(self.value(ways)) if with_json else self.text(ways)

@@ -1,5 +1,7 @@
 """Reads a test's text: docs/INPUT.md, 'The test' and 'The grammar'; what is refused, and where, is the table of
 docs/DEFINITIONS.md, 'What a text is told that spells no test'."""
+import functools
+
 from . import conditions, lexing, litmus, seen
 from .conditions import ConditionReader, number_of, read_setting
 from .lexing import Fault, Text, Tokens
@@ -21,14 +23,26 @@ class Refused(Exception):
 
 
 def read_test(given):
-    """The test that these bytes spell; raises `Refused` where they spell none."""
+    """The test that these bytes spell; raises `Refused` where they spell none. Nobody changes it: who makes an input and who answers it may
+    have the same."""
+    test, refusal, counts = read_once(given)
+    seen.add(counts)
+    if refusal is not None:
+        raise Refused(refusal)
+    return test
+
+
+@functools.lru_cache(16)
+def read_once(given):
+    """The test that these bytes spell or else the line of the refusal, and what comes up in reading them."""
     text = Text(given)
-    try:
-        return TestReader(text).test()
-    except Fault as fault:
-        seen.note("refusal of a test", fault.name)
-        seen.note("fault of a test", "%s: %s" % (fault.name, fault.case))
-        raise Refused("Refused test line %d %s" % (text.line_of(fault.place), fault.name)) from None
+    with seen.apart() as counts:
+        try:
+            return TestReader(text).test(), None, counts
+        except Fault as fault:
+            seen.note("refusal of a test", fault.name)
+            seen.note("fault of a test", "%s: %s" % (fault.name, fault.case))
+            return None, "Refused test line %d %s" % (text.line_of(fault.place), fault.name), counts
 
 
 class TestReader:

@@ -30,11 +30,12 @@ class Search:
 
     def all_from(self, first):
         """All states that choices lead to from this one."""
-        reached, waiting = {first}, [first]
+        reached, waiting, numbers, known = {first}, [first], range(len(self.programs)), self.known
         while waiting:
             state = waiting.pop()
-            for number in range(len(self.programs)):
-                for core, memory in self.after(number, state[number], state[-1]):
+            for number in numbers:
+                alike = number, state[number], state[-1]
+                for core, memory in known[alike] if alike in known else self.after(*alike):
                     later = state[:number] + (core,) + state[number + 1:-1] + (memory,)
                     if later not in reached:
                         reached.add(later)
@@ -42,14 +43,13 @@ class Search:
         return reached
 
     def after(self, number, core, memory):
-        """What this core's step and its drain make of it and of memory, of those that don't stall. It is worked out once for all
-        states that are alike in these two."""
-        key = number, core, memory
-        if key not in self.known:
-            held = self.cores.values[core], self.memories.values[memory]
-            made = step(self.programs[number], self.depth, *held), drain(*held)
-            self.known[key] = [(self.cores.number(one), self.memories.number(words)) for one, words in filter(None, made)]
-        return self.known[key]
+        """What this core's step and its drain make of it and of memory, of those that don't stall. It is known then for all states that
+        are alike in these two."""
+        held = self.cores.values[core], self.memories.values[memory]
+        made = step(self.programs[number], self.depth, *held), drain(*held)
+        found = [(self.cores.number(one), self.memories.number(words)) for one, words in filter(None, made)]
+        self.known[number, core, memory] = found
+        return found
 
     def ends(self):
         """The registers of all cores and the memory of each state in which the test has ended."""

@@ -22,12 +22,17 @@ def amount(items):
     return ("none", "one", "several")[min(len(items), 2)]
 
 
+def add(counts):
+    """Counts all of this once more."""
+    _counts.update(counts)
+
+
 @contextlib.contextmanager
-def uncounted():
-    """What comes up within doesn't count."""
-    before = taken()
+def apart():
+    """What comes up within is counted by the counter that is given, and nowhere else."""
+    global _counts
+    before, _counts = _counts, collections.Counter()
     try:
-        yield
+        yield _counts
     finally:
-        _counts.clear()
-        _counts.update(before)
+        _counts = before
