@@ -4,13 +4,15 @@
     tests/schemas.py PROGRAM
 
 The answers are those of the rows in tests/data/rows/ that ask for JSON and aren't refused, and those of each example and each test of
-the gallery. Each must fit the schema of its command. So that a schema which fits anything isn't taken for one, each answer is then
-spoiled in every place, by a member less, a member more or a value of another type, and must not fit any more; of traces, which are
-long, those of the rows alone.
+the gallery. Each must fit the schema of its command. So that a schema which fits anything isn't taken for one, answers are then
+spoiled, by a member less, a member more or a value of another type, and must not fit any more: in each place that was spoiled in few
+answers before, and in one in twenty of the others. Places are the same that differ in numbers or in names of the test alone. Of traces,
+which are long, those of the rows are spoiled alone.
 
 The words of JSON Schema (draft 2020-12) that the schemas use are few, and this script knows just these; another one is an error. The
 last line is 'N passed, M failed'.
 """
+import collections
 import copy
 import json
 import os
@@ -25,7 +27,9 @@ import rows
 COMMANDS = ("run", "trace", "outcomes", "why")
 LINES = COMMANDS + ("outcomes --show all",)
 
+# So many places of an answer are spoiled at most. A place is spoiled so often, and then one in so many times.
 MOST_PLACES = 150
+OFTEN, THEN_EVERY = 40, 20
 NOTES = {"$schema", "$defs", "title", "description"}
 TYPES = {"object": dict, "array": list, "string": str, "boolean": bool, "integer": int, "null": type(None)}
 
@@ -46,6 +50,8 @@ class Schema:
             self.whole = json.load(file)
         # Of each schema in it the words that say something, each with what reads it and what it asks.
         self.words_of = {}
+        # How often each place came up to be spoiled.
+        self.came_up = collections.Counter()
         # Objects and lists of the last value whose faults were asked for, each with a schema that it fits.
         self.fitting, self.learns = set(), False
 
@@ -168,10 +174,24 @@ def without(name):
     return lambda inside: {key: kept for key, kept in inside.items() if key != name}
 
 
-def spoiled(value):
-    """The value spoiled in each place, or in some hundred: a member less, a member more, and another type."""
+def form_of(place):
+    """The place without numbers and names of the test's own."""
+    return tuple("" if isinstance(key, int) or free(place[:number]) else key for number, key in enumerate(place))
+
+
+def is_spoiled(place, came_up):
+    """Whether this place is spoiled now, by how often it came up before."""
+    form = form_of(place)
+    came_up[form] += 1
+    return came_up[form] <= OFTEN or came_up[form] % THEN_EVERY == 0
+
+
+def spoiled(value, came_up):
+    """The value spoiled in some hundred places at most: a member less, a member more, and another type."""
     every_place = list(places(value))
     for place in every_place[:: len(every_place) // MOST_PLACES + 1]:
+        if not is_spoiled(place, came_up):
+            continue
         here = at(value, place)
         yield put(value, place, lambda inside: 0.5)
         if isinstance(here, dict) and not free(place):
@@ -198,7 +218,7 @@ def faults_of(schema, line, is_long):
     value = json.loads(line)
     faults = schema.faults(value)
     if not faults and not is_long:
-        faults = ["spoiled it still fits: " + json.dumps(one)[:200] for one in spoiled(value) if schema.fits(one)]
+        faults = ["spoiled it still fits: " + json.dumps(one)[:200] for one in spoiled(value, schema.came_up) if schema.fits(one)]
     return faults[:5]
 
 
