@@ -7,7 +7,7 @@ ghost use Rattle.protocol_tables.specs.Tables.{Table};
 ghost use Rattle.machine_core.specs.Running.{new_machine, machine_effect, machine_after, AnswerFits};
 ghost use Rattle.trace_report.specs.Shown.{shown_step};
 ghost use Rattle.trace_report.specs.Known.{StepNamesExist};
-ghost use Rattle.trace_json.specs.TraceJson.{alone, sourced_by, step_to};
+ghost use Rattle.trace_json.specs.TraceJson.{sourced_by, step_to};
 ghost use Rattle.trace_json.specs.OwnWords.{own_words};
 ghost use Rattle.trace_json.specs.MachineJson.{machine_json};
 ghost use Rattle.trace_json.specs.inner.Looked.{sourced};
@@ -26,7 +26,6 @@ use trace_report::Step;
 use trace_report::states::{PlacedState, states_of};
 use trace_report::telling::tell;
 use tso_model::{NoMemory, Test};
-use tso_report::objects::Object;
 
 /// What a choice did, and where the word is found that it read.
 #[derive(Drop)]
@@ -134,15 +133,5 @@ impl<'t> Follower<'t> {
             memory: &self.memory,
         };
         machine_value(self.alloc, &moment)
-    }
-
-    /// The machine as the one before the first choice.
-    pub(crate) fn alone<P: Protocol>(&self, machine: &Machine<'_, P>) -> Result<Value, NoMemory>
-        requires { Follows self.now machine.now }
-        ensures { IfOk result (λ value. view value ≡ alone machine.now self.now.memory.items) }
-    {
-        Object::new(self.alloc)
-            .member("start", self.machine(machine))
-            .value()
     }
 }

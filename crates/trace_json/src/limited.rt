@@ -1,8 +1,7 @@
 //! An observer to which the first choices of a run alone are shown: what a trace as JSON tells is limited, and a run is made
 //! once, before it is known how long it is.
 
-ghost use Rattle.std.specs.Prelude.{◌≡◌, ◌≤◌, false};
-ghost use Rattle.trace_json.specs.TracedRun.{most_steps};
+ghost use Rattle.std.specs.Prelude.{◌≡◌, false};
 ghost use Rattle.trace_json.specs.inner.Limited.{ShowsStep};
 
 use crate::traced_run::MAX_STEPS;

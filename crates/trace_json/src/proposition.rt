@@ -1,17 +1,15 @@
 //! The proposition of a condition as a text, with brackets only where it would be read in another way without.
 
-ghost use Rattle.std.specs.Prelude.{◌≡◌, ◌<◌, ◌++◌, IfOk, OnOk, codes, length, string_bytes};
-ghost use Rattle.std.specs.Fmt.{decimal};
+ghost use Rattle.std.specs.Prelude.{◌≡◌, ◌<◌, ◌++◌, IfOk, OnOk, length, string_bytes};
 ghost use Rattle.serde_json.specs.View.{view};
-ghost use Rattle.tso_model.specs.Registers.{name_of};
 ghost use Rattle.tso_model.specs.Condition.{NamesExist};
 ghost use Rattle.tso_model.specs.Condition.{claim_of};
-ghost use Rattle.trace_json.specs.Proposition.{is_or, is_joined, bracketed_text, truth_word, proposition_text, proposition_value};
+ghost use Rattle.trace_json.specs.Proposition.{is_or, is_joined, bracketed_text, proposition_text, proposition_value};
 
 use serde_json::Value;
 use std::alloc::Global;
 use tso_model::{Core, NoMemory, Prop, Reg, Test};
-use tso_report::pieces::write_characters;
+use tso_report::pieces::{Piece, write_characters, write_pieces};
 
 /// The proposition of the test's condition as a text, `0:EAX=0 /\ 1:EAX=0`; `null` where it has none.
 ///
@@ -41,12 +39,22 @@ fn write_proposition(text: &mut String, test: &Test, prop: &Prop) -> Result<(), 
         Prop::Truth(true) => write_characters(text, "true"),
         Prop::Truth(false) => write_characters(text, "false"),
         Prop::RegIs(core, reg, value) => {
-            let (core, name) = (core.0, reg.name());
-            Ok(write!(text, "{core}:{name}={value}")?)
+            let pieces = [
+                Piece::Number(core.0 as u64),
+                Piece::Text(":"),
+                Piece::Text(reg.name()),
+                Piece::Text("="),
+                Piece::Number(*value as u64),
+            ];
+            write_pieces(text, &pieces)
         }
         Prop::LocIs(loc, value) => {
-            let name = test.location_name(*loc);
-            Ok(write!(text, "{name}={value}")?)
+            let pieces = [
+                Piece::Text(test.location_name(*loc)),
+                Piece::Text("="),
+                Piece::Number(*value as u64),
+            ];
+            write_pieces(text, &pieces)
         }
         Prop::Not(inner) => {
             text.push('~')?;

@@ -165,24 +165,16 @@ impl<'t> Observer for Tracer<'t> {
     }
 
     fn end<P: Protocol>(&mut self, machine: &Machine<'_, P>) -> Result<(), NoMemory> {
-        self.told = self.told(machine)?;
+        let told = match self.extent {
+            Extent::Whole => self.trace(),
+            Extent::LastStep => self.last(machine),
+        };
+        self.told = told?;
         Ok(())
     }
 }
 
 impl<'t> Tracer<'t> {
-    /// What is told of the run, with the machine as it now is.
-    fn told<P: Protocol>(&mut self, machine: &Machine<'_, P>) -> Result<Value, NoMemory>
-        requires follows { Follows self.old.follower machine.now }
-        requires known { KnowsLast self.old }
-        ensures { IfOk result (λ value. view value ≡ told_by self.old machine.now) }
-    {
-        match self.extent {
-            Extent::Whole => self.trace(),
-            Extent::LastStep => self.last(machine),
-        }
-    }
-
     /// The trace, of the machine before the first choice and the steps. It takes both.
     fn trace(&mut self) -> Result<Value, NoMemory>
         ensures { IfOk result (λ value. view value ≡ trace_with (view self.old.told) (array (items_of (map view self.old.steps.items)))) }
@@ -204,7 +196,9 @@ impl<'t> Tracer<'t> {
     {
         match &self.last {
             Some(told) => self.follower.step_to(machine, told),
-            None => self.follower.alone(machine),
+            None => Object::new(self.follower.alloc)
+                .member("start", self.follower.machine(machine))
+                .value(),
         }
     }
 }
