@@ -2,7 +2,7 @@
 //! core's line. Their copies change at once, so from here on the kept words must count as the core's copy. (Primer, chapter
 //! 7.)
 ghost use Rattle.std.specs.Prelude.{◌≡◌, ◌<◌, Some, None, false, length};
-ghost use Rattle.snoop_bus.specs.Asks.{hits, request_for, asked_caches, asked_memory};
+ghost use Rattle.snoop_bus.specs.Asks.{request_for, asked_caches, asked_memory};
 ghost use Rattle.snoop_bus.specs.inner.Asks.{transacting_at, transaction_at, held_after_ask};
 ghost use Rattle.snoop_bus.specs.Held.{with_counted_copy, counted_in, counted_copies_of};
 ghost use Rattle.snoop_bus.specs.inner.Held.{Awaits, IsHeld};
@@ -22,17 +22,6 @@ use cache_set::Line;
 use protocol_tables::{Protocol, Request, State, Transient, transient};
 
 impl Hierarchy {
-    /// Whether an access is a hit, which needs no bus.
-    pub fn hits<P: Protocol>(&self, protocol: &P, core: usize, line: u8, write: bool) -> bool
-        requires { core < length self.now.caches.items }
-        ensures { result ≡ hits (P.table protocol.now) core line write (tags_of self.now.caches.items) }
-    {
-        match self.caches[core].look(line) {
-            None => false,
-            Some(copy) => !write || protocol.written(copy.state).is_some(),
-        }
-    }
-
     /// A core asks for what it wants, where that isn't a load's hit. Answers what then holds the bus.
     pub fn ask<P: Protocol>(&mut self, protocol: &P, wanted: Wanted) -> HeldBus
         requires ready { IsReady None wanted.core.0 wanted.line self.old }

@@ -216,7 +216,10 @@ impl<P: Protocol> SnoopBus<P> {
     {
         let at = usize::from(core.0);
         let line = self.shape.line_of(loc);
-        self.hierarchy.hits(&self.protocol, at, line, write)
+        match self.hierarchy.caches[at].look(line) {
+            None => false,
+            Some(copy) => !write || self.protocol.written(copy.state).is_some(),
+        }
     }
 
     /// The first half of an access that isn't a load's hit. The other caches see the request, where there is
