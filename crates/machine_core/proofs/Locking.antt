@@ -1,5 +1,5 @@
 -- A locked instruction made whole, from what the calls in it say.
-use Rattle.machine_core.proofs.Vocabulary.{◌≡◌, ◌++◌, ◌∷◌, inl, inr, ℕ, true, false, None, Result, List, [], map, slice_index, refl, sym, ap, ◌∙◌, subst, entry, value_in, with_value, updated, locked_access, Locks, CoreState, Effect, advanced_with, Core, Loc, NoMemory, Reg, Update, Entry, LR, Committed, Pending, Noted, Access, BusModel, words_of, IsSameMachine, IsCurrentWord, WritesAt, CompletesAt, awaited_of, MayGoOn, Processor, Through, Whole, store_of, core_state, pending_in, effect_of_lock, both_parts, at_next, word_on_bus, caches_of, completion_by, HasUsed, whole, MayMake, Acts, HasActed, SucceedsUnlessCommitting, Notes, locked_with}
+use Rattle.machine_core.proofs.Vocabulary.{◌≡◌, ◌++◌, ◌∷◌, inl, inr, ℕ, true, None, Result, List, [], map, slice_index, refl, sym, ap, ◌∙◌, subst, append_assoc, entry, value_in, with_value, updated, locked_access, Locks, CoreState, Effect, advanced_with, Core, Loc, NoMemory, Reg, Update, Entry, LR, LW, Committed, Pending, Noted, Access, BusModel, words_of, IsSameMachine, IsCurrentWord, WritesAt, CompletesAt, awaited_of, MayGoOn, Processor, Through, Whole, store_of, core_state, pending_in, effect_of_lock, both_parts, at_next, word_on_bus, caches_of, completion_by, HasUsed, whole, MayMake, Acts, HasActed, SucceedsUnlessCommitting, Notes, locked_with}
 use Rattle.snoop_bus.specs.declared.access.Updated.{Updated}
 use Rattle.machine_core.proofs.CoreLemmas.{index-got}
 use Rattle.machine_core.proofs.CacheUses.{writes}
@@ -36,6 +36,11 @@ acts-locks core loc reg update p q b b' value u none value_is before after done 
         ∙ ap (λ w. made core.0 (core_state core.0 p) loc reg w (updated update (slice_index (words_of b) loc.0) (value_in p.registers reg))) word
         ∙ ap (λ v. made core.0 (core_state core.0 p) loc reg u.before v) written
 
+-- both its parts are noted, one after the other
+pub both-noted : (core place : ℕ) (loc : Loc) (word value : ℕ) (noted mid noted' : Noted) (load store : Entry) → load ≡ entry core place LR loc word → store ≡ entry core place LW loc value
+    → mid.entries ≡ noted.entries ++ load ∷ [] → noted'.entries ≡ mid.entries ++ store ∷ [] → noted'.entries ≡ noted.entries ++ both_parts core place loc word value
+both-noted core place loc word value noted mid noted' load store is_load is_store first second = rw (second, first, is_load, is_store) (append_assoc noted.entries _ _)
+
 -- it commits where nothing is pending, so memory may be refused then alone
 pub lock-commits : {A : Type 0} (r : Result A NoMemory) (core : ℕ) (loc : Loc) (reg : Reg) (update : Update) (p : Processor) (words : List ℕ) → p.stores.items ≡ [] → SucceedsUnlessCommitting r (effect_of_lock loc reg update core p words)
 lock-commits r core loc reg update p words none = λ other. absurd (other (ap (λ f. f.outcome) (locked-made core (core_state core p) loc reg _ _ p.stores.items none)))
@@ -58,6 +63,3 @@ module _ (core : Core) (place : ℕ) (loc : Loc) (b b' : BusModel) (value : ℕ)
 
 pub first-uses : (b b' : BusModel) (core loc : ℕ) (access : Access) → CompletesAt b b' core loc access → IsSameMachine b b' → awaited_of b' ≡ None → HasUsed (completion_by (caches_of b) core loc) b' (Through access)
 first-uses b b' core loc access done machine nothing = record { how_is = ap Through done.access_is; caches = rw (machine.rows, machine.shape, done.contents, nothing) refl }
-
-pub impossible : {A : Type 0} → false ≡ true → A
-impossible e = cc

@@ -90,7 +90,8 @@ fn read_first<P: Protocol>(
     commits.make_room(1)?;
     let (value, access) = bus.complete_read(core, loc)?;
     let read = entry(core, place, Kind::LR, loc, value);
-    commits.note(read)?;
+    // There is room for the entry.
+    commits.note(read).unwrap();
     Ok((read, access))
 }
 

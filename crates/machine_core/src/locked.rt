@@ -1,11 +1,11 @@
 //! A locked instruction made whole: its word is read and written at one choice, with nothing between. It waits until its
 //! core's store buffer is empty; else its own older stores would come after it in memory order. (x86-TSO, section 3;
 //! Primer, chapter 4.)
-ghost use Rattle.std.specs.Prelude.{◌≡◌, ◌<◌, ◌≤◌, ◌++◌, IsOk, IfOk, OnOk, OnErr};
+ghost use Rattle.std.specs.Prelude.{◌≡◌, ◌<◌, IfOk, OnErr};
 ghost use Rattle.tso_model.specs.Limits.{most_instructions};
 ghost use Rattle.tso_model.specs.MemoryAccess.{locked_access};
 ghost use Rattle.snoop_bus.specs.Bus.{words_of};
-ghost use Rattle.machine_core.specs.inner.Cores.{pending_in, effect_of_lock, both_parts};
+ghost use Rattle.machine_core.specs.inner.Cores.{pending_in, effect_of_lock};
 ghost use Rattle.machine_core.specs.inner.Effects.{MayAccess};
 ghost use Rattle.machine_core.specs.inner.Turns.{whole};
 ghost use Rattle.machine_core.specs.inner.OneCore.{Acts, SucceedsUnlessCommitting, AreUnchanged, HasSameSizes};
@@ -15,7 +15,7 @@ use crate::entries::entry;
 use crate::processor::{Processor, advance};
 use commit_order::Commits;
 use protocol_tables::Protocol;
-use snoop_bus::{SnoopBus, Updated};
+use snoop_bus::SnoopBus;
 use tso_model::{Core, Kind, Loc, NoMemory, Outcome, Reg, Stall, Update};
 
 /// A locked instruction: the location that it reads and writes, its register, and what it makes of the word.
@@ -49,28 +49,15 @@ pub fn read_and_write<P: Protocol>(
         return Ok((Outcome::Stalled(Stall::Lock), CacheUse::Unused));
     }
     let Locked { loc, reg, update } = locked;
+    let place = processor.place;
     let value = processor.register(reg);
     commits.make_room(2)?;
     let updated = bus.update(core, loc, update, value)?;
-    note_locked(commits, core, processor.place, loc, updated)?;
+    // There is room for both parts.
+    let load_part = entry(core, place, Kind::LR, loc, updated.before);
+    commits.note(load_part).unwrap();
+    let store_part = entry(core, place, Kind::LW, loc, updated.after);
+    commits.note(store_part).unwrap();
     advance(processor, reg, updated.before);
     Ok((Outcome::Committed, CacheUse::Through(updated.access)))
-}
-
-/// Notes both parts of a locked instruction that made this of the word.
-///
-/// Errors: out of memory only, and not where there is room for both.
-#[inline(always)]
-fn note_locked(
-    commits: &mut Commits,
-    core: Core,
-    place: u8,
-    loc: Loc,
-    updated: Updated,
-) -> Result<(), NoMemory>
-    ensures ok { OnOk result (commits.new.entries ≡ commits.old.entries ++ both_parts core.0 place loc updated.before updated.after) }
-    ensures succeeds { 2 ≤ commits.old.room → IsOk result }
-{
-    commits.note(entry(core, place, Kind::LR, loc, updated.before))?;
-    commits.note(entry(core, place, Kind::LW, loc, updated.after))
 }

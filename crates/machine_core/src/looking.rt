@@ -44,24 +44,30 @@ impl<'a, P: Protocol> Machine<'a, P> {
     pub fn place(&self, core: Core) -> Option<u8>
         ensures { result ≡ option_map (λ s. s.place) (core_numbered self.now core.0) }
     {
-        let processor = self.processor(core)?;
-        Some(processor.place)
+        match self.processor(core) {
+            None => None,
+            Some(processor) => Some(processor.place),
+        }
     }
 
     /// The registers of a core, in the order of `Reg::ALL`. `None` where the test has no such core.
     pub fn registers(&self, core: Core) -> Option<[u32; 6]>
         ensures { result ≡ option_map (λ s. s.registers) (core_numbered self.now core.0) }
     {
-        let processor = self.processor(core)?;
-        Some(processor.registers)
+        match self.processor(core) {
+            None => None,
+            Some(processor) => Some(processor.registers),
+        }
     }
 
     /// The value of a core's register. `None` where the test has no such core.
     pub fn register(&self, core: Core, reg: Reg) -> Option<u32>
         ensures { result ≡ option_map (λ s. value_in s.registers reg) (core_numbered self.now core.0) }
     {
-        let processor = self.processor(core)?;
-        Some(processor.register(reg))
+        match self.processor(core) {
+            None => None,
+            Some(processor) => Some(processor.register(reg)),
+        }
     }
 
     /// The pending store of a core with this number, counted from the oldest, which has 0: the entry that it
@@ -69,8 +75,10 @@ impl<'a, P: Protocol> Machine<'a, P> {
     pub fn pending(&self, core: Core, number: usize) -> Option<Entry>
         ensures { result ≡ pending_at self.now core.0 number }
     {
-        let processor = self.processor(core)?;
-        processor.pending(core, number)
+        match self.processor(core) {
+            None => None,
+            Some(processor) => processor.pending(core, number),
+        }
     }
 
     /// The word that a program sees at a location, whichever cache or memory has it. `None` where the test has
@@ -108,12 +116,14 @@ impl<'a, P: Protocol> Machine<'a, P> {
             Next::Complete(choice) => choice,
             Next::Write(read) => Choice::Step(read.core),
         };
-        let holder = self.hardware.bus.who_holds()?;
-        Some(BusHolder {
-            choice,
-            loc: holder.loc,
-            transient: self.hardware.bus.transient(),
-        })
+        match self.hardware.bus.who_holds() {
+            None => None,
+            Some(holder) => Some(BusHolder {
+                choice,
+                loc: holder.loc,
+                transient: self.hardware.bus.transient(),
+            }),
+        }
     }
 }
 

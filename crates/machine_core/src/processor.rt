@@ -57,8 +57,10 @@ impl Processor {
     pub fn pending(&self, core: Core, number: usize) -> Option<Entry>
         ensures { result ≡ slice_get (pending_in core.0 self.now) number }
     {
-        let store = self.stores.get(number)?;
-        Some(store_entry(core, store))
+        match self.stores.get(number) {
+            None => None,
+            Some(store) => Some(store_entry(core, store)),
+        }
     }
 
     /// The core goes back before its first instruction, with these registers and nothing pending.
@@ -190,7 +192,9 @@ fn load<P: Protocol>(
 {
     commits.make_room(1)?;
     let (value, cache_use) = see(&processor.stores, turn, loc, bus)?;
-    commits.note(entry(turn.core, processor.place, Kind::R, loc, value))?;
+    // There is room for the entry.
+    let read = entry(turn.core, processor.place, Kind::R, loc, value);
+    commits.note(read).unwrap();
     advance(processor, reg, value);
     Ok((Outcome::Committed, cache_use))
 }
@@ -320,7 +324,8 @@ fn write<P: Protocol>(
 {
     commits.make_room(1)?;
     let access = write_word(turn, store.loc, store.value, bus)?;
-    commits.note(store_entry(turn.core, store))?;
+    // There is room for the entry.
+    commits.note(store_entry(turn.core, store)).unwrap();
     Ok(access)
 }
 

@@ -1,10 +1,10 @@
-use Rattle.machine_core.proofs.Locking.{first-entry, first-noted, first-uses, impossible}
+use Rattle.machine_core.proofs.Locking.{first-entry, first-noted, first-uses}
 use Rattle.machine_core.proofs.completing.read_first.Goals as goal
 
 pub returns : goal.returns
 returns g c = record {
   entry = first-entry c.args.core c.args.place c.args.loc c.args.bus.now c.complete_read.new.self c.in_ok-value.value c.in_ok-value.ensures.word c.entry-read.result c.entry-read.ensures;
-  commits = first-noted c.args.core c.args.place c.args.loc c.args.bus.now c.complete_read.new.self c.in_ok-value.value c.in_ok-value.ensures.word c.entry-read.result c.entry-read.ensures c.args.commits.now c.make_room.new.self c.note.new.self c.make_room.ensures.same c.in_ok-note.ensures.ok;
+  commits = first-noted c.args.core c.args.place c.args.loc c.args.bus.now c.complete_read.new.self c.in_ok-value.value c.in_ok-value.ensures.word c.entry-read.result c.entry-read.ensures c.args.commits.now c.make_room.new.self c.note.new.self c.make_room.ensures.same (rw c.unwrap.ensures at c.note.ensures.ok);
   words = c.in_ok-value.ensures.words;
   caches = first-uses c.args.bus.now c.complete_read.new.self c.args.core.0 c.args.loc.0 c.in_ok-value.access c.in_ok-value.ensures.done c.complete_read.ensures.machine c.in_ok-value.ensures.awaited;
   held = c.in_ok-value.ensures.holds;
@@ -13,6 +13,6 @@ returns g c = record {
   cores = c.complete_read.ensures.machine.cores;
 }
 
-pub returns-in_err-note-clause-err_bus : goal.returns-in_err-note-clause-err_bus
-returns-in_err-note-clause-err_bus g c =
-    impossible (c.in_err-note.ensures.succeeds c.in_ok-make_room.ensures.ok)
+-- there is room for the entry
+pub unwrap-requires : goal.unwrap-requires
+unwrap-requires g c = c.note.ensures.succeeds c.in_ok-make_room.ensures.ok

@@ -1,6 +1,6 @@
-use Rattle.machine_core.proofs.Vocabulary.{refl, ap, ◌∙◌, length, length-set, locked_access, words_of, pending_in, effect_of_lock, Whole}
+use Rattle.machine_core.proofs.Vocabulary.{arith, refl, ap, ◌∙◌, length, length-set, locked_access, words_of, pending_in, effect_of_lock, Whole}
 use Rattle.machine_core.proofs.CoreLemmas.{lock-waits}
-use Rattle.machine_core.proofs.Locking.{acts-locks, lock-commits, may-lock}
+use Rattle.machine_core.proofs.Locking.{acts-locks, both-noted, lock-commits, may-lock}
 use Rattle.machine_core.proofs.ActedLemmas.{acts-stalls}
 use Rattle.machine_core.proofs.locked.read_and_write.Goals as goal
 
@@ -15,7 +15,9 @@ pub returns-clause-acts : goal.returns-clause-acts
 returns-clause-acts g c =
     acts-locks c.args.core c.args.locked.loc c.args.locked.reg c.args.locked.update c.args.processor.now c.advance.new.processor c.args.bus.now c.update.new.self
     c.register-value.result c.in_ok-updated.updated (c.is_empty.ensures.0 c.if-not-is_empty.false) c.register-value.ensures c.in_ok-updated.ensures.before c.in_ok-updated.ensures.after c.in_ok-updated.ensures.done c.update.ensures.machine
-    c.args.commits.now c.make_room.new.self c.note_locked.new.commits c.make_room.ensures.same c.in_ok-note_locked.ensures.ok
+    c.args.commits.now c.make_room.new.self c.note-2.new.self c.make_room.ensures.same
+    (both-noted c.args.core.0 c.args.processor.now.place c.args.locked.loc c.in_ok-updated.updated.before c.in_ok-updated.updated.after c.make_room.new.self c.note.new.self c.note-2.new.self c.entry-load_part.result c.entry-store_part.result
+    c.entry-load_part.ensures c.entry-store_part.ensures (rw c.unwrap.ensures at c.note.ensures.ok) (rw c.unwrap-2.ensures at c.note-2.ensures.ok))
     c.advance.ensures
 
 pub returns-in_err-make_room-clause-succeeds : goal.returns-in_err-make_room-clause-succeeds
@@ -26,20 +28,9 @@ pub returns-in_err-updated-clause-succeeds : goal.returns-in_err-updated-clause-
 returns-in_err-updated-clause-succeeds g c =
     lock-commits _ c.args.core.0 c.args.locked.loc c.args.locked.reg c.args.locked.update c.args.processor.now (words_of c.args.bus.now) (c.is_empty.ensures.0 c.if-not-is_empty.false)
 
-pub returns-in_err-note_locked-clause-succeeds : goal.returns-in_err-note_locked-clause-succeeds
-returns-in_err-note_locked-clause-succeeds g c =
-    lock-commits _ c.args.core.0 c.args.locked.loc c.args.locked.reg c.args.locked.update c.args.processor.now (words_of c.args.bus.now) (c.is_empty.ensures.0 c.if-not-is_empty.false)
-
 pub update-requires-clause-free : goal.update-requires-clause-free
 update-requires-clause-free g c =
     may-lock c.args.core c.args.locked.loc c.args.processor.now c.args.bus.now (c.is_empty.ensures.0 c.if-not-is_empty.false) c.requires.access.free
-
--- there is room for both parts
-pub returns-in_err-note_locked-clause-err : goal.returns-in_err-note_locked-clause-err
-returns-in_err-note_locked-clause-err g c =
-    let ok = c.note_locked.ensures.succeeds c.in_ok-make_room.ensures.ok in
-    let wrong = rw c.in_err-note_locked.was at ok in
-    absurd (let z : ⊥ = cc in z)
 
 pub returns-clause-sizes : goal.returns-clause-sizes
 returns-clause-sizes g c = record {
@@ -49,3 +40,10 @@ returns-clause-sizes g c = record {
 
 pub returns-clause-stores : goal.returns-clause-stores
 returns-clause-stores g c = ap (λ p. p.stores) c.advance.ensures
+
+-- there is room for both parts
+pub unwrap-requires : goal.unwrap-requires
+unwrap-requires g c = c.note.ensures.succeeds (omega (arith, c.in_ok-make_room.ensures.ok))
+
+pub unwrap-requires-2 : goal.unwrap-requires-2
+unwrap-requires-2 g c = c.note-2.ensures.succeeds (omega (arith, c.in_ok-make_room.ensures.ok, c.note.ensures.room))
