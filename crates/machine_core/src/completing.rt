@@ -2,20 +2,13 @@
 //! instruction commits its load part first and keeps the bus until its store part, at the choice after it: freed between
 //! the two, it would let another core's write in. (Primer, chapter 7.)
 
-ghost use Rattle.std.specs.Prelude.{◌≡◌, ◌<◌, IfOk, OnOk, OnErr, Some, length};
+ghost use Rattle.std.specs.Prelude.{◌≡◌, ◌<◌, IfOk, OnErr, length};
 ghost use Rattle.tso_model.specs.Thread.{entry};
 ghost use Rattle.tso_model.specs.FlatMachine.{chosen};
 ghost use Rattle.tso_model.specs.SplitMachine.{HeldBy, HeldBetween};
 ghost use Rattle.tso_model.specs.declared.execution.Kind.TheVariants.{LR};
 ghost use Rattle.tso_model.specs.declared.choice.Bus.TheVariants as Bus;
-ghost use Rattle.snoop_bus.specs.Bus.{words_of, cores_of, holder_of};
-ghost use Rattle.snoop_bus.specs.Held.{holder};
-ghost use Rattle.snoop_bus.specs.declared.holding.Stage.TheVariants as Stage;
-ghost use Rattle.machine_core.specs.inner.Cores.{word_on_bus};
-ghost use Rattle.machine_core.specs.Caches.{caches_of, completion_by};
 ghost use Rattle.machine_core.specs.Keeping.{state_in};
-ghost use Rattle.machine_core.specs.Effects.{HasUsed};
-ghost use Rattle.machine_core.specs.inner.OneCore.{Notes};
 ghost use Rattle.machine_core.specs.Split.{completes_in};
 ghost use Rattle.machine_core.specs.inner.Split.{writes_last_in, IsLock, WritesAs};
 ghost use Rattle.machine_core.specs.OneChoice.{AreConsistent, AreOfTest, HasMade, Makes, IsUndone, KeepsHardware};
@@ -26,10 +19,8 @@ use crate::hardware::{Hardware, act, core_of, instruction_at};
 use crate::processor::{Processor, advance};
 use crate::split::access_of;
 use crate::turn::Way;
-use commit_order::Commits;
 use protocol_tables::Protocol;
-use snoop_bus::{Access, SnoopBus};
-use tso_model::{Action, Choice, Core, Entry, Kind, Loc, NoMemory, Outcome, Reg, Test};
+use tso_model::{Action, Choice, Entry, Kind, NoMemory, Outcome, Reg, Test};
 
 /// Completes the action that has asked, which is this choice; of a locked instruction its load part.
 ///
@@ -53,46 +44,16 @@ pub fn complete<P: Protocol>(
         MemoryAccess::Lock(loc) => {
             let core = core_of(choice);
             let place = hardware.processors[core.0 as usize].place;
-            let (entry, access) = read_first(
-                core,
-                place,
-                loc,
-                &mut hardware.bus,
-                &mut hardware.commits,
-            )?;
-            hardware.next = Next::Write(entry);
+            hardware.commits.make_room(1)?;
+            let (value, access) = hardware.bus.complete_read(core, loc)?;
+            // There is room for the entry.
+            let read = entry(core, place, Kind::LR, loc, value);
+            hardware.commits.note(read).unwrap();
+            hardware.next = Next::Write(read);
             Ok((Outcome::Committed, CacheUse::Through(access)))
         }
         _ => act(hardware, test, choice, Way::Asked),
     }
-}
-
-/// A locked instruction that has asked commits its load part, and keeps the bus. Answers that entry.
-fn read_first<P: Protocol>(
-    core: Core,
-    place: u8,
-    loc: Loc,
-    bus: &mut SnoopBus<P>,
-    commits: &mut Commits,
-) -> Result<(Entry, Access), NoMemory>
-    requires asked { holder_of bus.old ≡ Some (holder core loc Stage.Write) }
-
-    ensures entry { IfOk result (λ r. r.0 ≡ entry core.0 place LR loc (word_on_bus bus.old loc)) }
-    ensures commits { OnOk result (Notes commits.old commits.new (entry core.0 place LR loc (word_on_bus bus.old loc))) }
-    ensures words { words_of bus.new ≡ words_of bus.old }
-    ensures caches { IfOk result (λ r. HasUsed (completion_by (caches_of bus.old) core.0 loc.0) bus.new (CacheUse.Through r.1)) }
-    ensures held { OnOk result (holder_of bus.new ≡ Some (holder core loc Stage.Locked)) }
-
-    ensures err_bus { OnErr result (bus.new ≡ bus.old) }
-    ensures err_commits { OnErr result (commits.new.entries ≡ commits.old.entries) }
-    ensures cores { cores_of bus.new ≡ cores_of bus.old }
-{
-    commits.make_room(1)?;
-    let (value, access) = bus.complete_read(core, loc)?;
-    let read = entry(core, place, Kind::LR, loc, value);
-    // There is room for the entry.
-    commits.note(read).unwrap();
-    Ok((read, access))
 }
 
 /// A locked instruction with this load part commits its store part, and frees the bus.
