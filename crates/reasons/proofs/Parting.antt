@@ -1,5 +1,5 @@
 -- Events that are put in a row step by step: those of the rest that none of the rest must precede come next.
-use Rattle.reasons.proofs.Vocabulary.{◌≡◌, ◌<◌, ◌==◌, ℕ, Bool, true, false, not, List, [], ◌∷◌, ◌++◌, length, arith, refl, sym, ap, ◌∙◌, ◌⊎◌, inl, inr, subst, filter, list_any, Entry, IsIn, in-none, in-append, in-left, in-right, in-filter, filter-in, same-number, number-same, once-filter, once-append, Once, any-in, is_first, IsParted, IsSorted, picked-and-left, forward-append, forward-if, clash, from-not, length-append}
+use Rattle.reasons.proofs.Vocabulary.{◌≡◌, ◌<◌, ◌==◌, ℕ, Bool, true, false, not, List, [], ◌∷◌, ◌++◌, length, arith, refl, sym, ap, ◌∙◌, ◌⊎◌, inl, inr, subst, filter, list_any, Entry, IsIn, in-none, in-append, in-left, in-right, in-filter, filter-in, same-number, number-same, once-filter, once-append, Once, any-in, is_first, IsParted, IsSorted, picked-and-left, forward-append, forward-if, clash, from-not, length-append, nil_from_length, append-nil}
 
 -- ---- what a test picks, and what it leaves
 
@@ -108,6 +108,34 @@ module _ (edge : Entry → Entry → Bool) where
       → (length first ≡ 0 → ⊥) → length left < length rest
   fewer-left rest first left p q some =
       let a = ap length p in let d = ap length q in let b = picked-and-left (is_first edge rest) rest in omega (arith, a, b, d, some)
+
+-- ---- a round: those of the rest that can be first come behind the row, and the others are left
+
+module _ (edge : Entry → Entry → Bool) (some row rest items row2 left : List Entry) (p : IsParted edge some row rest) (is : items ≡ rest)
+    (a : row2 ≡ row ++ filter (is_first edge items) items) (b : left ≡ filter (λ x. not (is_first edge items x)) items) where
+  first : row2 ≡ row ++ filter (is_first edge rest) rest
+  first = a ∙ ap (λ (xs : List Entry). row ++ filter (is_first edge xs) xs) is
+
+  others : left ≡ filter (λ x. not (is_first edge rest x)) rest
+  others = b ∙ ap (λ (xs : List Entry). filter (λ x. not (is_first edge xs x)) xs) is
+
+  pub parted-further : IsParted edge some row2 left
+  parted-further =
+      subst (λ xs. IsParted edge some xs left) (sym first)
+      (parted-more edge some row rest p (filter (is_first edge rest) rest) left refl others)
+
+  pub fewer-than : (length left ≡ length rest → ⊥) → length left < length rest
+  fewer-than more = let d = ap length others in let c = picked-and-left (is_first edge rest) rest in omega (arith, d, c, more)
+
+  -- none could be first
+  pub sorted-here : length left ≡ length rest → IsSorted edge some row2 rest
+  sorted-here same =
+      let d = ap length others in
+      let c = picked-and-left (is_first edge rest) rest in
+      let none : length (filter (is_first edge rest) rest) ≡ 0 = omega (arith, same, d, c) in
+      subst (λ xs. IsSorted edge some xs rest)
+      (sym (first ∙ (ap (λ fs. row ++ fs) (nil_from_length (filter (is_first edge rest) rest) none) ∙ append-nil row)))
+      (none-first edge some row rest p (filter (is_first edge rest) rest) refl none)
 
 -- ---- what a test for an empty list tells
 

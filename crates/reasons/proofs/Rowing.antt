@@ -81,13 +81,13 @@ row-met model t k test f d u others row rest order is s so =
 
 -- the same, by the steps of the code
 pub order-met : (model : Model) (t : Litmus) (k : Known) → IsTest t → IsFull t k → IsSound t k → IsLeafless model t k
-    → (es others now row rest now2 loaded now3 order : List Entry) → es ≡ events_of t → others ≡ filter (λ e. not (is_load_part e)) es → now ≡ others
-    → IsSorted (comes_toward model t k) now row rest → now2 ≡ row → loaded ≡ with_loads es now2 → now3 ≡ loaded → order ≡ map (valued t k) now3
+    → (es others now row rest now2 order : List Entry) → es ≡ events_of t → others ≡ filter (λ e. not (is_load_part e)) es → now ≡ others
+    → IsSorted (comes_toward model t k) now row rest → now2 ≡ row → order ≡ map (valued t k) (with_loads es now2)
     → IsMet model t (asked_claim t.condition) order
-order-met model t k test f d u es others now row rest now2 loaded now3 order e o a s b l q v =
+order-met model t k test f d u es others now row rest now2 order e o a s b v =
     row-met model t k test f d u others row rest order (o ∙ ap (filter (λ x. not (is_load_part x))) e)
     (subst (λ xs. IsSorted (comes_toward model t k) xs row rest) a s)
-    (v ∙ ap (map (valued t k)) (q ∙ (l ∙ (ap (λ xs. with_loads xs now2) e ∙ ap (with_loads (events_of t)) b))))
+    (v ∙ ap (map (valued t k)) (ap (λ xs. with_loads xs now2) e ∙ ap (with_loads (events_of t)) b))
 
 -- ---- a write between two parts
 

@@ -1,6 +1,6 @@
 -- The names that the proofs of this crate bring in from definitions and from crates below; each file takes its own from here.
-pub use Rattle.std.proofs.Common.{◌≡◌, ◌<◌, ◌+◌, ◌==◌, ℕ, suc, Bool, true, false, not, if◌then◌else◌, List, [], ◌∷◌, ◌++◌, length, arith, refl, sym, ap, ◌∙◌, ◌⊎◌, inl, inr, subst, ◌-◌, Option, Some, None, option_map, slice_index_or, map, ◌≤◌, ◌*◌, ◌&&◌, ◌||◌, drop, length-append}
-pub use Rattle.std.proofs.lemmas.List.{drop_all}
+pub use Rattle.std.proofs.Common.{◌≡◌, ◌<◌, ◌+◌, ◌==◌, ℕ, suc, Bool, true, false, not, if◌then◌else◌, List, [], ◌∷◌, ◌++◌, length, arith, refl, sym, ap, ◌∙◌, ◌⊎◌, inl, inr, subst, ◌-◌, Option, Some, None, option_map, slice_index_or, map, ◌≤◌, ◌*◌, ◌&&◌, ◌||◌, drop, take, length-append}
+pub use Rattle.std.proofs.lemmas.List.{drop_all, append-nil}
 pub use Rattle.std.specs.Prelude.{filter}
 pub use Rattle.std.specs.List.{list_any, list_all}
 pub use Rattle.basic_laws.specs.Types.{Entry, Quantifier, Exists, NotExists, Forall}

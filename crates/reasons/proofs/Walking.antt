@@ -1,5 +1,5 @@
 -- Back from event to event: where one comes again, the way between is a cycle.
-use Rattle.reasons.proofs.Vocabulary.{◌≡◌, ◌<◌, ◌-◌, ℕ, suc, Bool, true, false, if◌then◌else◌, List, [], ◌∷◌, length, Option, Some, None, option_map, slice_index_or, map, arith, refl, sym, ap, ◌∙◌, ◌⊎◌, inl, inr, subst, list_all, Vec, Litmus, Entry, IsIn, in-case, in-none, in-first, in-later, no-more, Ordered, Once, bare, same_event, is_event, events_of, leads_back, is_cycle, and-of, same-bare, itself, is-event, up_to, IsSorted}
+use Rattle.reasons.proofs.Vocabulary.{◌≡◌, ◌<◌, ◌-◌, ◌+◌, take, ℕ, suc, Bool, true, false, if◌then◌else◌, List, [], ◌∷◌, length, Option, Some, None, option_map, slice_index_or, map, arith, refl, sym, ap, ◌∙◌, ◌⊎◌, inl, inr, subst, list_all, Litmus, Entry, IsIn, in-case, in-none, in-first, in-later, no-more, Ordered, Once, bare, same_event, is_event, events_of, leads_back, is_cycle, and-of, same-bare, itself, is-event, up_to, IsSorted}
 
 -- ---- events of a test have the value 0, so that one event is one entry
 
@@ -163,10 +163,8 @@ at-first (y ∷ ys) x l e = (0, ap (λ z. Some z) (sym e))
 pub smaller : (n m : ℕ) → m < n → n - suc m < n - m
 smaller n m l = omega (arith, l)
 
--- what is told of the front of a path
-abbrev pub items_of : Option (Vec Entry) → Option (List Entry)
-items_of o = option_map (λ (v : Vec Entry). v.items) o
-
-pub told : (at : Entry) (path now : List Entry) (o p : Option (Vec Entry)) → now ≡ path → items_of o ≡ up_to at now → o ≡ p
-    → up_to at path ≡ items_of p
-told at path now o p e h q = ap (up_to at) (sym e) ∙ (sym h ∙ ap items_of q)
+-- what the place of x in a path tells of its front
+pub told : (x : Entry) (path now : List Entry) (o p : Option ℕ) → now ≡ path → option_map (λ i. take (i + 1) now) o ≡ up_to x now → o ≡ p
+    → up_to x path ≡ option_map (λ i. take (i + 1) path) p
+told x path now o p e h q =
+    ap (up_to x) (sym e) ∙ (sym h ∙ (ap (λ (xs : List Entry). option_map (λ i. take (i + 1) xs) o) e ∙ ap (option_map (λ i. take (i + 1) path)) q))

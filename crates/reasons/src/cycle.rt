@@ -1,5 +1,5 @@
 //! A cycle of the edges that the answers tell, or a row of the events in which each of these edges goes forward.
-ghost use Rattle.std.specs.Prelude.{◌≡◌, ◌<◌, true, IfOk, length, option_map};
+ghost use Rattle.std.specs.Prelude.{◌≡◌, ◌<◌, ◌+◌, true, IfOk, IfSome, length, option_map, take};
 ghost use Rattle.std.specs.List.{list_any};
 ghost use Rattle.tso_model.specs.declared.execution.Entry as declared;
 ghost use Rattle.relational_model.specs.Events.{IsIn};
@@ -29,18 +29,17 @@ fn predecessor(branch: Branch<'_>, acyclic: Acyclic, some: &[Entry], x: &Entry) 
     *x
 }
 
-/// The front of a path that ends with x, if x stands there.
-fn front_to(alloc: Global, path: &[Entry], x: &Entry) -> Result<Option<Vec<Entry>>, NoMemory>
-    ensures { IfOk result (λ f. option_map (λ v. v.items) f ≡ up_to x.now path.now) }
+/// Where x stands in a path, if it does.
+fn place_of(path: &[Entry], x: &Entry) -> Option<usize>
+    ensures place { option_map (λ at. take (at + 1) path.now) result ≡ up_to x.now path.now }
+    ensures within { IfSome result (λ at. at < length path.now) }
 {
-    let mut front = Vec::new(alloc);
-    for p in path {
-        front.push(*p)?;
-        if same_event(p, x) {
-            return Ok(Some(front));
+    for at in 0..path.len() {
+        if same_event(&path[at], x) {
+            return Some(at);
         }
     }
-    Ok(None)
+    None
 }
 
 /// Goes back from event to event until one comes again: a cycle.
@@ -60,8 +59,9 @@ fn walk_back(
     let mut path = Vec::new(alloc);
     let mut at = some[0];
     loop {
-        if let Some(cycle) = front_to(alloc, &path, &at)? {
-            return Ok(cycle);
+        if let Some(place) = place_of(&path, &at) {
+            path.truncate(place + 1);
+            return Ok(path);
         }
         path.insert(0, at)?;
         at = predecessor(branch, acyclic, some, &at);

@@ -14,52 +14,20 @@ use refutations::{Acyclic, Answers, Branch, Node, can_be_met, known_facts};
 use std::alloc::Global;
 use tso_model::{Entry, NoMemory, Test};
 
-/// A write between what the load part r reads from and the store part w.
-fn between_these(
-    test: &Test,
-    events: &[Entry],
-    answers: &Answers,
-    r: &Entry,
-    w: &Entry,
-) -> Option<Node>
-    requires { events.now ≡ events_of test.now }
-    ensures { result ≡ spec.between_these test.now (known_of answers.now) r.now w.now events.now }
-{
-    let branch = Branch {
-        test,
-        events,
-        answers,
-    };
-    for v in events {
-        if is_between(branch, r, v, w) {
-            return Some(Node::Between(*r, *v, *w));
-        }
-    }
-    None
-}
-
-fn between_from(test: &Test, events: &[Entry], answers: &Answers, r: &Entry) -> Option<Node>
-    requires { events.now ≡ events_of test.now }
-    ensures { result ≡ spec.between_from test.now (known_of answers.now) r.now events.now events.now }
-{
-    for w in events {
-        if are_parts(r, w) {
-            if let Some(node) = between_these(test, events, answers, r, w) {
-                return Some(node);
-            }
-        }
-    }
-    None
-}
-
 /// A write between the two parts of a locked instruction.
-fn find_between(test: &Test, events: &[Entry], answers: &Answers) -> Option<Node>
-    requires { events.now ≡ events_of test.now }
-    ensures { result ≡ spec.first_between test.now (known_of answers.now) events.now events.now }
+fn find_between(branch: Branch<'_>) -> Option<Node>
+    requires { branch.events.now ≡ events_of branch.test.now }
+    ensures { result ≡ spec.first_between branch.entry.test.now (known_of branch.entry.answers.now) branch.entry.events.now branch.entry.events.now }
 {
-    for r in events {
-        if let Some(node) = between_from(test, events, answers, r) {
-            return Some(node);
+    for r in branch.events {
+        for w in branch.events {
+            if are_parts(r, w) {
+                for v in branch.events {
+                    if is_between(branch, r, v, w) {
+                        return Some(Node::Between(*r, *v, *w));
+                    }
+                }
+            }
         }
     }
     None
@@ -93,7 +61,7 @@ pub fn find_leaf(
     if let Some(cycle) = find_cycle(alloc, branch, Acyclic::Globally(model))? {
         return Ok(Some(Node::Globally(cycle)));
     }
-    Ok(find_between(test, events, answers))
+    Ok(find_between(branch))
 }
 
 /// Whether a node is a leaf.

@@ -1,7 +1,6 @@
 //! The order of a full case that no leaf closes: its events in a row, with their values.
-ghost use Rattle.std.specs.Prelude.{◌≡◌, ◌++◌, not, IfOk, filter, map};
+ghost use Rattle.std.specs.Prelude.{◌≡◌, not, IfOk, filter, map};
 ghost use Rattle.refutation_laws.specs.Known.{events_of};
-ghost use Rattle.refutation_laws.specs.Edges.{are_parts};
 ghost use Rattle.refutation_laws.specs.inner.Orders as spec;
 ghost use Rattle.refutations.specs.inner.Trees.{known_of};
 ghost use Rattle.refutations.specs.inner.Facts.{AreFacts};
@@ -31,7 +30,8 @@ fn valued(test: &Test, events: &[Entry], answers: &Answers, facts: &Facts, e: &E
     Entry { value, ..*e }
 }
 
-fn with_values(
+/// A row with each load part directly before its store part, and with the values of all.
+fn order_along(
     alloc: Global,
     test: &Test,
     events: &[Entry],
@@ -41,34 +41,16 @@ fn with_values(
 ) -> Result<Vec<Entry>, NoMemory>
     requires events { events.now ≡ events_of test.now }
     requires facts { AreFacts test.now (known_of answers.now) facts.now }
-    ensures { IfOk result (λ o. o.items ≡ map (spec.valued test.now (known_of answers.now)) row.now) }
-{
-    let mut order = Vec::new(alloc);
-    for e in row {
-        order.push(valued(test, events, answers, facts, e))?;
-    }
-    Ok(order)
-}
-
-fn add_load(order: &mut Vec<Entry>, events: &[Entry], x: &Entry) -> Result<(), NoMemory>
-    ensures { IfOk result (λ _. order.new.items ≡ order.old.items ++ filter (λ r. are_parts r x.now) events.now) }
-{
-    for r in events {
-        if are_parts(r, x) {
-            order.push(*r)?;
-        }
-    }
-    Ok(())
-}
-
-/// A row with each load part directly before its store part.
-fn with_loads(alloc: Global, events: &[Entry], row: &[Entry]) -> Result<Vec<Entry>, NoMemory>
-    ensures { IfOk result (λ o. o.items ≡ spec.with_loads events.now row.now) }
+    ensures { IfOk result (λ o. o.items ≡ map (spec.valued test.now (known_of answers.now)) (spec.with_loads events.now row.now)) }
 {
     let mut order = Vec::new(alloc);
     for x in row {
-        add_load(&mut order, events, x)?;
-        order.push(*x)?;
+        for r in events {
+            if are_parts(r, x) {
+                order.push(valued(test, events, answers, facts, r))?;
+            }
+        }
+        order.push(valued(test, events, answers, facts, x))?;
     }
     Ok(order)
 }
@@ -111,7 +93,5 @@ pub fn make_order(
         answers,
     };
     let sorted = sort(alloc, branch, Precedence::Order(model), &others)?;
-    let order = with_loads(alloc, events, &sorted.row)?;
-    let valued = with_values(alloc, test, events, answers, &facts, &order)?;
-    Ok(valued)
+    order_along(alloc, test, events, answers, &facts, &sorted.row)
 }

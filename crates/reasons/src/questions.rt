@@ -38,39 +38,21 @@ fn is_unordered(answers: &Answers, w: &Entry, v: &Entry) -> bool
     is_write(w) && writes_to(w.loc.0, v) && !same_event(w, v) && !is_order_known(answers, w, v)
 }
 
-fn first_unread(events: &[Entry], answers: &Answers) -> Option<Entry>
-    ensures { result ≡ spec.first_unread (known_of answers.now) events.now }
-{
-    for r in events {
-        if is_read(r) && !is_read_known(answers, r) {
-            return Some(*r);
-        }
-    }
-    None
-}
-
-fn first_beside(events: &[Entry], answers: &Answers, w: &Entry) -> Option<Entry>
-    ensures { result ≡ spec.first_beside (known_of answers.now) w.now events.now }
-{
-    for v in events {
-        if is_unordered(answers, w, v) {
-            return Some(*v);
-        }
-    }
-    None
-}
-
 /// The first question that no answer settles: what a read reads from, or which of two writes comes
 /// first.
 pub fn next_question(events: &[Entry], answers: &Answers) -> Option<Node>
     ensures { result ≡ spec.next_question (known_of answers.now) events.now }
 {
-    if let Some(r) = first_unread(events, answers) {
-        return Some(Node::ReadsFrom(r));
+    for r in events {
+        if is_read(r) && !is_read_known(answers, r) {
+            return Some(Node::ReadsFrom(*r));
+        }
     }
     for w in events {
-        if let Some(v) = first_beside(events, answers, w) {
-            return Some(Node::ComesFirst(*w, v));
+        for v in events {
+            if is_unordered(answers, w, v) {
+                return Some(Node::ComesFirst(*w, *v));
+            }
         }
     }
     None

@@ -2,8 +2,6 @@
 ghost use Rattle.std.specs.Prelude.{◌≡◌, ◌∷◌, [], IfOk, IfSome, true};
 ghost use Rattle.refutation_laws.specs.Known.{events_of, nothing};
 ghost use Rattle.refutation_laws.specs.inner.FullCases.{IsSound};
-ghost use Rattle.refutation_laws.specs.Refutations.{asked_claim};
-ghost use Rattle.refutation_laws.specs.Models.{IsMet};
 ghost use Rattle.refutations.specs.inner.Trees.{known_of};
 ghost use Rattle.refutations.specs.inner.Stack.{cases_of};
 ghost use Rattle.reasons.specs.Reasons.{IsReason};
@@ -97,24 +95,6 @@ fn guided_step(
     next_step(alloc, test, events, model, answers)
 }
 
-/// The execution that the guide proposes, if it is one in which what the test asks is true.
-fn met_execution(
-    alloc: Global,
-    guide: &Guide,
-    test: &Test,
-    model: Model,
-) -> Result<Option<Execution>, NoMemory>
-    ensures { IfOk result (λ r. IfSome r (λ e. IsMet model test.now (asked_claim test.now.condition) e.order.items)) }
-{
-    let Some(execution) = proposed_order(alloc, guide)? else {
-        return Ok(None);
-    };
-    if is_met(alloc, test, model, &execution)? {
-        return Ok(Some(execution));
-    }
-    Ok(None)
-}
-
 /// Why what the test asks never is, or an execution in which it is. One of the two is found where the
 /// cases that it tells apart are at most `limit`; they are never more than `most_cases`.
 ///
@@ -139,8 +119,10 @@ fn search(
     requires { events.now ≡ events_of test.now }
     ensures { IfOk result (IsReason model test.now limit) }
 {
-    if let Some(execution) = met_execution(alloc, guide, test, model)? {
-        return Ok(Reason::Allowed(execution));
+    if let Some(execution) = proposed_order(alloc, guide)? {
+        if is_met(alloc, test, model, &execution)? {
+            return Ok(Reason::Allowed(execution));
+        }
     }
     let mut cases = Vec::new(alloc);
     add_case(&mut cases, no_answers(alloc))?;

@@ -1,5 +1,5 @@
 //! Events in a row in which nothing stands before what must precede it, as far as that is possible.
-ghost use Rattle.std.specs.Prelude.{◌≡◌, ◌&&◌, not, IfOk, filter};
+ghost use Rattle.std.specs.Prelude.{◌≡◌, ◌&&◌, IfOk};
 ghost use Rattle.std.specs.List.{list_any};
 ghost use Rattle.refutation_laws.specs.Known.{events_of};
 ghost use Rattle.refutation_laws.specs.Edges as edges;
@@ -85,30 +85,6 @@ pub struct Sorted {
     pub rest: Vec<Entry>,
 }
 
-/// Those of some events that none of them must precede, and the others.
-fn split(
-    alloc: Global,
-    branch: Branch<'_>,
-    precedence: Precedence,
-    some: &[Entry],
-) -> Result<Sorted, NoMemory>
-    requires { branch.events.now ≡ events_of branch.test.now }
-    ensures row { IfOk result (λ s. s.row.items ≡ filter (is_first (edge_in branch.entry.test.now (known_of branch.entry.answers.now) precedence) some.now) some.now) }
-    ensures rest { IfOk result (λ s. s.rest.items
-        ≡ filter (λ x. not (is_first (edge_in branch.entry.test.now (known_of branch.entry.answers.now) precedence) some.now x)) some.now) }
-{
-    let mut row = Vec::new(alloc);
-    let mut rest = Vec::new(alloc);
-    for x in some {
-        if can_be_first(branch, precedence, some, x) {
-            row.push(*x)?;
-        } else {
-            rest.push(*x)?;
-        }
-    }
-    Ok(Sorted { row, rest })
-}
-
 /// Puts events in a row: first those that none must precede, then those that no one else must precede,
 /// and so on.
 ///
@@ -123,14 +99,19 @@ pub fn sort(
     ensures { IfOk result (λ s. IsSorted (edge_in branch.entry.test.now (known_of branch.entry.answers.now) precedence) some.now s.row.items s.rest.items) }
 {
     let mut row = Vec::new(alloc);
-    let mut rest = Vec::new(alloc);
-    rest.extend_from_slice(some)?;
+    let mut rest = Vec::from_slice(alloc, some)?;
     loop {
-        let next = split(alloc, branch, precedence, &rest)?;
-        if next.row.is_empty() {
+        let mut left = Vec::new(alloc);
+        for x in &rest {
+            if can_be_first(branch, precedence, &rest, x) {
+                row.push(*x)?;
+            } else {
+                left.push(*x)?;
+            }
+        }
+        if left.len() == rest.len() {
             return Ok(Sorted { row, rest });
         }
-        row.extend_from_slice(&next.row)?;
-        rest = next.rest;
+        rest = left;
     }
 }

@@ -1,28 +1,38 @@
-use Rattle.reasons.proofs.Vocabulary.{◌≡◌, ◌++◌, not, sym, ap, ◌∙◌, subst, filter, known_of, edge_in, is_first, IsParted}
-use Rattle.reasons.proofs.Parting.{none-first, parted-more, fewer-left, no-items, some-items}
+use Rattle.reasons.proofs.Vocabulary.{◌++◌, not, refl, sym, ap, ◌∙◌, filter, known_of, edge_in, is_first}
+use Rattle.execution_check.proofs.Growing.{all-made}
+use Rattle.reasons.proofs.Parting.{parted-further, sorted-here, fewer-than}
 use Rattle.reasons.proofs.sorting.sort.Goals as goal
 
-pub returns-then-is_empty : goal.returns-then-is_empty
-returns-then-is_empty c =
+pub loop-x-2-init : goal.loop-x-2-init
+loop-x-2-init c =
     let edge = edge_in c.args.branch.test.now (known_of c.args.branch.answers.now) c.args.precedence in
-    none-first edge c.args.some.now c.loop-rest.row.items c.loop-rest.rest.items c.loop-rest.invariant c.in_ok-next.next.row.items
-    (subst (λ xs. c.in_ok-next.next.row.items ≡ filter (is_first edge xs) xs) c.deref.ensures.value c.in_ok-next.ensures.row)
-    (no-items c.in_ok-next.next.row.items _ _ c.in_ok-next.next.row.ok.0 c.is_empty.ensures c.if-is_empty.true)
+    record {
+      row = refl;
+      left = ap (λ ls. ls ++ filter (λ x. not (is_first edge c.deref-x-items.result.now x)) c.deref-x-items.result.now) (sym c.new-left.ensures.items);
+    }
 
-pub loop-rest-smaller : goal.loop-rest-smaller
-loop-rest-smaller c =
+pub returns-then-len : goal.returns-then-len
+returns-then-len c =
     let edge = edge_in c.args.branch.test.now (known_of c.args.branch.answers.now) c.args.precedence in
-    fewer-left edge c.loop-rest.rest.items c.in_ok-next.next.row.items c.in_ok-next.next.rest.items
-    (subst (λ xs. c.in_ok-next.next.row.items ≡ filter (is_first edge xs) xs) c.deref.ensures.value c.in_ok-next.ensures.row)
-    (subst (λ xs. c.in_ok-next.next.rest.items ≡ filter (λ x. not (is_first edge xs x)) xs) c.deref.ensures.value c.in_ok-next.ensures.rest)
-    (some-items c.in_ok-next.next.row.items _ _ c.in_ok-next.next.row.ok.0 c.is_empty.ensures c.if-is_empty.false)
+    let items = c.deref-x-items.result.now in
+    sorted-here edge c.args.some.now c.loop-x.row.items c.loop-x.rest.items items c.loop-x-2.row.items c.loop-x-2.left.items c.loop-x.invariant c.deref-x-items.ensures.value
+    (all-made (filter (is_first edge items)) refl items c.loop-x-2.x-index c.loop-x-2.row.items _ c.loop-x-2-test.false c.loop-x-2.invariant.row)
+    (all-made (filter (λ x. not (is_first edge items x))) refl items c.loop-x-2.x-index c.loop-x-2.left.items _ c.loop-x-2-test.false c.loop-x-2.invariant.left)
+    (sym c.loop-x-2.left.ok.0 ∙ (sym c.len.ensures ∙ (c.if-len.true ∙ (c.len-in-loop-x.ensures ∙ c.loop-x.rest.ok.0))))
 
-pub loop-rest-preserved : goal.loop-rest-preserved
-loop-rest-preserved c =
+pub loop-x-smaller : goal.loop-x-smaller
+loop-x-smaller c =
     let edge = edge_in c.args.branch.test.now (known_of c.args.branch.answers.now) c.args.precedence in
-    subst (λ xs. IsParted edge c.args.some.now xs c.in_ok-next.next.rest.items)
-    (sym (c.in_ok-extend_from_slice-2.ensures.items ∙ ap (λ ys. c.loop-rest.row.items ++ ys) c.deref-in-loop-rest.ensures.value))
-    (parted-more edge c.args.some.now c.loop-rest.row.items c.loop-rest.rest.items c.loop-rest.invariant c.in_ok-next.next.row.items
-    c.in_ok-next.next.rest.items
-    (subst (λ xs. c.in_ok-next.next.row.items ≡ filter (is_first edge xs) xs) c.deref.ensures.value c.in_ok-next.ensures.row)
-    (subst (λ xs. c.in_ok-next.next.rest.items ≡ filter (λ x. not (is_first edge xs x)) xs) c.deref.ensures.value c.in_ok-next.ensures.rest))
+    let items = c.deref-x-items.result.now in
+    fewer-than edge c.args.some.now c.loop-x.row.items c.loop-x.rest.items items c.loop-x-2.row.items c.loop-x-2.left.items c.loop-x.invariant c.deref-x-items.ensures.value
+    (all-made (filter (is_first edge items)) refl items c.loop-x-2.x-index c.loop-x-2.row.items _ c.loop-x-2-test.false c.loop-x-2.invariant.row)
+    (all-made (filter (λ x. not (is_first edge items x))) refl items c.loop-x-2.x-index c.loop-x-2.left.items _ c.loop-x-2-test.false c.loop-x-2.invariant.left)
+    (λ same. c.if-len.false (c.len.ensures ∙ (c.loop-x-2.left.ok.0 ∙ (same ∙ (sym c.loop-x.rest.ok.0 ∙ sym c.len-in-loop-x.ensures)))))
+
+pub loop-x-preserved : goal.loop-x-preserved
+loop-x-preserved c =
+    let edge = edge_in c.args.branch.test.now (known_of c.args.branch.answers.now) c.args.precedence in
+    let items = c.deref-x-items.result.now in
+    parted-further edge c.args.some.now c.loop-x.row.items c.loop-x.rest.items items c.loop-x-2.row.items c.loop-x-2.left.items c.loop-x.invariant c.deref-x-items.ensures.value
+    (all-made (filter (is_first edge items)) refl items c.loop-x-2.x-index c.loop-x-2.row.items _ c.loop-x-2-test.false c.loop-x-2.invariant.row)
+    (all-made (filter (λ x. not (is_first edge items x))) refl items c.loop-x-2.x-index c.loop-x-2.left.items _ c.loop-x-2-test.false c.loop-x-2.invariant.left)

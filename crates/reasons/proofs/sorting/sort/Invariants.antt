@@ -1,8 +1,17 @@
-use Rattle.reasons.proofs.Vocabulary.{length, known_of, edge_in, IsParted}
+use Rattle.reasons.proofs.Vocabulary.{◌≡◌, ◌++◌, not, length, drop, filter, known_of, edge_in, is_first, IsParted}
 use Rattle.reasons.proofs.sorting.sort.Given as goal
 
-abbrev pub invariant-loop-rest : goal.invariant-loop-rest
-invariant-loop-rest l = IsParted (edge_in l.branch.test.now (known_of l.branch.answers.now) l.precedence) l.some l.row.items l.rest.items
+abbrev pub invariant-loop-x : goal.invariant-loop-x
+invariant-loop-x l = IsParted (edge_in l.branch.test.now (known_of l.branch.answers.now) l.precedence) l.some l.row.items l.rest.items
 
-abbrev pub decreases-loop-rest : goal.decreases-loop-rest
-decreases-loop-rest l = length l.rest.items
+abbrev pub decreases-loop-x : goal.decreases-loop-x
+decreases-loop-x l = length l.rest.items
+
+-- those that were gone over, and those that are still to come
+abbrev pub invariant-loop-x-2 : goal.invariant-loop-x-2
+invariant-loop-x-2 l = record {
+  row : l.initial.row.items ++ filter (is_first (edge_in l.branch.test.now (known_of l.branch.answers.now) l.precedence) l.x-items) l.x-items
+      ≡ l.row.items ++ filter (is_first (edge_in l.branch.test.now (known_of l.branch.answers.now) l.precedence) l.x-items) (drop l.x-index l.x-items);
+  left : filter (λ x. not (is_first (edge_in l.branch.test.now (known_of l.branch.answers.now) l.precedence) l.x-items x)) l.x-items
+      ≡ l.left.items ++ filter (λ x. not (is_first (edge_in l.branch.test.now (known_of l.branch.answers.now) l.precedence) l.x-items x)) (drop l.x-index l.x-items);
+}
