@@ -1,14 +1,13 @@
 //! Which question of a case is still open.
-ghost use Rattle.std.specs.Prelude.{◌≡◌, ◌&&◌, not, true, false};
-ghost use Rattle.tso_model.specs.ProgramOrder as program_order;
+ghost use Rattle.std.specs.Prelude.{◌≡◌, true, false};
 ghost use Rattle.refutation_laws.specs.Known.{events_of};
-ghost use Rattle.refutation_laws.specs.Known as known;
 ghost use Rattle.refutation_laws.specs.inner.FullCases.{has_source, are_ordered, may_ask, is_answered};
 ghost use Rattle.refutations.specs.Trees.{node_of};
 ghost use Rattle.refutations.specs.inner.Trees.{known_of};
 ghost use Rattle.reasons.specs.inner.Questions as spec;
 
 use refutations::answers::comes_before;
+use refutations::checking::may_come_first;
 use refutations::events::{is_event, is_read, is_write, same_event, writes_to};
 use refutations::{Answers, Node};
 use tso_model::{Entry, Test};
@@ -56,18 +55,6 @@ pub fn next_question(events: &[Entry], answers: &Answers) -> Option<Node>
         }
     }
     None
-}
-
-fn may_come_first(test: &Test, events: &[Entry], w: &Entry, v: &Entry) -> bool
-    requires { events.now ≡ events_of test.now }
-    ensures { result ≡ (known.is_event test.now w.now && known.is_event test.now v.now && program_order.is_write w.now
-        && program_order.writes_to w.now.loc.0 v.now && not (known.same_event w.now v.now)) }
-{
-    is_event(test, events, w)
-        && is_event(test, events, v)
-        && is_write(w)
-        && writes_to(w.loc.0, v)
-        && !same_event(w, v)
 }
 
 /// Whether a node is a question that may be asked, and that no answer settles.

@@ -49,7 +49,8 @@ pub fn is_node(
     }
 }
 
-fn may_come_first(test: &Test, events: &[Entry], w: &Entry, v: &Entry) -> bool
+/// Whether it may be asked which of two events comes first: they are different writes to one location.
+pub fn may_come_first(test: &Test, events: &[Entry], w: &Entry, v: &Entry) -> bool
     requires { events.now ≡ known.events_of test.now }
     ensures { result ≡ (known.is_event test.now w.now && known.is_event test.now v.now && program_order.is_write w.now
         && program_order.writes_to w.now.loc.0 v.now && not (known.same_event w.now v.now)) }

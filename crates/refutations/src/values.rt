@@ -56,15 +56,6 @@ pub fn value_among(writes: &[Entry], w: &Entry) -> Option<u32>
     None
 }
 
-fn returned_from(test: &Test, writes: &[Entry], r: &Entry, write: &Option<Entry>) -> Option<u32>
-    ensures { result ≡ spec.returned_from test.now writes.now r.now write.now }
-{
-    match write {
-        None => Some(first_word(test, r.loc)),
-        Some(w) => value_among(writes, w),
-    }
-}
-
 /// The first word of a location, and 0 where there is no such location.
 pub fn first_word(test: &Test, loc: Loc) -> u32
     ensures { result ≡ slice_index test.now.words loc.0 }
@@ -81,7 +72,10 @@ pub fn returned(test: &Test, writes: &[Entry], sources: &[Source], r: &Entry) ->
 {
     for s in sources {
         if same_event(&s.read, r) {
-            return returned_from(test, writes, r, &s.write);
+            return match &s.write {
+                None => Some(first_word(test, r.loc)),
+                Some(w) => value_among(writes, w),
+            };
         }
     }
     None
