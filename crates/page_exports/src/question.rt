@@ -1,11 +1,9 @@
 //! What numbers ask for: settings, where they are within the limits, and else nothing. The page is no part of what is
 //! proved, so nothing it sends is believed.
 
-ghost use Rattle.std.specs.Prelude.{◌≡◌, ◌≢◌, ◌<◌, ◌≤◌, ◌↔◌, IsSome, IfSome};
-ghost use Rattle.tso_model.specs.Limits.{most_depth};
-ghost use Rattle.snoop_bus.specs.Geometry.{geometry, IsShapeWithinLimits};
+ghost use Rattle.std.specs.Prelude.{◌≡◌, ◌≢◌, ◌<◌, ◌↔◌, IsSome, IfSome};
 ghost use Rattle.command_line.specs.Limits.{HasDepth};
-ghost use Rattle.page_exports.specs.Questions.{AsksQuestion, IsAskable, Asks, IsCommandAskable, settings_of};
+ghost use Rattle.page_exports.specs.Questions.{AsksQuestion, IsAskable, Asks, IsCommandAskable, IsMachineAsked, IsMachineOf, settings_of};
 ghost use Rattle.page_exports.specs.inner.Questions.{HasDepthFor};
 ghost use Rattle.page_exports.specs.Questions.{kind_number, bus_number, model_number, show_number, number_of_status};
 
@@ -92,7 +90,7 @@ pub fn question_of(asked: &Numbers) -> Option<Question>
     ensures valid { IsSome result ↔ IsAskable asked.now }
 {
     if asked.command == 7 {
-        let (protocol, config) = (kind_of(asked.protocol)?, config_of(asked)?);
+        let (protocol, config) = machine_of(asked)?;
         Some(Question::Step { protocol, config })
     } else {
         Some(Question::Command(command_of(asked)?))
@@ -107,7 +105,7 @@ fn command_of(asked: &Numbers) -> Option<Settings>
 {
     match asked.command {
         0 => {
-            let (protocol, config) = (kind_of(asked.protocol)?, config_of(asked)?);
+            let (protocol, config) = machine_of(asked)?;
             Some(Settings::Run {
                 protocol,
                 config,
@@ -115,7 +113,7 @@ fn command_of(asked: &Numbers) -> Option<Settings>
             })
         }
         1 => {
-            let (protocol, config) = (kind_of(asked.protocol)?, config_of(asked)?);
+            let (protocol, config) = machine_of(asked)?;
             let plan = SweepPlan::new(asked.from, asked.seeds, asked.length)?;
             Some(Settings::Sweep {
                 protocol,
@@ -141,7 +139,7 @@ fn command_of(asked: &Numbers) -> Option<Settings>
             })
         }
         6 => {
-            let (protocol, config) = (kind_of(asked.protocol)?, config_of(asked)?);
+            let (protocol, config) = machine_of(asked)?;
             Some(Settings::Trace {
                 protocol,
                 config,
@@ -173,14 +171,15 @@ pub fn status_number(status: Status) -> u8
     }
 }
 
-fn config_of(asked: &Numbers) -> Option<Config>
-    ensures valid { IsSome result ↔ ((asked.now.bus < 2) × (asked.now.depth ≤ most_depth)
-        × IsShapeWithinLimits (geometry asked.now.sets asked.now.ways asked.now.words)) }
-    ensures value { IfSome result (λ c. (c.depth ≡ asked.now.depth) × (bus_number c.bus ≡ asked.now.bus)
-        × (c.shape ≡ geometry asked.now.sets asked.now.ways asked.now.words)) }
+/// The machine that the numbers ask for.
+fn machine_of(asked: &Numbers) -> Option<(ProtocolKind, Config)>
+    ensures value { IfSome result (λ m. IsMachineOf asked.now m.0 m.1) }
+    ensures valid { IsSome result ↔ IsMachineAsked asked.now }
 {
+    let protocol = kind_of(asked.protocol)?;
     let shape = Shape::new(asked.sets, asked.ways, asked.words)?;
-    Config::new(asked.depth, shape, bus_of(asked.bus)?)
+    let config = Config::new(asked.depth, shape, bus_of(asked.bus)?)?;
+    Some((protocol, config))
 }
 
 fn bus_of(number: u8) -> Option<Bus>
