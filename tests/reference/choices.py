@@ -16,14 +16,10 @@ BITS_64, BITS_32 = 2**64 - 1, 2**32 - 1
 EXPANDING_INCREMENT = 11634580027462260723
 
 
-def rotated(word, by):
-    """These 32 bits turned to the right."""
-    return (word >> by | word << (32 - by)) & BITS_32
-
-
 def output_of(state):
-    """The word that PCG32 (XSH RR 64/32) gives of a state."""
-    return rotated((state >> 18 ^ state) >> 27 & BITS_32, state >> 59)
+    """The word that PCG32 (XSH RR 64/32) gives of a state: 32 of its bits, turned to the right by a number of them."""
+    word, by = (state >> 18 ^ state) >> 27 & BITS_32, state >> 59
+    return (word >> by | word << 32 - by) & BITS_32
 
 
 def generator(state, stream):
@@ -31,9 +27,7 @@ def generator(state, stream):
     state = state + stream & BITS_64
     while True:
         state = state * MULTIPLIER + stream & BITS_64
-        word, by = (state >> 18 ^ state) >> 27 & BITS_32, state >> 59
-        # as output_of has it
-        yield (word >> by | word << 32 - by) & BITS_32
+        yield output_of(state)
 
 
 def generator_of_seed(seed):
