@@ -1,13 +1,15 @@
 //! What a hint is made of: what an answer knew. It is kept as numbers and places, so that an answer holds no part of the
 //! input.
 
+use crate::body::{body_of, ending_of};
 use crate::orders::{from_line_at_fault, names_no_location};
 use crate::quotes::first_word;
 use crate::reader::Reader;
 use crate::search_end::SearchEnd;
 use crate::unended::count_instructions;
-use crate::unused::unused_location;
+use crate::unused::{first_unused, uses_all_locations};
 use litmus_reader::Fault;
+use litmus_tokens::tokens_of;
 use order_builder::OrderFault;
 use scheduler::{ChoiceFault, Stalls};
 use std::alloc::Global;
@@ -113,7 +115,13 @@ impl Cause {
         test: &Test,
         text: &[u8],
     ) -> Result<Option<Cause>, NoMemory> {
-        unused_location(alloc, test, text)
+        if uses_all_locations(test) {
+            return Ok(None);
+        }
+        let body = body_of(text);
+        let tokens = tokens_of(alloc, body)?;
+        let ending = tokens_of(alloc, ending_of(body, &tokens))?;
+        Ok(first_unused(test, text, &tokens.items, &ending.items))
     }
 
     /// That the choices of this text end before the test, on a machine with store buffers or without. These of them

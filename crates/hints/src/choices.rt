@@ -5,7 +5,7 @@ use crate::divider::begins_order;
 use crate::faults::ONE_TEST;
 use crate::hinting::NOTHING_KNOWN;
 use crate::line::{Line, Piece};
-use crate::quotes::{SPACES, is_all_digits, split_at_any};
+use crate::quotes::{after_front, is_all_digits, word};
 use crate::tables::{is_exactly_one_of, is_one_of};
 use scheduler::{ChoiceFault, MAX_CHOICES};
 
@@ -62,7 +62,7 @@ fn word_at(text: &[u8], number: usize) -> (&[u8], Part) {
     let mut rest = text;
     // If there is one piece more than these, all are empty.
     for _ in 0..text.len() {
-        let (word, after) = split_at_any(rest, SPACES);
+        let word = word(rest);
         if !word.is_empty() {
             place = place.saturating_add(1);
             if place == number {
@@ -74,10 +74,10 @@ fn word_at(text: &[u8], number: usize) -> (&[u8], Part) {
                 _ => Part::First,
             };
         }
-        if after.is_empty() {
+        rest = after_front(rest, word);
+        if rest.is_empty() {
             break;
         }
-        rest = after;
     }
     (&[], part)
 }

@@ -78,7 +78,7 @@ pub fn say_fault(
 fn foreign_line(place: &Place<'_>, why: Why) -> Option<&'static str> {
     if matches!(why, Why::NoHeader | Why::TooLarge) {
         None
-    } else if place.from_line().starts_with(b";;") {
+    } else if place.from_last(b"\n").starts_with(b";;") {
         Some(COMMENT)
     } else if place.token.starts_with(b"X86") {
         Some(ONE_TEST)

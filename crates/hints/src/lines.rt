@@ -72,7 +72,7 @@ fn say_word(line: &mut Line, command: Subcommand, word: &[u8]) {
     if word.starts_with(b"-") {
         let option = up_to(word, b'=');
         if command.option_named(option).is_none() {
-            say_owners(line, option, count_owners(option));
+            say_owners(line, option);
         }
         return;
     }
@@ -83,8 +83,14 @@ fn say_word(line: &mut Line, command: Subcommand, word: &[u8]) {
     line.say_with(sentence, &[Piece::Text(command.name()), Piece::Shown(word)]);
 }
 
-/// Of an option that so many commands have.
-fn say_owners(line: &mut Line, option: &[u8], owners: usize) {
+/// Of an option that other commands have, if any has it.
+fn say_owners(line: &mut Line, option: &[u8]) {
+    let mut owners = 0usize;
+    for command in &SUBCOMMANDS {
+        if command.option_named(option).is_some() {
+            owners = owners.saturating_add(1);
+        }
+    }
     let mut left = owners;
     for command in &SUBCOMMANDS {
         if command.option_named(option).is_some() {
@@ -100,17 +106,6 @@ fn say_owners(line: &mut Line, option: &[u8], owners: usize) {
             });
         }
     }
-}
-
-/// How many commands have an option.
-fn count_owners(option: &[u8]) -> usize {
-    let mut owners = 0usize;
-    for command in &SUBCOMMANDS {
-        if command.option_named(option).is_some() {
-            owners = owners.saturating_add(1);
-        }
-    }
-    owners
 }
 
 /// Whether the word after this one is its value: it is an option, and no command has it as a flag.

@@ -3,7 +3,7 @@
 use crate::characters::says_foreign;
 use crate::hinting::NOTHING_KNOWN;
 use crate::line::Line;
-use crate::quotes::{after_byte, first_word, is_all_digits, is_choice, split_at_any, up_to};
+use crate::quotes::{after_byte, after_front, first_word, is_all_digits, is_choice, up_to};
 use crate::unused::location_named;
 use litmus_tokens::word as word_value;
 use order_builder::OrderFault;
@@ -55,14 +55,9 @@ fn first_line(text: &[u8]) -> &[u8] {
 
 /// What stands from the line at fault on, if one is.
 pub fn from_line_at_fault(text: &[u8], fault: OrderFault) -> &[u8] {
-    match fault {
-        OrderFault::BadLine(number) => from_line(text, number),
-        OrderFault::NoOrder | OrderFault::BadCount | OrderFault::NoMemory => &[],
-    }
-}
-
-/// What stands from the line of this number on, from 1.
-fn from_line(text: &[u8], number: usize) -> &[u8] {
+    let OrderFault::BadLine(number) = fault else {
+        return &[];
+    };
     let mut rest = text;
     for _ in 1..number {
         rest = after_byte(rest, b'\n');
@@ -138,7 +133,7 @@ fn bad_count(line: &mut Line, text: &[u8]) {
     let mut rest = text;
     // The number of a line of two bytes or more is below the length of its text.
     for number in 1..text.len() {
-        let (entry, after) = split_at_any(rest, b"\n");
+        let entry = up_to(rest, b'\n');
         if start == 0 {
             if without_return(entry) == b"Order".as_slice() {
                 start = number;
@@ -153,10 +148,10 @@ fn bad_count(line: &mut Line, text: &[u8]) {
             line.say_number("line {} after ====: ", number);
             return line.say_of_number(sentence, without_return(entry), entries);
         }
-        if after.is_empty() {
+        rest = after_front(rest, entry);
+        if rest.is_empty() {
             break;
         }
-        rest = after;
     }
     line.say("no line Endorder n ends the order, where n is the number of its entries");
 }

@@ -67,29 +67,24 @@ fn limit_in_condition(tokens: &[Token<'_>]) -> Limit {
 fn limit_in_rows(tokens: &[Token<'_>]) -> Limit {
     if after_first(Symbol::Semicolon, tokens).is_none() {
         Limit::Cores
-    } else if cells_above(tokens, bars_at_end(tokens)) >= MAX_INSTRUCTIONS {
+    } else if cells_above(tokens) >= MAX_INSTRUCTIONS {
         Limit::Instructions
     } else {
         Limit::Locations
     }
 }
 
-/// How many `|` stand in the last row, which doesn't end.
-fn bars_at_end(tokens: &[Token<'_>]) -> usize {
-    let mut bars = 0usize;
+/// How many cells have something in them in the rows that end, in the column in which the last row stops, which doesn't end; the first
+/// row is that of the cores.
+fn cells_above(tokens: &[Token<'_>]) -> usize {
+    let mut column = 0usize;
     for token in tokens {
         if is_symbol(Symbol::Semicolon, token) {
-            bars = 0;
+            column = 0;
         } else if is_symbol(Symbol::Bar, token) {
-            bars = bars.saturating_add(1);
+            column = column.saturating_add(1);
         }
     }
-    bars
-}
-
-/// How many cells of this column, from 0, have something in them in the rows that end; the first row is
-/// that of the cores.
-fn cells_above(tokens: &[Token<'_>], column: usize) -> usize {
     let mut cells = 0usize;
     let mut is_first_row = true;
     let mut bars = 0usize;

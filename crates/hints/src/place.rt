@@ -49,13 +49,8 @@ impl<'a> Place<'a> {
         }
     }
 
-    /// What stands from the beginning of its line on.
-    pub fn from_line(&self) -> &'a [u8] {
-        self.from_last(b"\n")
-    }
-
     /// What stands after the last of these bytes before it.
-    fn from_last(&self, stops: &[u8]) -> &'a [u8] {
+    pub fn from_last(&self, stops: &[u8]) -> &'a [u8] {
         let count = after_last(self.before, stops).len();
         last_bytes(self.text, self.rest.len().saturating_add(count))
     }

@@ -5,7 +5,7 @@ use crate::tables::is_exactly_one_of;
 use tso_model::names::continues_name;
 
 /// White space.
-pub const SPACES: &[u8] = b" \t\r\n";
+const SPACES: &[u8] = b" \t\r\n";
 
 /// The first so many bytes, or all where there are fewer.
 pub fn first_bytes(bytes: &[u8], count: usize) -> &[u8] {
@@ -80,7 +80,14 @@ pub fn first_word(text: &[u8]) -> &[u8] {
 
 /// What stands before the first such byte, or all where there is none.
 pub fn up_to(text: &[u8], stop: u8) -> &[u8] {
-    up_to_any(text, &[stop])
+    let mut count = 0usize;
+    for byte in text {
+        if *byte == stop {
+            break;
+        }
+        count = count.saturating_add(1);
+    }
+    first_bytes(text, count)
 }
 
 /// What stands before the first of these bytes, or all where there is none.
@@ -110,15 +117,13 @@ pub fn after_last<'a>(text: &'a [u8], stops: &[u8]) -> &'a [u8] {
 
 /// What stands after the first such byte, or no bytes where there is none.
 pub fn after_byte(text: &[u8], byte: u8) -> &[u8] {
-    let (_, after) = split_at_any(text, &[byte]);
-    after
+    after_front(text, up_to(text, byte))
 }
 
-/// What stands before the first of these bytes, and what stands after it; all and no bytes where there is none.
-pub fn split_at_any<'a>(text: &'a [u8], stops: &[u8]) -> (&'a [u8], &'a [u8]) {
-    let before = up_to_any(text, stops);
-    let from_stop = text.len().saturating_sub(before.len());
-    (before, last_bytes(text, from_stop.saturating_sub(1)))
+/// What stands after these bytes, with which a text begins, and after one byte more.
+pub fn after_front<'a>(text: &'a [u8], front: &[u8]) -> &'a [u8] {
+    let rest = text.len().saturating_sub(front.len());
+    last_bytes(text, rest.saturating_sub(1))
 }
 
 /// The letters, digits and underscores that a text ends with, white space aside; or else its last byte.

@@ -84,18 +84,12 @@ fn choice_stalled(line: &mut Line, choice: Choice, reason: Stall) {
 
 /// How many instructions the cores have, or how many plain stores alone.
 pub fn count_instructions(test: &Test, only_stores: bool) -> usize {
-    let mut all = 0usize;
-    for core in 0..test.cores() {
-        all = all.saturating_add(count_in(test.program(Core(core)), only_stores));
-    }
-    all
-}
-
-fn count_in(program: &[Instr], only_stores: bool) -> usize {
     let mut count = 0usize;
-    for instr in program {
-        if !only_stores || matches!(*instr, Instr::StoreImm(..) | Instr::StoreReg(..)) {
-            count = count.saturating_add(1);
+    for core in 0..test.cores() {
+        for instr in test.program(Core(core)) {
+            if !only_stores || matches!(*instr, Instr::StoreImm(..) | Instr::StoreReg(..)) {
+                count = count.saturating_add(1);
+            }
         }
     }
     count

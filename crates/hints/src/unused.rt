@@ -1,14 +1,13 @@
 //! A location that a condition names, and that nothing else of its test does. Its name is probably misspelt: its word is
 //! then 0 in every run, and the answer says nothing.
 
-use crate::body::{body_of, ending_of, is_name};
+use crate::body::is_name;
 use crate::cause::Cause;
 use crate::line::{Line, Piece};
 use crate::place::Place;
 use crate::quotes::first_bytes;
-use litmus_tokens::{Symbol, Token, is_symbol, tokens_of};
-use std::alloc::Global;
-use tso_model::{Action, Core, Instr, Loc, NoMemory, Test};
+use litmus_tokens::{Symbol, Token, is_symbol};
+use tso_model::{Action, Core, Loc, Test};
 
 /// Of a location that nothing but the condition names.
 pub const UNUSED: &str =
@@ -31,22 +30,9 @@ pub fn location_named(test: &Test, name: &[u8]) -> Option<Loc> {
     None
 }
 
-/// That a test has a location that no program uses and no initial state sets, so that its condition alone
-/// names it: the first, and where it does so in the test's text. `None` where there is none.
-///
-/// Errors: out of memory only.
-pub fn unused_location(alloc: Global, test: &Test, text: &[u8]) -> Result<Option<Cause>, NoMemory> {
-    if uses_all_locations(test) {
-        return Ok(None);
-    }
-    let body = body_of(text);
-    let tokens = tokens_of(alloc, body)?;
-    let ending = tokens_of(alloc, ending_of(body, &tokens))?;
-    Ok(first_unused(test, text, &tokens.items, &ending.items))
-}
-
-/// The first one by these tokens of the test's body, and these of its end.
-fn first_unused(
+/// That a test has a location that no program uses and no initial state sets: the first, and where its condition names it in the test's
+/// text, by these tokens of the test's body, and these of its end.
+pub fn first_unused(
     test: &Test,
     text: &[u8],
     body: &[Token<'_>],
@@ -61,7 +47,8 @@ fn first_unused(
     None
 }
 
-fn uses_all_locations(test: &Test) -> bool {
+/// Whether each location is used by a program.
+pub fn uses_all_locations(test: &Test) -> bool {
     for loc in 0..test.locations() {
         if !is_used(test, Loc(loc)) {
             return false;
@@ -70,24 +57,18 @@ fn uses_all_locations(test: &Test) -> bool {
     true
 }
 
+/// Whether a program uses a location.
 fn is_used(test: &Test, loc: Loc) -> bool {
     for core in 0..test.cores() {
-        if is_used_in(test.program(Core(core)), loc) {
-            return true;
-        }
-    }
-    false
-}
-
-fn is_used_in(program: &[Instr], loc: Loc) -> bool {
-    for instr in program {
-        match instr.action() {
-            Action::Store(other, _) | Action::Load(_, other) | Action::Lock(other, _, _) => {
-                if other == loc {
-                    return true;
+        for instr in test.program(Core(core)) {
+            match instr.action() {
+                Action::Store(other, _) | Action::Load(_, other) | Action::Lock(other, _, _) => {
+                    if other == loc {
+                        return true;
+                    }
                 }
+                Action::Move(..) | Action::Fence => {}
             }
-            Action::Move(..) | Action::Fence => {}
         }
     }
     false
