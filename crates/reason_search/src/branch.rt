@@ -61,14 +61,12 @@ pub const START: Mark = Mark {
 pub const DIRTY: usize = 0;
 /// The reads whose sources are to be tested for their values then.
 pub const UNTESTED: usize = 1;
-/// For the read in hand, writes to its location that are known to come before it, or before its store part.
-pub const EARLIER: usize = 2;
-/// All that are known to come before those.
-pub const PARTED: usize = 3;
+/// For the read in hand, the writes between which and it, or its store part, another one to its location is known to come.
+pub const PARTED: usize = 2;
 /// The reads whose values are noted.
-pub const VALUED: usize = 4;
+pub const VALUED: usize = 3;
 /// The reads whose values are needed for the leaf in hand.
-pub const NEEDED: usize = 5;
+pub const NEEDED: usize = 4;
 
 /// A branch.
 #[derive(Drop)]
@@ -183,7 +181,7 @@ pub fn make_branch(alloc: Global, problem: &Problem) -> Branch {
         source: List::new(alloc, size, NONE),
         values: List::new(alloc, size, NONE),
         moments: List::new(alloc, cells, NEVER),
-        sets: Rows::new(alloc, 6, size),
+        sets: Rows::new(alloc, 5, size),
         claim_is_dirty: true,
         conflict: Conflict::Open,
     };

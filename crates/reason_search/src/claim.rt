@@ -131,25 +131,6 @@ pub fn parts_of(
     parts
 }
 
-/// Marks the locations of what is marked, and the reads on which the values hang that those may get, until none is new.
-fn mark_more(problem: &mut Problem) {
-    for _round in 0..problem.size {
-        let before = problem.reads.count(RELEVANT);
-        for a in 0..problem.size {
-            let loc = problem.events.at(a).location;
-            if problem.reads.has(RELEVANT, a) {
-                problem.reads.add(RELEVANT, loc);
-            }
-            if problem.reads.has(RELEVANT, loc) && problem.is_write_to(loc, a) {
-                add_reads(&mut problem.reads, RELEVANT, problem.terms.at(a));
-            }
-        }
-        if problem.reads.count(RELEVANT) == before {
-            break;
-        }
-    }
-}
-
 /// Marks the locations and reads that what is asked names, and those on whose values theirs may hang.
 pub fn mark_relevant(problem: &mut Problem) {
     let mut has_choice = false;
@@ -169,5 +150,20 @@ pub fn mark_relevant(problem: &mut Problem) {
     if has_choice {
         problem.reads.join_own(STORED, RELEVANT);
     }
-    mark_more(problem);
+    // The locations of what is marked, and the reads on which the values hang that those may get, until none is new.
+    for _round in 0..problem.size {
+        let before = problem.reads.count(RELEVANT);
+        for a in 0..problem.size {
+            let loc = problem.events.at(a).location;
+            if problem.reads.has(RELEVANT, a) {
+                problem.reads.add(RELEVANT, loc);
+            }
+            if problem.reads.has(RELEVANT, loc) && problem.is_write_to(loc, a) {
+                add_reads(&mut problem.reads, RELEVANT, problem.terms.at(a));
+            }
+        }
+        if problem.reads.count(RELEVANT) == before {
+            break;
+        }
+    }
 }

@@ -127,22 +127,6 @@ fn add_program(problem: &Problem, branch: &mut Branch, relations: Relations, a: 
     }
 }
 
-/// A write comes before those to its location that stand later in its program.
-fn put_before_later(problem: &Problem, branch: &mut Branch, a: usize) {
-    let loc = problem.events.at(a).location;
-    let row = Relations::OnLocation.row(branch.size, a);
-    let mut b = problem.program.next(row, a);
-    for _later in a..problem.size {
-        if problem.is_write_to(loc, b) {
-            put_before(problem, branch, a, b, false);
-        }
-        b = problem.program.next(row, b.wrapping_add(1));
-        if b == NONE {
-            break;
-        }
-    }
-}
-
 /// Puts what the program alone tells on a branch that has nothing yet: its edges, from the last event on, and then what follows.
 pub fn put_program(problem: &Problem, branch: &mut Branch) {
     for a in (0..problem.size).rev() {
@@ -153,7 +137,13 @@ pub fn put_program(problem: &Problem, branch: &mut Branch) {
     for a in problem.locations..problem.size {
         let event = problem.events.at(a);
         if event.writes {
-            put_before_later(problem, branch, a);
+            // It comes before those to its location that stand later in its program.
+            let row = Relations::OnLocation.row(branch.size, a);
+            for b in a.wrapping_add(1)..problem.size {
+                if problem.program.has(row, b) && problem.is_write_to(event.location, b) {
+                    put_before(problem, branch, a, b, false);
+                }
+            }
         }
         if event.reads {
             let row = branch.candidates(a);

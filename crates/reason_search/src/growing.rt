@@ -105,10 +105,3 @@ pub fn cycle_of(
     }
     cycle.into_items()
 }
-
-/// A tree that is proposed, and its nodes that aren't taken yet but for what stands below them.
-#[derive(Drop)]
-pub struct Proposal {
-    pub trees: Trees,
-    pub open: List<usize>,
-}

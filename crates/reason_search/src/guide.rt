@@ -1,6 +1,6 @@
 //! What a search proposes: nodes of a tree, from the root on, or the order of an execution.
 
-use crate::growing::{Growth, Proposal, cycle_of, no_trees};
+use crate::growing::{Growth, Trees, cycle_of, no_trees};
 use crate::hunting::{Find, Hunt, hunt_again, hunt_for, is_refused, make_hunt};
 use crate::lists::{List, NONE};
 use crate::ordering::make_order;
@@ -23,7 +23,9 @@ pub struct Guide {
     problem: Problem,
     hunt: Hunt,
     is_allowed: bool,
-    proposal: Proposal,
+    /// The tree that is proposed, and its nodes that aren't taken yet but for what stands below them.
+    trees: Trees,
+    open: List<usize>,
 }
 
 /// Searches. Where all is closed, a tree is proposed: the smallest of those that are found in a few tries, each at no more cases than
@@ -43,9 +45,9 @@ fn search(guide: &mut Guide) {
             if fewer < leaves {
                 leaves = fewer;
                 // The trees that were proposed stand there from now on.
-                swap(&mut guide.proposal.trees, &mut hunt.desk.trees);
-                guide.proposal.open.cut(0);
-                guide.proposal.open.push(root);
+                swap(&mut guide.trees, &mut hunt.desk.trees);
+                guide.open.cut(0);
+                guide.open.push(root);
             }
         }
         let is_small = leaves < 3 || leaves == NONE;
@@ -65,10 +67,8 @@ pub fn make_guide(alloc: Global, test: &Test, events: &[Entry], model: Model) ->
         hunt: make_hunt(alloc, &problem),
         problem,
         is_allowed: false,
-        proposal: Proposal {
-            trees: no_trees(alloc),
-            open: List::new(alloc, 0, NONE),
-        },
+        trees: no_trees(alloc),
+        open: List::new(alloc, 0, NONE),
     };
     search(&mut guide);
     guide
@@ -80,8 +80,8 @@ pub fn make_guide(alloc: Global, test: &Test, events: &[Entry], model: Model) ->
 pub fn proposed_order(alloc: Global, guide: &Guide) -> Result<Option<Execution>, NoMemory> {
     if guide.problem.is_refused()
         | is_refused(&guide.hunt)
-        | guide.proposal.trees.twigs.is_refused
-        | guide.proposal.trees.events.is_refused
+        | guide.trees.twigs.is_refused
+        | guide.trees.events.is_refused
     {
         return Err(NoMemory);
     }
@@ -97,27 +97,26 @@ pub fn proposed_order(alloc: Global, guide: &Guide) -> Result<Option<Execution>,
 ///
 /// Errors: out of memory only.
 pub fn propose(alloc: Global, guide: &mut Guide) -> Result<Option<Node>, NoMemory> {
-    let problem = &guide.problem;
-    let proposal = &mut guide.proposal;
-    if proposal.open.len() == 0 {
+    let number = guide.open.pop();
+    if number == NONE {
         return Ok(None);
     }
-    let number = proposal.open.pop();
-    let twig = proposal.trees.twigs.at(number);
+    let twig = guide.trees.twigs.at(number);
     if twig.beside != NONE {
-        proposal.open.push(twig.beside);
+        guide.open.push(twig.beside);
     }
     if twig.child != NONE {
-        proposal.open.push(twig.child);
+        guide.open.push(twig.child);
     }
-    if proposal.open.is_refused {
+    if guide.open.is_refused {
         return Err(NoMemory);
     }
+    let problem = &guide.problem;
     Ok(Some(match twig.growth {
         Growth::ReadsFrom(r) => Node::ReadsFrom(problem.entry(r)),
         Growth::ComesFirst(a, b) => Node::ComesFirst(problem.entry(a), problem.entry(b)),
         Growth::Cycle(relations, start, length) => {
-            let cycle = cycle_of(alloc, problem, &proposal.trees.events, start, length)?;
+            let cycle = cycle_of(alloc, problem, &guide.trees.events, start, length)?;
             match relations {
                 Relations::Global => Node::Globally(cycle),
                 _ => Node::OnLocation(cycle),
@@ -132,5 +131,5 @@ pub fn propose(alloc: Global, guide: &mut Guide) -> Result<Option<Node>, NoMemor
 
 /// Forgets what was proposed and isn't taken yet.
 pub fn forget(guide: &mut Guide) {
-    guide.proposal.open.cut(0);
+    guide.open.cut(0);
 }

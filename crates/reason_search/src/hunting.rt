@@ -149,15 +149,6 @@ fn go_back(problem: &Problem, hunt: &mut Hunt) -> usize {
     NONE
 }
 
-/// Notes what every read returns, as the order of an execution has it.
-fn find_all_values(problem: &Problem, branch: &mut Branch) {
-    for loc in 0..problem.locations {
-        branch.sets.join(VALUED, &problem.readers_of, loc);
-    }
-    let known = known_facts(branch.facts.len());
-    find_values(problem, branch, known);
-}
-
 /// Searches until all is closed, or a branch is open to the end, or it pauses.
 fn search(problem: &Problem, hunt: &mut Hunt) -> Find {
     for _case in 0..u64::MAX {
@@ -173,7 +164,12 @@ fn search(problem: &Problem, hunt: &mut Hunt) -> Find {
                 hunt.round,
             );
             if weight == NONE {
-                find_all_values(problem, &mut hunt.branch);
+                // The order of an execution has what every read returns.
+                for loc in 0..problem.locations {
+                    hunt.branch.sets.join(VALUED, &problem.readers_of, loc);
+                }
+                let known = known_facts(hunt.branch.facts.len());
+                find_values(problem, &mut hunt.branch, known);
                 return Find::Allowed;
             }
             let by_chance = hunt.round != 0;

@@ -1,7 +1,7 @@
 //! What follows at a write, at a read and at a location, and all that follows in a branch.
 
 use crate::branch::{
-    Branch, Change, Conflict, DIRTY, EARLIER, PARTED, UNTESTED, add_fact, change_word, put_moment,
+    Branch, Change, Conflict, DIRTY, PARTED, UNTESTED, add_fact, change_word, put_moment,
 };
 use crate::edges::{add_edge, put_before};
 use crate::facts::{Answer, Link};
@@ -133,27 +133,25 @@ fn look_at_known(problem: &Problem, branch: &mut Branch, r: usize, s: usize) {
     }
 }
 
-/// Notes the writes to its location that are known to come before a read, or its store part, and then those before one of them.
+/// Notes what is known to come before one of the writes to its location that are known to come before a read, or its store part.
 fn note_parted(problem: &Problem, branch: &mut Branch, r: usize) {
     let loc = problem.events.at(r).location;
     let own = problem.events.at(r).partner;
+    branch.sets.clear(PARTED);
     for k in 0..branch.rows.width {
         let mut earlier = word_earlier(branch, r, k);
         if own != NONE {
             earlier |= branch.word_before(Relations::Coherence, own, k);
         }
-        let writes = problem.writes_to.word(loc, k);
-        branch.sets.put_word(EARLIER, k, earlier & writes);
-    }
-    branch.sets.clear(PARTED);
-    let mut w = branch.sets.next(EARLIER, 0);
-    for _write in 0..problem.size {
-        if w == NONE {
-            break;
+        let mut left = earlier & problem.writes_to.word(loc, k);
+        for _write in 0..64u8 {
+            if left == 0 {
+                break;
+            }
+            let before = branch.before(Relations::Coherence, lowest(k, left));
+            branch.sets.join(PARTED, &branch.rows, before);
+            left &= left.wrapping_sub(1);
         }
-        let before = branch.before(Relations::Coherence, w);
-        branch.sets.join(PARTED, &branch.rows, before);
-        w = branch.sets.next(EARLIER, w.wrapping_add(1));
     }
 }
 

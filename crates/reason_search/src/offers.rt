@@ -3,7 +3,7 @@
 
 use crate::branch::Branch;
 use crate::evidence::{Closing, Evidence, lacks_memory, need, reset};
-use crate::facts::{Edge, Link, Turned};
+use crate::facts::{Edge, Turned};
 use crate::growing::Trees;
 use crate::lists::{List, NONE};
 use crate::paths::{Edges, Paths, STARTS, begin, find, lack_memory, start_from, start_from_later};
@@ -45,14 +45,6 @@ impl Desk {
     }
 }
 
-/// A path: its ends, and the edges that it may use.
-#[derive(Clone, Copy)]
-struct Way {
-    edges: Edges,
-    from: usize,
-    to: usize,
-}
-
 /// Adds to the leaf in hand the facts that one write comes before another one, and to its cycle the writes that stand between them.
 pub fn show_order(
     problem: &Problem,
@@ -91,16 +83,12 @@ fn need_edge(problem: &Problem, branch: &Branch, desk: &mut Desk, edge: Edge, li
 
 /// Takes in hand the leaf of a cycle that an edge closes.
 pub fn close_cycle(problem: &Problem, branch: &Branch, desk: &mut Desk, edge: Edge) {
-    let limit = branch.edges.len();
-    let relations = edge.relations;
-    let Link { from, to, .. } = edge.link;
-    let back = Way {
-        edges: Edges { relations, limit },
-        from: to,
-        to: from,
+    let edges = Edges {
+        relations: edge.relations,
+        limit: branch.edges.len(),
     };
-    if take_path(problem, branch, desk, back) {
-        need_edge(problem, branch, desk, edge, limit);
+    if take_path(problem, branch, desk, edges, edge.link.to, edge.link.from) {
+        need_edge(problem, branch, desk, edge, edges.limit);
     }
 }
 
@@ -147,10 +135,17 @@ fn take_cycle(
 }
 
 /// Takes in hand the cycle of a path from one event to another one, and of an edge back.
-fn take_path(problem: &Problem, branch: &Branch, desk: &mut Desk, way: Way) -> bool {
+fn take_path(
+    problem: &Problem,
+    branch: &Branch,
+    desk: &mut Desk,
+    edges: Edges,
+    from: usize,
+    to: usize,
+) -> bool {
     begin(&mut desk.paths);
-    start_from(&mut desk.paths, way.from);
-    take_cycle(problem, branch, desk, way.edges, way.to)
+    start_from(&mut desk.paths, from);
+    take_cycle(problem, branch, desk, edges, to)
 }
 
 /// Makes the leaf in hand one of a write between two parts, and offers it.
@@ -164,8 +159,16 @@ fn offer_write_between(problem: &Problem, desk: &mut Desk, r: usize, v: usize) {
 }
 
 /// Offers the cycle of a path between two events, and of the edge back, which a fact tells, or which is supposed.
-fn offer_path(problem: &Problem, branch: &Branch, desk: &mut Desk, way: Way, fact: usize) {
-    if take_path(problem, branch, desk, way) {
+fn offer_path(
+    problem: &Problem,
+    branch: &Branch,
+    desk: &mut Desk,
+    edges: Edges,
+    from: usize,
+    to: usize,
+    fact: usize,
+) {
+    if take_path(problem, branch, desk, edges, from, to) {
         need(&mut desk.trial, fact);
         offer(desk);
     }
@@ -184,12 +187,7 @@ fn offer_orders(
     let is_edge = matches!(edges.relations, Relations::OnLocation)
         || problem.is_global_source(s, r);
     if is_edge && branch.is_known(edges.relations, r, s) {
-        let way = Way {
-            edges,
-            from: r,
-            to: s,
-        };
-        offer_path(problem, branch, desk, way, NONE);
+        offer_path(problem, branch, desk, edges, r, s, NONE);
     }
     start_from_later(problem, branch, &mut desk.paths, s, edges.limit);
     if take_cycle(problem, branch, desk, edges, r) {
@@ -267,23 +265,16 @@ fn offer_paths(
     to: usize,
     fact: usize,
 ) {
-    let on_location = Way {
-        edges: Edges {
-            relations: Relations::OnLocation,
-            limit: turned.edges,
-        },
-        from: turned.first,
-        to,
+    let on_location = Edges {
+        relations: Relations::OnLocation,
+        limit: turned.edges,
     };
-    let global = Way {
-        edges: Edges {
-            relations: Relations::Global,
-            limit: turned.edges,
-        },
-        ..on_location
+    let global = Edges {
+        relations: Relations::Global,
+        limit: turned.edges,
     };
-    offer_path(problem, branch, desk, on_location, fact);
-    offer_path(problem, branch, desk, global, fact);
+    offer_path(problem, branch, desk, on_location, turned.first, to, fact);
+    offer_path(problem, branch, desk, global, turned.first, to, fact);
 }
 
 /// Finds the best reason why an order that a fact tells can't be turned.
@@ -317,26 +308,23 @@ fn offer_read(problem: &Problem, branch: &Branch, desk: &mut Desk, turned: Turne
         relations: Relations::Coherence,
         limit: turned.edges,
     };
-    let mut way = Way {
-        edges,
-        from: s,
-        to: b,
-    };
+    let mut from = s;
+    let mut to = b;
     let mut between = b;
     let mut is_parted = own == a;
     if s == b {
         // b before a: r is before a
         offer_paths(problem, branch, desk, turned, r, branch.source.at(r));
-        way.from = a;
-        way.to = own;
+        from = a;
+        to = own;
         between = a;
         is_parted = own != a;
     }
     if is_parted
         && own != NONE
-        && branch.is_known(Relations::Coherence, way.from, way.to)
+        && branch.is_known(Relations::Coherence, from, to)
         && problem.events.at(between).core != problem.events.at(r).core
-        && take_path(problem, branch, desk, way)
+        && take_path(problem, branch, desk, edges, from, to)
     {
         need(&mut desk.trial, branch.source.at(r));
         offer_write_between(problem, desk, r, between);

@@ -54,29 +54,6 @@ fn place(problem: &Problem, branch: &Branch, placing: &mut Placing, a: usize) {
     });
 }
 
-/// Places all events that can be placed, round by round: those that wait for none, both parts of a locked instruction side by side.
-fn place_all(problem: &Problem, branch: &Branch, placing: &mut Placing) {
-    for _round in 0..problem.size {
-        let placed = placing.order.len();
-        for a in problem.locations..problem.size {
-            let own = problem.events.at(a).partner;
-            let is_second = own < a;
-            if is_second || !placing.left.has(0, a) || is_waiting(problem, branch, placing, a) {
-                continue;
-            }
-            if own == NONE {
-                place(problem, branch, placing, a);
-            } else if !is_waiting(problem, branch, placing, own) {
-                place(problem, branch, placing, a);
-                place(problem, branch, placing, own);
-            }
-        }
-        if placing.order.len() == placed {
-            break;
-        }
-    }
-}
-
 /// The order of an execution, from a branch on which each question has an answer. Where there is none, what could be placed.
 ///
 /// Errors: out of memory only.
@@ -93,7 +70,26 @@ pub fn make_order(
     for a in problem.locations..size {
         placing.left.add(0, a);
     }
-    place_all(problem, branch, &mut placing);
+    // Round by round those that wait for none, both parts of a locked instruction side by side.
+    for _round in 0..size {
+        let placed = placing.order.len();
+        for a in problem.locations..size {
+            let own = problem.events.at(a).partner;
+            let is_second = own < a;
+            if is_second || !placing.left.has(0, a) || is_waiting(problem, branch, &placing, a) {
+                continue;
+            }
+            if own == NONE {
+                place(problem, branch, &mut placing, a);
+            } else if !is_waiting(problem, branch, &placing, own) {
+                place(problem, branch, &mut placing, a);
+                place(problem, branch, &mut placing, own);
+            }
+        }
+        if placing.order.len() == placed {
+            break;
+        }
+    }
     placing.order.is_refused |= placing.left.words.is_refused;
     placing.order.into_items()
 }

@@ -86,9 +86,10 @@ fn reach(paths: &mut Paths, step: Step, to: usize) {
     }
 }
 
-fn reach_by_program(problem: &Problem, paths: &mut Paths, relations: Relations, a: usize) {
-    let row = relations.row(problem.size, a);
-    let step = Step {
+/// Reaches what an edge leads to from an event: those of the program first, and then those of answers, the last one first.
+fn reach_from(problem: &Problem, branch: &Branch, paths: &mut Paths, edges: Edges, a: usize) {
+    let row = edges.relations.row(problem.size, a);
+    let mut step = Step {
         from: a,
         edge: NONE,
     };
@@ -102,20 +103,14 @@ fn reach_by_program(problem: &Problem, paths: &mut Paths, relations: Relations, 
             left &= left.wrapping_sub(1);
         }
     }
-}
-
-fn reach_by_answers(branch: &Branch, paths: &mut Paths, edges: Edges, a: usize) {
-    let mut number = branch.heads.at(edges.relations.row(branch.size, a));
+    let mut number = branch.heads.at(row);
     for _edge in 0..branch.edges.len() {
         if number == NONE {
             break;
         }
         let edge = branch.edges.at(number);
         if number < edges.limit {
-            let step = Step {
-                from: a,
-                edge: number,
-            };
+            step.edge = number;
             reach(paths, step, edge.link.to);
         }
         number = edge.next;
@@ -136,8 +131,7 @@ fn reach_all(
         }
         let a = paths.queue.at(paths.next);
         paths.next = paths.next.wrapping_add(1);
-        reach_by_program(problem, paths, edges.relations, a);
-        reach_by_answers(branch, paths, edges, a);
+        reach_from(problem, branch, paths, edges, a);
         if paths.events.has(SEEN, to) {
             return true;
         }
