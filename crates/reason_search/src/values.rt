@@ -65,16 +65,18 @@ pub fn find_values(problem: &Problem, branch: &mut Branch, known: Known) {
     }
     for _round in 0..problem.size {
         let mut changed = false;
-        for r in problem.locations..problem.size {
-            if !branch.sets.has(VALUED, r) || branch.values.at(r) != NONE {
-                continue;
+        let mut r = branch.sets.next(VALUED, problem.locations);
+        for _read in 0..problem.size {
+            if r == NONE {
+                break;
             }
             let s = source(branch, known, r);
-            if s != NONE {
+            if s != NONE && branch.values.at(r) == NONE {
                 let value = written(problem, branch, s);
                 branch.values.put(r, value);
                 changed |= value != NONE && problem.reads.has(STORED, r);
             }
+            r = branch.sets.next(VALUED, r.wrapping_add(1));
         }
         if !changed {
             break;
@@ -265,8 +267,12 @@ fn need_parts(
 fn need_sources(problem: &Problem, branch: &mut Branch, known: Known, evidence: &mut Evidence) {
     for _round in 0..problem.size {
         let mut changed = false;
-        for r in problem.locations..problem.size {
-            if branch.sets.has(NEEDED, r) && branch.values.at(r) != NONE {
+        let mut r = branch.sets.next(NEEDED, problem.locations);
+        for _read in 0..problem.size {
+            if r == NONE {
+                break;
+            }
+            if branch.values.at(r) != NONE {
                 branch.values.put(r, NONE);
                 if r != known.read {
                     need(evidence, branch.source.at(r));
@@ -275,6 +281,7 @@ fn need_sources(problem: &Problem, branch: &mut Branch, known: Known, evidence: 
                 add_reads(&mut branch.sets, NEEDED, term);
                 changed |= term.first != NONE;
             }
+            r = branch.sets.next(NEEDED, r.wrapping_add(1));
         }
         if !changed {
             break;
