@@ -53,6 +53,13 @@ impl<T: Copy> List<T> {
         }
     }
 
+    /// Writes `none` at each place.
+    pub fn blank(&mut self) {
+        for place in &mut self.items {
+            *place = self.none;
+        }
+    }
+
     /// Takes away all items from a place on.
     pub fn cut(&mut self, length: usize) {
         self.items.truncate(length);

@@ -60,9 +60,7 @@ fn source(branch: &Branch, known: Known, r: usize) -> usize {
 /// Notes what each read returns that matters to what is asked, by what is known: they hang on one another alone. So there is another
 /// round while others may hang on a new one.
 pub fn find_values(problem: &Problem, branch: &mut Branch, known: Known) {
-    for r in problem.locations..problem.size {
-        branch.values.put(r, NONE);
-    }
+    branch.values.blank();
     for _round in 0..problem.size {
         let mut changed = false;
         let mut r = branch.sets.next(VALUED, problem.locations);
