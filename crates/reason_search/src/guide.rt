@@ -82,6 +82,7 @@ pub fn proposed_order(alloc: Global, guide: &Guide) -> Result<Option<Execution>,
         | is_refused(&guide.hunt)
         | guide.trees.twigs.is_refused
         | guide.trees.events.is_refused
+        | guide.open.is_refused
     {
         return Err(NoMemory);
     }
