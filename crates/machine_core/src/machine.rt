@@ -40,7 +40,6 @@ pub struct Final {
 /// A machine that runs a test, which it borrows, one choice at a time. Its caches are kept coherent by
 /// this protocol. On the atomic bus neither the protocol nor the shape of the caches has a part in what a
 /// choice does but in what is counted of its accesses; on a split bus an access that hits needs no bus.
-#[derive(Drop)]
 pub struct Machine<'a, P: Protocol> {
     pub(crate) test: &'a Test,
     pub(crate) hardware: Hardware<P>,
@@ -203,13 +202,28 @@ impl<'a, P: Protocol> Machine<'a, P> {
         ensures locations { IfOk result (λ f. length f.state.memory.items ≡ length self.entry.test.locations) }
     {
         what_holds_so_far_on_either_bus();
-        let mut hardware = self.hardware;
+        let Machine {
+            test,
+            mut hardware,
+            failed: _,
+        } = self;
         let execution = build(alloc, &hardware.commits)?;
-        let state = final_state(alloc, &mut hardware, self.test)?;
+        let state = final_state(alloc, &mut hardware, test)?;
         Ok(Final {
             execution,
             state,
             counts: hardware.counts,
         })
+    }
+}
+
+// Said by hand, so that who lets a machine go makes one call, and not one for each part.
+impl<'a, P: Protocol> Drop for Machine<'a, P> {
+    fn drop(self) {
+        let Machine {
+            test: _,
+            hardware: _hardware,
+            failed: _,
+        } = self;
     }
 }

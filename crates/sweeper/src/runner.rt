@@ -19,7 +19,7 @@ use tso_model::{NoMemory, Test};
 use tso_report::Tally;
 
 /// Makes one run after the other, each from the beginning of a test.
-pub(crate) trait Runner: Drop {
+pub(crate) trait Runner {
     // It makes runs of this test.
     ghost runs: { Self → Litmus → Type 0 };
 

@@ -15,7 +15,6 @@ use crate::validity::parts_fit;
 use std::marker::Model;
 
 /// What a test is made of, before its limits are known to hold.
-#[derive(Drop)]
 pub struct TestParts {
     pub name: String,
     /// The names of the locations, in the order of their numbers.
@@ -26,6 +25,20 @@ pub struct TestParts {
     pub registers: Vec<[u32; 6]>,
     pub programs: Vec<Vec<Instr>>,
     pub cond: Option<Cond>,
+}
+
+// Said by hand, so that who lets a test go makes one call, and not one for each part.
+impl Drop for TestParts {
+    fn drop(self) {
+        let TestParts {
+            name: _name,
+            locations: _locations,
+            words: _words,
+            registers: _registers,
+            programs: _programs,
+            cond: _cond,
+        } = self;
+    }
 }
 
 /// A litmus test within the limits: each name that its programs and its condition use exists.
