@@ -1,5 +1,5 @@
-//! The answers of `tso` by the C convention, for the page: numbers and bytes in; an answer's bytes, the hint beside it and
-//! the exit status out.
+//! The answers of `tso` for the page: numbers and bytes in; an answer's bytes, the hint beside it and the exit status out.
+//! The page's module exports the call by the C convention, with the contract that it has here.
 #![tactic(auto)]
 
 ghost use Rattle.std.specs.Prelude.{◌≡◌, ◌≢◌, ◌<◌, ◌⊎◌, ◌↔◌, true, false, take, length, string_bytes, IfOk};
@@ -45,8 +45,7 @@ pub struct AnswerLengths {
 /// was refused, and else the command's own. Where there is an answer, its length and that of its hint are told, whether
 /// they fit or not. It isn't whole where there is no answer, and where a room is shorter than the length that is told: a
 /// call with that much room answers.
-#[unsafe(no_mangle)]
-pub extern "C" fn page_answer(
+pub fn page_answer(
     alloc: Global,
     asked: &Numbers,
     input: &[u8],

@@ -12,7 +12,7 @@ use scheduler::Stalls;
 use tso_model::NoMemory;
 
 /// Looks at a machine while it is driven, and makes its choices.
-pub trait Observer: Drop {
+pub trait Observer {
     // It can begin to look at this machine.
     ghost begins: { Self → Running → Type 0 };
 
