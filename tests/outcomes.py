@@ -16,10 +16,13 @@ twelve instructions together, of all kinds; and half as many more in which some 
 Of the made tests the last two are asked with one value of `--show` each, in turn, and --json only with `--assert`; a further program
 has one in four of them, each of them at one depth, in turn.
 
+Of three tests of the literature the number of final states is published, and held too.
+
 The search is written here, from docs/DEFINITIONS.md; the tests are read by tests/reference/. The last line is 'N passed, M failed'.
 """
 import functools
 import json
+import os
 import random
 import re
 import sys
@@ -33,6 +36,8 @@ DEPTHS = (0, 1, 2, 32)
 SHOWN = CONDITION, WITH_REGISTERS, WITH_ALL = ("condition", "registers", "all")
 LOCATIONS = ("x", "y", "z")
 REGISTERS = ("EAX", "EBX", "ECX")
+# A test of the gallery, a depth, and how many final states are published: without buffers those of sequential consistency.
+PUBLISHED = (("SB", 32, 4), ("n6", 32, 5), ("IRIW", 32, 15), ("SB", 0, 3), ("n6", 0, 4))
 
 
 def first_state(test):
@@ -305,6 +310,19 @@ def rows_of(tests, asked_in):
             yield "%s, depth %d" % (name, depth), lambda program, how=how: faults_at(program, *how)
 
 
+def faults_of_count(program, name, depth, count):
+    """How many final states a test of the gallery has, where another number is published."""
+    with open(os.path.join(judging.EXAMPLES, "gallery", name + ".litmus"), "rb") as file:
+        done = program.run(["outcomes", "--depth", str(depth), "--show", "all"], file.read())
+    found = len(re.findall(rb"^State ", done.stdout, re.M))
+    return [] if found == count else ["%d final states are published, and %d are found" % (count, found)]
+
+
+def rows_of_published():
+    for how in PUBLISHED:
+        yield "final states of %s, depth %d" % how[:2], lambda program, how=how: faults_of_count(program, *how)
+
+
 def main():
     parser = judging.with_programs(__doc__, with_part=False)
     parser.add_argument("--tests", type=int, default=300)
@@ -313,6 +331,7 @@ def main():
     programs, tally = judging.programs_in(asked), judging.Tally()
     of_repository = [(name, given.partition(judging.DIVIDER)[0]) for name, given in judging.all_inputs()]
     tally.add("outcomes", judging.judged(rows_of(of_repository, lambda turn: OF_REPOSITORY), programs))
+    tally.add("outcomes", judging.judged(rows_of_published(), programs))
     tally.add("outcomes", judging.judged_in_turn(rows_of(tests_made(asked.tests, asked.seed), of_made), programs))
     return tally.end()
 

@@ -9,8 +9,6 @@ mod bus;
 #[cfg(test)]
 mod choices;
 #[cfg(test)]
-mod final_states;
-#[cfg(test)]
 mod named;
 #[cfg(test)]
 mod orders;

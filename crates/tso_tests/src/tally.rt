@@ -1,17 +1,12 @@
-//! The tally of a sweep, over runs that one chooses by hand.
-
+//! What a tally says of runs that ended and of one that didn't. The program counts states; runs are counted here.
 ghost use Rattle.std.specs.Prelude.{◌≡◌};
-ghost use Rattle.simulator.specs.Simulation.{FitsEnding};
 
 use crate::named::{MEMORY, holds, test_of};
-use machine_core::{Bus, Config, Shape};
-use protocol_tables::ProtocolKind;
-use scheduler::{read_choices, spelled_cores_exist};
-use simulator::{Ending, simulate};
+use machine_core::{Final, FinalState};
 use std::alloc::Global;
 use std::process::Abort;
-use tso_model::Test;
-use tso_report::Tally;
+use tso_model::{Execution, Test};
+use tso_report::{Run, Tally};
 
 const SB: &[u8] = b"\
 X86 SB\n\
@@ -21,42 +16,44 @@ X86 SB\n\
 \x20MOV EAX,[y] | MOV EAX,[x] ;\n\
 exists (0:EAX=0 /\\ 1:EAX=0)\n";
 
-/// One in which the second core waits for the first core's store, one in which both loads pass, and one that doesn't end.
-const RUNS: [&[u8]; 3] = [b"0s 0d 0s 1s 1d 1s", b"0s 1s 0s 1s 0d 1d", b"0s 1s"];
-
 const TEXT: &str = "\
 Sweep from=0 seeds=3 length=6 ended=2 unfinished=1\n\
 State 1 0:EAX=0 1:EAX=0\n\
 State 1 0:EAX=0 1:EAX=1\n\
 Observation SB Sometimes 1 1\n";
 
-/// The run under these choices.
-fn run(rt: &impl Abort, alloc: Global, test: &Test, choices: &[u8]) -> Ending
-    ensures { FitsEnding test.now result }
-{
-    spelled_cores_exist();
-    let config = Config::new(4, Shape::default(), Bus::Atomic).expect(rt, "a configuration");
-    let choices = read_choices(alloc, test.cores(), choices).expect(rt, "choices");
-    simulate(alloc, test, ProtocolKind::Msi, config, &choices).expect(rt, MEMORY)
-}
-
-fn add(rt: &impl Abort, tally: &mut Tally<'_>, ending: &Ending)
-    requires { FitsEnding tally.old.test ending.now }
-    ensures { tally.new.test ≡ tally.old.test }
-{
-    assert!(rt; tally.count() < 3);
-    match ending {
-        Ending::Ended(run) => tally.add(run).expect(rt, MEMORY),
-        Ending::Unfinished { .. } => tally.add_unfinished(),
+/// A run that left these values in EAX of both cores, with the condition true or not.
+fn run(rt: &impl Abort, alloc: Global, left: [u32; 2], is_true: bool) -> Run {
+    let [first, second] = left;
+    let registers = vec![in alloc; [first, 0, 0, 0, 0, 0], [second, 0, 0, 0, 0, 0]];
+    let memory = vec![in alloc; 1, 1];
+    Run {
+        left: Final {
+            execution: Execution {
+                order: Vec::new(alloc),
+            },
+            state: FinalState {
+                registers: registers.expect(rt, MEMORY),
+                memory: memory.expect(rt, MEMORY),
+            },
+            counts: Vec::new(alloc),
+        },
+        holds: Some(is_true),
+        used: 6,
+        stalled: 0,
+        unused: 0,
     }
 }
 
-fn count(rt: &impl Abort, alloc: Global, tally: &mut Tally<'_>, test: &Test, choices: &[u8])
+fn add(rt: &impl Abort, tally: &mut Tally<'_>, test: &Test, run: &Run)
     requires { tally.old.test ≡ test.now }
-    ensures { tally.new.test ≡ tally.old.test }
+    ensures { tally.new.test ≡ test.now }
 {
-    let ending = run(rt, alloc, test, choices);
-    add(rt, tally, &ending);
+    assert!(rt; run.left.state.registers.len() == usize::from(test.cores()));
+    assert!(rt; run.left.state.memory.len() == usize::from(test.locations()));
+    assert!(rt; run.holds.is_some() == test.cond().is_some());
+    assert!(rt; tally.count() < 3);
+    tally.add(run).expect(rt, MEMORY);
 }
 
 fn says(rt: &impl Abort, alloc: Global, tally: &Tally<'_>) {
@@ -65,11 +62,13 @@ fn says(rt: &impl Abort, alloc: Global, tally: &Tally<'_>) {
     holds(rt, text.as_str() == TEXT);
 }
 
+/// One in which both loads pass, one in which the second core sees the first core's store, and one that doesn't end.
 fn counts(rt: &impl Abort, alloc: Global, test: &Test) {
     let mut tally = Tally::new(alloc, test).expect(rt, MEMORY);
-    for choices in &RUNS {
-        count(rt, alloc, &mut tally, test, choices);
-    }
+    add(rt, &mut tally, test, &run(rt, alloc, [0, 0], true));
+    add(rt, &mut tally, test, &run(rt, alloc, [0, 1], false));
+    assert!(rt; tally.count() < 3);
+    tally.add_unfinished();
     says(rt, alloc, &tally);
 }
 
