@@ -31,16 +31,27 @@ use eager_laws::{
 use flat_machine::{act, has_ended, registers_of, start};
 use outcome_laws::ends_are_what_tso_allows;
 use std::alloc::Global;
+use std::mem::replace;
 use tso_laws::runs_stop_where_they_end;
 use tso_model::{Choice, NoMemory, Test};
 
 /// A final state of a test: the registers of each core, in the order of `Reg::ALL`, the word of each
 /// location, and choices that lead there, of which none stalls and none is left over.
-#[derive(Drop)]
 pub struct FinalState {
     pub registers: Vec<[u32; 6]>,
     pub memory: Vec<u32>,
     pub choices: Vec<Choice>,
+}
+
+// Said by hand, so that who lets it go makes one call, and not one for each part.
+impl Drop for FinalState {
+    fn drop(self) {
+        let FinalState {
+            registers: _registers,
+            memory: _memory,
+            choices: _choices,
+        } = self;
+    }
 }
 
 /// What a search answers.
@@ -69,7 +80,7 @@ fn final_state(alloc: Global, plan: &Plan, found: &Found, at: usize) -> Result<F
     let registers = registers_of(alloc, &state.cores)?;
     Ok(FinalState {
         registers,
-        memory: state.memory,
+        memory: replace(&mut state.memory, Vec::new(alloc)),
         choices,
     })
 }

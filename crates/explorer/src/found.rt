@@ -21,7 +21,6 @@ use std::alloc::Global;
 use tso_model::{NoMemory, Test};
 
 /// What a search has found: each state once, and how each was reached.
-#[derive(Drop)]
 pub struct Found {
     pub states: IndexSet<Packed>,
     pub links: Vec<Link>,
@@ -31,6 +30,19 @@ pub struct Found {
     pub room: Packed,
     /// What was reached last from the state that is gone through: room for it, likewise.
     pub reached: Reached,
+}
+
+// Said by hand, so that who lets it go makes one call, and not one for each part.
+impl Drop for Found {
+    fn drop(self) {
+        let Found {
+            states: _states,
+            links: _links,
+            current: _current,
+            room: _room,
+            reached: _reached,
+        } = self;
+    }
 }
 
 /// Keeps what was reached from the state of this number, or from the beginning of the test where there is no state yet. One

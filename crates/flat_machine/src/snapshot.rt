@@ -7,18 +7,37 @@ use std::alloc::Global;
 use tso_model::{Core, Entry, NoMemory, Test};
 
 /// A core: the place in its program, its registers, and its pending stores, oldest first.
-#[derive(Drop)]
 pub struct Processor {
     pub place: u8,
     pub registers: [u32; 6],
     pub pending: Vec<Entry>,
 }
 
+// Said by hand, so that who lets it go makes one call, and not one for each part.
+impl Drop for Processor {
+    fn drop(self) {
+        let Processor {
+            place: _,
+            registers: _,
+            pending: _pending,
+        } = self;
+    }
+}
+
 /// Memory, and each core.
-#[derive(Drop)]
 pub struct Snapshot {
     pub memory: Vec<u32>,
     pub cores: Vec<Processor>,
+}
+
+// Said by hand, so that who lets it go makes one call, and not one for each part.
+impl Drop for Snapshot {
+    fn drop(self) {
+        let Snapshot {
+            memory: _memory,
+            cores: _cores,
+        } = self;
+    }
 }
 
 /// The first state of a test.

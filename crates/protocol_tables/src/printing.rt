@@ -5,7 +5,7 @@ ghost use Rattle.std.specs.Prelude.{◌≡◌, ◌++◌, Some, IfOk, OnOk, codes
 ghost use Rattle.protocol_tables.specs.Names.{protocol_name};
 ghost use Rattle.protocol_tables.specs.Tables.{table_of, by_kind};
 ghost use Rattle.protocol_tables.specs.PrintedTable.{letter, yes_or_no, printed_write, printed_evict, printed_snoop};
-ghost use Rattle.protocol_tables.specs.PrintedTable.{row, row_if_reached, rows, reaches, is_owned, is_exclusive, strongest_first};
+ghost use Rattle.protocol_tables.specs.PrintedTable.{row_if_reached, rows, reaches, is_owned, is_exclusive, strongest_first};
 ghost use Rattle.protocol_tables.specs.PrintedTable.{name_line, fill_line, printed_table};
 
 use crate::kind::ProtocolKind;
@@ -36,40 +36,25 @@ pub fn table_text(alloc: Global, kind: ProtocolKind) -> Result<String, NoMemory>
     }
 }
 
-#[tactic(auto, unfolding(crate::specs::PrintedTable::printed_table))]
+#[tactic(auto, unfolding(crate::specs::PrintedTable::printed_table, crate::specs::PrintedTable::fill_line, crate::specs::PrintedTable::strongest_first))]
 fn text_of<P: Protocol>(alloc: Global, protocol: &P) -> Result<String, NoMemory>
     ensures { IfOk result (λ text. string_bytes text ≡ printed_table (P.called protocol.now) (P.table protocol.now)) }
 {
     let mut text = String::new(alloc);
-    write_name(&mut text, protocol.name())?;
-    write_fills(&mut text, protocol.filled(false), protocol.filled(true))?;
-    write_rows(&mut text, protocol)?;
+    let name = protocol.name();
+    write!(text, "Protocol {name}\n")?;
+    let alone = protocol.filled(false);
+    let shared = protocol.filled(true);
+    write!(text, "Fill alone={alone} shared={shared}\n")?;
+    write_rows(
+        &mut text,
+        protocol,
+        &[State::M, State::O, State::E, State::S],
+    )?;
     Ok(text)
 }
 
-fn write_name(text: &mut String, name: &str) -> Result<(), NoMemory>
-    ensures { OnOk result (string_bytes text.new ≡ string_bytes text.old ++ name_line name.now) }
-{
-    write!(text, "Protocol {name}\n")?;
-    Ok(())
-}
-
-#[tactic(auto, unfolding(crate::specs::PrintedTable::fill_line))]
-fn write_fills(text: &mut String, alone: State, shared: State) -> Result<(), NoMemory>
-    ensures { OnOk result (string_bytes text.new ≡ string_bytes text.old ++ fill_line alone shared) }
-{
-    write!(text, "Fill alone={alone} shared={shared}\n")?;
-    Ok(())
-}
-
-#[tactic(auto, unfolding(crate::specs::PrintedTable::strongest_first))]
-fn write_rows<P: Protocol>(text: &mut String, protocol: &P) -> Result<(), NoMemory>
-    ensures { OnOk result (string_bytes text.new ≡ string_bytes text.old ++ rows (P.table protocol.now) strongest_first) }
-{
-    write_rows_of(text, protocol, &[State::M, State::O, State::E, State::S])
-}
-
-fn write_rows_of<P: Protocol>(
+fn write_rows<P: Protocol>(
     text: &mut String,
     protocol: &P,
     states: &[State],
@@ -78,19 +63,6 @@ fn write_rows_of<P: Protocol>(
 {
     for state in states {
         write_row_if_reached(text, protocol, *state)?;
-    }
-    Ok(())
-}
-
-fn write_row_if_reached<P: Protocol>(
-    text: &mut String,
-    protocol: &P,
-    state: State,
-) -> Result<(), NoMemory>
-    ensures { OnOk result (string_bytes text.new ≡ string_bytes text.old ++ row_if_reached (P.table protocol.now) state) }
-{
-    if is_reached(protocol, state) {
-        write_row(text, protocol, state)?;
     }
     Ok(())
 }
@@ -106,9 +78,16 @@ fn is_reached<P: Protocol>(protocol: &P, state: State) -> bool
     }
 }
 
-fn write_row<P: Protocol>(text: &mut String, protocol: &P, state: State) -> Result<(), NoMemory>
-    ensures { OnOk result (string_bytes text.new ≡ string_bytes text.old ++ row (P.table protocol.now) state) }
+fn write_row_if_reached<P: Protocol>(
+    text: &mut String,
+    protocol: &P,
+    state: State,
+) -> Result<(), NoMemory>
+    ensures { OnOk result (string_bytes text.new ≡ string_bytes text.old ++ row_if_reached (P.table protocol.now) state) }
 {
+    if !is_reached(protocol, state) {
+        return Ok(());
+    }
     let get_s = protocol.on_get_s(state);
     let get_m = protocol.on_get_m(state);
     write!(text, "{state} GetS={get_s} GetM={get_m}")?;

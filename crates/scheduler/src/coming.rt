@@ -14,7 +14,7 @@ use rand_pcg::Lcg64Xsh32;
 use tso_model::Choice;
 
 /// Choices that come one after the other.
-pub trait Choices: Drop {
+pub trait Choices {
     ghost coming: { Self → List Choice };
 
     /// The next choice, or `None` where there is none left.

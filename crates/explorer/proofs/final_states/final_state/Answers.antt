@@ -51,5 +51,5 @@ returns c = λ s at.
       leads = p.leads;
       kept_is = p.kept_is;
       registers_are = sym (c.in_ok-registers.ensures ∙ ap (λ z. map (λ q. q.registers) z) c.deref-2.ensures.value ∙ registers-map c.loop-choice.state.cores.items ∙ ap registers_in same);
-      memory_is = ap (λ z. z.memory) (sym same);
+      memory_is = ap (λ z. z.memory) (sym same) ∙ ap (λ v. v.items) (sym c.replace.ensures.value);
     }

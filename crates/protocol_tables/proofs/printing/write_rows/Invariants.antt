@@ -1,6 +1,6 @@
 use Rattle.std.proofs.Common.{◌≡◌, ◌++◌, drop, string_bytes}
 use Rattle.protocol_tables.specs.PrintedTable.{rows}
-use Rattle.protocol_tables.proofs.printing.write_rows_of.Given as goal
+use Rattle.protocol_tables.proofs.printing.write_rows.Given as goal
 
 abbrev pub invariant-loop-state : goal.invariant-loop-state
 invariant-loop-state g l =
