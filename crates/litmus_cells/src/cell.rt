@@ -8,7 +8,7 @@ ghost use Rattle.litmus_cells.specs.inner.Forms.{shape_of};
 ghost use Rattle.litmus_cells.specs.Cells as spec;
 
 use crate::fault::{Fault, ReadError, Why};
-use crate::form::{Form, form_of};
+use crate::form::{Form, Use, form_of};
 use crate::location::located;
 use crate::numbers::word_at;
 use litmus_tokens::Token;
@@ -39,27 +39,20 @@ fn instr_of<'a>(
             let loc = located(names, remaining, name)?;
             Ok(Instr::StoreImm(loc, value))
         }
-        Form::StoreReg(name, reg) => {
-            let loc = located(names, remaining, name)?;
-            Ok(Instr::StoreReg(loc, reg))
-        }
-        Form::Load(reg, name) => {
-            let loc = located(names, remaining, name)?;
-            Ok(Instr::Load(reg, loc))
-        }
         Form::SetImm(reg, digits) => {
             let value = word_at(remaining, digits)?;
             Ok(Instr::SetImm(reg, value))
         }
         Form::SetReg(reg, other) => Ok(Instr::SetReg(reg, other)),
         Form::Fence => Ok(Instr::Fence),
-        Form::Xchg(name, reg) => {
+        Form::At(how, name, reg) => {
             let loc = located(names, remaining, name)?;
-            Ok(Instr::Xchg(loc, reg))
-        }
-        Form::Xadd(name, reg) => {
-            let loc = located(names, remaining, name)?;
-            Ok(Instr::Xadd(loc, reg))
+            match how {
+                Use::Store => Ok(Instr::StoreReg(loc, reg)),
+                Use::Load => Ok(Instr::Load(reg, loc)),
+                Use::Xchg => Ok(Instr::Xchg(loc, reg)),
+                Use::Xadd => Ok(Instr::Xadd(loc, reg)),
+            }
         }
     }
 }

@@ -13,17 +13,23 @@ use crate::argument::{Argument, two_arguments};
 use litmus_tokens::{Token, name_at};
 use tso_model::Reg;
 
+/// How an instruction with a register uses a location.
+#[derive(Clone, Copy)]
+pub enum Use {
+    Store,
+    Load,
+    Xchg,
+    Xadd,
+}
+
 /// An instruction as it is spelled: a location is its name, a number its digits.
 #[derive(Clone, Copy)]
 pub enum Form<'a> {
     StoreImm(&'a [u8], &'a [u8]),
-    StoreReg(&'a [u8], Reg),
-    Load(Reg, &'a [u8]),
     SetImm(Reg, &'a [u8]),
     SetReg(Reg, Reg),
     Fence,
-    Xchg(&'a [u8], Reg),
-    Xadd(&'a [u8], Reg),
+    At(Use, &'a [u8], Reg),
 }
 
 fn is_word(name: &[u8], word: &[u8]) -> bool
@@ -37,8 +43,12 @@ fn mov_of<'a>(first: Argument<'a>, second: Argument<'a>) -> Option<Form<'a>>
 {
     match (first, second) {
         (Argument::Location(name), Argument::Number(digits)) => Some(Form::StoreImm(name, digits)),
-        (Argument::Location(name), Argument::Register(reg)) => Some(Form::StoreReg(name, reg)),
-        (Argument::Register(reg), Argument::Location(name)) => Some(Form::Load(reg, name)),
+        (Argument::Location(name), Argument::Register(reg)) => Some(Form::At(
+            Use::Store,
+            name,
+            reg,
+        )),
+        (Argument::Register(reg), Argument::Location(name)) => Some(Form::At(Use::Load, name, reg)),
         (Argument::Register(reg), Argument::Number(digits)) => Some(Form::SetImm(reg, digits)),
         (Argument::Register(reg), Argument::Register(other)) => Some(Form::SetReg(reg, other)),
         _ => None,
@@ -49,8 +59,8 @@ fn xchg_of<'a>(first: Argument<'a>, second: Argument<'a>) -> Option<Form<'a>>
     ensures { option_map shape_of result ≡ spec.xchg_of (argument_of first.entry, argument_of second.entry) }
 {
     match (first, second) {
-        (Argument::Location(name), Argument::Register(reg)) => Some(Form::Xchg(name, reg)),
-        (Argument::Register(reg), Argument::Location(name)) => Some(Form::Xchg(name, reg)),
+        (Argument::Location(name), Argument::Register(reg)) => Some(Form::At(Use::Xchg, name, reg)),
+        (Argument::Register(reg), Argument::Location(name)) => Some(Form::At(Use::Xchg, name, reg)),
         _ => None,
     }
 }
@@ -59,7 +69,7 @@ fn xadd_of<'a>(first: Argument<'a>, second: Argument<'a>) -> Option<Form<'a>>
     ensures { option_map shape_of result ≡ spec.xadd_of (argument_of first.entry, argument_of second.entry) }
 {
     match (first, second) {
-        (Argument::Location(name), Argument::Register(reg)) => Some(Form::Xadd(name, reg)),
+        (Argument::Location(name), Argument::Register(reg)) => Some(Form::At(Use::Xadd, name, reg)),
         _ => None,
     }
 }
@@ -87,7 +97,9 @@ fn locked_form<'a>(tokens: &[Token<'a>]) -> Option<Form<'a>>
 pub fn form_of<'a>(cell: &[Token<'a>]) -> Option<Form<'a>>
     ensures { option_map shape_of result ≡ spec.spelled_in (pieces cell.now) }
 {
-    let (word, rest) = name_at(cell)?;
+    let Some((word, rest)) = name_at(cell) else {
+        return None;
+    };
     if is_word(word, b"LOCK") {
         return locked_form(rest);
     }

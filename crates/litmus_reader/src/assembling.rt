@@ -80,11 +80,11 @@ pub fn parts_of(
     names: &[&[u8]],
     words: &mut Vec<u32>,
     table: &mut Table,
-    cond: Option<Cond>,
+    cond: &mut Option<Cond>,
 ) -> Result<TestParts, NoMemory>
     requires name { IsUtf8 name.now }
     requires names { All (λ name. IsUtf8 name) (texts names.now) }
-    ensures { AreParts result (spec.test_of name.now (texts names.now) words.old.items table.old.registers.items table.old.instrs.items (asked_of cond)) }
+    ensures { AreParts result (spec.test_of name.now (texts names.now) words.old.items table.old.registers.items table.old.instrs.items (asked_of cond.old)) }
 {
     let cores = table.registers.len();
     fill_words(alloc, words, names.len())?;
@@ -94,6 +94,6 @@ pub fn parts_of(
         programs: programs_of(alloc, &table.instrs, cores)?,
         words: replace(words, Vec::new(alloc)),
         registers: replace(&mut table.registers, Vec::new(alloc)),
-        cond,
+        cond: replace(cond, None),
     })
 }

@@ -4,7 +4,7 @@
 ghost use Rattle.std.specs.Prelude.{◌≡◌, ◌≤◌, ◌<◌, ◌+◌, length, codes, Some, None, Ok, IfOk, IfSome};
 ghost use Rattle.std.specs.Option.{option_map};
 ghost use Rattle.tso_model.specs.Limits.{most_cores};
-ghost use Rattle.tso_model.specs.Condition.{NotClaim, AndClaim, OrClaim, claim_of, condition_of};
+ghost use Rattle.tso_model.specs.Condition.{NotClaim, claim_of, condition_of};
 ghost use Rattle.litmus_tokens.specs.inner.Pieces.{pieces};
 ghost use Rattle.litmus_cells.specs.inner.Faults.{Gives};
 ghost use Rattle.litmus_tokens.specs.inner.Mapped.{mapped};
@@ -120,18 +120,23 @@ fn not(alloc: Global, inner: Prop) -> Result<Prop, ReadError>
     Ok(Prop::Not(Box::new(alloc, inner)?))
 }
 
-/// Two propositions joined by `/\`.
-fn and(alloc: Global, left: Prop, right: Prop) -> Result<Prop, ReadError>
-    ensures { Gives (λ p. claim_of p) result (Ok (AndClaim (claim_of left) (claim_of right))) }
-{
-    Ok(Prop::And(Box::new(alloc, left)?, Box::new(alloc, right)?))
+/// What stands between two propositions.
+#[derive(Clone, Copy)]
+enum Joint {
+    And,
+    Or,
 }
 
-/// Two propositions joined by `\/`.
-fn or(alloc: Global, left: Prop, right: Prop) -> Result<Prop, ReadError>
-    ensures { Gives (λ p. claim_of p) result (Ok (OrClaim (claim_of left) (claim_of right))) }
+/// Two propositions with this between them.
+fn joined(alloc: Global, joint: Joint, left: Prop, right: Prop) -> Result<Prop, ReadError>
+    ensures { Gives (λ p. claim_of p) result (Ok (spec.joined_by joint (claim_of left) (claim_of right))) }
 {
-    Ok(Prop::Or(Box::new(alloc, left)?, Box::new(alloc, right)?))
+    let left = Box::new(alloc, left)?;
+    let right = Box::new(alloc, right)?;
+    Ok(match joint {
+        Joint::And => Prop::And(left, right),
+        Joint::Or => Prop::Or(left, right),
+    })
 }
 
 /// What stands after a `~` or a `not`.
@@ -220,7 +225,7 @@ fn conjunction_at<'a, 'b>(
     let (mut prop, mut rest) = unit_at(alloc, around, opens, atoms, names, tokens)?;
     while let Some(next) = after_symbol(Symbol::And, rest) {
         let (unit, after) = unit_at(alloc, around, opens, atoms, names, next)?;
-        prop = and(alloc, prop, unit)?;
+        prop = joined(alloc, Joint::And, prop, unit)?;
         rest = after;
     }
     Ok((prop, rest))
@@ -243,7 +248,7 @@ fn proposition_at<'a, 'b>(
     let (mut prop, mut rest) = conjunction_at(alloc, around, opens, atoms, names, tokens)?;
     while let Some(next) = after_symbol(Symbol::Or, rest) {
         let (conjunction, after) = conjunction_at(alloc, around, opens, atoms, names, next)?;
-        prop = or(alloc, prop, conjunction)?;
+        prop = joined(alloc, Joint::Or, prop, conjunction)?;
         rest = after;
     }
     Ok((prop, rest))

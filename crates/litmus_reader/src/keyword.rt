@@ -13,6 +13,8 @@ pub fn after_word<'a, 'b>(word: &[u8], tokens: &'b [Token<'a>]) -> Option<&'b [T
     ensures value { option_map (λ x. pieces x.now) result ≡ spec.word_after word.now (pieces tokens.now) }
     ensures shorter { IfSome result (λ x. length x.now < length tokens.now) }
 {
-    let (name, rest) = name_at(tokens)?;
-    if name == word { Some(rest) } else { None }
+    match name_at(tokens) {
+        Some((name, rest)) if name == word => Some(rest),
+        _ => None,
+    }
 }

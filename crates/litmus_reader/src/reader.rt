@@ -96,9 +96,9 @@ fn body_with<'a>(
 {
     let rest = read_initial(alloc, initial, names, text)?;
     let (mut table, rest) = read_table(alloc, &initial.registers, names, rest)?;
-    let cond = tail_at(alloc, text, table.cores, names, rest)?;
+    let mut cond = tail_at(alloc, text, table.cores, names, rest)?;
     let words = &mut initial.words;
-    let parts = parts_of(alloc, name, names.as_slice(), words, &mut table, cond)?;
+    let parts = parts_of(alloc, name, names.as_slice(), words, &mut table, &mut cond)?;
     Ok(parts)
 }
 

@@ -24,7 +24,9 @@ pub fn after_symbol<'a, 'b>(symbol: Symbol, tokens: &'b [Token<'a>]) -> Option<&
     ensures value { option_map (λ x. pieces x.now) result ≡ front.symbol_at symbol (pieces tokens.now) }
     ensures shorter { IfSome result (λ x. length x.now < length tokens.now) }
 {
-    let (first, rest) = tokens.split_first()?;
+    let Some((first, rest)) = tokens.split_first() else {
+        return None;
+    };
     if is_symbol(symbol, first) {
         Some(rest)
     } else {
@@ -38,7 +40,9 @@ pub fn name_at<'a, 'b>(tokens: &'b [Token<'a>]) -> Option<(&'a [u8], &'b [Token<
     ensures value { option_map (λ x. (x.0.now, pieces x.1.now)) result ≡ front.name_at (pieces tokens.now) }
     ensures shorter { IfSome result (λ x. length x.1.now < length tokens.now) }
 {
-    let (first, rest) = tokens.split_first()?;
+    let Some((first, rest)) = tokens.split_first() else {
+        return None;
+    };
     match first.lexeme {
         Lexeme::Name(name) => Some((name, rest)),
         _ => None,
@@ -51,7 +55,9 @@ pub fn number_at<'a, 'b>(tokens: &'b [Token<'a>]) -> Option<(&'a [u8], &'b [Toke
     ensures value { option_map (λ x. (x.0.now, pieces x.1.now)) result ≡ front.number_at (pieces tokens.now) }
     ensures shorter { IfSome result (λ x. length x.1.now < length tokens.now) }
 {
-    let (first, rest) = tokens.split_first()?;
+    let Some((first, rest)) = tokens.split_first() else {
+        return None;
+    };
     match first.lexeme {
         Lexeme::Number(digits) => Some((digits, rest)),
         _ => None,

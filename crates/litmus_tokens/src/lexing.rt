@@ -32,20 +32,29 @@ pub fn limits_are_as_defined()
     ensures { MAX_NAME ≡ longest_name }
 {}
 
-#[tactic(auto, using(crate::proofs::Pieces::prefix_len_some))]
 fn digits_len(bytes: &[u8]) -> usize
     ensures value { result ≡ prefix_len char.is_ascii_digit bytes.now }
     ensures within { result ≤ length bytes.now }
     ensures some { 0 < length bytes.now → char.is_ascii_digit (slice_index bytes.now 0) ≡ true → 0 < result }
 {
-    bytes.iter().take_while(|b| b.is_ascii_digit()).count()
+    for at in 0..bytes.len() {
+        if !bytes[at].is_ascii_digit() {
+            return at;
+        }
+    }
+    bytes.len()
 }
 
 fn zeros_in_front(digits: &[u8]) -> usize
     ensures value { result ≡ prefix_len (λ d. d == 48) digits.now }
     ensures within { result ≤ length digits.now }
 {
-    digits.iter().take_while(|d| **d == b'0').count()
+    for at in 0..digits.len() {
+        if digits[at] != b'0' {
+            return at;
+        }
+    }
+    digits.len()
 }
 
 fn without_zeros(digits: &[u8]) -> &[u8]
@@ -55,13 +64,17 @@ fn without_zeros(digits: &[u8]) -> &[u8]
     rest
 }
 
-#[tactic(auto, using(crate::proofs::Pieces::prefix_len_some))]
 fn name_len(bytes: &[u8]) -> usize
     ensures value { result ≡ prefix_len names.continues_name bytes.now }
     ensures within { result ≤ length bytes.now }
     ensures some { 0 < length bytes.now → names.continues_name (slice_index bytes.now 0) ≡ true → 0 < result }
 {
-    bytes.iter().take_while(|b| continues_name(**b)).count()
+    for at in 0..bytes.len() {
+        if !continues_name(bytes[at]) {
+            return at;
+        }
+    }
+    bytes.len()
 }
 
 /// The number that digits say, if a word of 32 bits has room for it.

@@ -82,5 +82,11 @@ pub fn line_of(text: &[u8], remaining: usize) -> usize
     ensures { result ≡ line.line_of text.now remaining }
 {
     let (before, _) = text.split_at(text.len().saturating_sub(remaining));
-    1 + before.iter().filter(|b| **b == b'\n').count()
+    let mut ends = 0usize;
+    for byte in before {
+        if *byte == b'\n' {
+            ends += 1;
+        }
+    }
+    ends + 1
 }
