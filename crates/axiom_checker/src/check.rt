@@ -164,12 +164,16 @@ fn first_met<L: Ledger>(met: Met, order: &mut Watched<'_, L>) -> Option<Breach>
         return Some(Breach::WrongValue(x, due));
     }
     if let Some((at, a)) = met.late {
-        let b = first_overtaking(order, at, &a)?;
-        return Some(Breach::ProgramOrder(a, b));
+        return match first_overtaking(order, at, &a) {
+            Some(b) => Some(Breach::ProgramOrder(a, b)),
+            None => None,
+        };
     }
     if let Some(x) = met.separated {
         return Some(Breach::NotAdjacent(x));
     }
-    let (x, due) = met.wrong_read?;
-    Some(Breach::ReadValue(x, due))
+    match met.wrong_read {
+        Some((x, due)) => Some(Breach::ReadValue(x, due)),
+        None => None,
+    }
 }

@@ -80,8 +80,10 @@ pub fn source(
     requires sources { TellsSources made.now sources.now }
     ensures { ¬ IsExtra made.now x.now → IsSource made.now x.now result }
 {
-    let i = find(made, slots, x)?;
-    kept(sources, i)
+    match find(made, slots, x) {
+        Some(i) => kept(sources, i),
+        None => None,
+    }
 }
 
 /// The value that the programs give the entry.

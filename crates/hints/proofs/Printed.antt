@@ -1,5 +1,5 @@
 -- What is shown is printable, and so a text.
-use Rattle.std.proofs.Common.{◌≡◌, ◌++◌, ◌∷◌, [], List, ℕ, ◌≤◌, ◌<◌, true, length, codes, map, take, arith, refl}
+use Rattle.std.proofs.Common.{◌≡◌, ◌++◌, ◌∷◌, [], List, ◌≤◌, ◌<◌, true, length, codes, map, take, arith, refl, ℕ, zero, suc, ap}
 use Rattle.std.specs.List.{list_all}
 use Rattle.std.specs.Str.{IsUtf8}
 use Rattle.std.proofs.Math.Nat.{min-le_left}
@@ -38,3 +38,12 @@ is_hint bytes words text shown is =
       printable = rw shown (shown_are_printable (take most_hint_bytes bytes));
       short = rw (is, length-append (codes "hint: ") (words ++ (10 ∷ [])), length-append words (10 ∷ [])) (omega (arith, many));
     }
+
+-- so many first bytes as there are, and no more than there is room for
+pub cut : (n at : ℕ) (xs : List ℕ) → at ≤ n → at ≤ length xs → (at < n → length xs ≤ at) → take at xs ≡ take n xs
+cut zero zero xs a b h = refl
+cut (suc n) zero [] a b h = refl
+cut (suc n) zero (x ∷ xs) a b h = absurd (let z = h (omega arith) in omega (arith, z))
+cut zero (suc at) xs a b h = absurd (omega (arith, a))
+cut (suc n) (suc at) [] a b h = absurd (omega (arith, b))
+cut (suc n) (suc at) (x ∷ xs) a b h = ap (λ r. x ∷ r) (cut n at xs (omega (arith, a)) (omega (arith, b)) (λ lt. let z = h (omega (arith, lt)) in omega (arith, z)))

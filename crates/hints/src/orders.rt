@@ -91,7 +91,9 @@ fn bad_line(line: &mut Line, unknown_location: bool, entry: &[u8]) {
 
 /// The core or the place of an entry that is over 255.
 fn number_out_of_range(entry: &[u8]) -> Option<&[u8]> {
-    let digits = entry.strip_prefix(b"P")?;
+    let Some(digits) = entry.strip_prefix(b"P") else {
+        return None;
+    };
     let core = up_to(digits, b':');
     let place = up_to(after_byte(digits, b':'), b' ');
     let number = if is_over_a_byte(core) { core } else { place };

@@ -35,14 +35,15 @@ fn string_of(alloc: Global, bytes: &[u8]) -> Result<String, AllocError>
     String::from_utf8_lossy(alloc, bytes)
 }
 
+#[tactic(auto, using(std::proofs::lemmas::List::map_push))]
 fn printable_words(alloc: Global, words: &[u8]) -> Result<Vec<u8>, AllocError>
     ensures { IfOk result (λ v. v.items ≡ map shown_byte (take most_hint_bytes words.now)) }
 {
-    words
-        .iter()
-        .take(249)
-        .map(|byte| as_shown(*byte))
-        .collect(alloc)
+    let mut shown = Vec::new(alloc);
+    for at in 0..words.len().min(249) {
+        shown.push(as_shown(words[at]))?;
+    }
+    Ok(shown)
 }
 
 /// The byte itself from space to tilde, a space for white space, and a question mark for any other.
