@@ -45,7 +45,9 @@ impl<'a> Choices for Listed<'a> {
     ghost coming = { λ l. l.choices.now };
 
     fn next(&mut self) -> Option<Choice> {
-        let (first, rest) = self.choices.split_first()?;
+        let Some((first, rest)) = self.choices.split_first() else {
+            return None;
+        };
         self.choices = rest;
         Some(*first)
     }
