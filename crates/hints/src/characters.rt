@@ -74,8 +74,9 @@ fn says_foreign_at(line: &mut Line, place: &Place<'_>, said: &str) -> bool {
 
 /// The character at the front of a text, if it is in UTF-8 and not ASCII.
 fn character_at(text: &[u8]) -> Option<char> {
-    if text.first()?.is_ascii() {
-        return None;
+    match text.first() {
+        Some(first) if !first.is_ascii() => {}
+        _ => return None,
     }
     for length in 2..5 {
         if let Ok(text) = str::from_utf8(first_bytes(text, length)) {

@@ -64,10 +64,14 @@ fn listed_at(test: &Test, text: &[u8], core: Option<u32>, token: &Token<'_>) -> 
         return None;
     };
     let what = match core {
-        None => ListedName::Location(location_named(test, name)?),
-        Some(core) if core < u32::from(test.cores()) => {
-            ListedName::Register(Core(core as u8), Reg::from_name(name)?)
-        }
+        None => match location_named(test, name) {
+            Some(loc) => ListedName::Location(loc),
+            None => return None,
+        },
+        Some(core) if core < u32::from(test.cores()) => match Reg::from_name(name) {
+            Some(reg) => ListedName::Register(Core(core as u8), reg),
+            None => return None,
+        },
         Some(_) => return None,
     };
     Some(Listed {
