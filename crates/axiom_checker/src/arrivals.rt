@@ -77,9 +77,9 @@ pub fn first_missing(shape: &[Entry], came: &[Option<u32>]) -> Option<Entry>
     ensures found { IfSome result (λ e. (k : ℕ) × IsFirst shape.now (HasNotCome came.now) k e) }
     ensures none { IsNone result → IsNowhere shape.now (HasNotCome came.now) }
 {
-    for i in 0..shape.len() {
+    for (i, e) in shape.iter().enumerate() {
         if kept(came, i).is_none() {
-            return Some(shape[i]);
+            return Some(*e);
         }
     }
     None

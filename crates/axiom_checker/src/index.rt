@@ -36,8 +36,8 @@ pub fn index_of(alloc: Global, cores: u8, list: &[Entry]) -> Result<Vec<Option<u
     ensures { IfOk result (λ slots. IsIndex list.now slots.items) }
 {
     let mut slots = vec![in alloc; None; usize::from(cores) * SLOTS_OF_A_CORE]?;
-    for i in 0..list.len() {
-        slots[slot(&list[i])] = Some(i);
+    for (i, e) in list.iter().enumerate() {
+        slots[slot(e)] = Some(i);
     }
     Ok(slots)
 }

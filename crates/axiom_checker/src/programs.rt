@@ -19,8 +19,8 @@ pub fn reads_in_order(
     ensures { IfOk result (λ values. values.items ≡ reads_that_came 0 came.now shape.now) }
 {
     let mut values = Vec::new(alloc);
-    for i in 0..shape.len() {
-        if is_read(&shape[i]) {
+    for (i, e) in shape.iter().enumerate() {
+        if is_read(e) {
             values.push(kept(came, i).unwrap_or(0))?;
         }
     }
