@@ -108,7 +108,13 @@ pub fn settings_of(alloc: Global, words: &[&str]) -> Result<Settings, LineFault>
 {
     let matches = matches_of(alloc, words)?;
     match matches.subcommand() {
-        Some((name, inner)) => settings_in(name, inner).ok_or(LineFault::Range),
+        Some((name, inner)) => match settings_named(name, inner) {
+            Some(settings) => {
+                settings.know_limits();
+                Ok(settings)
+            }
+            None => Err(LineFault::Range),
+        },
         None => Err(LineFault::Range),
     }
 }
@@ -120,27 +126,19 @@ fn matches_of<'a>(alloc: Global, words: &'a [&'a str]) -> Result<ArgMatches<'a>,
 }
 
 /// The settings of a subcommand; `None` where a value is outside its limits.
-fn settings_in(name: &str, matches: &ArgMatches<'_>) -> Option<Settings>
-    ensures within { IfSome result IsWithinLimits }
-    ensures depth { IfSome result HasDepth }
-{
-    let settings = settings_named(name, matches)?;
-    settings.know_limits();
-    Some(settings)
-}
-
 fn settings_named(name: &str, matches: &ArgMatches<'_>) -> Option<Settings>
     ensures { IfSome result HasDepth }
 {
-    match Subcommand::named(name)? {
-        Subcommand::Run => run_settings(matches, false),
-        Subcommand::Trace => run_settings(matches, true),
-        Subcommand::Sweep => sweep_settings(matches),
-        Subcommand::Outcomes => outcomes_settings(matches),
-        Subcommand::Why => why_settings(matches),
-        Subcommand::Check => Some(Settings::Check),
-        Subcommand::Witness => witness_settings(matches),
-        Subcommand::Tables => Some(Settings::Tables(protocol_in(matches)?)),
+    match Subcommand::named(name) {
+        Some(Subcommand::Run) => run_settings(matches, false),
+        Some(Subcommand::Trace) => run_settings(matches, true),
+        Some(Subcommand::Sweep) => sweep_settings(matches),
+        Some(Subcommand::Outcomes) => outcomes_settings(matches),
+        Some(Subcommand::Why) => why_settings(matches),
+        Some(Subcommand::Check) => Some(Settings::Check),
+        Some(Subcommand::Witness) => witness_settings(matches),
+        Some(Subcommand::Tables) => Some(Settings::Tables(protocol_in(matches)?)),
+        None => None,
     }
 }
 
@@ -148,8 +146,9 @@ fn settings_named(name: &str, matches: &ArgMatches<'_>) -> Option<Settings>
 fn run_settings(matches: &ArgMatches<'_>, is_traced: bool) -> Option<Settings>
     ensures { IfSome result HasDepth }
 {
-    let protocol = protocol_in(matches)?;
-    let config = config_in(matches)?;
+    let (Some(protocol), Some(config)) = (protocol_in(matches), config_in(matches)) else {
+        return None;
+    };
     let json = matches.get_flag("json");
     Some(if is_traced {
         Settings::Trace {
@@ -169,11 +168,15 @@ fn run_settings(matches: &ArgMatches<'_>, is_traced: bool) -> Option<Settings>
 fn sweep_settings(matches: &ArgMatches<'_>) -> Option<Settings>
     ensures { IfSome result HasDepth }
 {
-    let protocol = protocol_in(matches)?;
-    let config = config_in(matches)?;
-    let from = matches.get_one::<u32>("from")?;
-    let seeds = matches.get_one::<u32>("seeds")?;
-    let length = matches.get_one::<u32>("length")?;
+    let (Some(protocol), Some(config), Some(from), Some(seeds), Some(length)) = (
+        protocol_in(matches),
+        config_in(matches),
+        matches.get_one::<u32>("from"),
+        matches.get_one::<u32>("seeds"),
+        matches.get_one::<u32>("length"),
+    ) else {
+        return None;
+    };
     Some(Settings::Sweep {
         protocol,
         config,
@@ -184,9 +187,14 @@ fn sweep_settings(matches: &ArgMatches<'_>) -> Option<Settings>
 fn outcomes_settings(matches: &ArgMatches<'_>) -> Option<Settings>
     ensures { IfSome result HasDepth }
 {
-    let depth = matches.get_one::<u8>("depth")?;
-    let states = matches.get_one::<u32>("states")?;
-    let search = SearchPlan::new(depth, states, show_in(matches)?)?;
+    let (Some(depth), Some(states), Some(show)) = (
+        matches.get_one::<u8>("depth"),
+        matches.get_one::<u32>("states"),
+        show_in(matches),
+    ) else {
+        return None;
+    };
+    let search = SearchPlan::new(depth, states, show)?;
     let json = matches.get_flag("json");
     let assert = matches.get_flag("assert");
     Some(Settings::Outcomes {
@@ -199,8 +207,9 @@ fn outcomes_settings(matches: &ArgMatches<'_>) -> Option<Settings>
 fn why_settings(matches: &ArgMatches<'_>) -> Option<Settings>
     ensures { IfSome result HasDepth }
 {
-    let model = model_in(matches)?;
-    let cases = matches.get_one::<u32>("cases")?;
+    let (Some(model), Some(cases)) = (model_in(matches), matches.get_one::<u32>("cases")) else {
+        return None;
+    };
     let plan = ReasonPlan::new(model, cases)?;
     let json = matches.get_flag("json");
     let assert = matches.get_flag("assert");
@@ -218,45 +227,49 @@ fn witness_settings(matches: &ArgMatches<'_>) -> Option<Settings>
 }
 
 fn config_in(matches: &ArgMatches<'_>) -> Option<Config> {
-    let depth = matches.get_one::<u8>("depth")?;
-    let sets = matches.get_one::<u8>("sets")?;
-    let ways = matches.get_one::<u8>("ways")?;
-    let words = matches.get_one::<u8>("words")?;
-    let shape = Shape::new(sets, ways, words)?;
-    Config::new(depth, shape, bus_in(matches)?)
+    let (Some(depth), Some(sets), Some(ways), Some(words), Some(bus)) = (
+        matches.get_one::<u8>("depth"),
+        matches.get_one::<u8>("sets"),
+        matches.get_one::<u8>("ways"),
+        matches.get_one::<u8>("words"),
+        bus_in(matches),
+    ) else {
+        return None;
+    };
+    Config::new(depth, Shape::new(sets, ways, words)?, bus)
 }
 
 fn bus_in(matches: &ArgMatches<'_>) -> Option<Bus> {
-    match matches.get_str("bus")? {
-        "atomic" => Some(Bus::Atomic),
-        "split" => Some(Bus::Split),
+    match matches.get_str("bus") {
+        Some("atomic") => Some(Bus::Atomic),
+        Some("split") => Some(Bus::Split),
         _ => None,
     }
 }
 
 fn show_in(matches: &ArgMatches<'_>) -> Option<Show> {
-    match matches.get_str("show")? {
-        "condition" => Some(Show::Condition),
-        "registers" => Some(Show::Registers),
-        "all" => Some(Show::All),
+    match matches.get_str("show") {
+        Some("condition") => Some(Show::Condition),
+        Some("registers") => Some(Show::Registers),
+        Some("all") => Some(Show::All),
         _ => None,
     }
 }
 
 fn model_in(matches: &ArgMatches<'_>) -> Option<Model> {
-    match matches.get_str("model")? {
-        "tso" => Some(Model::Tso),
-        "sc" => Some(Model::Sequential),
+    match matches.get_str("model") {
+        Some("tso") => Some(Model::Tso),
+        Some("sc") => Some(Model::Sequential),
         _ => None,
     }
 }
 
 fn protocol_in(matches: &ArgMatches<'_>) -> Option<ProtocolKind> {
-    match matches.get_str("protocol")? {
-        "msi" => Some(ProtocolKind::Msi),
-        "mesi" => Some(ProtocolKind::Mesi),
-        "moesi" => Some(ProtocolKind::Moesi),
-        "mosi" => Some(ProtocolKind::Mosi),
+    match matches.get_str("protocol") {
+        Some("msi") => Some(ProtocolKind::Msi),
+        Some("mesi") => Some(ProtocolKind::Mesi),
+        Some("moesi") => Some(ProtocolKind::Moesi),
+        Some("mosi") => Some(ProtocolKind::Mosi),
         _ => None,
     }
 }
