@@ -12,5 +12,5 @@ pub mod reading;
 
 pub use commit_order::{Commits, build};
 pub use fault::OrderFault;
-pub use printing::{entry_text, letters_of, order_text, write_order};
+pub use printing::{entry_text, letters_of, order_text, write_entry, write_order};
 pub use reading::read_order;

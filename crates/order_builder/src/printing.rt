@@ -72,7 +72,10 @@ fn write_entries(text: &mut String, test: &Test, order: &[Entry]) -> Result<(), 
     Ok(())
 }
 
-fn write_entry(text: &mut String, test: &Test, entry: &Entry) -> Result<(), NoMemory>
+/// Writes an entry after what a text has already, as [`entry_text`] has it.
+///
+/// Errors: out of memory only; the text may have grown then.
+pub fn write_entry(text: &mut String, test: &Test, entry: &Entry) -> Result<(), NoMemory>
     requires { HasLocation test.now entry.now }
     ensures text { OnOk result (string_bytes text.new ≡ string_bytes text.old ++ printed_entry test.now entry.now) }
     ensures word { OnOk result (HasWord entry.now) }

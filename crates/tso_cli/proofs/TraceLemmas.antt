@@ -4,7 +4,7 @@ use Rattle.simulator.specs.declared.simulation.Ending.{Ending}
 use Rattle.tso_report.specs.Shown.{ShownRun}
 use Rattle.trace_json.specs.TraceJson.{trace_json}
 use Rattle.trace_json.specs.TracedRun.{line_with, ending_members, json_ended, json_unended}
-use Rattle.tso_cli.specs.inner.Trace.{status_in}
+use Rattle.tso_cli.specs.inner.Trace.{lines_left, status_in}
 
 -- three pieces, one after the other
 pub three-pieces : (head trace ending first second all : List ℕ) → first ≡ head → second ≡ first ++ trace → all ≡ second ++ ending
@@ -12,9 +12,11 @@ pub three-pieces : (head trace ending first second all : List ℕ) → first ≡
 three-pieces head trace ending first second all is_first is_second is =
     is ∙ ap (λ (x : List ℕ). x ++ ending) (is_second ∙ ap (λ (x : List ℕ). x ++ trace) is_first) ∙ append_assoc head trace ending
 
--- what is after the trace of a run that ended
-pub ended-text : (t : Litmus) (counts : List Counts) (r : Run) (s : ShownRun) → r.ended ≡ true → s ≡ shown_of t counts r → body t s ≡ ending_text t counts r
-ended-text t counts r s ended is = ap (λ (x : ShownRun). body t x) is ∙ sym (rw ended refl)
+-- what is after the trace of a run
+pub lines-are : (t : Litmus) (counts : List Counts) (r : Run) (e : Ending) → IsEndingOf t r e → HasCounts counts e → lines_left t e ≡ ending_text t counts r
+lines-are t counts r (Ended run) is counted =
+    ap (λ (x : ShownRun). body t x) (is.1 ∙ ap (λ (cs : List Counts). shown_of t cs r) counted) ∙ sym (rw is.0 refl)
+lines-are t counts r (Unfinished used stalled) is counted = rw (is.0, is.1, is.2) refl
 
 -- what is printed as JSON of how a run left its test
 pub ending-is : (t : Litmus) (kind : ProtocolKind) (c : Configuration) (choices : List Choice) (e : Ending)

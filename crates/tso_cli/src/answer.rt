@@ -70,18 +70,16 @@ pub fn refused_test(
     if refusal.why == Why::NoMemory {
         return Err(NoMemory);
     }
-    let cause = Cause::Test {
-        asked,
-        length: text.len(),
-        fault,
-    };
     let line = refusal.line;
     let name = refusal.why.name();
-    let text = format!(in alloc; "Refused test line {line} {name}\n")?;
     Ok(Answer {
-        text,
+        text: format!(in alloc; "Refused test line {line} {name}\n")?,
         status: Status::Refused,
-        cause,
+        cause: Cause::Test {
+            asked,
+            length: text.len(),
+            fault,
+        },
     })
 }
 

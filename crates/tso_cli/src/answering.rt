@@ -55,18 +55,6 @@ pub fn answer_watched<S: Watcher>(
 {
     answers_meet_the_headline();
     settings.know_limits();
-    exact_answer(alloc, settings, input, watcher)
-}
-
-fn exact_answer<S: Watcher>(
-    alloc: Global,
-    settings: &Settings,
-    input: &[u8],
-    watcher: &mut S,
-) -> Result<Answer, NoMemory>
-    requires { HasDepth settings.now }
-    ensures { IfOk result (λ a. IsAnswer settings.now (Some input.now) (string_bytes a.text) a.status) }
-{
     match settings {
         Settings::Run { .. }
         | Settings::Trace { .. }

@@ -40,11 +40,10 @@ pub fn run_command<R: Read, W: Write>(
         → WritesBeginning W.contents writer.old.0 writer.new.0 (IsAnswer settings.now (R.remaining reader.old.0)) }
     ensures most { ConsumesAtMost (R.remaining reader.old.0) (R.remaining reader.new.0) (most_read settings.now) }
 {
-    Ok(
-        answer_command(alloc, reader, writer, settings, &mut Unwatched)?
-            .answer
-            .status,
-    )
+    match answer_command(alloc, reader, writer, settings, &mut Unwatched) {
+        Ok(answered) => Ok(answered.answer.status),
+        Err(fault) => Err(fault),
+    }
 }
 
 /// What a command read, and its answer, which is written. A hint is made of both.
@@ -89,27 +88,9 @@ pub fn answer_command<R: Read, W: Write, S: Watcher>(
 
     ensures most { ConsumesAtMost (R.remaining reader.old.0) (R.remaining reader.new.0) (most_read settings.now) }
 {
-    let answered = answer_from(alloc, reader, settings, watcher)?;
-    write_output(writer, answered.answer.text.as_bytes())?;
-    Ok(answered)
-}
-
-/// What the reader has, and the answer to it; `tables` reads nothing.
-fn answer_from<R: Read, S: Watcher>(
-    alloc: Global,
-    reader: &mut Counted<R>,
-    settings: &Settings,
-    watcher: &mut S,
-) -> Result<Answered, RunFault>
-    requires depth { HasDepth settings.now }
-    requires reader { reader.old.1 < 2 ^ 32 - 1 }
-    ensures exact { IfOk result (λ a. IsAnswer settings.now (R.remaining reader.old.0) (string_bytes a.answer.text) a.answer.status) }
-    ensures headline { IfOk result (λ a. Headline settings.now (R.remaining reader.old.0) (string_bytes a.answer.text)) }
-    ensures most { ConsumesAtMost (R.remaining reader.old.0) (R.remaining reader.new.0) (most_read settings.now) }
-    ensures faults { CountsReadFaults result reader.old.1 reader.new.1 }
-{
     let input = read_input(alloc, reader, most_read(settings))?;
     let answer = answer_watched(alloc, settings, &input, watcher)?;
+    write_output(writer, answer.text.as_bytes())?;
     Ok(Answered { input, answer })
 }
 

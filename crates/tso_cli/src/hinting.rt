@@ -94,6 +94,8 @@ fn with_runs(alloc: Global, hint: String, cause: &Cause) -> Result<String, NoMem
     requires { IsHint (string_bytes hint) }
     ensures { IfOk result (λ text. IsHintWithRuns (string_bytes text)) }
 {
+    let mut text = hint;
     let runs = runs_line(alloc, cause)?;
-    Ok(format!(in alloc; "{hint}{runs}")?)
+    text.push_str(&runs)?;
+    Ok(text)
 }

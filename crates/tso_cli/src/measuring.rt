@@ -43,15 +43,13 @@ fn used_in(ending: &Ending) -> usize
 pub fn refused_trace(alloc: Global, text: &[u8], word: usize) -> Result<Answer, NoMemory>
     ensures { IfOk result (λ a. Says a (choices_refusal (ChoiceFault.TooMany word)) Status.Refused) }
 {
-    let cause = Cause::TooManySteps {
-        length: text.len(),
-        word,
-        most: MAX_STEPS,
-    };
-    let text = format!(in alloc; "Refused choices word {word} TooMany\n")?;
     Ok(Answer {
-        text,
+        text: format!(in alloc; "Refused choices word {word} TooMany\n")?,
         status: Status::Refused,
-        cause,
+        cause: Cause::TooManySteps {
+            length: text.len(),
+            word,
+            most: MAX_STEPS,
+        },
     })
 }

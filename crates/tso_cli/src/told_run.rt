@@ -1,15 +1,18 @@
 //! A run whose choices are told as they are made: a line is written for each, by an observer that sees the machine before it and
 //! after it.
 
-ghost use Rattle.std.specs.Prelude.{◌≡◌, ◌++◌, IfOk, OnOk, length, string_bytes};
+ghost use Rattle.std.specs.Prelude.{◌≡◌, ◌++◌, false, IfOk, OnOk, length, string_bytes};
 ghost use Rattle.tso_model.specs.Runs.{CoresExist};
-ghost use Rattle.trace_report.specs.Lines.{trace_text};
-ghost use Rattle.trace_report.specs.Steps.{trace_under};
+ghost use Rattle.scheduler.specs.Grammar.{SpellsChoices};
 ghost use Rattle.trace_report.specs.Told.{IsTraced, IsTracedInStates};
-ghost use Rattle.simulator.specs.Runs.{run_under, counts_under, AnswersFit};
-ghost use Rattle.simulator.specs.Simulation.{IsEndingOf, FitsEnding, HasCounts};
+ghost use Rattle.simulator.specs.Simulation.{FitsEnding};
+ghost use Rattle.tso_cli.specs.Trace.{IsTraceAnswer};
 ghost use Rattle.tso_cli.specs.inner.Telling.{Opens, Tells, Closes};
+ghost use Rattle.tso_cli.specs.inner.Trace.{lines_left};
 
+use crate::answer::Answer;
+use crate::running::cause_of;
+use crate::tracing::status_in;
 use machine_core::{Choice, Config, Machine, Outcome};
 use protocol_tables::Protocol;
 use scheduler::Stalls;
@@ -20,46 +23,55 @@ use trace_report::{
     Told, states_of, tell_or_stall, write_end, write_stall, write_start, write_step,
 };
 use tso_model::{NoMemory, Test};
+use tso_report::{head_text, write_body};
 
-/// How a run left its test, a text to which its trace was added, and which choices stalled.
-#[derive(Drop)]
-pub(crate) struct ToldRun {
-    pub(crate) ending: Ending,
-    pub(crate) text: String,
-    pub(crate) stalls: Stalls,
-}
-
-/// Runs a test under a list of choices, and adds the run's trace to a text. Each choice is made once.
+/// The answer of `trace` as lines. The run is made once: its trace is written as its choices are made, and what stands after it
+/// is what the machine is left with.
 ///
 /// Errors: out of memory only.
-pub(crate) fn simulate_telling(
-    text: String,
+pub(crate) fn lines_answer(
     alloc: Global,
     setup: &Setup<'_>,
+    text: &[u8],
     choices: &[Choice],
-) -> Result<ToldRun, NoMemory>
-    requires { CoresExist (length setup.now.test.now.programs) choices.now }
-    ensures trace { IfOk result (λ r. string_bytes r.text ≡ string_bytes text ++ trace_text setup.now.test.now setup.now.config.shape.words (trace_under setup.now.test.now setup.now.protocol setup.now.config choices.now)) }
-    ensures ending { IfOk result (λ r. IsEndingOf setup.now.test.now (run_under setup.now.test.now setup.now.protocol setup.now.config choices.now) r.ending) }
-    ensures fits { IfOk result (λ r. FitsEnding setup.now.test.now r.ending) }
-    ensures answers { OnOk result (AnswersFit setup.now.test.now setup.now.protocol setup.now.config choices.now) }
-    ensures counts { IfOk result (λ r. HasCounts (counts_under setup.now.test.now setup.now.protocol setup.now.config choices.now) r.ending) }
+) -> Result<Answer, NoMemory>
+    requires cores { CoresExist (length setup.now.test.now.programs) choices.now }
+    requires spelled { SpellsChoices (length setup.now.test.now.programs) text.now choices.now }
+    ensures { IfOk result (λ a. IsTraceAnswer setup.now.test.now setup.now.protocol setup.now.config false text.now (string_bytes a.text) a.status) }
 {
+    let head = head_text(alloc, setup.test, setup.protocol, setup.config)?;
     let mut teller = Teller {
         alloc,
         test: setup.test,
         config: setup.config,
         states: Vec::new(alloc),
         made: 0,
-        text,
+        text: head,
         stalls: Stalls::none(),
     };
     let ending = simulate_observed(alloc, setup, choices, &mut teller)?;
-    Ok(ToldRun {
-        ending,
-        text: teller.text,
-        stalls: teller.stalls,
+    let mut lines = teller.text;
+    write_left(&mut lines, setup.test, &ending)?;
+    let status = status_in(&ending);
+    Ok(Answer {
+        text: lines,
+        status,
+        cause: cause_of(status, setup, text, teller.stalls),
     })
+}
+
+/// Writes what stands after a trace: the rest of the report of a run that ended, or how far it came.
+fn write_left(text: &mut String, test: &Test, ending: &Ending) -> Result<(), NoMemory>
+    requires { FitsEnding test.now ending.now }
+    ensures { OnOk result (string_bytes text.new ≡ string_bytes text.old ++ lines_left test.now ending.now) }
+{
+    match ending {
+        Ending::Ended(run) => write_body(text, test, run),
+        Ending::Unfinished { used, stalled } => {
+            write!(text, "Unfinished used={used} stalled={stalled}\n")?;
+            Ok(())
+        }
+    }
 }
 
 /// Writes a line for each choice, and notes which choices stalled.

@@ -1,20 +1,16 @@
 //! The answer of `trace`: what `run` answers, and with it what each choice did. Both are of one run, or the trace would
 //! explain another one.
 
-ghost use Rattle.std.specs.Prelude.{◌≡◌, true, false, IfOk, OnOk, length, string_bytes};
+ghost use Rattle.std.specs.Prelude.{◌≡◌, true, IfOk, length, string_bytes};
 ghost use Rattle.tso_model.specs.Runs.{CoresExist};
 ghost use Rattle.scheduler.specs.Grammar.{SpellsChoices};
-ghost use Rattle.tso_cli.specs.CommandAnswers.{status_under};
-ghost use Rattle.simulator.specs.Runs.{AnswersFit};
-ghost use Rattle.tso_cli.specs.Trace.{traced_in, IsTraceAnswer};
-ghost use Rattle.tso_cli.specs.inner.Answers.{Says};
+ghost use Rattle.tso_cli.specs.Trace.{IsTraceAnswer};
 ghost use Rattle.tso_cli.specs.inner.Trace.{status_in};
 
 use crate::answer::{Answer, Status};
 use crate::measuring::{refused_trace, word_too_far};
 use crate::running::{cause_of, refused_choices};
-use crate::told_run::simulate_telling;
-use hints::Cause;
+use crate::told_run::lines_answer;
 use machine_core::{Choice, Config};
 use protocol_tables::ProtocolKind;
 use scheduler::{read_choices, spelled_cores_exist};
@@ -22,7 +18,6 @@ use simulator::{Ending, Setup};
 use std::alloc::Global;
 use trace_json::{TracedRun, simulate_tracing, traced_json};
 use tso_model::{NoMemory, Test};
-use tso_report::{head_text, write_body};
 
 /// The answer of `trace` to a test and the text of choices, plain or as JSON: what `run` answers, with what each choice did.
 /// As JSON it is refused where more choices are used than a trace may have steps.
@@ -45,63 +40,14 @@ pub fn trace_answer(
         config,
     };
     match read_choices(alloc, test.cores(), text) {
-        Ok(choices) => answer_under(alloc, &setup, json, text, &choices),
+        Ok(choices) => {
+            if json {
+                object_answer(alloc, &setup, text, &choices)
+            } else {
+                lines_answer(alloc, &setup, text, &choices)
+            }
+        }
         Err(fault) => refused_choices(alloc, test, text, fault),
-    }
-}
-
-/// The answer to the choices that the text spells, plain or as JSON.
-fn answer_under(
-    alloc: Global,
-    setup: &Setup<'_>,
-    json: bool,
-    text: &[u8],
-    choices: &[Choice],
-) -> Result<Answer, NoMemory>
-    requires cores { CoresExist (length setup.now.test.now.programs) choices.now }
-    requires spelled { SpellsChoices (length setup.now.test.now.programs) text.now choices.now }
-    ensures { IfOk result (λ a. IsTraceAnswer setup.now.test.now setup.now.protocol setup.now.config json text.now (string_bytes a.text) a.status) }
-{
-    if json {
-        object_answer(alloc, setup, text, choices)
-    } else {
-        let answer = lines_answer(alloc, setup, text, choices)?;
-        Ok(answer)
-    }
-}
-
-/// The answer as lines. The run is made once: its trace is written as its choices are made, and what stands after it is what
-/// the machine is left with.
-fn lines_answer(
-    alloc: Global,
-    setup: &Setup<'_>,
-    text: &[u8],
-    choices: &[Choice],
-) -> Result<Answer, NoMemory>
-    requires { CoresExist (length setup.now.test.now.programs) choices.now }
-    ensures says { IfOk result (λ a. Says a (traced_in false setup.now.test.now setup.now.protocol setup.now.config choices.now) (status_under setup.now.test.now setup.now.protocol setup.now.config choices.now)) }
-    ensures answers { OnOk result (AnswersFit setup.now.test.now setup.now.protocol setup.now.config choices.now) }
-{
-    let head = head_text(alloc, setup.test, setup.protocol, setup.config)?;
-    let told = simulate_telling(head, alloc, setup, choices)?;
-    let mut lines = told.text;
-    match told.ending {
-        Ending::Ended(run) => {
-            write_body(&mut lines, setup.test, &run)?;
-            Ok(Answer {
-                text: lines,
-                status: Status::Good,
-                cause: Cause::Nothing,
-            })
-        }
-        Ending::Unfinished { used, stalled } => {
-            write!(lines, "Unfinished used={used} stalled={stalled}\n")?;
-            Ok(Answer {
-                text: lines,
-                status: Status::Unended,
-                cause: cause_of(Status::Unended, setup, text, told.stalls),
-            })
-        }
     }
 }
 

@@ -11,7 +11,7 @@ use explorer::FinalState;
 use hints::{Cause, SearchEnd, Sighting};
 use std::alloc::Global;
 use tso_laws::ended_runs_are_executions;
-use tso_model::{Choice, Cond, NoMemory, Test, cond_holds};
+use tso_model::{Cond, NoMemory, Test, cond_holds};
 
 /// Of what the hint is made beside the answer of a search that ended at its limit and had met these final states: how many
 /// they are, and, of the first that makes the condition's proposition true, the choices that lead there.
@@ -25,7 +25,19 @@ pub fn cause_of_end(
 ) -> Result<Cause, NoMemory>
     requires { AreReached test.now search.depth finals.now }
 {
-    let sighting = sighting_in(alloc, test, search.depth(), finals)?;
+    ended_runs_are_executions();
+    test.know_limits();
+    let sighting = match test.cond() {
+        Some(cond) => match first_met(cond, finals) {
+            Some(found) => {
+                let mut choices = Vec::new(alloc);
+                choices.extend_from_slice(&found.choices)?;
+                Sighting::Met(choices)
+            }
+            None => Sighting::None,
+        },
+        None => Sighting::NoCondition,
+    };
     Ok(Cause::TooManyStates(SearchEnd {
         most: search.states(),
         is_raisable: search.states() < MAX_STATES,
@@ -33,28 +45,6 @@ pub fn cause_of_end(
         finals: finals.len(),
         sighting,
     }))
-}
-
-/// Whether one of these final states makes the proposition true.
-///
-/// Errors: out of memory only.
-fn sighting_in(
-    alloc: Global,
-    test: &Test,
-    depth: u8,
-    finals: &[FinalState],
-) -> Result<Sighting, NoMemory>
-    requires { AreReached test.now depth finals.now }
-{
-    ended_runs_are_executions();
-    test.know_limits();
-    let Some(cond) = test.cond() else {
-        return Ok(Sighting::NoCondition);
-    };
-    match first_met(cond, finals) {
-        Some(found) => Ok(Sighting::Met(copy_of(alloc, &found.choices)?)),
-        None => Ok(Sighting::None),
-    }
 }
 
 /// The first of the final states that makes the proposition true.
@@ -67,10 +57,4 @@ fn first_met<'a>(cond: &Cond, finals: &'a [FinalState]) -> Option<&'a FinalState
         }
     }
     None
-}
-
-fn copy_of(alloc: Global, choices: &[Choice]) -> Result<Vec<Choice>, NoMemory> {
-    let mut copy = Vec::new(alloc);
-    copy.extend_from_slice(choices)?;
-    Ok(copy)
 }

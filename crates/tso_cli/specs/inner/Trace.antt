@@ -1,7 +1,9 @@
--- What is taken of a simulation for a trace as JSON: how many choices it used, the status of the answer, and the first choice
--- that is too many.
+-- What is taken of a simulation for a trace: how many choices it used, what stands after its lines, the status of the answer,
+-- and, as JSON, the first choice that is too many.
 use Rattle.std.specs.Prelude.{ℕ, true, List, length, Option, Some, None}
-use Rattle.tso_cli.specs.Vocabulary.{Ended, Ending, IsWordOfChoice, Litmus, most_steps, Run, Unfinished}
+use Rattle.tso_report.specs.Shown.{shown_run}
+use Rattle.tso_cli.specs.Vocabulary.{body, Ended, Ending, IsWordOfChoice, Litmus, most_steps, Run, Unfinished}
+use Rattle.tso_cli.specs.Lines.{unfinished_run_line}
 use Rattle.tso_cli.specs.Trace.{FitsForm, IsTooLong}
 use Rattle.tso_cli.specs.declared.answer.Status.{Status}
 use Rattle.tso_cli.specs.declared.answer.Status.TheVariants.{Good, Unended}
@@ -10,6 +12,11 @@ use Rattle.tso_cli.specs.declared.answer.Status.TheVariants.{Good, Unended}
 abbrev pub used_in : Ending → ℕ
 used_in (Ended run) = run.used
 used_in (Unfinished used stalled) = used
+
+-- what stands after the trace, as lines: the rest of the report, or how far the run came
+abbrev pub lines_left : Litmus → Ending → List ℕ
+lines_left t (Ended run) = body t (shown_run run)
+lines_left t (Unfinished used stalled) = unfinished_run_line used stalled
 
 -- the status of the answer
 abbrev pub status_in : Ending → Status
