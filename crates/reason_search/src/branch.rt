@@ -21,8 +21,8 @@ pub enum Conflict {
 /// A change that is undone later.
 #[derive(Clone, Copy)]
 pub enum Change {
-    /// The word at this place of the rows was this one.
-    Word(usize, u64),
+    /// This word of this row was this one.
+    Word(usize, usize, u64),
     /// The last edge that leaves here was this one.
     Head(usize, usize),
     Source(usize),
@@ -203,7 +203,7 @@ pub fn mark_here(branch: &Branch) -> Mark {
 pub fn undo(branch: &mut Branch, mark: &Mark) {
     for _change in mark.trail..branch.trail.len() {
         match branch.trail.pop() {
-            Change::Word(place, bits) => branch.rows.words.put(place, bits),
+            Change::Word(row, k, bits) => branch.rows.put_word(row, k, bits),
             Change::Head(place, edge) => branch.heads.put(place, edge),
             Change::Source(r) => branch.source.put(r, NONE),
             Change::Moment(place) => branch.moments.put(place, NEVER),
@@ -218,10 +218,9 @@ pub fn undo(branch: &mut Branch, mark: &Mark) {
 
 /// Writes a word of a row.
 pub fn change_word(branch: &mut Branch, row: usize, k: usize, bits: u64) {
-    let place = branch.rows.place(row, k);
-    let old = branch.rows.words.at(place);
-    branch.trail.push(Change::Word(place, old));
-    branch.rows.words.put(place, bits);
+    let old = branch.rows.word(row, k);
+    branch.trail.push(Change::Word(row, k, old));
+    branch.rows.put_word(row, k, bits);
 }
 
 /// Adds a fact, and gives its number.

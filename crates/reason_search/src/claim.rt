@@ -3,8 +3,7 @@
 use crate::lists::{List, NONE};
 use crate::problem::{Problem, RELEVANT, STORED, Term, add_reads, register_place};
 use crate::rows::bit;
-use std::alloc::Global;
-use tso_model::{Prop, Quantifier, Test};
+use tso_model::Prop;
 
 /// What a value has to be: this number, or any other one.
 #[derive(Clone, Copy)]
@@ -54,7 +53,7 @@ impl Parts {
 
 /// Whether a value is as it has to be, or isn't known.
 pub fn can_be(demand: Demand, value: usize) -> bool {
-    value == NONE || (value == demand.number as usize) == demand.truth
+    (value == NONE) | ((value == demand.number as usize) == demand.truth)
 }
 
 /// A part that says of a term that it has a number, or hasn't.
@@ -73,18 +72,12 @@ fn term_part(term: Term, number: u32, truth: bool) -> Part {
 }
 
 /// Adds the parts of what says that a proposition has this truth.
-fn add_parts(
-    parts: &mut List<Part>,
-    problem: &Problem,
-    registers: &List<Term>,
-    prop: &Prop,
-    truth: bool,
-) {
+pub fn add_parts(problem: &mut Problem, registers: &List<Term>, prop: &Prop, truth: bool) {
     match prop {
-        Prop::Truth(value) => parts.push(Part::Fixed(*value == truth)),
+        Prop::Truth(value) => problem.claim.push(Part::Fixed(*value == truth)),
         Prop::RegIs(core, reg, number) => {
             let held = registers.at(register_place(*core, *reg));
-            parts.push(term_part(held, *number, truth));
+            problem.claim.push(term_part(held, *number, truth));
         }
         Prop::LocIs(loc, number) => {
             let x = usize::from(loc.0);
@@ -92,43 +85,24 @@ fn add_parts(
             if problem.writes_to.next(x, 0) != NONE {
                 last.first = x;
             }
-            parts.push(term_part(last, *number, truth));
+            problem.claim.push(term_part(last, *number, truth));
         }
-        Prop::Not(inner) => add_parts(parts, problem, registers, inner, !truth),
+        Prop::Not(inner) => add_parts(problem, registers, inner, !truth),
         Prop::And(left, right) | Prop::Or(left, right) => {
-            let place = parts.len();
-            parts.push(Part::Fixed(true));
-            add_parts(parts, problem, registers, left, truth);
-            let second = parts.len();
-            add_parts(parts, problem, registers, right, truth);
+            let place = problem.claim.len();
+            problem.claim.push(Part::Fixed(true));
+            add_parts(problem, registers, left, truth);
+            let second = problem.claim.len();
+            add_parts(problem, registers, right, truth);
             let both = matches!(prop, Prop::And(..)) == truth;
-            parts.put(
-                place,
-                if both {
-                    Part::Both(second)
-                } else {
-                    Part::Either(second)
-                },
-            );
+            let part = if both {
+                Part::Both(second)
+            } else {
+                Part::Either(second)
+            };
+            problem.claim.put(place, part);
         }
     }
-}
-
-/// The parts of what a test asks; without a condition it is so, whatever the events do.
-pub fn parts_of(
-    alloc: Global,
-    problem: &Problem,
-    registers: &List<Term>,
-    test: &Test,
-) -> List<Part> {
-    let mut parts = List::new(alloc, 0, Part::Fixed(true));
-    if let Some(cond) = test.cond() {
-        let truth = !matches!(cond.quantifier, Quantifier::Forall);
-        add_parts(&mut parts, problem, registers, &cond.prop, truth);
-    } else {
-        parts.push(Part::Fixed(true));
-    }
-    parts
 }
 
 /// Marks the locations and reads that what is asked names, and those on whose values theirs may hang.
@@ -158,7 +132,7 @@ pub fn mark_relevant(problem: &mut Problem) {
             if problem.reads.has(RELEVANT, a) {
                 problem.reads.add(RELEVANT, loc);
             }
-            if problem.reads.has(RELEVANT, loc) && problem.is_write_to(loc, a) {
+            if problem.reads.has(RELEVANT, loc) & problem.writes_to.has(loc, a) {
                 add_reads(&mut problem.reads, RELEVANT, problem.terms.at(a));
             }
         }

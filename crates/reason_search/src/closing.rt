@@ -53,8 +53,8 @@ fn add_pair_above(
     second: usize,
     tree: usize,
 ) -> usize {
-    let is_turned = first == turned.second && second == turned.first;
-    if is_turned || problem.is_initial(first) {
+    let is_turned = (first == turned.second) & (second == turned.first);
+    if is_turned | (first < problem.locations) {
         return tree;
     }
     let fact = branch.moment(problem, first, second).facts;

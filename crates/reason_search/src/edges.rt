@@ -57,7 +57,7 @@ fn widen_each(branch: &mut Branch, some: Ends, first: usize, added: Ends) {
 /// other way round. It may close a cycle.
 pub fn add_edge(problem: &Problem, branch: &mut Branch, relations: Relations, link: Link) {
     let Link { from: a, to: b, .. } = link;
-    if branch.is_closed() || branch.is_known(relations, a, b) {
+    if branch.is_closed() | branch.is_known(relations, a, b) {
         return;
     }
     let place = relations.row(branch.size, a);
@@ -94,8 +94,8 @@ pub fn add_edge(problem: &Problem, branch: &mut Branch, relations: Relations, li
 
 /// One write comes before another one, unless the branch is closed. Each is before itself.
 pub fn put_before(problem: &Problem, branch: &mut Branch, a: usize, b: usize, tried: bool) {
-    let is_known = problem.is_initial(a) || branch.is_known(Relations::Coherence, a, b);
-    if a == b || is_known || branch.is_closed() {
+    let is_known = (a < problem.locations) | branch.is_known(Relations::Coherence, a, b);
+    if (a == b) | is_known | branch.is_closed() {
         return;
     }
     put_moment(problem, branch, a, b);
@@ -140,7 +140,7 @@ pub fn put_program(problem: &Problem, branch: &mut Branch) {
             // It comes before those to its location that stand later in its program.
             let row = Relations::OnLocation.row(branch.size, a);
             for b in a.wrapping_add(1)..problem.size {
-                if problem.program.has(row, b) && problem.is_write_to(event.location, b) {
+                if problem.program.has(row, b) & problem.writes_to.has(event.location, b) {
                     put_before(problem, branch, a, b, false);
                 }
             }

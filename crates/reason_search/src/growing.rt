@@ -101,7 +101,7 @@ pub fn cycle_of(
     let mut cycle = List::new(alloc, 0, NO_EVENT.entry);
     for i in 0..length {
         let a = events.at(start.wrapping_add(i));
-        cycle.push(problem.entry(a));
+        cycle.push(problem.events.at(a).entry);
     }
     cycle.into_items()
 }

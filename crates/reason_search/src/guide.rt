@@ -28,11 +28,20 @@ pub struct Guide {
     open: List<usize>,
 }
 
-/// Searches. Where all is closed, a tree is proposed: the smallest of those that are found in a few tries, each at no more cases than
-/// the first one took.
-fn search(guide: &mut Guide) {
+/// Searches: a tree, or a branch that is open to the end, or neither. Where memory is refused, the search ends, and `proposed_order`
+/// tells it. Where all is closed, the tree is the smallest of those that are found in a few tries, each at no more cases than the first
+/// one took.
+pub fn make_guide(alloc: Global, test: &Test, events: &[Entry], model: Model) -> Guide {
+    let problem = make_problem(alloc, test, events, model);
+    let mut guide = Guide {
+        hunt: make_hunt(alloc, &problem),
+        problem,
+        is_allowed: false,
+        trees: no_trees(alloc),
+        open: List::new(alloc, 0, NONE),
+    };
     if guide.problem.is_refused() {
-        return;
+        return guide;
     }
     let hunt = &mut guide.hunt;
     let mut found = hunt_for(&guide.problem, hunt, MOST_CASES);
@@ -50,27 +59,13 @@ fn search(guide: &mut Guide) {
                 guide.open.push(root);
             }
         }
-        let is_small = leaves < 3 || leaves == NONE;
-        let is_late = tries == MOST_TRIES || tries.wrapping_mul(effort) > 4_000;
-        if is_small || is_late || is_refused(hunt) {
+        let is_small = (leaves < 3) | (leaves == NONE);
+        let is_late = (tries == MOST_TRIES) | (tries.wrapping_mul(effort) > 4_000);
+        if is_small | is_late | is_refused(hunt) {
             break;
         }
         found = hunt_again(&guide.problem, hunt, effort);
     }
-}
-
-/// Searches: a tree, or a branch that is open to the end, or neither. Where memory is refused, the search ends, and `proposed_order`
-/// tells it.
-pub fn make_guide(alloc: Global, test: &Test, events: &[Entry], model: Model) -> Guide {
-    let problem = make_problem(alloc, test, events, model);
-    let mut guide = Guide {
-        hunt: make_hunt(alloc, &problem),
-        problem,
-        is_allowed: false,
-        trees: no_trees(alloc),
-        open: List::new(alloc, 0, NONE),
-    };
-    search(&mut guide);
     guide
 }
 
@@ -114,8 +109,11 @@ pub fn propose(alloc: Global, guide: &mut Guide) -> Result<Option<Node>, NoMemor
     }
     let problem = &guide.problem;
     Ok(Some(match twig.growth {
-        Growth::ReadsFrom(r) => Node::ReadsFrom(problem.entry(r)),
-        Growth::ComesFirst(a, b) => Node::ComesFirst(problem.entry(a), problem.entry(b)),
+        Growth::ReadsFrom(r) => Node::ReadsFrom(problem.events.at(r).entry),
+        Growth::ComesFirst(a, b) => Node::ComesFirst(
+            problem.events.at(a).entry,
+            problem.events.at(b).entry,
+        ),
         Growth::Cycle(relations, start, length) => {
             let cycle = cycle_of(alloc, problem, &guide.trees.events, start, length)?;
             match relations {
@@ -124,7 +122,11 @@ pub fn propose(alloc: Global, guide: &mut Guide) -> Result<Option<Node>, NoMemor
             }
         }
         Growth::Between(r, v, w) => {
-            Node::Between(problem.entry(r), problem.entry(v), problem.entry(w))
+            Node::Between(
+                problem.events.at(r).entry,
+                problem.events.at(v).entry,
+                problem.events.at(w).entry,
+            )
         }
         Growth::False => Node::FalseClaim,
     }))

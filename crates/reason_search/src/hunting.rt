@@ -5,12 +5,12 @@ use crate::branch::{Branch, DIRTY, Mark, VALUED, look_at_all, make_branch, mark_
 use crate::chance::{Chance, FIRST_CHANCE};
 use crate::choosing::{Ask, Choice, choose};
 use crate::edges::{put_before, put_program};
-use crate::evidence::make_evidence;
+use crate::evidence::{lacks_memory, make_evidence};
 use crate::growing::no_trees;
 use crate::lists::{List, NONE};
 use crate::looking::{deduce, put_source};
 use crate::offers::Desk;
-use crate::paths::make_paths;
+use crate::paths::{lack_memory, make_paths};
 use crate::problem::Problem;
 use crate::questions::{Frame, NO_FRAME, Questions, begin};
 use crate::reasoning::{add_conflict, add_order_question, add_source_question, wrap};
@@ -76,7 +76,18 @@ pub fn make_hunt(alloc: Global, problem: &Problem) -> Hunt {
 
 /// Whether memory was refused.
 pub fn is_refused(hunt: &Hunt) -> bool {
-    hunt.branch.is_refused() | hunt.desk.is_refused() | hunt.questions.is_refused()
+    let desk = &hunt.desk;
+    hunt.branch.is_refused()
+        | hunt.questions.is_refused()
+        | lack_memory(&desk.paths)
+        | lack_memory(&desk.inner)
+        | lacks_memory(&desk.best)
+        | lacks_memory(&desk.trial)
+        | desk.trees.twigs.is_refused
+        | desk.trees.events.is_refused
+        | desk.used.words.is_refused
+        | desk.branches.is_refused
+        | desk.weights.of.is_refused
 }
 
 /// Tries an answer of a question. False where that closes the branch.
@@ -153,7 +164,7 @@ fn go_back(problem: &Problem, hunt: &mut Hunt) -> usize {
 fn search(problem: &Problem, hunt: &mut Hunt) -> Find {
     for _case in 0..u64::MAX {
         hunt.cases = hunt.cases.wrapping_add(1);
-        if hunt.cases > hunt.pause || is_refused(hunt) {
+        if (hunt.cases > hunt.pause) | is_refused(hunt) {
             return Find::Paused;
         }
         if deduce(problem, &mut hunt.branch) {
@@ -210,7 +221,7 @@ pub fn hunt_for(problem: &Problem, hunt: &mut Hunt, most: usize) -> Find {
     for _round in 0..u64::MAX {
         hunt.pause = hunt.cases.wrapping_add(step);
         let found = search(problem, hunt);
-        if !matches!(found, Find::Paused) || hunt.cases > most || is_refused(hunt) {
+        if !matches!(found, Find::Paused) | (hunt.cases > most) | is_refused(hunt) {
             return found;
         }
         start_anew(hunt);

@@ -9,7 +9,7 @@ pub const NONE: usize = usize::MAX;
 /// A list that has `none` wherever it has no item. Where memory is refused it notes that, and stays as it is.
 #[derive(Drop)]
 pub struct List<T: Copy> {
-    items: Vec<T>,
+    pub items: Vec<T>,
     none: T,
     /// Whether memory was refused.
     pub is_refused: bool,
@@ -33,7 +33,11 @@ impl<T: Copy> List<T> {
 
     /// The item at a place.
     pub fn at(&self, i: usize) -> T {
-        self.items.get(i).copied().unwrap_or(self.none)
+        if i < self.items.len() {
+            self.items[i]
+        } else {
+            self.none
+        }
     }
 
     /// Adds an item.
@@ -48,15 +52,8 @@ impl<T: Copy> List<T> {
 
     /// Writes an item at a place that there is.
     pub fn put(&mut self, i: usize, item: T) {
-        if let Some(place) = self.items.get_mut(i) {
-            *place = item;
-        }
-    }
-
-    /// Writes `none` at each place.
-    pub fn blank(&mut self) {
-        for place in &mut self.items {
-            *place = self.none;
+        if i < self.items.len() {
+            self.items[i] = item;
         }
     }
 

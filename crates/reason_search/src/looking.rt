@@ -8,7 +8,7 @@ use crate::facts::{Answer, Link};
 use crate::lists::NONE;
 use crate::problem::{Problem, RELEVANT, Relations, STORED};
 use crate::rows::{bit, lowest};
-use crate::values::{find_values, is_false, is_wrong_source, is_wrong_value, known_facts};
+use crate::values::{find_values, is_wrong_source, is_wrong_value, known_facts, parts_that_can_be};
 
 /// Marks what may have as its source a write whose value hangs on a read; and where `all` says so, each read with no source on whose
 /// value what is asked may hang.
@@ -17,11 +17,11 @@ fn look_at_dependents(problem: &Problem, branch: &mut Branch, r: usize, all: boo
         let event = problem.events.at(a);
         if event.writes {
             let term = problem.terms.at(a);
-            if term.first == r || term.second == r {
+            if (term.first == r) | (term.second == r) {
                 branch.sets.join(DIRTY, &problem.readers_of, event.location);
             }
         }
-        if all && problem.reads.has(RELEVANT, a) && branch.source.at(a) == NONE {
+        if all & problem.reads.has(RELEVANT, a) & (branch.source.at(a) == NONE) {
             branch.sets.add(DIRTY, a);
         }
     }
@@ -41,12 +41,12 @@ pub fn put_source(problem: &Problem, branch: &mut Branch, r: usize, w: usize, tr
     branch.sets.add(DIRTY, r);
     let is_stored = problem.reads.has(STORED, r);
     let hangs = problem.terms.at(w).first != NONE;
-    let all = hangs && problem.reads.has(RELEVANT, r);
-    if is_stored || all {
+    let all = hangs & problem.reads.has(RELEVANT, r);
+    if is_stored | all {
         look_at_dependents(problem, branch, r, all);
     }
     // What no other value hangs on was tested as a source.
-    branch.claim_is_dirty |= hangs || is_stored;
+    branch.claim_is_dirty |= hangs | is_stored;
     add_edge(problem, branch, Relations::OnLocation, link);
     if problem.is_global_source(w, r) {
         add_edge(problem, branch, Relations::Global, link);
@@ -90,11 +90,6 @@ fn put_each(problem: &Problem, branch: &mut Branch, put: Put, k: usize, some: u6
     }
 }
 
-/// A word of what is before an event on its location or globally.
-fn word_earlier(branch: &Branch, a: usize, k: usize) -> u64 {
-    branch.word_before(Relations::OnLocation, a, k) | branch.word_before(Relations::Global, a, k)
-}
-
 /// Writes that are after this one by one of the relations are after it in coherence.
 fn look_at_write(problem: &Problem, branch: &mut Branch, a: usize) {
     let loc = problem.events.at(a).location;
@@ -115,12 +110,14 @@ fn look_at_known(problem: &Problem, branch: &mut Branch, r: usize, s: usize) {
     for k in 0..branch.rows.width {
         let them = problem.writes_to.word(event.location, k);
         // None comes before an initial write.
-        let others = if problem.is_initial(s) { 0 } else { them };
+        let others = if s < problem.locations { 0 } else { them };
         let later = branch.word_after(Relations::Coherence, s, k);
         let passed = branch.word_after(Relations::OnLocation, r, k)
             & branch.word_after(Relations::Global, r, k);
         put_each(problem, branch, Put::FromRead(r), k, later & !passed & them);
-        let earlier = word_earlier(branch, r, k) & !branch.word_before(Relations::Coherence, s, k);
+        let earlier = branch.word_before(Relations::OnLocation, r, k)
+            | branch.word_before(Relations::Global, r, k);
+        let earlier = earlier & !branch.word_before(Relations::Coherence, s, k);
         put_each(problem, branch, Put::Before(s), k, earlier & others);
         if own != NONE {
             let later = branch.word_after(Relations::Coherence, s, k)
@@ -139,7 +136,8 @@ fn note_parted(problem: &Problem, branch: &mut Branch, r: usize) {
     let own = problem.events.at(r).partner;
     branch.sets.clear(PARTED);
     for k in 0..branch.rows.width {
-        let mut earlier = word_earlier(branch, r, k);
+        let mut earlier = branch.word_before(Relations::OnLocation, r, k)
+            | branch.word_before(Relations::Global, r, k);
         if own != NONE {
             earlier |= branch.word_before(Relations::Coherence, own, k);
         }
@@ -155,9 +153,11 @@ fn note_parted(problem: &Problem, branch: &mut Branch, r: usize) {
     }
 }
 
-/// Takes from a read the sources that it is known to be before, and those before the last one that it is known to be after; where
-/// `is_tested` doesn't say that this was done, those of a wrong value too.
-fn take_sources(problem: &Problem, branch: &mut Branch, r: usize, is_tested: bool) {
+/// What follows at a read whose source is open: it can't have those that it is known to be before, nor any but the last before it, nor
+/// those of a wrong value, if that isn't tested yet.
+fn look_at_open(problem: &Problem, branch: &mut Branch, r: usize) {
+    note_parted(problem, branch, r);
+    let is_tested = !branch.sets.has(UNTESTED, r);
     let row = branch.candidates(r);
     let core = problem.events.at(r).core;
     for k in 0..branch.rows.width {
@@ -183,16 +183,7 @@ fn take_sources(problem: &Problem, branch: &mut Branch, r: usize, is_tested: boo
             change_word(branch, row, k, kept);
         }
     }
-}
-
-/// What follows at a read whose source is open: it can't have those that it is known to be before, nor any but the last before it, nor
-/// those of a wrong value.
-fn look_at_open(problem: &Problem, branch: &mut Branch, r: usize) {
-    note_parted(problem, branch, r);
-    let is_tested = !branch.sets.has(UNTESTED, r);
-    take_sources(problem, branch, r, is_tested);
     branch.sets.remove(UNTESTED, r);
-    let row = branch.candidates(r);
     match branch.rows.count(row) {
         0 => branch.conflict = Conflict::NoSource(r),
         1 => {
@@ -206,13 +197,11 @@ fn look_at_open(problem: &Problem, branch: &mut Branch, r: usize) {
 /// The next write to a location, from a number on, that can be its last one; `NONE` where there is none.
 pub fn next_last(problem: &Problem, branch: &Branch, loc: usize, from: usize) -> usize {
     for a in from..problem.size {
-        if problem.is_write_to(loc, a)
-            && branch
-                .rows
-                .next(Relations::Coherence.row(branch.size, a), 0)
-                == NONE
-            && !is_wrong_value(problem, branch, loc, a)
-        {
+        if !problem.writes_to.has(loc, a) {
+            continue;
+        }
+        let row = Relations::Coherence.row(branch.size, a);
+        if branch.rows.next(row, 0) == NONE && !is_wrong_value(problem, branch, loc, a) {
             return a;
         }
     }
@@ -233,27 +222,11 @@ fn look_at_last(problem: &Problem, branch: &mut Branch, loc: usize) {
     }
 }
 
-fn look_at_one(problem: &Problem, branch: &mut Branch, a: usize) {
-    let event = problem.events.at(a);
-    if event.writes {
-        look_at_write(problem, branch, a);
-    } else if event.reads {
-        let s = branch.source_of(a);
-        if s == NONE {
-            look_at_open(problem, branch, a);
-        } else {
-            look_at_known(problem, branch, a, s);
-        }
-    } else if problem.is_asked(a) {
-        look_at_last(problem, branch, a);
-    }
-}
-
 /// Notes all that follows, first of all the values that are known. False where the branch is closed.
 pub fn deduce(problem: &Problem, branch: &mut Branch) -> bool {
     for _step in 0..u64::MAX {
         // What follows can't be noted where memory is refused, so it would follow again and again.
-        if branch.is_closed() || branch.facts.is_refused {
+        if branch.is_closed() | branch.facts.is_refused {
             break;
         }
         if branch.claim_is_dirty {
@@ -261,17 +234,29 @@ pub fn deduce(problem: &Problem, branch: &mut Branch) -> bool {
             let known = known_facts(branch.facts.len());
             find_values(problem, branch, known);
             branch.sets.join(UNTESTED, &problem.reads, RELEVANT);
-            if is_false(problem, branch, known) {
+            if !parts_that_can_be(problem, branch, known, NONE, NONE).has(0) {
                 branch.conflict = Conflict::False;
             }
             continue;
         }
-        let next = branch.sets.next(DIRTY, 0);
-        if next == NONE {
+        let a = branch.sets.next(DIRTY, 0);
+        if a == NONE {
             break;
         }
-        branch.sets.remove(DIRTY, next);
-        look_at_one(problem, branch, next);
+        branch.sets.remove(DIRTY, a);
+        let event = problem.events.at(a);
+        if event.writes {
+            look_at_write(problem, branch, a);
+        } else if event.reads {
+            let s = branch.source_of(a);
+            if s == NONE {
+                look_at_open(problem, branch, a);
+            } else {
+                look_at_known(problem, branch, a, s);
+            }
+        } else if problem.parts_on.at(a) != NONE {
+            look_at_last(problem, branch, a);
+        }
     }
     !branch.is_closed()
 }

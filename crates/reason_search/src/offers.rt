@@ -2,11 +2,11 @@
 //! answers.
 
 use crate::branch::Branch;
-use crate::evidence::{Closing, Evidence, lacks_memory, need, reset};
+use crate::evidence::{Closing, Evidence, need, reset};
 use crate::facts::{Edge, Turned};
 use crate::growing::Trees;
 use crate::lists::{List, NONE};
-use crate::paths::{Edges, Paths, STARTS, begin, find, lack_memory, start_from, start_from_later};
+use crate::paths::{Edges, Paths, STARTS, begin, find, start_from, start_from_later};
 use crate::problem::{Problem, Relations};
 use crate::rows::Rows;
 use crate::values::{Known, known_facts, need_falsity};
@@ -28,21 +28,6 @@ pub struct Desk {
     /// For each source its tree, while a question's branches are put together.
     pub branches: List<usize>,
     pub weights: Weights,
-}
-
-impl Desk {
-    /// Whether memory was refused.
-    pub fn is_refused(&self) -> bool {
-        self.trees.twigs.is_refused
-            | self.trees.events.is_refused
-            | lack_memory(&self.paths)
-            | lack_memory(&self.inner)
-            | lacks_memory(&self.best)
-            | lacks_memory(&self.trial)
-            | self.used.words.is_refused
-            | self.branches.is_refused
-            | self.weights.of.is_refused
-    }
 }
 
 /// Adds to the leaf in hand the facts that one write comes before another one, and to its cycle the writes that stand between them.
@@ -184,9 +169,8 @@ fn offer_orders(
     r: usize,
     s: usize,
 ) {
-    let is_edge = matches!(edges.relations, Relations::OnLocation)
-        || problem.is_global_source(s, r);
-    if is_edge && branch.is_known(edges.relations, r, s) {
+    let is_edge = matches!(edges.relations, Relations::OnLocation) | problem.is_global_source(s, r);
+    if is_edge & branch.is_known(edges.relations, r, s) {
         offer_path(problem, branch, desk, edges, r, s, NONE);
     }
     start_from_later(problem, branch, &mut desk.paths, s, edges.limit);
@@ -214,9 +198,10 @@ fn offer_between(
     start_from_later(problem, branch, &mut desk.inner, s, limit);
     begin(&mut desk.paths);
     for x in problem.locations..problem.size {
+        let is_other = problem.events.at(x).core != problem.events.at(r).core;
         if desk.inner.events.has(STARTS, x)
-            && problem.events.at(x).core != problem.events.at(r).core
-            && branch.is_known(Relations::Coherence, x, own)
+            & is_other
+            & branch.is_known(Relations::Coherence, x, own)
         {
             start_from(&mut desk.paths, x);
         }
@@ -282,7 +267,7 @@ pub fn find_why_before(problem: &Problem, branch: &mut Branch, desk: &mut Desk, 
     let loc = problem.events.at(turned.first).location;
     reset(&mut desk.best, Closing::None);
     offer_paths(problem, branch, desk, turned, turned.second, NONE);
-    if problem.is_asked(loc) {
+    if problem.parts_on.at(loc) != NONE {
         let known = Known {
             first: turned.second,
             ..known_facts(turned.fact)
@@ -292,7 +277,7 @@ pub fn find_why_before(problem: &Problem, branch: &mut Branch, desk: &mut Desk, 
         }
     }
     for r in problem.locations..problem.size {
-        if branch.source.at(r) < turned.fact && problem.events.at(r).location == loc {
+        if (branch.source.at(r) < turned.fact) & (problem.events.at(r).location == loc) {
             offer_read(problem, branch, desk, turned, r);
         }
     }
@@ -320,12 +305,11 @@ fn offer_read(problem: &Problem, branch: &Branch, desk: &mut Desk, turned: Turne
         between = a;
         is_parted = own != a;
     }
-    if is_parted
-        && own != NONE
-        && branch.is_known(Relations::Coherence, from, to)
-        && problem.events.at(between).core != problem.events.at(r).core
-        && take_path(problem, branch, desk, edges, from, to)
-    {
+    let is_barred = is_parted
+        & (own != NONE)
+        & branch.is_known(Relations::Coherence, from, to)
+        & (problem.events.at(between).core != problem.events.at(r).core);
+    if is_barred && take_path(problem, branch, desk, edges, from, to) {
         need(&mut desk.trial, branch.source.at(r));
         offer_write_between(problem, desk, r, between);
     }

@@ -8,21 +8,14 @@ use crate::values::written;
 use std::alloc::Global;
 use tso_model::{Entry, NoMemory};
 
-/// An order while events are placed.
-#[derive(Drop)]
-struct Placing {
-    /// One row: the events that are still to come.
-    left: Rows,
-    order: List<Entry>,
-}
-
-/// Whether an event waits for one that is still to come, other than its other part: one of the two is a fence that stands in the same
-/// program, or the other one is known to be before it.
-fn is_waiting(problem: &Problem, branch: &Branch, placing: &Placing, a: usize) -> bool {
+/// Whether an event waits for one that is still to come, and so stands in `left`, other than its other part: one of the two is a fence
+/// that stands in the same program, or the other one is known to be before it.
+fn is_waiting(problem: &Problem, branch: &Branch, left: &Rows, a: usize) -> bool {
     let event = problem.events.at(a);
     for k in 0..branch.rows.width {
-        let left = branch.word_before(Relations::Global, a, k) & placing.left.word(0, k);
-        if left != 0 && (left & left.wrapping_sub(1) != 0 || lowest(k, left) != event.partner) {
+        let some = branch.word_before(Relations::Global, a, k) & left.word(0, k);
+        let are_several = some & some.wrapping_sub(1) != 0;
+        if (some != 0) & (are_several | (lowest(k, some) != event.partner)) {
             return true;
         }
     }
@@ -31,7 +24,7 @@ fn is_waiting(problem: &Problem, branch: &Branch, placing: &Placing, a: usize) -
         if earlier.core != event.core {
             break;
         }
-        if placing.left.has(0, b) && !(event.is_access && earlier.is_access) {
+        if left.has(0, b) & !(event.is_access & earlier.is_access) {
             return true;
         }
     }
@@ -39,7 +32,7 @@ fn is_waiting(problem: &Problem, branch: &Branch, placing: &Placing, a: usize) -
 }
 
 /// Places an event with its value. A fence has 0.
-fn place(problem: &Problem, branch: &Branch, placing: &mut Placing, a: usize) {
+fn place(problem: &Problem, branch: &Branch, left: &mut Rows, order: &mut List<Entry>, a: usize) {
     let event = problem.events.at(a);
     let value = if event.reads {
         branch.values.at(a)
@@ -47,8 +40,8 @@ fn place(problem: &Problem, branch: &Branch, placing: &mut Placing, a: usize) {
         written(problem, branch, a)
     };
     let value = if value == NONE { 0 } else { value };
-    placing.left.remove(0, a);
-    placing.order.push(Entry {
+    left.remove(0, a);
+    order.push(Entry {
         value: (value % 4_294_967_296) as u32,
         ..event.entry
     });
@@ -63,33 +56,32 @@ pub fn make_order(
     branch: &Branch,
 ) -> Result<Vec<Entry>, NoMemory> {
     let size = problem.size;
-    let mut placing = Placing {
-        left: Rows::new(alloc, 1, size),
-        order: List::new(alloc, 0, NO_EVENT.entry),
-    };
+    // One row: the events that are still to come.
+    let mut left = Rows::new(alloc, 1, size);
+    let mut order = List::new(alloc, 0, NO_EVENT.entry);
     for a in problem.locations..size {
-        placing.left.add(0, a);
+        left.add(0, a);
     }
     // Round by round those that wait for none, both parts of a locked instruction side by side.
     for _round in 0..size {
-        let placed = placing.order.len();
+        let placed = order.len();
         for a in problem.locations..size {
             let own = problem.events.at(a).partner;
             let is_second = own < a;
-            if is_second || !placing.left.has(0, a) || is_waiting(problem, branch, &placing, a) {
+            if is_second | !left.has(0, a) || is_waiting(problem, branch, &left, a) {
                 continue;
             }
             if own == NONE {
-                place(problem, branch, &mut placing, a);
-            } else if !is_waiting(problem, branch, &placing, own) {
-                place(problem, branch, &mut placing, a);
-                place(problem, branch, &mut placing, own);
+                place(problem, branch, &mut left, &mut order, a);
+            } else if !is_waiting(problem, branch, &left, own) {
+                place(problem, branch, &mut left, &mut order, a);
+                place(problem, branch, &mut left, &mut order, own);
             }
         }
-        if placing.order.len() == placed {
+        if order.len() == placed {
             break;
         }
     }
-    placing.order.is_refused |= placing.left.words.is_refused;
-    placing.order.into_items()
+    order.is_refused |= left.words.is_refused;
+    order.into_items()
 }

@@ -1,14 +1,14 @@
 //! What a search works on: the events by number, what program order keeps of them, what each write writes in terms of what is read,
 //! and what is asked. The initial write of each location stands before the events.
 
-use crate::claim::{Part, mark_relevant, parts_of};
+use crate::claim::{Part, add_parts, mark_relevant};
 use crate::lists::{List, NONE};
 use crate::program_order::add_program_order;
 use crate::rows::Rows;
 use refutation_laws::Model;
 use refutations::events::{is_read, is_write};
 use std::alloc::Global;
-use tso_model::{Action, Core, Entry, Kind, Loc, Operand, Reg, Test, Update};
+use tso_model::{Action, Core, Entry, Kind, Loc, Operand, Quantifier, Reg, Test, Update};
 
 /// A value: a number and what up to two reads return, added up. `NONE` is no read.
 #[derive(Clone, Copy)]
@@ -78,6 +78,7 @@ pub const RELEVANT: usize = 1;
 pub struct Problem {
     /// How many events there are, with the initial writes.
     pub size: usize,
+    /// How many locations there are: the initial write of each has its number.
     pub locations: usize,
     pub sequential: bool,
     pub events: List<Event>,
@@ -95,33 +96,13 @@ pub struct Problem {
     pub program: Rows,
     /// What is asked.
     pub claim: List<Part>,
-    /// The last part that asks something of a read or location.
+    /// The last part that asks something of a read or location, `NONE` where none does.
     pub parts_on: List<usize>,
     /// Sets of reads, a row for each of those that are named above.
     pub reads: Rows,
 }
 
 impl Problem {
-    /// An event as the entry of an order has it.
-    pub fn entry(&self, i: usize) -> Entry {
-        self.events.at(i).entry
-    }
-
-    /// Whether this is the initial write of a location.
-    pub fn is_initial(&self, i: usize) -> bool {
-        i < self.locations
-    }
-
-    /// Whether something is asked of a read or location.
-    pub fn is_asked(&self, i: usize) -> bool {
-        self.parts_on.at(i) != NONE
-    }
-
-    /// Whether this is a write to the location, and not the initial one.
-    pub fn is_write_to(&self, loc: usize, i: usize) -> bool {
-        self.writes_to.has(loc, i)
-    }
-
     /// Whether a read from this write is an edge of the global relations.
     pub fn is_global_source(&self, w: usize, r: usize) -> bool {
         !self.events_of.has(self.events.at(r).core, w)
@@ -184,7 +165,7 @@ fn add_events(problem: &mut Problem, events: &[Entry]) {
             location,
             reads,
             writes,
-            is_access: reads || writes,
+            is_access: reads | writes,
             partner: match entry.kind {
                 Kind::LR => a.wrapping_add(1),
                 Kind::LW => a.wrapping_sub(1),
@@ -300,7 +281,13 @@ pub fn make_problem(alloc: Global, test: &Test, events: &[Entry], model: Model) 
     problem.terms.is_refused |= registers.is_refused;
     add_events(&mut problem, events);
     add_program_order(&mut problem);
-    problem.claim = parts_of(alloc, &problem, &registers, test);
+    if let Some(cond) = test.cond() {
+        let truth = !matches!(cond.quantifier, Quantifier::Forall);
+        add_parts(&mut problem, &registers, &cond.prop, truth);
+    } else {
+        // Without a condition it is so, whatever the events do.
+        problem.claim.push(Part::Fixed(true));
+    }
     mark_relevant(&mut problem);
     problem
 }

@@ -24,8 +24,8 @@ pub fn add_program_order(problem: &mut Problem) {
             if x.location == y.location {
                 problem.add_edge(Relations::OnLocation, a, b);
             }
-            let passes = x.writes && y.reads && x.partner == NONE && y.partner == NONE;
-            if is_fenced || !passes {
+            let passes = x.writes & y.reads & (x.partner == NONE) & (y.partner == NONE);
+            if is_fenced | !passes {
                 problem.add_edge(Relations::Global, a, b);
             }
         }

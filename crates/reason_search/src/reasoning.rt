@@ -35,7 +35,7 @@ pub fn add_source_question(
 ) -> usize {
     let loc = problem.events.at(r).location;
     for s in problem.locations..problem.size {
-        if problem.is_write_to(loc, s) {
+        if problem.writes_to.has(loc, s) {
             close_source(problem, branch, desk, r, s);
         }
     }
@@ -85,44 +85,35 @@ fn add_other(
     add_best(problem, branch, desk, s, turned)
 }
 
-/// The tree where the edge with this number closes a cycle. Where its order follows, and an answer says the other one: why that can't
-/// be.
-fn add_closed_cycle(
-    problem: &Problem,
-    branch: &mut Branch,
-    desk: &mut Desk,
-    clash: usize,
-) -> usize {
-    let edge = branch.edges.at(clash);
-    let number = edge.link.fact;
-    let fact = branch.facts.at(number);
-    if let Answer::Before(first, second) = fact.answer {
-        let known = branch.moment(problem, second, first).facts;
-        if known != NONE && !fact.tried {
-            let tree = add_other(problem, branch, desk, first, second, number);
-            desk.used.add(0, known);
-            return tree;
-        }
-    }
-    close_cycle(problem, branch, desk, edge);
-    add_leaf(desk)
-}
-
-/// The tree of a branch that is closed. What it uses is used then, and nothing else.
+/// The tree of a branch that is closed. What it uses is used then, and nothing else. Where an edge closes a cycle, its order follows,
+/// and an answer says the other one: why that can't be.
 pub fn add_conflict(problem: &Problem, branch: &mut Branch, desk: &mut Desk) -> usize {
     desk.used.clear(0);
     desk.weights.move_on();
     desk.above = branch.facts.len();
     match branch.conflict {
-        Conflict::Cycle(edge) => add_closed_cycle(problem, branch, desk, edge),
-        Conflict::NoSource(r) => add_source_question(problem, branch, desk, r),
+        Conflict::Cycle(clash) => {
+            let edge = branch.edges.at(clash);
+            let number = edge.link.fact;
+            let fact = branch.facts.at(number);
+            if let Answer::Before(first, second) = fact.answer {
+                let known = branch.moment(problem, second, first).facts;
+                if (known != NONE) & !fact.tried {
+                    let tree = add_other(problem, branch, desk, first, second, number);
+                    desk.used.add(0, known);
+                    return tree;
+                }
+            }
+            close_cycle(problem, branch, desk, edge);
+        }
+        Conflict::NoSource(r) => return add_source_question(problem, branch, desk, r),
         Conflict::False | Conflict::Open => {
             reset(&mut desk.trial, Closing::None);
             let known = known_facts(branch.facts.len());
             let _is_false = need_falsity(problem, branch, known, &mut desk.trial);
-            add_leaf(desk)
         }
     }
+    add_leaf(desk)
 }
 
 /// Puts the facts that the tree uses, and that followed since this one, above it.
@@ -136,7 +127,7 @@ pub fn wrap(
     let mut whole = tree;
     for number in (from..branch.facts.len()).rev() {
         let fact = branch.facts.at(number);
-        if fact.tried || !desk.used.has(0, number) {
+        if fact.tried | !desk.used.has(0, number) {
             continue;
         }
         desk.above = number;

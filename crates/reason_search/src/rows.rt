@@ -31,19 +31,14 @@ impl Rows {
         }
     }
 
-    /// Where a word of a row stands among all words.
-    pub fn place(&self, row: usize, k: usize) -> usize {
-        row.wrapping_mul(self.width).wrapping_add(k)
-    }
-
     /// A word of a row, and no bits where there is no such row.
     pub fn word(&self, row: usize, k: usize) -> u64 {
-        self.words.at(self.place(row, k))
+        self.words.at(row.wrapping_mul(self.width).wrapping_add(k))
     }
 
     /// Writes a word of a row.
     pub fn put_word(&mut self, row: usize, k: usize, bits: u64) {
-        let place = self.place(row, k);
+        let place = row.wrapping_mul(self.width).wrapping_add(k);
         self.words.put(place, bits);
     }
 

@@ -32,7 +32,7 @@ fn plus_returned(branch: &Branch, number: usize, r: usize) -> usize {
         return number;
     }
     let value = branch.values.at(r);
-    if number == NONE || value == NONE {
+    if (number == NONE) | (value == NONE) {
         NONE
     } else {
         number.wrapping_add(value) % 4_294_967_296
@@ -60,7 +60,7 @@ fn source(branch: &Branch, known: Known, r: usize) -> usize {
 /// Notes what each read returns that matters to what is asked, by what is known: they hang on one another alone. So there is another
 /// round while others may hang on a new one.
 pub fn find_values(problem: &Problem, branch: &mut Branch, known: Known) {
-    branch.values.blank();
+    branch.values.items.fill(NONE);
     for _round in 0..problem.size {
         let mut changed = false;
         let mut r = branch.sets.next(VALUED, problem.locations);
@@ -69,10 +69,10 @@ pub fn find_values(problem: &Problem, branch: &mut Branch, known: Known) {
                 break;
             }
             let s = source(branch, known, r);
-            if s != NONE && branch.values.at(r) == NONE {
+            if (s != NONE) & (branch.values.at(r) == NONE) {
                 let value = written(problem, branch, s);
                 branch.values.put(r, value);
-                changed |= value != NONE && problem.reads.has(STORED, r);
+                changed |= (value != NONE) & problem.reads.has(STORED, r);
             }
             r = branch.sets.next(VALUED, r.wrapping_add(1));
         }
@@ -89,7 +89,7 @@ fn overwriting(problem: &Problem, branch: &Branch, known: Known, w: usize) -> us
     }
     let loc = problem.events.at(w).location;
     for v in problem.locations..problem.size {
-        if problem.is_write_to(loc, v) {
+        if problem.writes_to.has(loc, v) {
             let fact = branch.moment(problem, w, v).facts;
             if fact < known.limit {
                 return fact;
@@ -108,7 +108,7 @@ fn word_can_be(
     demand: Demand,
 ) -> bool {
     for w in problem.locations..problem.size {
-        if problem.is_write_to(loc, w)
+        if problem.writes_to.has(loc, w)
             && can_be(demand, written(problem, branch, w))
             && overwriting(problem, branch, known, w) == NONE
         {
@@ -120,7 +120,7 @@ fn word_can_be(
 
 /// The parts of what is asked that can be so, where a read, or a location at the end, is supposed to have this value; a `place` that is
 /// `NONE` is none.
-fn parts_that_can_be(
+pub fn parts_that_can_be(
     problem: &Problem,
     branch: &Branch,
     known: Known,
@@ -133,24 +133,19 @@ fn parts_that_can_be(
             Part::Value(r, demand) => {
                 if r == place {
                     can_be(demand, value)
-                } else if problem.is_initial(r) {
+                } else if r < problem.locations {
                     word_can_be(problem, branch, known, r, demand)
                 } else {
                     can_be(demand, branch.values.at(r))
                 }
             }
             Part::Fixed(truth) => truth,
-            Part::Both(second) => parts.has(i.wrapping_add(1)) && parts.has(second),
-            Part::Either(second) => parts.has(i.wrapping_add(1)) || parts.has(second),
+            Part::Both(second) => parts.has(i.wrapping_add(1)) & parts.has(second),
+            Part::Either(second) => parts.has(i.wrapping_add(1)) | parts.has(second),
         };
         parts.add(i, can);
     }
     parts
-}
-
-/// Whether what is asked is false by the values that are noted.
-pub fn is_false(problem: &Problem, branch: &Branch, known: Known) -> bool {
-    !parts_that_can_be(problem, branch, known, NONE, NONE).has(0)
 }
 
 /// Whether what is asked is false where a read has this source.
@@ -171,14 +166,15 @@ pub fn is_wrong_source(problem: &Problem, branch: &mut Branch, r: usize, s: usiz
             ..facts
         },
     );
-    let is_wrong = is_false(problem, branch, facts);
+    let parts = parts_that_can_be(problem, branch, facts, NONE, NONE);
     find_values(problem, branch, facts);
-    is_wrong
+    !parts.has(0)
 }
 
 /// Whether what is asked is false where a read, or a location at the end, has the value of this write.
 pub fn is_wrong_value(problem: &Problem, branch: &Branch, place: usize, w: usize) -> bool {
-    if !problem.is_asked(place) {
+    let mut i = problem.parts_on.at(place);
+    if i == NONE {
         return false;
     }
     let value = written(problem, branch, w);
@@ -187,7 +183,6 @@ pub fn is_wrong_value(problem: &Problem, branch: &Branch, place: usize, w: usize
         return value != NONE && !parts_that_can_be(problem, branch, known, place, value).has(0);
     }
     // Then one part that asks of this place suffices to bar the value.
-    let mut i = problem.parts_on.at(place);
     for _part in 0..problem.claim.len() {
         let Part::Value(_, demand) = problem.claim.at(i) else {
             break;
@@ -210,7 +205,7 @@ fn need_word(
     demand: Demand,
 ) {
     for w in problem.locations..problem.size {
-        if problem.is_write_to(loc, w) {
+        if problem.writes_to.has(loc, w) {
             if can_be(demand, written(problem, branch, w)) {
                 let fact = overwriting(problem, branch, known, w);
                 if fact < known.limit {
@@ -240,7 +235,7 @@ fn need_parts(
         let first = i.wrapping_add(1);
         match problem.claim.at(i) {
             Part::Value(r, demand) => {
-                if problem.is_initial(r) {
+                if r < problem.locations {
                     need_word(problem, branch, known, evidence, r, demand);
                 } else {
                     branch.sets.add(NEEDED, r);
