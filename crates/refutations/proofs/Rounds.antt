@@ -1,5 +1,5 @@
 -- The rounds of known writes: where one knows no more than the one before, no later one does.
-use Rattle.refutations.proofs.Vocabulary.{◌≡◌, ◌<◌, ◌≤◌, ◌+◌, ℕ, zero, suc, Bool, true, List, [], ◌∷◌, arith, refl, sym, ap, ◌∙◌, ◌⊎◌, inl, inr, subst, length, pointwise, Litmus, Entry, Source, and-both, Known, events_of, known_writes, all_known, writes_from, returned}
+use Rattle.refutations.proofs.Vocabulary.{◌≡◌, ◌<◌, ◌≤◌, ◌+◌, ℕ, zero, suc, Bool, true, List, [], ◌∷◌, arith, refl, sym, ap, ◌∙◌, ◌⊎◌, inl, inr, subst, length, pointwise, Litmus, Entry, Source, and-both, Known, events_of, known_writes, all_known, writes_from, returned, Option, slice_index_or, left_of, known_first_registers}
 
 pub settled : (t : Litmus) (k : Known) (n all : ℕ) → n ≤ all → known_writes t k (suc n) ≡ known_writes t k n
     → known_writes t k all ≡ known_writes t k n
@@ -32,6 +32,18 @@ settled-at t k events n e l more writes before sources a b is was same =
     let still : known_writes t k (suc n) ≡ known_writes t k n =
     ap (known_writes t k) (sym m) ∙ (sym (one-round t k n more writes before sources a b is was) ∙ (same ∙ was)) in
     same ∙ (was ∙ sym (settled t k n (length (events_of t)) all still))
+
+-- the registers at the end, where all writes were known before
+pub with-all : (t : Litmus) (k : Known) (left : List (List (Option ℕ))) (before : List Entry) (sources : List Source)
+    → before ≡ all_known t k → sources ≡ k.sources
+    → ((core : ℕ) → core < length t.programs → slice_index_or left core []
+    ≡ left_of (returned t before sources) core 0 (slice_index_or t.programs core []) (known_first_registers t.registers core))
+    → (core : ℕ) → core < length t.programs → slice_index_or left core []
+    ≡ left_of (returned t (all_known t k) k.sources) core 0 (slice_index_or t.programs core []) (known_first_registers t.registers core)
+with-all t k left before sources a b each core l =
+    let all = ap (λ ws. left_of (returned t ws sources) core 0 (slice_index_or t.programs core []) (known_first_registers t.registers core)) a in
+    let own = ap (λ ss. left_of (returned t (all_known t k) ss) core 0 (slice_index_or t.programs core []) (known_first_registers t.registers core)) b in
+    each core l ∙ (all ∙ own)
 
 -- lists whose entries a test takes for the same, one by one
 pub as-same : (E : Entry → Entry → Bool) → ((x y : Entry) → E x y ≡ true → x ≡ y) → (xs ys : List Entry) → pointwise E xs ys ≡ true → xs ≡ ys

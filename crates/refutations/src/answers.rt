@@ -10,12 +10,21 @@ use std::alloc::Global;
 use tso_model::{Entry, NoMemory, Test};
 
 /// The answers of a branch, the last one first.
-#[derive(Drop)]
 pub struct Answers {
     /// Reads, each with the write that it reads from.
     pub sources: Vec<Source>,
     /// Writes to a location, two by two in their coherence order.
     pub order: Vec<Pair>,
+}
+
+// Said by hand, so that who lets it go makes one call, and not one for each part.
+impl Drop for Answers {
+    fn drop(self) {
+        let Answers {
+            sources: _sources,
+            order: _order,
+        } = self;
+    }
 }
 
 /// A branch of a refutation: a test with its events, and the answers on the way to the branch.

@@ -9,9 +9,8 @@ ghost use Rattle.refutations.specs.inner.Facts.{AreFacts};
 
 use crate::answers::Answers;
 use crate::events::is_read;
-use crate::values::{
-    Reads, Walk, known_first_registers, returned, run_all, run_program, value_among,
-};
+use crate::values::{Reads, Walk, known_first_registers, returned, run_program, value_among};
+use refutation_laws::Source;
 use std::alloc::Global;
 use tso_model::{Core, Entry, NoMemory, Test};
 
@@ -22,7 +21,7 @@ pub struct Facts {
     pub registers: Vec<[Option<u32>; 6]>,
 }
 
-/// What the answers tell of values.
+/// What the answers tell of values: the rounds end where one knows no more than the one before.
 ///
 /// Errors: out of memory only.
 pub fn known_facts(
@@ -34,9 +33,19 @@ pub fn known_facts(
     requires { events.now ≡ events_of test.now }
     ensures { IfOk result (AreFacts test.now (known_of answers.now)) }
 {
-    let writes = all_known(alloc, test, events, answers)?;
-    let registers = all_left(alloc, test, &writes, answers)?;
-    Ok(Facts { writes, registers })
+    let mut writes = Vec::new(alloc);
+    for _round in 0..events.len() {
+        let facts = run_all(alloc, test, &writes, &answers.sources)?;
+        if are_same(&facts.writes, &writes) {
+            return Ok(facts);
+        }
+        writes = facts.writes;
+    }
+    let facts = run_all(alloc, test, &writes, &answers.sources)?;
+    Ok(Facts {
+        writes,
+        registers: facts.registers,
+    })
 }
 
 fn are_same(xs: &[Entry], ys: &[Entry]) -> bool
@@ -45,55 +54,39 @@ fn are_same(xs: &[Entry], ys: &[Entry]) -> bool
     xs == ys
 }
 
-/// All writes whose values are known: the rounds end where one knows no more than the one before.
-fn all_known(
+/// Runs all programs, where these writes are known before: the writes that are then, and all registers at the end, as far as they are
+/// known.
+fn run_all(
     alloc: Global,
     test: &Test,
-    events: &[Entry],
-    answers: &Answers,
-) -> Result<Vec<Entry>, NoMemory>
-    requires { events.now ≡ events_of test.now }
-    ensures { IfOk result (λ ws. ws.items ≡ spec.all_known test.now (known_of answers.now)) }
-{
-    let mut writes = Vec::new(alloc);
-    for _round in 0..events.len() {
-        let more = run_all(alloc, test, &writes, &answers.sources)?;
-        if are_same(&more, &writes) {
-            return Ok(more);
-        }
-        writes = more;
-    }
-    Ok(writes)
-}
-
-/// The registers of all cores at the end, as far as they are known.
-fn all_left(
-    alloc: Global,
-    test: &Test,
-    known: &[Entry],
-    answers: &Answers,
-) -> Result<Vec<[Option<u32>; 6]>, NoMemory>
-    ensures count { IfOk result (λ left. length left.items ≡ length test.now.programs) }
-    ensures each { IfOk result (λ left. (core : ℕ) → core < length test.now.programs → slice_index_or left.items core []
-        ≡ spec.left_of (spec.returned test.now known.now (known_of answers.now).sources) core 0 (slice_index_or test.now.programs core [])
+    before: &[Entry],
+    sources: &[Source],
+) -> Result<Facts, NoMemory>
+    ensures writes { IfOk result (λ f. f.writes.items
+        ≡ spec.writes_from (spec.returned test.now before.now sources.now) 0 test.now.programs test.now.registers) }
+    ensures count { IfOk result (λ f. length f.registers.items ≡ length test.now.programs) }
+    ensures each { IfOk result (λ f. (core : ℕ) → core < length test.now.programs → slice_index_or f.registers.items core []
+        ≡ spec.left_of (spec.returned test.now before.now sources.now) core 0 (slice_index_or test.now.programs core [])
         (spec.known_first_registers test.now.registers core)) }
 {
     let reads = Reads {
         test,
-        writes: known,
-        sources: &answers.sources,
+        writes: before,
+        sources,
     };
-    let mut left = Vec::new(alloc);
+    let mut writes = Vec::new(alloc);
+    let mut registers = Vec::new(alloc);
     for number in 0..test.cores() {
         let core = Core(number);
         let mut walk = Walk {
-            writes: Vec::new(alloc),
+            writes,
             registers: known_first_registers(test, core),
         };
         run_program(&mut walk, reads, core)?;
-        left.push(walk.registers)?;
+        registers.push(walk.registers)?;
+        writes = walk.writes;
     }
-    Ok(left)
+    Ok(Facts { writes, registers })
 }
 
 /// What is known of the value of an event. A fence has none.

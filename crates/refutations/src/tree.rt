@@ -3,7 +3,6 @@
 use tso_model::Entry;
 
 /// A node of a refutation. A tree is the list of its nodes: each stands before its branches, and the first branch first.
-#[derive(Drop)]
 pub enum Node {
     /// A question: which write does this read read from? The initial one, or one to its location, as they stand among the
     /// events.
@@ -18,4 +17,18 @@ pub enum Node {
     Between(Entry, Entry, Entry),
     /// A leaf: the proposition is false, whatever is still open.
     FalseClaim,
+}
+
+// Said by hand, so that who lets it go makes one call, and not one for each case.
+impl Drop for Node {
+    fn drop(self) {
+        match self {
+            Node::OnLocation(_cycle) => {}
+            Node::Globally(_cycle) => {}
+            Node::ReadsFrom(_) => {}
+            Node::ComesFirst(_, _) => {}
+            Node::Between(_, _, _) => {}
+            Node::FalseClaim => {}
+        }
+    }
 }

@@ -5,7 +5,6 @@ ghost use Rattle.refutation_laws.specs.Values as spec;
 
 use crate::events::same_event;
 use refutation_laws::Source;
-use std::alloc::Global;
 use tso_model::{Action, Core, Entry, Instr, Kind, Loc, NoMemory, Operand, Test, Update};
 
 /// A program that is run with what is known: the writes whose values are, and the registers.
@@ -208,32 +207,4 @@ pub fn known_first_registers(test: &Test, core: Core) -> [Option<u32>; 6]
         Some(first[4]),
         Some(first[5]),
     ]
-}
-
-/// Runs all programs, where these writes are known before: the writes that are then.
-pub fn run_all(
-    alloc: Global,
-    test: &Test,
-    before: &[Entry],
-    sources: &[Source],
-) -> Result<Vec<Entry>, NoMemory>
-    ensures { IfOk result (λ ws. ws.items
-        ≡ spec.writes_from (spec.returned test.now before.now sources.now) 0 test.now.programs test.now.registers) }
-{
-    let reads = Reads {
-        test,
-        writes: before,
-        sources,
-    };
-    let mut writes = Vec::new(alloc);
-    for number in 0..test.cores() {
-        let core = Core(number);
-        let mut walk = Walk {
-            writes,
-            registers: known_first_registers(test, core),
-        };
-        run_program(&mut walk, reads, core)?;
-        writes = walk.writes;
-    }
-    Ok(writes)
 }

@@ -1,16 +1,33 @@
-use Rattle.refutations.proofs.Vocabulary.{sym, ◌∙◌, known_of}
-use Rattle.refutations.proofs.Rounds.{one-round, settled-at}
-use Rattle.refutations.proofs.facts.all_known.Goals as goal
+use Rattle.refutations.proofs.Vocabulary.{◌≡◌, sym, ◌∙◌, known_of, all_known}
+use Rattle.std.proofs.Common.{rules}
+use Rattle.refutations.proofs.Rounds.{one-round, settled-at, with-all}
+use Rattle.refutations.proofs.facts.known_facts.Goals as goal
 
 pub returns-then-are_same : goal.returns-then-are_same
 returns-then-are_same c =
-    settled-at c.args.test.now (known_of c.args.answers.now) c.args.events.now c.loop-round._round c.requires c.loop-round-test.true
-    c.in_ok-more.more.items c.loop-round.writes.items c.deref.result.now c.deref-in-loop-round.result.now c.deref.ensures.value
-    c.deref-in-loop-round.ensures.value c.in_ok-more.ensures c.loop-round.invariant
-    (sym c.deref-in-loop-round-2.ensures.value ∙ (c.are_same.ensures c.if-are_same.true ∙ c.deref-in-loop-round-3.ensures.value))
+    let same = sym c.deref-in-loop-round-2.ensures.value ∙ (c.are_same.ensures c.if-are_same.true ∙ c.deref-in-loop-round-3.ensures.value) in
+    let all = settled-at c.args.test.now (known_of c.args.answers.now) c.args.events.now c.loop-round._round c.requires c.loop-round-test.true
+    c.in_ok-facts.facts.writes.items c.loop-round.writes.items c.deref.result.now c.deref-in-loop-round.result.now c.deref.ensures.value
+    c.deref-in-loop-round.ensures.value c.in_ok-facts.ensures.writes c.loop-round.invariant same in
+    record {
+      writes = all;
+      count = c.in_ok-facts.ensures.count;
+      registers = with-all c.args.test.now (known_of c.args.answers.now) c.in_ok-facts.facts.registers.items c.deref.result.now
+          c.deref-in-loop-round.result.now (c.deref.ensures.value ∙ (sym same ∙ all)) c.deref-in-loop-round.ensures.value c.in_ok-facts.ensures.each;
+    }
 
 pub loop-round-preserved : goal.loop-round-preserved
 loop-round-preserved c =
-    one-round c.args.test.now (known_of c.args.answers.now) c.loop-round._round c.in_ok-more.more.items c.loop-round.writes.items
+    one-round c.args.test.now (known_of c.args.answers.now) c.loop-round._round c.in_ok-facts.facts.writes.items c.loop-round.writes.items
     c.deref.result.now c.deref-in-loop-round.result.now c.deref.ensures.value c.deref-in-loop-round.ensures.value
-    c.in_ok-more.ensures c.loop-round.invariant
+    c.in_ok-facts.ensures.writes c.loop-round.invariant
+
+pub returns : goal.returns
+returns c =
+    let ended : c.loop-round.writes.items ≡ all_known c.args.test.now (known_of c.args.answers.now) = search rules in
+    record {
+      writes = ended;
+      count = c.in_ok-facts-2.ensures.count;
+      registers = with-all c.args.test.now (known_of c.args.answers.now) c.in_ok-facts-2.facts.registers.items c.deref-2.result.now
+          c.deref-3.result.now (c.deref-2.ensures.value ∙ ended) c.deref-3.ensures.value c.in_ok-facts-2.ensures.each;
+    }
