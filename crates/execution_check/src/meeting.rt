@@ -19,7 +19,12 @@ use tso_model::{Entry, Execution, NoMemory, Quantifier, Test, cond_holds};
 fn is_preceded_by(x: &Entry, later: &[Entry]) -> bool
     ensures { result ≡ spec.is_preceded_by x.now later.now }
 {
-    later.iter().any(|y| is_before(y, x))
+    for y in later {
+        if is_before(y, x) {
+            return true;
+        }
+    }
+    false
 }
 
 /// Whether no entry stands behind one that comes later in its program.
