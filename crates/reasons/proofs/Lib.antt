@@ -1,4 +1,5 @@
 pub mod Vocabulary
+pub mod Filtering
 pub mod Parting
 pub mod Walking
 pub mod Weighing

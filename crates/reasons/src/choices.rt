@@ -1,13 +1,12 @@
 //! The choices under which the flat machine goes along an execution: with store buffers those of a witness, and without them the
 //! steps among these, since a store that nothing passes is then committed as it is made.
 
-ghost use Rattle.std.specs.Prelude.{◌≡◌, IfOk, filter};
+ghost use Rattle.std.specs.Prelude.{◌≡◌, IfOk};
 ghost use Rattle.tso_model.specs.Limits.{most_depth};
 ghost use Rattle.tso_model.specs.Axioms.{IsTsoExecution};
 ghost use Rattle.tso_laws.specs.Along.{choices_along, LeadTo};
 ghost use Rattle.outcome_laws.specs.Outcomes.{IsSequentiallyConsistent};
 ghost use Rattle.refutation_laws.specs.Models.{IsExecutionOf, depth_of};
-ghost use Rattle.reasons.specs.inner.Steps as spec;
 
 use outcome_laws::unbuffered_runs_reach_exactly_the_sequentially_consistent;
 use refutation_laws::Model;
@@ -70,16 +69,8 @@ fn unbuffered_choices(
     runs_stop_where_they_end();
     unbuffered_runs_reach_exactly_the_sequentially_consistent();
     let choices = buffered_choices(alloc, test, execution)?;
-    let steps = steps_among(alloc, &choices)?;
-    Ok(steps)
-}
-
-/// The steps among some choices.
-fn steps_among(alloc: Global, choices: &[Choice]) -> Result<Vec<Choice>, NoMemory>
-    ensures { IfOk result (λ steps. steps.items ≡ filter spec.is_step choices.now) }
-{
     let mut steps = Vec::new(alloc);
-    for choice in choices {
+    for choice in &choices {
         if let Choice::Step(_) = choice {
             steps.push(*choice)?;
         }

@@ -46,8 +46,11 @@ pub fn find_leaf(
     requires { events.now ≡ events_of test.now }
     ensures { IfOk result (spec.LeafOrNone model test.now (known_of answers.now)) }
 {
-    let facts = known_facts(alloc, test, events, answers)?;
-    if !can_be_met(test, events, answers, &facts) {
+    let can_be = {
+        let facts = known_facts(alloc, test, events, answers)?;
+        can_be_met(test, events, answers, &facts)
+    };
+    if !can_be {
         return Ok(Some(Node::FalseClaim));
     }
     let branch = Branch {

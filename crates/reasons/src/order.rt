@@ -1,5 +1,5 @@
 //! The order of a full case that no leaf closes: its events in a row, with their values.
-ghost use Rattle.std.specs.Prelude.{◌≡◌, not, IfOk, filter, map};
+ghost use Rattle.std.specs.Prelude.{◌≡◌, IfOk, map};
 ghost use Rattle.refutation_laws.specs.Known.{events_of};
 ghost use Rattle.refutation_laws.specs.inner.Orders as spec;
 ghost use Rattle.refutations.specs.inner.Trees.{known_of};
@@ -55,19 +55,6 @@ fn order_along(
     Ok(order)
 }
 
-/// All events but load parts.
-fn without_loads(alloc: Global, events: &[Entry]) -> Result<Vec<Entry>, NoMemory>
-    ensures { IfOk result (λ o. o.items ≡ filter (λ e. not (spec.is_load_part e)) events.now) }
-{
-    let mut others = Vec::new(alloc);
-    for e in events {
-        if e.kind != Kind::LR {
-            others.push(*e)?;
-        }
-    }
-    Ok(others)
-}
-
 /// The order of a full case that no leaf closes.
 ///
 /// Errors: out of memory only.
@@ -85,13 +72,19 @@ pub fn make_order(
     ensures { IfOk result (λ o. IsMet model test.now (asked_claim test.now.condition) o.items) }
 {
     test.know_limits();
-    let facts = known_facts(alloc, test, events, answers)?;
-    let others = without_loads(alloc, events)?;
+    // All events but load parts.
+    let mut others = Vec::new(alloc);
+    for e in events {
+        if e.kind != Kind::LR {
+            others.push(*e)?;
+        }
+    }
     let branch = Branch {
         test,
         events,
         answers,
     };
     let sorted = sort(alloc, branch, Precedence::Order(model), &others)?;
+    let facts = known_facts(alloc, test, events, answers)?;
     order_along(alloc, test, events, answers, &facts, &sorted.row)
 }

@@ -1,5 +1,5 @@
 //! The search: from case to case, depth first. In each a leaf is found, or a question is asked, or an execution is met.
-ghost use Rattle.std.specs.Prelude.{◌≡◌, ◌∷◌, [], IfOk, IfSome, true};
+ghost use Rattle.std.specs.Prelude.{◌≡◌, ◌∷◌, [], IfOk, true};
 ghost use Rattle.refutation_laws.specs.Known.{events_of, nothing};
 ghost use Rattle.refutation_laws.specs.inner.FullCases.{IsSound};
 ghost use Rattle.refutations.specs.inner.Trees.{known_of};
@@ -27,30 +27,6 @@ struct Asked<'t> {
     model: Model,
 }
 
-/// What is done with a case for which this node is proposed: none where the node may not stand there.
-fn take_proposal(
-    alloc: Global,
-    test: &Test,
-    events: &[Entry],
-    model: Model,
-    answers: &Answers,
-    node: Node,
-) -> Result<Option<Step>, NoMemory>
-    requires events { events.now ≡ events_of test.now }
-    ensures { IfOk result (λ r. IfSome r (IsSearchStep model test.now (known_of answers.now))) }
-{
-    if is_leaf(&node) {
-        if is_node(alloc, test, events, model, answers, &node)? {
-            return Ok(Some(Step::Leaf(node)));
-        }
-        return Ok(None);
-    }
-    if is_open_question(test, events, answers, &node) {
-        return Ok(Some(Step::Question(node)));
-    }
-    Ok(None)
-}
-
 /// What is done with an open case, whatever is proposed: where no leaf closes it, the next question is asked, or it has an execution.
 fn next_step(
     alloc: Global,
@@ -73,7 +49,7 @@ fn next_step(
     Ok(Step::Allowed(Execution { order }))
 }
 
-/// What is done with an open case: what the guide proposes, if that may be done.
+/// What is done with an open case: what the guide proposes, if that may stand there.
 fn guided_step(
     alloc: Global,
     guide: &mut Guide,
@@ -87,8 +63,12 @@ fn guided_step(
     ensures { IfOk result (IsSearchStep model test.now (known_of answers.now)) }
 {
     if let Some(node) = propose(alloc, guide)? {
-        if let Some(step) = take_proposal(alloc, test, events, model, answers, node)? {
-            return Ok(step);
+        if is_leaf(&node) {
+            if is_node(alloc, test, events, model, answers, &node)? {
+                return Ok(Step::Leaf(node));
+            }
+        } else if is_open_question(test, events, answers, &node) {
+            return Ok(Step::Question(node));
         }
     }
     forget(guide);

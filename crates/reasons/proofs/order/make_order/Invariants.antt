@@ -1,6 +1,6 @@
 use Rattle.reasons.proofs.Vocabulary.{◌≡◌, ◌++◌, not, drop, filter}
 use Rattle.refutation_laws.specs.inner.Orders as spec
-use Rattle.reasons.proofs.order.without_loads.Given as goal
+use Rattle.reasons.proofs.order.make_order.Given as goal
 
 abbrev pub invariant-loop-e : goal.invariant-loop-e
 invariant-loop-e l =
