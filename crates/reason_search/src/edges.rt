@@ -23,18 +23,8 @@ fn word_of(branch: &Branch, ends: Ends, k: usize) -> u64 {
     branch.rows.word(ends.row, k) | own
 }
 
-/// Adds to a row all of these.
-fn widen(branch: &mut Branch, row: usize, added: Ends) {
-    for k in 0..branch.rows.width {
-        let old = branch.rows.word(row, k);
-        let new = old | word_of(branch, added, k);
-        if new != old {
-            change_word(branch, row, k, new);
-        }
-    }
-}
-
-/// Widens the rows of some events, which stand from `first` on. A row that has the number has the whole row that belongs to it.
+/// Adds to the rows of some events, which stand from `first` on, all of these. A row that has the number has the whole row that belongs
+/// to it.
 fn widen_each(branch: &mut Branch, some: Ends, first: usize, added: Ends) {
     for k in 0..branch.rows.width {
         let mut left = word_of(branch, some, k);
@@ -45,10 +35,17 @@ fn widen_each(branch: &mut Branch, some: Ends, first: usize, added: Ends) {
             let x = lowest(k, left);
             left &= left.wrapping_sub(1);
             let row = first.wrapping_add(x);
-            if !branch.rows.has(row, added.also) {
-                widen(branch, row, added);
-                branch.sets.add(DIRTY, x);
+            if branch.rows.has(row, added.also) {
+                continue;
             }
+            for i in 0..branch.rows.width {
+                let old = branch.rows.word(row, i);
+                let new = old | word_of(branch, added, i);
+                if new != old {
+                    change_word(branch, row, i, new);
+                }
+            }
+            branch.sets.add(DIRTY, x);
         }
     }
 }

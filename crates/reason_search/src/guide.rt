@@ -108,7 +108,7 @@ pub fn propose(alloc: Global, guide: &mut Guide) -> Result<Option<Node>, NoMemor
         return Err(NoMemory);
     }
     let problem = &guide.problem;
-    Ok(Some(match twig.growth {
+    let node = match twig.growth {
         Growth::ReadsFrom(r) => Node::ReadsFrom(problem.events.at(r).entry),
         Growth::ComesFirst(a, b) => Node::ComesFirst(
             problem.events.at(a).entry,
@@ -129,7 +129,8 @@ pub fn propose(alloc: Global, guide: &mut Guide) -> Result<Option<Node>, NoMemor
             )
         }
         Growth::False => Node::FalseClaim,
-    }))
+    };
+    Ok(Some(node))
 }
 
 /// Forgets what was proposed and isn't taken yet.

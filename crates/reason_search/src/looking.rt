@@ -48,7 +48,9 @@ pub fn put_source(problem: &Problem, branch: &mut Branch, r: usize, w: usize, tr
     // What no other value hangs on was tested as a source.
     branch.claim_is_dirty |= hangs | is_stored;
     add_edge(problem, branch, Relations::OnLocation, link);
-    if problem.is_global_source(w, r) {
+    // Its own core's writes a read may read before others see them.
+    let core = problem.events.at(r).core;
+    if !problem.events_of.has(core, w) {
         add_edge(problem, branch, Relations::Global, link);
     }
 }

@@ -58,22 +58,11 @@ pub fn show_order(
 }
 
 /// Adds the facts of an edge; after its first event the writes are shown that stand between a read's source and what it is before.
-fn need_edge(problem: &Problem, branch: &Branch, desk: &mut Desk, edge: Edge, limit: usize) {
+pub fn need_edge(problem: &Problem, branch: &Branch, desk: &mut Desk, edge: Edge, limit: usize) {
     need(&mut desk.trial, edge.link.fact);
     if edge.link.is_from_read {
         let s = branch.source_of(edge.link.from);
         show_order(problem, branch, desk, s, edge.link.to, limit);
-    }
-}
-
-/// Takes in hand the leaf of a cycle that an edge closes.
-pub fn close_cycle(problem: &Problem, branch: &Branch, desk: &mut Desk, edge: Edge) {
-    let edges = Edges {
-        relations: edge.relations,
-        limit: branch.edges.len(),
-    };
-    if take_path(problem, branch, desk, edges, edge.link.to, edge.link.from) {
-        need_edge(problem, branch, desk, edge, edges.limit);
     }
 }
 
@@ -120,7 +109,7 @@ fn take_cycle(
 }
 
 /// Takes in hand the cycle of a path from one event to another one, and of an edge back.
-fn take_path(
+pub fn take_path(
     problem: &Problem,
     branch: &Branch,
     desk: &mut Desk,
@@ -169,7 +158,9 @@ fn offer_orders(
     r: usize,
     s: usize,
 ) {
-    let is_edge = matches!(edges.relations, Relations::OnLocation) | problem.is_global_source(s, r);
+    let core = problem.events.at(r).core;
+    let is_edge = matches!(edges.relations, Relations::OnLocation)
+        | !problem.events_of.has(core, s);
     if is_edge & branch.is_known(edges.relations, r, s) {
         offer_path(problem, branch, desk, edges, r, s, NONE);
     }

@@ -103,11 +103,6 @@ pub struct Problem {
 }
 
 impl Problem {
-    /// Whether a read from this write is an edge of the global relations.
-    pub fn is_global_source(&self, w: usize, r: usize) -> bool {
-        !self.events_of.has(self.events.at(r).core, w)
-    }
-
     /// Adds an edge that the program tells.
     pub fn add_edge(&mut self, relations: Relations, a: usize, b: usize) {
         self.program.add(relations.row(self.size, a), b);

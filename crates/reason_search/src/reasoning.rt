@@ -7,7 +7,8 @@ use crate::evidence::{Closing, reset};
 use crate::facts::{Answer, Turned};
 use crate::growing::{Growth, add_node, put_branch};
 use crate::lists::NONE;
-use crate::offers::{Desk, close_cycle, find_why_before, find_why_not};
+use crate::offers::{Desk, find_why_before, find_why_not, need_edge, take_path};
+use crate::paths::Edges;
 use crate::problem::Problem;
 use crate::values::{known_facts, need_falsity};
 
@@ -104,7 +105,14 @@ pub fn add_conflict(problem: &Problem, branch: &mut Branch, desk: &mut Desk) -> 
                     return tree;
                 }
             }
-            close_cycle(problem, branch, desk, edge);
+            let limit = branch.edges.len();
+            let edges = Edges {
+                relations: edge.relations,
+                limit,
+            };
+            if take_path(problem, branch, desk, edges, edge.link.to, edge.link.from) {
+                need_edge(problem, branch, desk, edge, limit);
+            }
         }
         Conflict::NoSource(r) => return add_source_question(problem, branch, desk, r),
         Conflict::False | Conflict::Open => {
