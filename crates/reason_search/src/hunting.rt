@@ -15,7 +15,7 @@ use crate::problem::Problem;
 use crate::questions::{Frame, NO_FRAME, Questions, begin};
 use crate::reasoning::{add_conflict, add_order_question, add_source_question, wrap};
 use crate::rows::Rows;
-use crate::values::{find_values, known_facts};
+use crate::values::{Known, NOTHING, find_values};
 use crate::weights::Weights;
 use std::alloc::Global;
 
@@ -179,7 +179,10 @@ fn search(problem: &Problem, hunt: &mut Hunt) -> Find {
                 for loc in 0..problem.locations {
                     hunt.branch.sets.join(VALUED, &problem.readers_of, loc);
                 }
-                let known = known_facts(hunt.branch.facts.len());
+                let known = Known {
+                    limit: hunt.branch.facts.len(),
+                    ..NOTHING
+                };
                 find_values(problem, &mut hunt.branch, known);
                 return Find::Allowed;
             }

@@ -8,7 +8,9 @@ use crate::facts::{Answer, Link};
 use crate::lists::NONE;
 use crate::problem::{Problem, RELEVANT, Relations, STORED};
 use crate::rows::{bit, lowest};
-use crate::values::{find_values, is_wrong_source, is_wrong_value, known_facts, parts_that_can_be};
+use crate::values::{
+    Known, NOTHING, find_values, is_wrong_source, is_wrong_value, parts_that_can_be,
+};
 
 /// Marks what may have as its source a write whose value hangs on a read; and where `all` says so, each read with no source on whose
 /// value what is asked may hang.
@@ -233,7 +235,10 @@ pub fn deduce(problem: &Problem, branch: &mut Branch) -> bool {
         }
         if branch.claim_is_dirty {
             branch.claim_is_dirty = false;
-            let known = known_facts(branch.facts.len());
+            let known = Known {
+                limit: branch.facts.len(),
+                ..NOTHING
+            };
             find_values(problem, branch, known);
             branch.sets.join(UNTESTED, &problem.reads, RELEVANT);
             if !parts_that_can_be(problem, branch, known, NONE, NONE).has(0) {

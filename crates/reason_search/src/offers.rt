@@ -9,7 +9,7 @@ use crate::lists::{List, NONE};
 use crate::paths::{Edges, Paths, STARTS, begin, find, start_from, start_from_later};
 use crate::problem::{Problem, Relations};
 use crate::rows::Rows;
-use crate::values::{Known, known_facts, need_falsity};
+use crate::values::{Known, NOTHING, need_falsity};
 use crate::weights::Weights;
 use std::mem::swap;
 
@@ -211,7 +211,8 @@ pub fn find_why_not(problem: &Problem, branch: &mut Branch, desk: &mut Desk, r: 
     let known = Known {
         read: r,
         source: s,
-        ..known_facts(removed.facts)
+        limit: removed.facts,
+        ..NOTHING
     };
     let on_location = Edges {
         relations: Relations::OnLocation,
@@ -261,7 +262,8 @@ pub fn find_why_before(problem: &Problem, branch: &mut Branch, desk: &mut Desk, 
     if problem.parts_on.at(loc) != NONE {
         let known = Known {
             first: turned.second,
-            ..known_facts(turned.fact)
+            limit: turned.fact,
+            ..NOTHING
         };
         if need_falsity(problem, branch, known, &mut desk.trial) {
             offer(desk);

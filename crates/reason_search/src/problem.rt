@@ -123,14 +123,12 @@ impl Problem {
     }
 }
 
-/// A number that hangs on no read.
-pub fn bare_number(value: u32) -> Term {
-    Term {
-        number: value,
-        first: NONE,
-        second: NONE,
-    }
-}
+/// The number 0, which hangs on no read.
+const ZERO: Term = Term {
+    number: 0,
+    first: NONE,
+    second: NONE,
+};
 
 /// Adds to a row the reads on which a term hangs.
 pub fn add_reads(rows: &mut Rows, row: usize, term: Term) {
@@ -196,7 +194,7 @@ pub fn register_place(core: Core, reg: Reg) -> usize {
 
 fn held(registers: &List<Term>, core: Core, operand: Operand) -> Term {
     match operand {
-        Operand::Number(value) => bare_number(value),
+        Operand::Number(number) => Term { number, ..ZERO },
         Operand::Held(reg) => registers.at(register_place(core, reg)),
     }
 }
@@ -205,7 +203,7 @@ fn held(registers: &List<Term>, core: Core, operand: Operand) -> Term {
 fn add_terms(terms: &mut List<Term>, registers: &mut List<Term>, core: Core, action: Action) {
     let returned = Term {
         first: terms.len(),
-        ..bare_number(0)
+        ..ZERO
     };
     match action {
         Action::Store(_, operand) => terms.push(held(registers, core, operand)),
@@ -217,7 +215,7 @@ fn add_terms(terms: &mut List<Term>, registers: &mut List<Term>, core: Core, act
             let value = held(registers, core, operand);
             registers.put(register_place(core, reg), value);
         }
-        Action::Fence => terms.push(bare_number(0)),
+        Action::Fence => terms.push(ZERO),
         Action::Lock(_, reg, update) => {
             let place = register_place(core, reg);
             let old = registers.at(place);
@@ -238,11 +236,14 @@ fn add_terms(terms: &mut List<Term>, registers: &mut List<Term>, core: Core, act
 /// The terms of all events, and of all registers at the end.
 fn run_cores(terms: &mut List<Term>, registers: &mut List<Term>, test: &Test) {
     for word in test.initial_words() {
-        terms.push(bare_number(*word));
+        terms.push(Term {
+            number: *word,
+            ..ZERO
+        });
     }
     for core in 0..test.cores() {
-        for word in test.initial_registers(Core(core)) {
-            registers.push(bare_number(word));
+        for number in test.initial_registers(Core(core)) {
+            registers.push(Term { number, ..ZERO });
         }
         for instr in test.program(Core(core)) {
             add_terms(terms, registers, Core(core), instr.action());
@@ -259,7 +260,7 @@ pub fn make_problem(alloc: Global, test: &Test, events: &[Entry], model: Model) 
         locations,
         sequential: matches!(model, Model::Sequential),
         events: List::new(alloc, 0, NO_EVENT),
-        terms: List::new(alloc, 0, bare_number(0)),
+        terms: List::new(alloc, 0, ZERO),
         writes_to: Rows::new(alloc, locations, size),
         ranks: List::new(alloc, 0, 0),
         most_writes: 0,
@@ -270,7 +271,7 @@ pub fn make_problem(alloc: Global, test: &Test, events: &[Entry], model: Model) 
         parts_on: List::new(alloc, size, NONE),
         reads: Rows::new(alloc, 2, size),
     };
-    let mut registers = List::new(alloc, 0, bare_number(0));
+    let mut registers = List::new(alloc, 0, ZERO);
     run_cores(&mut problem.terms, &mut registers, test);
     // What is asked hangs on both lists, and this one ends here.
     problem.terms.is_refused |= registers.is_refused;

@@ -10,7 +10,7 @@ use crate::lists::NONE;
 use crate::offers::{Desk, find_why_before, find_why_not, need_edge, take_path};
 use crate::paths::Edges;
 use crate::problem::Problem;
-use crate::values::{known_facts, need_falsity};
+use crate::values::{Known, NOTHING, need_falsity};
 
 /// Makes a tree for a source, where there is none, since the read can't have it.
 fn close_source(problem: &Problem, branch: &mut Branch, desk: &mut Desk, r: usize, s: usize) {
@@ -117,7 +117,10 @@ pub fn add_conflict(problem: &Problem, branch: &mut Branch, desk: &mut Desk) -> 
         Conflict::NoSource(r) => return add_source_question(problem, branch, desk, r),
         Conflict::False | Conflict::Open => {
             reset(&mut desk.trial, Closing::None);
-            let known = known_facts(branch.facts.len());
+            let known = Known {
+                limit: branch.facts.len(),
+                ..NOTHING
+            };
             let _is_false = need_falsity(problem, branch, known, &mut desk.trial);
         }
     }

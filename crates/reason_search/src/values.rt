@@ -16,15 +16,13 @@ pub struct Known {
     pub first: usize,
 }
 
-/// The first so many facts, with nothing supposed.
-pub fn known_facts(limit: usize) -> Known {
-    Known {
-        limit,
-        read: NONE,
-        source: NONE,
-        first: NONE,
-    }
-}
+/// No fact, and nothing supposed.
+pub const NOTHING: Known = Known {
+    limit: 0,
+    read: NONE,
+    source: NONE,
+    first: NONE,
+};
 
 /// A number and what a read returns, added up as far as both are known; no read adds nothing.
 fn plus_returned(branch: &Branch, number: usize, r: usize) -> usize {
@@ -156,7 +154,10 @@ pub fn is_wrong_source(problem: &Problem, branch: &mut Branch, r: usize, s: usiz
     if !problem.reads.has(STORED, r) || written(problem, branch, s) == NONE {
         return false;
     }
-    let facts = known_facts(branch.facts.len());
+    let facts = Known {
+        limit: branch.facts.len(),
+        ..NOTHING
+    };
     find_values(
         problem,
         branch,
@@ -179,7 +180,10 @@ pub fn is_wrong_value(problem: &Problem, branch: &Branch, place: usize, w: usize
     }
     let value = written(problem, branch, w);
     if problem.reads.has(STORED, place) {
-        let known = known_facts(branch.facts.len());
+        let known = Known {
+            limit: branch.facts.len(),
+            ..NOTHING
+        };
         return value != NONE && !parts_that_can_be(problem, branch, known, place, value).has(0);
     }
     // Then one part that asks of this place suffices to bar the value.
