@@ -4,7 +4,6 @@ ghost use Rattle.std.specs.List.{list_any};
 ghost use Rattle.tso_model.specs.ProgramOrder as program_order;
 ghost use Rattle.tso_model.specs.Condition.{NamesExist, claim_of};
 ghost use Rattle.refutation_laws.specs.Known.{events_of};
-ghost use Rattle.refutation_laws.specs.Known as known;
 ghost use Rattle.refutation_laws.specs.Refutations.{asked_claim};
 ghost use Rattle.refutation_laws.specs.Values as spec;
 ghost use Rattle.refutations.specs.inner.Trees.{known_of};
@@ -38,24 +37,20 @@ fn has_writes(events: &[Entry], loc: u8) -> bool
     false
 }
 
-/// Whether an answer puts w before another event.
-fn is_passed(test: &Test, events: &[Entry], answers: &Answers, w: &Entry) -> bool
-    requires { events.now ≡ events_of test.now }
-    ensures { result ≡ list_any (known.comes_before (known_of answers.now) w.now) (events_of test.now) }
-{
-    for p in &answers.order {
-        if same_event(&p.first, w) && is_event(test, events, &p.second) {
-            return true;
-        }
-    }
-    false
-}
-
+/// Whether w can be the last write to a location: no answer puts it before another event.
 fn can_be_last(test: &Test, events: &[Entry], answers: &Answers, loc: u8, w: &Entry) -> bool
     requires { events.now ≡ events_of test.now }
     ensures { result ≡ spec.can_be_last test.now (known_of answers.now) loc w.now }
 {
-    writes_to(loc, w) && !is_passed(test, events, answers, w)
+    if !writes_to(loc, w) {
+        return false;
+    }
+    for p in &answers.order {
+        if same_event(&p.first, w) && is_event(test, events, &p.second) {
+            return false;
+        }
+    }
+    true
 }
 
 /// What a number has to be: this one, or any other one.

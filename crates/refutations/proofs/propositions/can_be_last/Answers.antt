@@ -1,6 +1,6 @@
 use Rattle.refutations.proofs.Vocabulary.{◌&&◌, ap, ◌∙◌, list_any, events_of, same_event, is_event, Pair, known_of}
 use Rattle.refutations.proofs.Last.{passed}
-use Rattle.refutations.proofs.propositions.is_passed.Goals as goal
+use Rattle.refutations.proofs.propositions.can_be_last.Goals as goal
 
 pub loop-p-init : goal.loop-p-init
 loop-p-init c =

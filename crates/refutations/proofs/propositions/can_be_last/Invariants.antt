@@ -1,5 +1,5 @@
 use Rattle.refutations.proofs.Vocabulary.{◌≡◌, ◌&&◌, drop, list_any, known_of, events_of, Pair, same_event, is_event, comes_before}
-use Rattle.refutations.proofs.propositions.is_passed.Given as goal
+use Rattle.refutations.proofs.propositions.can_be_last.Given as goal
 
 abbrev pub invariant-loop-p : goal.invariant-loop-p
 invariant-loop-p l =
