@@ -36,7 +36,7 @@ pub fn known_facts(
     let mut writes = Vec::new(alloc);
     for _round in 0..events.len() {
         let facts = run_all(alloc, test, &writes, &answers.sources)?;
-        if are_same(&facts.writes, &writes) {
+        if facts.writes == writes {
             return Ok(facts);
         }
         writes = facts.writes;
@@ -46,12 +46,6 @@ pub fn known_facts(
         writes,
         registers: facts.registers,
     })
-}
-
-fn are_same(xs: &[Entry], ys: &[Entry]) -> bool
-    ensures { result ≡ true → xs.now ≡ ys.now }
-{
-    xs == ys
 }
 
 /// Runs all programs, where these writes are known before: the writes that are then, and all registers at the end, as far as they are

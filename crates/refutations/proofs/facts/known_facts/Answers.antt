@@ -1,11 +1,12 @@
 use Rattle.refutations.proofs.Vocabulary.{◌≡◌, sym, ◌∙◌, known_of, all_known}
 use Rattle.std.proofs.Common.{rules}
-use Rattle.refutations.proofs.Rounds.{one-round, settled-at, with-all}
+use Rattle.refutations.proofs.Rounds.{as-same, one-round, settled-at, with-all}
 use Rattle.refutations.proofs.facts.known_facts.Goals as goal
 
-pub returns-then-are_same : goal.returns-then-are_same
-returns-then-are_same c =
-    let same = sym c.deref-in-loop-round-2.ensures.value ∙ (c.are_same.ensures c.if-are_same.true ∙ c.deref-in-loop-round-3.ensures.value) in
+pub returns-then-eq : goal.returns-then-eq
+returns-then-eq c =
+    let same : c.in_ok-facts.facts.writes.items ≡ c.loop-round.writes.items =
+    as-same _ (λ x y e. search rules) c.in_ok-facts.facts.writes.items c.loop-round.writes.items (sym c.eq.ensures ∙ c.if-eq.true) in
     let all = settled-at c.args.test.now (known_of c.args.answers.now) c.args.events.now c.loop-round._round c.requires c.loop-round-test.true
     c.in_ok-facts.facts.writes.items c.loop-round.writes.items c.deref.result.now c.deref-in-loop-round.result.now c.deref.ensures.value
     c.deref-in-loop-round.ensures.value c.in_ok-facts.ensures.writes c.loop-round.invariant same in
