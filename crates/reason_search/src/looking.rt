@@ -23,7 +23,7 @@ fn look_at_dependents(problem: &Problem, branch: &mut Branch, r: usize, all: boo
                 branch.sets.join(DIRTY, &problem.readers_of, event.location);
             }
         }
-        if all & problem.reads.has(RELEVANT, a) & (branch.source.at(a) == NONE) {
+        if all && problem.reads.has(RELEVANT, a) && branch.source.at(a) == NONE {
             branch.sets.add(DIRTY, a);
         }
     }
