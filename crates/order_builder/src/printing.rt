@@ -72,7 +72,8 @@ fn write_entries(text: &mut String, test: &Test, order: &[Entry]) -> Result<(), 
     Ok(())
 }
 
-/// Writes an entry after what a text has already, as [`entry_text`] has it.
+/// Writes an entry after what a text has already, as [`entry_text`] has it. That the value that was printed is a word is told along
+/// with it.
 ///
 /// Errors: out of memory only; the text may have grown then.
 pub fn write_entry(text: &mut String, test: &Test, entry: &Entry) -> Result<(), NoMemory>

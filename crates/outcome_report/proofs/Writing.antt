@@ -1,6 +1,7 @@
 -- What is written of the states that are kept.
 use Rattle.outcome_report.proofs.Vocabulary.{◌≡◌, ◌∙◌, ℕ, Bool, Option, Some, codes, Condition, held_in, failed_in, true_in, printed_numbers, List, [], ◌∷◌, ◌++◌, map, length, Vec, Bor, refl, sym, ap, subst, append_assoc, append-nil, values_of, Global, length-map, All-head, All-tail, array, view, items_of, Litmus, FinalState, shown_value, Named, Outcome, outcome_of, shown_values, state_line, by_line, outcome_lines, outcomes_line, condition_lines, outcomes_text, holds_in, state_value, states_value, IsOutcomeOf, kept_of, AreShown, kept_lines, kept_values}
-use Rattle.serde_json.specs.declared.value.Value.{Value}
+use Rattle.tso_report.specs.declared.arrays.Array.{Array}
+use Rattle.tso_report.specs.inner.Arrays.{IsBegun}
 use Rattle.tso_report.specs.Report.{line, test_line}
 use Rattle.tso_report.specs.Tally.{observed_line}
 use Rattle.outcome_report.specs.Verdict.{is_met, verdict_line}
@@ -68,41 +69,40 @@ condition-whole t c o outcomes name held failed met empty first second third fou
 
 -- ---- the values of one state after the other
 
--- those that were made, and the others are there to be made
-abbrev pub Made : Litmus → List Named → List Value → Entries → Entries → Type 0
-Made t names done rest es =
-    (map view done ++ kept_values t names (kept_of rest) ≡ kept_values t names (kept_of es)) × AreShown t names (kept_of rest)
+-- the array has those that were made, and the others are there to be made
+abbrev pub Made : Litmus → List Named → Array → Entries → Entries → Type 0
+Made t names done rest es = IsBegun done (kept_values t names (kept_of rest)) (kept_values t names (kept_of es)) × AreShown t names (kept_of rest)
 
 -- the next one has a value for each name, and is a state of the test
-pub as-named : (t : Litmus) (names : List Named) (done : List Value) (all rest es : Entries) (v : Vec ℕ Global) (s : Bor FinalState) (values : List ℕ)
+pub as-named : (t : Litmus) (names : List Named) (done : Array) (all rest es : Entries) (v : Vec ℕ Global) (s : Bor FinalState) (values : List ℕ)
     → all ≡ (v, s) ∷ rest → values ≡ v.items → Made t names done all es → length values ≡ length names
 as-named t names done all rest es v s values steps are_values made =
     let o = outcome_of s.now in
     let shown : v.items ≡ shown_values names o = (All-head (Is t names) (v.items, o) (kept_of rest) (subst (λ entries. AreShown t names (kept_of entries)) steps made.1)).0 in
     ap length (are_values ∙ shown) ∙ length-map names (shown_value o.registers o.memory)
 
-pub is-whole : (t : Litmus) (names : List Named) (done : List Value) (all rest es : Entries) (v : Vec ℕ Global) (s : Bor FinalState)
+pub is-whole : (t : Litmus) (names : List Named) (done : Array) (all rest es : Entries) (v : Vec ℕ Global) (s : Bor FinalState)
     → all ≡ (v, s) ∷ rest → Made t names done all es → IsOutcomeOf t (outcome_of s.now)
 is-whole t names done all rest es v s steps made =
     (All-head (Is t names) (v.items, outcome_of s.now) (kept_of rest) (subst (λ entries. AreShown t names (kept_of entries)) steps made.1)).1
 
-pub one-made : (t : Litmus) (names : List Named) (done more : List Value) (all rest es : Entries) (v : Vec ℕ Global) (s : Bor FinalState) (values : List ℕ)
-    → all ≡ (v, s) ∷ rest → values ≡ v.items
-    → map view more ≡ map view done ++ state_value t names values s.now.choices.items (holds_in t.condition (outcome_of s.now)) ∷ []
-    → Made t names done all es → Made t names more rest es
-one-made t names done more all rest es v s values steps are_values pushed made =
-    let o = outcome_of s.now in
-    let value = λ (x : List ℕ). state_value t names x o.choices (holds_in t.condition o) in
-    let others = kept_values t names (kept_of rest) in
-    let moved : map view more ++ others ≡ map view done ++ (value v.items ∷ others) =
-    ap (λ x. x ++ others) (pushed ∙ ap (λ x. map view done ++ (value x ∷ [])) are_values) ∙ append_assoc (map view done) (value v.items ∷ []) others in (
-      moved ∙ (sym (ap (λ entries. map view done ++ kept_values t names (kept_of entries)) steps) ∙ made.0),
-      All-tail (Is t names) (v.items, o) (kept_of rest) (subst (λ entries. AreShown t names (kept_of entries)) steps made.1),
-    )
+-- the next one is to be made, and then the others
+pub next-made : (t : Litmus) (names : List Named) (done : Array) (all rest es : Entries) (v : Vec ℕ Global) (s : Bor FinalState) (values : List ℕ)
+    → all ≡ (v, s) ∷ rest → values ≡ v.items → Made t names done all es
+    → IsBegun done (state_value t names values s.now.choices.items (holds_in t.condition (outcome_of s.now)) ∷ kept_values t names (kept_of rest)) (kept_values t names (kept_of es))
+next-made t names done all rest es v s values steps are_values made =
+    let whole = kept_values t names (kept_of es) in
+    let value = λ (x : List ℕ). state_value t names x s.now.choices.items (holds_in t.condition (outcome_of s.now)) in
+    subst (λ x. IsBegun done (value x ∷ kept_values t names (kept_of rest)) whole) (sym are_values)
+    (subst (λ entries. IsBegun done (kept_values t names (kept_of entries)) whole) steps made.0)
 
-pub all-made : (t : Litmus) (names : List Named) (done : List Value) (rest es : Entries) → rest ≡ [] → AreShown t names (kept_of es) → Made t names done rest es
-    → array (items_of (map view done)) ≡ states_value t names (values_of (kept_of es))
+pub others-shown : (t : Litmus) (names : List Named) (done : Array) (all rest es : Entries) (v : Vec ℕ Global) (s : Bor FinalState)
+    → all ≡ (v, s) ∷ rest → Made t names done all es → AreShown t names (kept_of rest)
+others-shown t names done all rest es v s steps made =
+    All-tail (Is t names) (v.items, outcome_of s.now) (kept_of rest) (subst (λ entries. AreShown t names (kept_of entries)) steps made.1)
+
+pub all-made : (t : Litmus) (names : List Named) (done : Array) (rest es : Entries) → rest ≡ [] → AreShown t names (kept_of es) → Made t names done rest es
+    → IsBegun done [] (map (λ o. state_value t names (shown_values names o) o.choices (holds_in t.condition o)) (values_of (kept_of es)))
 all-made t names done rest es none shown made =
-    let all : map view done ≡ kept_values t names (kept_of es) =
-    sym (append-nil (map view done)) ∙ (sym (ap (λ entries. map view done ++ kept_values t names (kept_of entries)) none) ∙ made.0) in
-    ap (λ values. array (items_of values)) (all ∙ values-shown t names (kept_of es) shown)
+    subst (IsBegun done []) (values-shown t names (kept_of es) shown)
+    (subst (λ entries. IsBegun done (kept_values t names (kept_of entries)) (kept_values t names (kept_of es))) none made.0)

@@ -19,11 +19,12 @@ use crate::outcomes::Outcomes;
 use crate::verdict::{is_met_in, outcomes_verdict_value};
 use explorer::FinalState;
 use scheduler::choices_text;
-use serde_json::{Map, Value, put};
+use serde_json::Value;
 use std::alloc::Global;
 use tso_model::{Choice, NoMemory, Test, cond_holds};
+use tso_report::arrays::Array;
 use tso_report::json::unfinished_search_json;
-use tso_report::members::{Datum, object_of, push_made, word_value};
+use tso_report::members::{Datum, object_of, word_value};
 use tso_report::named::Named;
 use tso_report::objects::Object;
 use tso_report::observation::frequency;
@@ -113,11 +114,11 @@ fn states_value(
     requires shown { AreShown test.now names.now (kept_of outcomes.now.entries) }
     ensures { IfOk result (λ value. view value ≡ states_value test.now names.now (values_of (kept_of outcomes.now.entries))) }
 {
-    let mut states = Vec::new(alloc);
+    let mut states = Array::new(alloc);
     for (values, state) in outcomes.iter() {
-        push_made(&mut states, state_value(alloc, test, names, values, state))?;
+        states = states.with(state_value(alloc, test, names, values, state));
     }
-    Ok(Value::Array(states))
+    states.value()
 }
 
 fn state_value(
@@ -167,10 +168,10 @@ pub fn values_value(
     requires values { length values.now ≡ length names.now }
     ensures { IfOk result (λ value. view value ≡ object (value_members test.now names.now values.now)) }
 {
-    let mut members = Map::new(alloc);
+    let mut members = Object::new(alloc);
     for at in (0..names.len()).rev() {
         let key = key_text(alloc, test, names[at])?;
-        put(&mut members, alloc, &key, Value::from(values[at]))?;
+        members = members.member(&key, Ok(Value::from(values[at])));
     }
-    Ok(Value::Object(members))
+    members.value()
 }

@@ -23,11 +23,11 @@ use crate::steps::{Step, leaves_in};
 use outcome_report::json::{choices_value, values_value};
 use outcome_report::verdict::outcomes_verdict_value;
 use refutation_laws::Model;
-use serde_json::{Map, Value};
+use serde_json::Value;
 use std::alloc::Global;
 use tso_model::{Entry, Loc, NoMemory, Test};
 use tso_report::json::unfinished_search_json;
-use tso_report::members::{put_made, word_value};
+use tso_report::members::word_value;
 use tso_report::objects::Object;
 
 /// A refutation of what the test asks, as JSON: one line.
@@ -96,13 +96,13 @@ pub fn unfinished_reason_json(alloc: Global, test: &Test, limit: u32) -> Result<
 fn object_of(alloc: Global, test: &Test, fields: &[Field<'_>]) -> Result<Value, NoMemory>
     ensures { IfOk result (λ value. view value ≡ object (with_fields test.now fields.now no_members)) }
 {
-    let mut members = Map::new(alloc);
+    let mut object = Object::new(alloc);
     for (_before, key, piece) in fields {
         if !is_nothing(*piece) {
-            put_made(&mut members, alloc, key, piece_value(alloc, test, *piece))?;
+            object = object.member(key, piece_value(alloc, test, *piece));
         }
     }
-    Ok(Value::Object(members))
+    object.value()
 }
 
 impl Valued for Step {
@@ -125,13 +125,13 @@ impl Valued for Reading {
 fn coherence_value(alloc: Global, test: &Test, order: &[Entry]) -> Result<Value, NoMemory>
     ensures { IfOk result (λ value. view value ≡ object (coherence_members_by test.now order.now 0 test.now.locations)) }
 {
-    let mut members = Map::new(alloc);
+    let mut members = Object::new(alloc);
     for number in (0..test.locations()).rev() {
         let loc = Loc(number);
         if has_write(order, loc) {
             let writes = writes_value(alloc, test, order, loc);
-            put_made(&mut members, alloc, test.location_name(loc), writes)?;
+            members = members.member(test.location_name(loc), writes);
         }
     }
-    Ok(Value::Object(members))
+    members.value()
 }

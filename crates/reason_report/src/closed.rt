@@ -17,10 +17,19 @@ use std::alloc::Global;
 use tso_model::NoMemory;
 
 /// The answers of a case, and what they tell of values.
-#[derive(Drop)]
 pub struct Given {
     pub answers: Answers,
     pub facts: Facts,
+}
+
+// Said by hand, so that who lets it go makes one call, and not one for each part.
+impl Drop for Given {
+    fn drop(self) {
+        let Given {
+            answers: _answers,
+            facts: _facts,
+        } = self;
+    }
 }
 
 /// A node where it stands.
@@ -35,7 +44,6 @@ pub struct Standing {
 }
 
 /// A case that a leaf closes.
-#[derive(Drop)]
 pub struct Leaf {
     /// Where the leaf stands among the nodes.
     pub at: usize,
@@ -46,11 +54,32 @@ pub struct Leaf {
     pub named: Vec<bool>,
 }
 
+// Said by hand, so that who lets it go makes one call, and not one for each part.
+impl Drop for Leaf {
+    fn drop(self) {
+        let Leaf {
+            given: _given,
+            named: _named,
+            at: _,
+            shares: _,
+        } = self;
+    }
+}
+
 /// A branch that a leaf closes at once.
-#[derive(Drop)]
 pub struct Closed {
     pub reply: Reply,
     pub leaf: Leaf,
+}
+
+// Said by hand, so that who lets it go makes one call, and not one for each part.
+impl Drop for Closed {
+    fn drop(self) {
+        let Closed {
+            leaf: _leaf,
+            reply: _,
+        } = self;
+    }
 }
 
 /// What is given with these answers.

@@ -10,7 +10,7 @@ ghost use Rattle.reason_report.specs.inner.Views.{separated};
 use serde_json::Value;
 use std::alloc::Global;
 use tso_model::{NoMemory, Test};
-use tso_report::members::push_made;
+use tso_report::arrays::Array;
 use tso_report::pieces::write_characters;
 
 /// An item of a list in lines of text.
@@ -77,9 +77,9 @@ pub fn write_separated<T: Written>(
 pub fn array_of<T: Valued>(alloc: Global, test: &Test, items: &[T]) -> Result<Value, NoMemory>
     ensures { IfOk result (λ value. view value ≡ array (items_of (map (T.valued test.now) items.now))) }
 {
-    let mut values = Vec::new(alloc);
+    let mut values = Array::new(alloc);
     for item in items {
-        push_made(&mut values, item.value(alloc, test))?;
+        values = values.with(item.value(alloc, test));
     }
-    Ok(Value::Array(values))
+    values.value()
 }

@@ -17,10 +17,11 @@ use crate::readings::event_of;
 use crate::steps::{Edge, Event, Place};
 use outcome_report::keys::key_text;
 use refutations::events::writes_to;
-use serde_json::{Map, Value};
+use serde_json::Value;
 use std::alloc::Global;
 use tso_model::{Entry, Loc, NoMemory, Test};
-use tso_report::members::{numbers_value, put_made, word_value};
+use tso_report::arrays::Array;
+use tso_report::members::{numbers_value, word_value};
 use tso_report::objects::Object;
 
 /// Whether a piece is nothing.
@@ -67,14 +68,14 @@ pub fn writes_value(
     ensures { IfOk result (λ value. view value
         ≡ array (items_of (map (λ v. string (printed_entry test.now v)) (filter (program_order.writes_to loc.0) order.now)))) }
 {
-    let mut values = Vec::new(alloc);
+    let mut values = Array::new(alloc);
     for entry in order {
         if writes_to(loc.0, entry) {
             let write = event_of(entry);
-            values.push(text_value(alloc, test, Piece::Event(&write))?)?;
+            values = values.with(text_value(alloc, test, Piece::Event(&write)));
         }
     }
-    Ok(Value::Array(values))
+    values.value()
 }
 
 /// A piece as it stands in a line, as a string.
@@ -103,12 +104,11 @@ impl Valued for Edge {
 fn places_value(alloc: Global, test: &Test, places: &[Place]) -> Result<Value, NoMemory>
     ensures { IfOk result (λ value. view value ≡ object (spec.place_members test.now (map place_of places.now))) }
 {
-    let mut members = Map::new(alloc);
+    let mut members = Object::new(alloc);
     for at in (0..places.len()).rev() {
         let place = &places[at];
         let key = key_text(alloc, test, place.named)?;
-        let words = numbers_value(alloc, &place.values);
-        put_made(&mut members, alloc, &key, words)?;
+        members = members.member(&key, numbers_value(alloc, &place.values));
     }
-    Ok(Value::Object(members))
+    members.value()
 }

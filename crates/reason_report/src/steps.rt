@@ -26,7 +26,6 @@ pub struct Edge {
 }
 
 /// An answer to a question.
-#[derive(Drop)]
 pub enum Answer {
     /// The read reads from this write, or from one of these. None is the initial one.
     From(Event, Vec<Option<Event>>),
@@ -34,15 +33,33 @@ pub enum Answer {
     Before(Event, Event),
 }
 
+// Said by hand, so that who lets it go makes one call, and not one for each part.
+impl Drop for Answer {
+    fn drop(self) {
+        match self {
+            Answer::From(_, _writes) => {}
+            Answer::Before(_, _) => {}
+        }
+    }
+}
+
 /// A register or a location, and the values that it may have.
-#[derive(Drop)]
 pub struct Place {
     pub named: Named,
     pub values: Vec<u32>,
 }
 
+// Said by hand, so that who lets it go makes one call, and not one for each part.
+impl Drop for Place {
+    fn drop(self) {
+        let Place {
+            values: _values,
+            named: _,
+        } = self;
+    }
+}
+
 /// Why a case is closed.
-#[derive(Drop)]
 pub enum Closing {
     /// A cycle of uniproc.
     Uniproc(Vec<Edge>),
@@ -54,8 +71,19 @@ pub enum Closing {
     False(Vec<Place>),
 }
 
+// Said by hand, so that who lets it go makes one call, and not one for each part.
+impl Drop for Closing {
+    fn drop(self) {
+        match self {
+            Closing::Uniproc(_edges) => {}
+            Closing::Cycle(_edges) => {}
+            Closing::Between(_, _, _) => {}
+            Closing::False(_places) => {}
+        }
+    }
+}
+
 /// A step, with how many steps it stands deeper than the first one.
-#[derive(Drop)]
 pub enum Step {
     /// An answer. Its part follows, one step deeper.
     Case(usize, Answer),
@@ -65,6 +93,18 @@ pub enum Step {
     Leaf(usize, Closing),
     /// The cases of a question end here, and none is left.
     Endcases(usize),
+}
+
+// Said by hand, so that who lets it go makes one call, and not one for each part.
+impl Drop for Step {
+    fn drop(self) {
+        match self {
+            Step::Case(_, _answer) => {}
+            Step::So(_, _answer) => {}
+            Step::Leaf(_, _closing) => {}
+            Step::Endcases(_) => {}
+        }
+    }
 }
 
 /// How many of these steps close a case.

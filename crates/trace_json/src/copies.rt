@@ -16,6 +16,7 @@ use std::alloc::Global;
 use trace_report::names::state_name;
 use trace_report::states::line_state;
 use tso_model::{Core, NoMemory, Test};
+use tso_report::arrays::Array;
 use tso_report::members::{numbers_value, push_made, word_value};
 use tso_report::objects::Object;
 
@@ -31,11 +32,11 @@ pub fn sets_value<P: Protocol>(
     requires core { core.0 < length moment.now.test.now.programs }
     ensures { IfOk result (λ value. view value ≡ array (items_of (sets_json moment.now.machine.now core.0 0 moment.now.config.shape.sets))) }
 {
-    let mut values = Vec::new(alloc);
+    let mut values = Array::new(alloc);
     for set in 0..moment.config.sets() {
-        push_made(&mut values, set_value(alloc, moment, core, set))?;
+        values = values.with(set_value(alloc, moment, core, set));
     }
-    Ok(Value::Array(values))
+    values.value()
 }
 
 /// The lines of a core's set, the most recently used first: of each its locations, what it is in, and their words.

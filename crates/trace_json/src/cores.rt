@@ -16,6 +16,7 @@ use protocol_tables::Protocol;
 use serde_json::Value;
 use std::alloc::Global;
 use tso_model::{Core, NoMemory};
+use tso_report::arrays::Array;
 use tso_report::json::registers_value;
 use tso_report::members::push_made;
 use tso_report::objects::Object;
@@ -31,7 +32,7 @@ pub fn cores_value<P: Protocol>(
     ensures { IfOk result (λ value. view value
         ≡ array (items_of (cores_json moment.now.machine.now 0 (length moment.now.machine.now.test.programs)))) }
 {
-    let mut values = Vec::new(alloc);
+    let mut values = Array::new(alloc);
     for core in 0..moment.test.cores() {
         let core = Core(core);
         let place = moment.machine.place(core).unwrap_or(0);
@@ -42,9 +43,9 @@ pub fn cores_value<P: Protocol>(
             .member("place", Ok(Value::from(place)))
             .member("registers", registers_value(alloc, &registers))
             .value();
-        push_made(&mut values, value)?;
+        values = values.with(value);
     }
-    Ok(Value::Array(values))
+    values.value()
 }
 
 /// A core's pending stores, the oldest first.

@@ -28,14 +28,22 @@ use trace_report::telling::tell;
 use tso_model::{NoMemory, Test};
 
 /// What a choice did, and where the word is found that it read.
-#[derive(Drop)]
 pub(crate) struct SourcedStep {
     pub(crate) step: Step,
     supplied: Option<Source>,
 }
 
+// Said by hand, so that who lets it go makes one call, and not one for each part.
+impl Drop for SourcedStep {
+    fn drop(self) {
+        let SourcedStep {
+            step: _step,
+            supplied: _,
+        } = self;
+    }
+}
+
 /// Follows a machine.
-#[derive(Drop)]
 pub(crate) struct Follower<'t> {
     pub(crate) alloc: Global,
     test: &'t Test,
@@ -44,6 +52,19 @@ pub(crate) struct Follower<'t> {
     states: Vec<PlacedState>,
     /// Memory's own words.
     memory: Vec<u32>,
+}
+
+// Said by hand, so that who lets it go makes one call, and not one for each part.
+impl<'t> Drop for Follower<'t> {
+    fn drop(self) {
+        let Follower {
+            states: _states,
+            memory: _memory,
+            alloc: _,
+            test: _,
+            config: _,
+        } = self;
+    }
 }
 
 impl<'t> Follower<'t> {

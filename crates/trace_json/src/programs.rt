@@ -12,7 +12,7 @@ use crate::texts::text_value;
 use serde_json::Value;
 use std::alloc::Global;
 use tso_model::{Core, Instr, NoMemory, Reg, Test};
-use tso_report::members::push_made;
+use tso_report::arrays::Array;
 use tso_report::pieces::Piece;
 
 /// For each core a list of its instructions, each as a text: `MOV [x],$1`.
@@ -21,25 +21,22 @@ use tso_report::pieces::Piece;
 pub fn programs_value(alloc: Global, test: &Test) -> Result<Value, NoMemory>
     ensures { IfOk result (λ value. view value ≡ programs_value test.now) }
 {
-    let mut programs = Vec::new(alloc);
+    let mut programs = Array::new(alloc);
     for core in 0..test.cores() {
-        push_made(
-            &mut programs,
-            program_value(alloc, test, test.program(Core(core))),
-        )?;
+        programs = programs.with(program_value(alloc, test, test.program(Core(core))));
     }
-    Ok(Value::Array(programs))
+    programs.value()
 }
 
 fn program_value(alloc: Global, test: &Test, program: &[Instr]) -> Result<Value, NoMemory>
     requires { All (KnownLocation (length test.now.locations)) program.now }
     ensures { IfOk result (λ value. view value ≡ program_value test.now program.now) }
 {
-    let mut texts = Vec::new(alloc);
+    let mut texts = Array::new(alloc);
     for instr in program {
-        push_made(&mut texts, instruction_value(alloc, test, instr))?;
+        texts = texts.with(instruction_value(alloc, test, instr));
     }
-    Ok(Value::Array(texts))
+    texts.value()
 }
 
 /// An instruction as a cell of a test's table spells it.

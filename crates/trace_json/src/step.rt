@@ -20,8 +20,9 @@ use trace_report::names::{access_name, stall_name};
 use trace_report::text::{write_change, write_line_request};
 use trace_report::{LineRequest, Moved, StateChange, Step};
 use tso_model::{Core, NoMemory, Outcome, Test};
+use tso_report::arrays::Array;
 use tso_report::json::order_value;
-use tso_report::members::{push_made, word_value};
+use tso_report::members::word_value;
 use tso_report::objects::Object;
 use tso_report::pieces::Piece;
 
@@ -135,11 +136,11 @@ fn changes_value(
     requires { All (λ c. IsLine test.now words c.line) changes.now }
     ensures { IfOk result (λ value. view value ≡ array_of_texts (map (printed_change test.now words) changes.now)) }
 {
-    let mut values = Vec::new(alloc);
+    let mut values = Array::new(alloc);
     for change in changes {
-        push_made(&mut values, change_value(alloc, test, words, *change))?;
+        values = values.with(change_value(alloc, test, words, *change));
     }
-    Ok(Value::Array(values))
+    values.value()
 }
 
 /// A line whose state changed, `P1.x S>I`.

@@ -122,7 +122,6 @@ fn simulate_telling(
 }
 
 /// Keeps what a run is to be told by, and makes a value of it at the end.
-#[derive(Drop)]
 struct Tracer<'t> {
     follower: Follower<'t>,
     extent: Extent,
@@ -132,6 +131,19 @@ struct Tracer<'t> {
     steps: Vec<Value>,
     /// What the last choice did.
     last: Option<SourcedStep>,
+}
+
+// Said by hand, so that who lets it go makes one call, and not one for each part.
+impl<'t> Drop for Tracer<'t> {
+    fn drop(self) {
+        let Tracer {
+            follower: _follower,
+            told: _told,
+            steps: _steps,
+            last: _last,
+            extent: _,
+        } = self;
+    }
 }
 
 impl<'t> Observer for Tracer<'t> {

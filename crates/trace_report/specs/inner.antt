@@ -3,3 +3,4 @@ pub mod Left
 pub mod Told
 pub mod Steps
 pub mod ToldSteps
+pub mod Pieces

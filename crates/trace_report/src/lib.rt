@@ -3,6 +3,7 @@
 #![tactic(auto)]
 
 pub mod names;
+mod pieces;
 mod sending;
 pub mod states;
 pub mod step;

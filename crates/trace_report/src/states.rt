@@ -88,7 +88,9 @@ fn awaited_at(holder: Option<BusHolder>, words: u8, core: Core, line: u8) -> Opt
     requires { 0 < words }
     ensures { result ≡ awaited_at holder words core.0 line }
 {
-    let holder = holder?;
+    let Some(holder) = holder else {
+        return None;
+    };
     if core_of(holder.choice).0 == core.0 && holder.loc.0 / words == line {
         holder.transient
     } else {

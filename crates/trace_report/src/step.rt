@@ -8,7 +8,6 @@ use snoop_bus::AccessKind;
 use tso_model::{Choice, Core, Entry, Outcome, Reg};
 
 /// What a choice did. Of a choice that stalled nothing is told but that.
-#[derive(Drop)]
 pub struct Step {
     pub choice: Choice,
     pub outcome: Outcome,
@@ -30,6 +29,25 @@ pub struct Step {
     pub changes: Vec<StateChange>,
     /// The core's pending stores after it, the oldest first, where they changed.
     pub buffer: Option<Vec<Entry>>,
+}
+
+// Said by hand, so that who lets it go makes one call, and not one for each part.
+impl Drop for Step {
+    fn drop(self) {
+        let Step {
+            entries: _entries,
+            changes: _changes,
+            buffer: _buffer,
+            choice: _,
+            outcome: _,
+            moved: _,
+            forwarded: _,
+            access: _,
+            request: _,
+            flushed: _,
+            wrote_back: _,
+        } = self;
+    }
 }
 
 /// A register, and the value that it was given.

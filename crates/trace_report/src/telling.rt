@@ -256,10 +256,10 @@ fn moved_in<P: Protocol>(
 {
     match choice {
         Choice::Drain(_) => None,
-        Choice::Step(core) => {
-            let instr = test.program(core).get(usize::from(place))?;
-            moved_by(machine, core, *instr)
-        }
+        Choice::Step(core) => match test.program(core).get(usize::from(place)) {
+            None => None,
+            Some(instr) => moved_by(machine, core, *instr),
+        },
     }
 }
 

@@ -2,7 +2,6 @@
 //! was.
 
 ghost use Rattle.std.specs.Prelude.{◌≡◌, ◌++◌, OnOk, All, IfSome, codes, option_map, string_bytes};
-ghost use Rattle.std.specs.Fmt.{decimal};
 ghost use Rattle.order_builder.specs.PrintedOrder.{HasLocation};
 ghost use Rattle.trace_report.specs.Shown.{shown_step};
 ghost use Rattle.protocol_tables.specs.PrintedTable.{line};
@@ -15,11 +14,10 @@ ghost use Rattle.trace_report.specs.Known.{IsLine, IsAt, StepNamesExist};
 ghost use Rattle.trace_report.specs.Stalls.{stall_line};
 
 use crate::names::{access_name, request_name, stall_name, state_name};
+use crate::pieces::{Piece, write_pieces};
 use crate::step::{LineRequest, Moved, StateChange, Step, core_of};
-use itoa::Buffer;
-use order_builder::entry_text;
+use order_builder::write_entry;
 use snoop_bus::AccessKind;
-use std::alloc::Global;
 use tso_model::{Choice, Core, Entry, Loc, NoMemory, Outcome, Stall, Test};
 
 /// Writes the first line of a trace, `Trace`.
@@ -28,7 +26,7 @@ use tso_model::{Choice, Core, Entry, Loc, NoMemory, Outcome, Stall, Test};
 pub fn write_start(text: &mut String) -> Result<(), NoMemory>
     ensures { OnOk result (string_bytes text.new ≡ string_bytes text.old ++ line (codes "Trace")) }
 {
-    write_word(text, "Trace\n")
+    write_pieces(text, &[Piece::Word("Trace\n")])
 }
 
 /// Writes the last line of a trace of so many steps, `Endtrace 6`.
@@ -37,8 +35,12 @@ pub fn write_start(text: &mut String) -> Result<(), NoMemory>
 pub fn write_end(text: &mut String, count: usize) -> Result<(), NoMemory>
     ensures { OnOk result (string_bytes text.new ≡ string_bytes text.old ++ end_line count) }
 {
-    write!(text, "Endtrace {count}\n")?;
-    Ok(())
+    let pieces = [
+        Piece::Word("Endtrace "),
+        Piece::Number(count),
+        Piece::Word("\n"),
+    ];
+    write_pieces(text, &pieces)
 }
 
 /// Writes the line of a step with this number, on caches whose lines have so many words:
@@ -47,7 +49,6 @@ pub fn write_end(text: &mut String, count: usize) -> Result<(), NoMemory>
 /// Errors: out of memory only; the text may have grown then.
 pub fn write_step(
     text: &mut String,
-    alloc: Global,
     test: &Test,
     words: u8,
     number: usize,
@@ -57,13 +58,13 @@ pub fn write_step(
     ensures { OnOk result (string_bytes text.new ≡ string_bytes text.old ++ trace_step_line test.now words number (shown_step step.now)) }
 {
     write_outcome(text, number, step.choice, step.outcome)?;
-    write_done(text, alloc, test, step)?;
+    write_done(text, test, step)?;
     write_request(text, test, words, step.request)?;
     write_flush(text, step.flushed)?;
     write_write_back(text, test, words, step.wrote_back)?;
     write_changes(text, test, words, &step.changes)?;
     write_buffer(text, test, core_of(step.choice), &step.buffer)?;
-    write_word(text, "\n")
+    write_pieces(text, &[Piece::Word("\n")])
 }
 
 /// Writes the line of a step with this number that stalled, `5 0d stalled Empty`: nothing else is told of it.
@@ -78,7 +79,7 @@ pub fn write_stall(
     ensures { OnOk result (string_bytes text.new ≡ string_bytes text.old ++ stall_line number choice stall) }
 {
     write_outcome(text, number, choice, Outcome::Stalled(stall))?;
-    write_word(text, "\n")
+    write_pieces(text, &[Piece::Word("\n")])
 }
 
 /// `5 0d committed`.
@@ -94,54 +95,37 @@ fn write_outcome(
         Choice::Step(core) => (core, "s "),
         Choice::Drain(core) => (core, "d "),
     };
-    write_number(text, number)?;
-    text.push(' ')?;
-    write_number(text, usize::from(core.0))?;
-    write_word(text, letter)?;
-    write_outcome_name(text, outcome)
+    let (name, reason) = outcome_words(outcome);
+    let pieces = [
+        Piece::Number(number),
+        Piece::Word(" "),
+        Piece::Number(usize::from(core.0)),
+        Piece::Word(letter),
+        Piece::Word(name),
+        Piece::Word(reason),
+    ];
+    write_pieces(text, &pieces)
 }
 
-/// `committed`, or `stalled Full`.
-fn write_outcome_name(text: &mut String, outcome: Outcome) -> Result<(), NoMemory>
-    ensures { OnOk result (string_bytes text.new ≡ string_bytes text.old ++ outcome_name outcome) }
+/// `committed`, or `stalled ` and `Full`.
+fn outcome_words(outcome: Outcome) -> (&'static str, &'static str)
+    ensures { result.0.now ++ result.1.now ≡ outcome_name outcome }
 {
     match outcome {
-        Outcome::Committed => write_word(text, "committed"),
-        Outcome::Buffered => write_word(text, "buffered"),
-        Outcome::Moved => write_word(text, "moved"),
-        Outcome::Asked => write_word(text, "asked"),
-        Outcome::Stalled(stall) => {
-            text.push_str("stalled ")?;
-            write_word(text, stall_name(stall))
-        }
+        Outcome::Committed => ("committed", ""),
+        Outcome::Buffered => ("buffered", ""),
+        Outcome::Moved => ("moved", ""),
+        Outcome::Asked => ("asked", ""),
+        Outcome::Stalled(stall) => ("stalled ", stall_name(stall)),
     }
-}
-
-fn write_word(text: &mut String, word: &str) -> Result<(), NoMemory>
-    ensures { OnOk result (string_bytes text.new ≡ string_bytes text.old ++ word.now) }
-{
-    Ok(text.push_str(word)?)
-}
-
-/// A number, in decimal. It goes past `write!`, which would take longer for it than the rest of a short line does.
-#[tactic(auto, using(std::proofs::lemmas::Fmt::decimal_digit))]
-fn write_number(text: &mut String, number: usize) -> Result<(), NoMemory>
-    ensures { OnOk result (string_bytes text.new ≡ string_bytes text.old ++ decimal number) }
-{
-    if number < 10 {
-        text.push(char::from(b'0' + number as u8))?;
-        return Ok(());
-    }
-    let mut digits = Buffer::new();
-    write_word(text, digits.format(number))
 }
 
 /// What the choice did to the order and the registers, and by its access.
-fn write_done(text: &mut String, alloc: Global, test: &Test, step: &Step) -> Result<(), NoMemory>
+fn write_done(text: &mut String, test: &Test, step: &Step) -> Result<(), NoMemory>
     requires { All (HasLocation test.now) step.now.entries.items }
     ensures { OnOk result (string_bytes text.new ≡ string_bytes text.old ++ done_text test.now (shown_step step.now)) }
 {
-    write_entries(text, alloc, test, &step.entries)?;
+    write_entries(text, test, &step.entries)?;
     write_moved(text, step.moved)?;
     if step.forwarded {
         text.push_str(" forwarded")?;
@@ -149,18 +133,13 @@ fn write_done(text: &mut String, alloc: Global, test: &Test, step: &Step) -> Res
     write_access(text, step.access)
 }
 
-fn write_entries(
-    text: &mut String,
-    alloc: Global,
-    test: &Test,
-    entries: &[Entry],
-) -> Result<(), NoMemory>
+fn write_entries(text: &mut String, test: &Test, entries: &[Entry]) -> Result<(), NoMemory>
     requires { All (HasLocation test.now) entries.now }
     ensures { OnOk result (string_bytes text.new ≡ string_bytes text.old ++ entries_text test.now entries.now) }
 {
     for entry in entries {
-        let entry = entry_text(alloc, test, entry)?;
-        write!(text, " {entry}")?;
+        text.push(' ')?;
+        write_entry(text, test, entry)?;
     }
     Ok(())
 }
@@ -171,8 +150,13 @@ fn write_moved(text: &mut String, moved: Option<Moved>) -> Result<(), NoMemory>
     match moved {
         None => Ok(()),
         Some(Moved { reg, value }) => {
-            let name = reg.name();
-            Ok(write!(text, " {name}={value}")?)
+            let pieces = [
+                Piece::Word(" "),
+                Piece::Word(reg.name()),
+                Piece::Word("="),
+                Piece::Number(value as usize),
+            ];
+            write_pieces(text, &pieces)
         }
     }
 }
@@ -182,10 +166,7 @@ fn write_access(text: &mut String, access: Option<AccessKind>) -> Result<(), NoM
 {
     match access {
         None => Ok(()),
-        Some(kind) => {
-            text.push(' ')?;
-            write_word(text, access_name(kind))
-        }
+        Some(kind) => write_pieces(text, &[Piece::Word(" "), Piece::Word(access_name(kind))]),
     }
 }
 
@@ -219,8 +200,8 @@ pub fn write_line_request(
     requires { IsLine test.now words request.line }
     ensures { OnOk result (string_bytes text.new ≡ string_bytes text.old ++ printed_request test.now words request) }
 {
-    write_word(text, request_name(request.request))?;
-    text.push(' ')?;
+    let name = request_name(request.request);
+    write_pieces(text, &[Piece::Word(name), Piece::Word(" ")])?;
     write_line_name(text, test, words, request.line)
 }
 
@@ -230,8 +211,8 @@ fn write_flush(text: &mut String, flushed: Option<Core>) -> Result<(), NoMemory>
     match flushed {
         None => Ok(()),
         Some(core) => {
-            write_word(text, " flush P")?;
-            write_number(text, usize::from(core.0))
+            let number = usize::from(core.0);
+            write_pieces(text, &[Piece::Word(" flush P"), Piece::Number(number)])
         }
     }
 }
@@ -248,7 +229,7 @@ fn write_write_back(
     match wrote_back {
         None => Ok(()),
         Some(line) => {
-            write_word(text, " write-back ")?;
+            text.push_str(" write-back ")?;
             write_line_name(text, test, words, line)
         }
     }
@@ -272,7 +253,7 @@ pub fn write_line_name(
     text.push_str(test.location_name(Loc(first)))?;
     for loc in first + 1..end {
         let name = test.location_name(Loc(loc));
-        write!(text, "+{name}")?;
+        write_pieces(text, &[Piece::Word("+"), Piece::Word(name)])?;
     }
     Ok(())
 }
@@ -305,12 +286,20 @@ pub fn write_change(
     requires { IsLine test.now words change.line }
     ensures { OnOk result (string_bytes text.new ≡ string_bytes text.old ++ printed_change test.now words change) }
 {
-    let core = change.core.0;
-    let (before, after) = (state_name(change.before), state_name(change.after));
-    write!(text, "P{core}.")?;
+    let core = [
+        Piece::Word("P"),
+        Piece::Number(usize::from(change.core.0)),
+        Piece::Word("."),
+    ];
+    let states = [
+        Piece::Word(" "),
+        Piece::Word(state_name(change.before)),
+        Piece::Word(">"),
+        Piece::Word(state_name(change.after)),
+    ];
+    write_pieces(text, &core)?;
     write_line_name(text, test, words, change.line)?;
-    write!(text, " {before}>{after}")?;
-    Ok(())
+    write_pieces(text, &states)
 }
 
 /// The core's pending stores where they changed, ` P0[x=1 y=2]`.
@@ -326,10 +315,14 @@ fn write_buffer(
     let Some(stores) = buffer else {
         return Ok(());
     };
-    let core = core.0;
-    write!(text, " P{core}[")?;
+    let front = [
+        Piece::Word(" P"),
+        Piece::Number(usize::from(core.0)),
+        Piece::Word("["),
+    ];
+    write_pieces(text, &front)?;
     write_stores(text, test, stores)?;
-    write_word(text, "]")
+    write_pieces(text, &[Piece::Word("]")])
 }
 
 /// `x=1 y=2`
@@ -339,8 +332,13 @@ fn write_stores(text: &mut String, test: &Test, stores: &[Entry]) -> Result<(), 
 {
     for (at, store) in stores.iter().enumerate() {
         let space = if at == 0 { "" } else { " " };
-        let (name, value) = (test.location_name(store.loc), store.value);
-        write!(text, "{space}{name}={value}")?;
+        let pieces = [
+            Piece::Word(space),
+            Piece::Word(test.location_name(store.loc)),
+            Piece::Word("="),
+            Piece::Number(store.value as usize),
+        ];
+        write_pieces(text, &pieces)?;
     }
     Ok(())
 }

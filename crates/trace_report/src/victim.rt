@@ -21,9 +21,13 @@ pub fn giving_way<P: Protocol>(
     requires { IsTraced test.now config machine.now }
     ensures { result ≡ giving_way machine.now core.0 request }
 {
-    let request = request?;
+    let Some(request) = request else {
+        return None;
+    };
     let set = request.line % config.sets();
-    let last = machine.cached_line(core, set, usize::from(config.ways()) - 1)?;
+    let Some(last) = machine.cached_line(core, set, usize::from(config.ways()) - 1) else {
+        return None;
+    };
     let lines = test.locations().div_ceil(config.words());
     if last.line < lines {
         Some(last.line)

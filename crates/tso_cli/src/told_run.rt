@@ -122,7 +122,7 @@ impl<'t> Observer for Teller<'t> {
             }
             Told::Made(step) => {
                 let words = self.config.words();
-                write_step(&mut self.text, alloc, test, words, number, &step)?;
+                write_step(&mut self.text, test, words, number, &step)?;
                 Ok(step.outcome)
             }
         }

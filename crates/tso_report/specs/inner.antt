@@ -1,4 +1,5 @@
 -- Words of contracts inside the project.
+pub mod Arrays
 pub mod Counted
 pub mod Json
 pub mod JsonFrame

@@ -12,14 +12,15 @@ ghost use Rattle.tso_report.specs.Json.{memory_value, order_value, registers_val
 ghost use Rattle.tso_report.specs.inner.Json.{unfinished_search_value};
 ghost use Rattle.tso_report.specs.Json.{run_members, unfinished_members, json_report, json_unfinished};
 
-use crate::members::{Datum, object_of, push_made, word_value};
+use crate::arrays::Array;
+use crate::members::{Datum, object_of, word_value};
 use crate::objects::Object;
 use crate::report::quantifier_text;
 use crate::run::Run;
 use machine_core::{Bus, Config, Counts};
 use order_builder::entry_text;
 use protocol_tables::ProtocolKind;
-use serde_json::{Map, Value, put};
+use serde_json::{Map, Value};
 use std::alloc::Global;
 use tso_model::{Entry, Loc, NoMemory, Reg, Test};
 
@@ -135,7 +136,7 @@ pub fn run_members(
 fn cache_value(alloc: Global, counts: &[Counts]) -> Result<Value, NoMemory>
     ensures { IfOk result (λ value. view value ≡ cache_value counts.now) }
 {
-    let mut values = Vec::new(alloc);
+    let mut values = Array::new(alloc);
     for counts in counts {
         let numbers = [
             ("flushes", Datum::Number(counts.flushes as u64)),
@@ -145,9 +146,9 @@ fn cache_value(alloc: Global, counts: &[Counts]) -> Result<Value, NoMemory>
             ("upgrades", Datum::Number(counts.upgrades as u64)),
             ("write_backs", Datum::Number(counts.write_backs as u64)),
         ];
-        push_made(&mut values, object_of(alloc, &numbers))?;
+        values = values.with(object_of(alloc, &numbers));
     }
-    Ok(Value::Array(values))
+    values.value()
 }
 
 fn condition_value(alloc: Global, test: &Test, holds: Option<bool>) -> Result<Value, NoMemory>
@@ -189,13 +190,13 @@ pub fn memory_value(alloc: Global, test: &Test, memory: &[u32]) -> Result<Value,
     requires { length memory.now ≡ length test.now.locations }
     ensures { IfOk result (λ value. view value ≡ memory_value test.now memory.now) }
 {
-    let mut members = Map::new(alloc);
+    let mut words = Object::new(alloc);
     for loc in (0..test.locations()).rev() {
         let name = test.location_name(Loc(loc));
         let word = memory[loc as usize];
-        put(&mut members, alloc, name, Value::from(word))?;
+        words = words.member(name, Ok(Value::from(word)));
     }
-    Ok(Value::Object(members))
+    words.value()
 }
 
 /// Entries as a list of their texts.
@@ -216,11 +217,11 @@ pub fn order_value(alloc: Global, test: &Test, order: &[Entry]) -> Result<Value,
 fn cores_value(alloc: Global, registers: &[[u32; 6]]) -> Result<Value, NoMemory>
     ensures { IfOk result (λ value. view value ≡ cores_value registers.now) }
 {
-    let mut values = Vec::new(alloc);
+    let mut values = Array::new(alloc);
     for registers in registers {
-        push_made(&mut values, registers_value(alloc, registers))?;
+        values = values.with(registers_value(alloc, registers));
     }
-    Ok(Value::Array(values))
+    values.value()
 }
 
 /// The registers of one core as an object of their names.

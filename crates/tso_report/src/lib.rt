@@ -2,6 +2,7 @@
 //! the run holds of what is read.
 #![tactic(auto)]
 
+pub mod arrays;
 mod counters;
 pub mod json;
 pub mod members;

@@ -6,6 +6,8 @@ ghost use Rattle.serde_json.specs.View.{items_of, members_view, view};
 ghost use Rattle.tso_report.specs.Json.{count};
 ghost use Rattle.tso_report.specs.inner.Members.{datum_value, with_data};
 
+use crate::arrays::Array;
+use crate::objects::Object;
 use serde_json::{Map, Value, put};
 use std::alloc::Global;
 use tso_model::NoMemory;
@@ -27,11 +29,11 @@ pub enum Datum<'a> {
 pub fn object_of(alloc: Global, fields: &[(&str, Datum<'_>)]) -> Result<Value, NoMemory>
     ensures { IfOk result (λ value. view value ≡ object (with_data fields.now no_members)) }
 {
-    let mut members = Map::new(alloc);
+    let mut object = Object::new(alloc);
     for (key, datum) in fields {
-        put_made(&mut members, alloc, key, datum_value(alloc, *datum))?;
+        object = object.member(key, datum_value(alloc, *datum));
     }
-    Ok(Value::Object(members))
+    object.value()
 }
 
 fn datum_value(alloc: Global, datum: Datum<'_>) -> Result<Value, NoMemory>
@@ -84,9 +86,9 @@ pub fn put_made(
 pub fn numbers_value(alloc: Global, numbers: &[u32]) -> Result<Value, NoMemory>
     ensures { IfOk result (λ value. view value ≡ array (items_of (map count numbers.now))) }
 {
-    let mut values = Vec::new(alloc);
+    let mut values = Array::new(alloc);
     for number in numbers {
-        values.push(Value::from(*number))?;
+        values = values.with(Ok(Value::from(*number)));
     }
-    Ok(Value::Array(values))
+    values.value()
 }

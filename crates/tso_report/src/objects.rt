@@ -15,11 +15,20 @@ use std::alloc::Global;
 use tso_model::NoMemory;
 
 /// An object in the making.
-#[derive(Drop)]
 pub struct Object {
     alloc: Global,
     /// The members so far, unless memory was refused for one of them.
     members: Result<Map<String, Value>, NoMemory>,
+}
+
+// Said by hand, so that who lets it go makes one call, and not one for each part.
+impl Drop for Object {
+    fn drop(self) {
+        let Object {
+            alloc: _,
+            members: _members,
+        } = self;
+    }
 }
 
 impl Object {
@@ -54,7 +63,8 @@ impl Object {
     pub fn members(self) -> Result<Map<String, Value>, NoMemory>
         ensures { (ms : Members) → HasMembers self ms → IfOk result (λ m. members_view m.entries ≡ ms) }
     {
-        self.members
+        let Object { alloc: _, members } = self;
+        members
     }
 
     /// The object.
@@ -63,7 +73,7 @@ impl Object {
     pub fn value(self) -> Result<Value, NoMemory>
         ensures { (ms : Members) → HasMembers self ms → IfOk result (λ value. view value ≡ object ms) }
     {
-        Ok(Value::Object(self.members?))
+        Ok(Value::Object(self.members()?))
     }
 
     /// The line of the object: its compact text, and a line feed.

@@ -1,5 +1,6 @@
-use Rattle.outcome_report.proofs.Vocabulary.{◌≡◌, drop, members_view, value_members}
+use Rattle.tso_report.specs.inner.Objects.{HasMembers}
+use Rattle.outcome_report.proofs.Vocabulary.{drop, value_members}
 use Rattle.outcome_report.proofs.json.values_value.Given as goal
 
 abbrev pub invariant-loop-at : goal.invariant-loop-at
-invariant-loop-at l = members_view l.members.entries ≡ value_members l.test (drop l.at l.names) (drop l.at l.values)
+invariant-loop-at l = HasMembers l.members (value_members l.test (drop l.at l.names) (drop l.at l.values))

@@ -1,7 +1,8 @@
-use Rattle.reason_report.proofs.Vocabulary.{◌≡◌, ◌++◌, drop, map, filter, string, view, writes_to, printed_entry}
+use Rattle.tso_report.specs.inner.Arrays.{IsBegun}
+use Rattle.reason_report.proofs.Vocabulary.{drop, map, filter, string, writes_to, printed_entry}
 use Rattle.reason_report.proofs.pieces_json.writes_value.Given as goal
 
 abbrev pub invariant-loop-entry : goal.invariant-loop-entry
 invariant-loop-entry l =
-    map view l.values.items ++ map (λ v. string (printed_entry l.test v)) (filter (writes_to l.loc.0) (drop l.entry-index l.order))
-    ≡ map (λ v. string (printed_entry l.test v)) (filter (writes_to l.loc.0) l.order)
+    IsBegun l.values (map (λ v. string (printed_entry l.test v)) (filter (writes_to l.loc.0) (drop l.entry-index l.order)))
+    (map (λ v. string (printed_entry l.test v)) (filter (writes_to l.loc.0) l.order))

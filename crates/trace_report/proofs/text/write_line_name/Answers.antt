@@ -8,7 +8,7 @@ loop-loc-preserved c =
     let first = c.args.number * c.args.words in
     let within : c.loop-loc.loc < first + c.args.words = omega arith in
     let there : c.loop-loc.loc < length names = omega arith in
-    one-named names (first + c.args.words) c.loop-loc.loc (string_bytes c.loop-loc.text) (string_bytes c.write.new.self) _
+    one-named names (first + c.args.words) c.loop-loc.loc (string_bytes c.loop-loc.text) (string_bytes c.write_pieces.new.text) _
     within there (search rules) c.loop-loc.invariant
 
 pub returns : goal.returns

@@ -11,10 +11,10 @@ returns c =
     let t = c.args.test.now in
     let words = c.args.words in
     let s = shown_step c.args.step.now in
-    on_ok_weaker c.write_word.result
+    on_ok_weaker c.write_pieces.result
     (λ e. seven-parts (string_bytes c.args.text.now) (outcome_text c.args.number s.choice s.outcome) (done_text t s) (request_text t words s.request) (flush_text s.flushed)
     (write_back_text t words s.wrote_back) (changes_text t words s.changes) (buffer_text t (chosen s.choice) s.buffer) (string_bytes c.write_outcome.new.text) (string_bytes c.write_done.new.text)
     (string_bytes c.write_request.new.text) (string_bytes c.write_flush.new.text) (string_bytes c.write_write_back.new.text) (string_bytes c.write_changes.new.text) (string_bytes c.write_buffer.new.text)
-    (string_bytes c.write_word.new.text) c.in_ok-write_outcome.ensures c.in_ok-write_done.ensures c.in_ok-write_request.ensures c.in_ok-write_flush.ensures c.in_ok-write_write_back.ensures
+    (string_bytes c.write_pieces.new.text) c.in_ok-write_outcome.ensures c.in_ok-write_done.ensures c.in_ok-write_request.ensures c.in_ok-write_flush.ensures c.in_ok-write_write_back.ensures
     (c.in_ok-write_changes.ensures ∙ ap (λ cs. string_bytes c.write_write_back.new.text ++ changes_text t words cs) c.deref.ensures.value)
-    (c.in_ok-write_buffer.ensures ∙ ap (λ core. string_bytes c.write_changes.new.text ++ buffer_text t core s.buffer) c.core_of.ensures) e) c.write_word.ensures
+    (c.in_ok-write_buffer.ensures ∙ ap (λ core. string_bytes c.write_changes.new.text ++ buffer_text t core s.buffer) c.core_of.ensures) e) c.write_pieces.ensures

@@ -1,15 +1,15 @@
-use Rattle.tso_report.proofs.Vocabulary.{◌∙◌, ◌+◌, ap, drop, drop_more, map, view, view-Array, array, items_of, counts_value}
-use Rattle.tso_report.proofs.Listed.{listed, all-made}
+use Rattle.tso_report.specs.inner.Arrays.{IsBegun}
+use Rattle.tso_report.proofs.Vocabulary.{ap, subst, drop_all, drop_more, map, counts_value}
 use Rattle.tso_report.proofs.json.cache_value.Goals as goal
 
 pub loop-counts-preserved : goal.loop-counts-preserved
 loop-counts-preserved c =
     let xs = c.args.counts.now in
-    let i = c.loop-counts.counts-index in
-    listed (map view c.loop-counts.values.items) (map view c.push_made.new.values.items) _ (map counts_value (drop (i + 1) xs)) (map counts_value (drop i xs)) (map counts_value xs)
-    (c.in_ok-push_made.ensures _ c.object_of.ensures) (ap (map counts_value) (drop_more xs i _ c.loop-counts-test.true)) c.loop-counts.invariant
+    let still = ap (map counts_value) (drop_more xs c.loop-counts.counts-index _ c.loop-counts-test.true) in
+    c.with-values.ensures _ _ _ (subst (λ ds. IsBegun c.loop-counts.values ds (map counts_value xs)) still c.loop-counts.invariant) c.object_of.ensures
 
 pub returns : goal.returns
 returns c =
-    view-Array c.loop-counts.values
-    ∙ ap (λ ds. array (items_of ds)) (all-made (counts_value) c.args.counts.now c.loop-counts.counts-index (map view c.loop-counts.values.items) c.loop-counts-test.false c.loop-counts.invariant)
+    let xs = c.args.counts.now in
+    let none = ap (map counts_value) (drop_all c.loop-counts.counts-index xs c.loop-counts-test.false) in
+    c.value.ensures _ (subst (λ ds. IsBegun c.loop-counts.values ds (map counts_value xs)) none c.loop-counts.invariant)

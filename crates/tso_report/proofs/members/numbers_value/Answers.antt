@@ -1,8 +1,15 @@
-use Rattle.tso_report.proofs.Vocabulary.{◌∙◌, ap, map, view, view-Array, array, items_of, count}
-use Rattle.tso_report.proofs.Listed.{all-made}
+use Rattle.tso_report.specs.inner.Arrays.{IsBegun}
+use Rattle.tso_report.proofs.Vocabulary.{ap, subst, drop_all, drop_more, map, count}
 use Rattle.tso_report.proofs.members.numbers_value.Goals as goal
+
+pub loop-number-preserved : goal.loop-number-preserved
+loop-number-preserved c =
+    let xs = c.args.numbers.now in
+    let still = ap (map count) (drop_more xs c.loop-number.number-index _ c.loop-number-test.true) in
+    c.with-values.ensures _ _ _ (subst (λ ds. IsBegun c.loop-number.values ds (map count xs)) still c.loop-number.invariant) c.from.ensures
 
 pub returns : goal.returns
 returns c =
-    view-Array c.loop-number.values
-    ∙ ap (λ ds. array (items_of ds)) (all-made count c.args.numbers.now c.loop-number.number-index (map view c.loop-number.values.items) c.loop-number-test.false c.loop-number.invariant)
+    let xs = c.args.numbers.now in
+    let none = ap (map count) (drop_all c.loop-number.number-index xs c.loop-number-test.false) in
+    c.value.ensures _ (subst (λ ds. IsBegun c.loop-number.values ds (map count xs)) none c.loop-number.invariant)

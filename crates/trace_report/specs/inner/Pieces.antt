@@ -1,0 +1,9 @@
+-- What a piece is in a line of a trace.
+use Rattle.std.specs.Prelude.{ℕ, List}
+use Rattle.std.specs.Fmt.{decimal}
+use Rattle.trace_report.specs.declared.pieces.Piece.{Piece}
+use Rattle.trace_report.specs.declared.pieces.Piece.TheVariants as pieces
+
+abbrev pub line_piece : Piece → List ℕ
+line_piece (pieces.Word word) = word.now
+line_piece (pieces.Number n) = decimal n
