@@ -6,28 +6,6 @@ use Rattle.serde_json.specs.declared.value.Value.TheVariants.{Array}
 pub view-list : (values : Vec Value Global) → view (Array values) ≡ array (items_of (map view values.items))
 view-list values = search (rules, the_lemmas)
 
-pub listed : (values after : List Data) (first : Data) (rest all whole : List Data) → after ≡ values ++ first ∷ [] → all ≡ first ∷ rest → values ++ all ≡ whole → after ++ rest ≡ whole
-listed values after first rest all whole pushed next so_far =
-    ap (λ l. l ++ rest) pushed ∙ (append_assoc values (first ∷ []) rest ∙ (sym (ap (λ l. values ++ l) next) ∙ so_far))
-
--- a list of values, once nothing is left to be made
-pub all-listed : (values : Vec Value Global) (rest whole : List Data) → rest ≡ [] → map view values.items ++ rest ≡ whole → view (Array values) ≡ array (items_of whole)
-all-listed values rest whole none so_far =
-    let same : map view values.items ≡ whole = sym (append-nil (map view values.items)) ∙ (sym (ap (λ l. map view values.items ++ l) none) ∙ so_far) in
-    view-list values ∙ ap (λ l. array (items_of l)) same
-
-pub one-set : (m : Running) (core set sets : ℕ) (values after : List Data) (whole : List Data) → set < sets → after ≡ values ++ set_json m core set ∷ []
-    → values ++ sets_json m core set (sets - set) ≡ whole → after ++ sets_json m core (set + 1) (sets - (set + 1)) ≡ whole
-one-set m core set sets values after whole within pushed so_far =
-    let left : sets - set ≡ suc (sets - (set + 1)) = omega arith in
-    listed values after (set_json m core set) (sets_json m core (set + 1) (sets - (set + 1))) (sets_json m core set (sets - set)) whole pushed (ap (sets_json m core set) left) so_far
-
-pub one-core : (m : Running) (core cores : ℕ) (values after : List Data) (whole : List Data) → core < cores → after ≡ values ++ core_json m core ∷ []
-    → values ++ cores_json m core (cores - core) ≡ whole → after ++ cores_json m (core + 1) (cores - (core + 1)) ≡ whole
-one-core m core cores values after whole within pushed so_far =
-    let left : cores - core ≡ suc (cores - (core + 1)) = omega arith in
-    listed values after (core_json m core) (cores_json m (core + 1) (cores - (core + 1))) (cores_json m core (cores - core)) whole pushed (ap (cores_json m core) left) so_far
-
 -- a core from its parts
 pub core-made : (t : Litmus) (config : Configuration) (m : Running) (core place : ℕ) (buffer lines registers : Data) → IsMachineOfTest t config m
     → buffer ≡ array_of_texts (map (store_text t) (core_of m.state.flat core).pending)

@@ -56,34 +56,31 @@ fn write_proposition(text: &mut String, test: &Test, prop: &Prop) -> Result<(), 
             ];
             write_pieces(text, &pieces)
         }
-        Prop::Not(inner) => {
-            text.push('~')?;
-            write_part(text, test, inner, is_joined(inner))
-        }
+        Prop::Not(inner) => write_part(text, test, "~", inner, is_joined(inner)),
         Prop::And(left, right) => {
-            write_part(text, test, left, is_or(left))?;
-            text.push_str(" /\\ ")?;
-            write_part(text, test, right, is_joined(right))
+            write_part(text, test, "", left, is_or(left))?;
+            write_part(text, test, " /\\ ", right, is_joined(right))
         }
         Prop::Or(left, right) => {
             write_proposition(text, test, left)?;
-            text.push_str(" \\/ ")?;
-            write_part(text, test, right, is_or(right))
+            write_part(text, test, " \\/ ", right, is_or(right))
         }
     }
 }
 
-/// Writes a part of a proposition, in brackets where it is to have them.
+/// Writes a part of a proposition after these characters, in brackets where it is to have them.
 #[cycle(proposition)]
 fn write_part(
     text: &mut String,
     test: &Test,
+    before: &str,
     part: &Prop,
     in_brackets: bool,
 ) -> Result<(), NoMemory>
     requires { NamesExist (length test.now.programs) (length test.now.locations) (claim_of part.now) }
-    ensures { OnOk result (string_bytes text.new ≡ string_bytes text.old ++ bracketed_text in_brackets (proposition_text test.now (claim_of part.now))) }
+    ensures { OnOk result (string_bytes text.new ≡ string_bytes text.old ++ (before.now ++ bracketed_text in_brackets (proposition_text test.now (claim_of part.now)))) }
 {
+    text.push_str(before)?;
     if in_brackets {
         text.push('(')?;
         write_proposition(text, test, part)?;

@@ -159,8 +159,13 @@ impl<'t> Observer for Tracer<'t> {
 
     fn begin<P: Protocol>(&mut self, machine: &Machine<'_, P>) -> Result<(), NoMemory> {
         self.follower.begin(machine)?;
-        self.told = start_of(self.extent, &self.follower, machine)?;
-        Ok(())
+        match self.extent {
+            Extent::Whole => {
+                self.told = self.follower.machine(machine)?;
+                Ok(())
+            }
+            Extent::LastStep => Ok(()),
+        }
     }
 
     fn choose<P: Protocol>(
@@ -212,21 +217,6 @@ impl<'t> Tracer<'t> {
                 .member("start", self.follower.machine(machine))
                 .value(),
         }
-    }
-}
-
-/// The machine before the first choice, where all is told.
-fn start_of<P: Protocol>(
-    extent: Extent,
-    follower: &Follower<'_>,
-    machine: &Machine<'_, P>,
-) -> Result<Value, NoMemory>
-    requires { Follows follower.now machine.now }
-    ensures { IfOk result (λ value. extent ≡ Extent.Whole → view value ≡ machine_json machine.now follower.now.memory.items) }
-{
-    match extent {
-        Extent::Whole => follower.machine(machine),
-        Extent::LastStep => Ok(Value::Null),
     }
 }
 

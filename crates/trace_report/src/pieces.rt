@@ -3,7 +3,7 @@
 ghost use Rattle.std.specs.Prelude.{◌≡◌, ◌++◌, OnOk, string_bytes};
 ghost use Rattle.std.specs.Fmt.{decimal};
 ghost use Rattle.std.specs.List.{flat_map};
-ghost use Rattle.trace_report.specs.inner.Pieces.{line_piece};
+ghost use Rattle.trace_report.specs.inner.Pieces.{trace_piece};
 
 use itoa::Buffer;
 use tso_model::NoMemory;
@@ -21,7 +21,7 @@ pub enum Piece<'a> {
 ///
 /// Errors: out of memory only; the text may have grown then.
 pub fn write_pieces(text: &mut String, pieces: &[Piece<'_>]) -> Result<(), NoMemory>
-    ensures { OnOk result (string_bytes text.new ≡ string_bytes text.old ++ flat_map line_piece pieces.now) }
+    ensures { OnOk result (string_bytes text.new ≡ string_bytes text.old ++ flat_map trace_piece pieces.now) }
 {
     for piece in pieces {
         match piece {

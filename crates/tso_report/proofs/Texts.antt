@@ -1,5 +1,5 @@
 -- Texts made piece by piece.
-use Rattle.tso_report.proofs.Vocabulary.{◌≡◌, ℕ, List, [], ◌∷◌, ◌++◌, length, codes, append-nil, ◌⊎◌, inl, inr, refl, sym, ap, ◌∙◌, Litmus, Named, Counts, ◌+◌, decimal, all_registers, register_line, register_lines, cache_line, cache_lines, printed_value, printed_values}
+use Rattle.tso_report.proofs.Vocabulary.{◌≡◌, ℕ, List, [], ◌∷◌, ◌++◌, zero, suc, ◌≤◌, arith, drop, length, min, codes, append-nil, refl, sym, ap, ◌∙◌, Litmus, Named, Counts, ◌+◌, decimal, all_registers, register_line, register_lines, cache_line, cache_lines, printed_value, printed_values}
 use Rattle.tso_model.specs.Thread.{value_in}
 use Rattle.basic_laws.specs.Types.{Eax, Ebx, Ecx, Edx, Esi, Edi}
 use Rattle.std.proofs.lemmas.List.{append_assoc}
@@ -64,24 +64,20 @@ next-cache core n ns all before after whole is next was =
 
 -- ---- values beside what they are of
 
-pub values-next : (t : Litmus) (named : Named) (value : ℕ) (names more : List Named) (values further : List ℕ) (before after whole : List ℕ)
-    → names ≡ named ∷ more → values ≡ value ∷ further → after ≡ before ++ printed_value t named value
-    → before ++ printed_values t names values ≡ whole → after ++ printed_values t more further ≡ whole
-values-next t named value names more values further before after whole first second is was =
-    rest-after (printed_value t named value) (printed_values t more further) before after is
-    ∙ (sym (ap (λ list. before ++ printed_values t list (value ∷ further)) first) ∙ (sym (ap (λ list. before ++ printed_values t names list) second) ∙ was))
-
-pub no-names : (t : Litmus) (names : List Named) (values : List ℕ) → length names ≡ 0 → printed_values t names values ≡ []
-no-names t [] values none = refl
-no-names t (named ∷ names) values none = absurd cc
-
-pub no-values : (t : Litmus) (names : List Named) (values : List ℕ) → length values ≡ 0 → printed_values t names values ≡ []
+no-values : (t : Litmus) (names : List Named) (values : List ℕ) → length values ≡ 0 → printed_values t names values ≡ []
 no-values t [] values none = refl
 no-values t (named ∷ names) [] none = refl
 no-values t (named ∷ names) (value ∷ values) none = absurd cc
 
--- one of the two lists is at its end, however an iterator says so
-pub values-end : {X Y : Type 0} {P : X → Type 0} {Q : Y → Type 0} (t : Litmus) (names : List Named) (values : List ℕ) (text whole : List ℕ)
-    → ((x : X) × ((length names ≡ 0) × P x)) ⊎ ((y : Y) × ((length values ≡ 0) × Q y)) → text ++ printed_values t names values ≡ whole → text ≡ whole
-values-end t names values text whole (inl (x, (none, p))) was = sym (append-nil text) ∙ (sym (ap (λ rest. text ++ rest) (no-names t names values none)) ∙ was)
-values-end t names values text whole (inr (y, (none, q))) was = sym (append-nil text) ∙ (sym (ap (λ rest. text ++ rest) (no-values t names values none)) ∙ was)
+-- nothing is printed where one of the two lists is at its end
+values-past : (t : Litmus) (i : ℕ) (names : List Named) (values : List ℕ) → min (length names) (length values) ≤ i → printed_values t (drop i names) (drop i values) ≡ []
+values-past t zero [] values past = refl
+values-past t zero (named ∷ names) [] past = refl
+values-past t zero (named ∷ names) (value ∷ values) past = absurd (omega (arith, past))
+values-past t (suc i) [] values past = refl
+values-past t (suc i) (named ∷ names) [] past = no-values t (drop i names) [] refl
+values-past t (suc i) (named ∷ names) (value ∷ values) past = values-past t i names values (omega (arith, past))
+
+pub values-end : (t : Litmus) (i : ℕ) (names : List Named) (values : List ℕ) (text whole : List ℕ) → min (length names) (length values) ≤ i
+    → text ++ printed_values t (drop i names) (drop i values) ≡ whole → text ≡ whole
+values-end t i names values text whole past was = sym (append-nil text) ∙ (sym (ap (λ rest. text ++ rest) (values-past t i names values past)) ∙ was)

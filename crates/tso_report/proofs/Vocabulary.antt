@@ -1,5 +1,5 @@
 -- The names that the proofs of this crate bring in from definitions and from crates below; each file takes its own from here.
-pub use Rattle.std.proofs.Common.{◌≡◌, ℕ, ◌<◌, ◌^◌, Bool, true, not, eqb, List, [], ◌∷◌, ◌++◌, get_or, All, inl, inr, refl, ap, ◌∙◌, arith, rules, ◌+◌, ◌-◌, ◌*◌, ◌≤◌, zero, suc, false, nat_le, ◌&&◌, length, map, slice_index, slice_index_or, Option, Some, None, length-append, codes, append-nil, ◌⊎◌, sym, ◌||◌, filter, subst, append_assoc, cond, sum, Vec, unwrap_or, option_map, ◌≢◌, drop, string_bytes, is_some, IfOk}
+pub use Rattle.std.proofs.Common.{◌≡◌, ℕ, min, ◌<◌, ◌^◌, Bool, true, not, eqb, List, [], ◌∷◌, ◌++◌, get_or, All, inl, inr, refl, ap, ◌∙◌, arith, rules, ◌+◌, ◌-◌, ◌*◌, ◌≤◌, zero, suc, false, nat_le, ◌&&◌, length, map, slice_index, slice_index_or, Option, Some, None, length-append, codes, append-nil, ◌⊎◌, sym, ◌||◌, filter, subst, append_assoc, cond, sum, Vec, unwrap_or, option_map, ◌≢◌, drop, string_bytes, is_some, IfOk}
 pub use Rattle.std.specs.Fmt.{decimal}
 pub use Rattle.std.specs.List.{list_all, AllByRecursion}
 pub use Rattle.std.proofs.lemmas.Bool.{and_parts, and_from, or_parts}
@@ -37,8 +37,6 @@ pub use Rattle.std.specs.Map.{lookup, keys_of, values_of}
 unfoldable pub use Rattle.std.specs.List.Sorted.{IsStrictlySortedBy}
 pub use Rattle.std.proofs.lemmas.Cmp.{nat_list_cmp_total, on_total, tied_itself}
 pub use Rattle.tso_report.specs.inner.Counted.{counted_states, counts_in, IsKept}
-pub use Rattle.std.specs.Slice.Iter.{iter_rest}
-pub use Rattle.std.specs.Iterator.Adapters.{zip_first, zip_second}
 pub use Rattle.std.proofs.lemmas.List.{drop_all, drop_more}
 pub use Rattle.serde_json.proofs.Views.{view-Array}
 pub use Rattle.serde_json.specs.Data.{array}

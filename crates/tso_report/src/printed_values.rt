@@ -21,8 +21,8 @@ pub fn write_values(
     requires { All (NameExists (length test.now.programs) (length test.now.locations)) names.now }
     ensures { OnOk result (string_bytes text.new ≡ string_bytes text.old ++ printed_values test.now names.now values.now) }
 {
-    for (named, value) in names.iter().zip(values.iter()) {
-        match *named {
+    for at in 0..names.len().min(values.len()) {
+        match names[at] {
             Named::Register(core, reg) => {
                 let pieces = [
                     Piece::Text(" "),
@@ -30,11 +30,11 @@ pub fn write_values(
                     Piece::Text(":"),
                     Piece::Text(reg.name()),
                     Piece::Text("="),
-                    Piece::Number(*value as u64),
+                    Piece::Number(values[at] as u64),
                 ];
                 write_pieces(text, &pieces)?;
             }
-            Named::Location(loc) => write_named(text, test.location_name(loc), *value)?,
+            Named::Location(loc) => write_named(text, test.location_name(loc), values[at])?,
         }
     }
     Ok(())

@@ -4,6 +4,6 @@ use Rattle.std.specs.Fmt.{decimal}
 use Rattle.trace_report.specs.declared.pieces.Piece.{Piece}
 use Rattle.trace_report.specs.declared.pieces.Piece.TheVariants as pieces
 
-abbrev pub line_piece : Piece → List ℕ
-line_piece (pieces.Word word) = word.now
-line_piece (pieces.Number n) = decimal n
+abbrev pub trace_piece : Piece → List ℕ
+trace_piece (pieces.Word word) = word.now
+trace_piece (pieces.Number n) = decimal n

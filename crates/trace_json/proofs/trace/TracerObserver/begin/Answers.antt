@@ -3,8 +3,14 @@ use Rattle.std.specs.Prelude.{IfSome}
 use Rattle.trace_json.specs.declared.following.SourcedStep.{SourcedStep}
 use Rattle.trace_json.proofs.trace.TracerObserver.begin.Goals as goal
 
-pub returns-clause-watches : goal.returns-clause-watches
-returns-clause-watches g c = (
+pub returns-in_ok-self-in-Whole-clause-watches : goal.returns-in_ok-self-in-Whole-clause-watches
+returns-in_ok-self-in-Whole-clause-watches g c = (
+  c.in_ok-begin.ensures.follows,
+  subst (λ (last : Option SourcedStep). IfSome last (λ told. StepNamesExist c.begin.new.self.test.now c.begin.new.self.config.shape.words (shown_step told.step))) (sym c.requires.1) tt,
+)
+
+pub returns-in-LastStep-clause-watches : goal.returns-in-LastStep-clause-watches
+returns-in-LastStep-clause-watches g c = (
   c.in_ok-begin.ensures.follows,
   subst (λ (last : Option SourcedStep). IfSome last (λ told. StepNamesExist c.begin.new.self.test.now c.begin.new.self.config.shape.words (shown_step told.step))) (sym c.requires.1) tt,
 )
