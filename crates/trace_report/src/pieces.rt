@@ -32,9 +32,9 @@ pub fn write_pieces(text: &mut String, pieces: &[Piece<'_>]) -> Result<(), NoMem
     Ok(())
 }
 
-/// A number, in decimal. It goes past `write!`, which would take longer for it than the rest of a short line does.
+/// Adds a number, in decimal. It goes past `write!`, which would take longer for it than the rest of a short line does.
 #[tactic(auto, using(std::proofs::lemmas::Fmt::decimal_digit))]
-fn write_number(text: &mut String, number: usize) -> Result<(), NoMemory>
+pub fn write_number(text: &mut String, number: usize) -> Result<(), NoMemory>
     ensures { OnOk result (string_bytes text.new ≡ string_bytes text.old ++ decimal number) }
 {
     if number < 10 {

@@ -14,7 +14,7 @@ ghost use Rattle.trace_report.specs.Known.{IsLine, IsAt, StepNamesExist};
 ghost use Rattle.trace_report.specs.Stalls.{stall_line};
 
 use crate::names::{access_name, request_name, stall_name, state_name};
-use crate::pieces::{Piece, write_pieces};
+use crate::pieces::{Piece, write_number, write_pieces};
 use crate::step::{LineRequest, Moved, StateChange, Step, core_of};
 use order_builder::write_entry;
 use snoop_bus::AccessKind;
@@ -79,10 +79,11 @@ pub fn write_stall(
     ensures { OnOk result (string_bytes text.new ≡ string_bytes text.old ++ stall_line number choice stall) }
 {
     write_outcome(text, number, choice, Outcome::Stalled(stall))?;
-    write_pieces(text, &[Piece::Word("\n")])
+    Ok(text.push('\n')?)
 }
 
-/// `5 0d committed`.
+/// `5 0d committed`. A run may stall at each of its choices, and all that is then written is this: so it is written by itself, which
+/// takes less than a list of pieces does.
 fn write_outcome(
     text: &mut String,
     number: usize,
@@ -96,15 +97,12 @@ fn write_outcome(
         Choice::Drain(core) => (core, "d "),
     };
     let (name, reason) = outcome_words(outcome);
-    let pieces = [
-        Piece::Number(number),
-        Piece::Word(" "),
-        Piece::Number(usize::from(core.0)),
-        Piece::Word(letter),
-        Piece::Word(name),
-        Piece::Word(reason),
-    ];
-    write_pieces(text, &pieces)
+    write_number(text, number)?;
+    text.push(' ')?;
+    write_number(text, usize::from(core.0))?;
+    text.push_str(letter)?;
+    text.push_str(name)?;
+    Ok(text.push_str(reason)?)
 }
 
 /// `committed`, or `stalled ` and `Full`.
