@@ -38,14 +38,6 @@ module _ {X Y : Type 0} (p : X → Bool) (f : List X → List Y) (one : X → Li
       let here : filter p (drop i xs) ≡ rest = next ∙ ap (λ (b : Bool). cond b (x ∷ rest) rest) fails in
       ap (λ ys. ys ++ f rest) e ∙ (sym (ap (λ ys. made ++ f ys) here) ∙ so)
 
--- what stands under the next key is put there
-pub put-more : {X M : Type 0} (all : List X → M → M) (one : X → M → M) → ((x : X) (xs : List X) (m : M) → all (x ∷ xs) m ≡ all xs (one x m))
-    → (xs : List X) (i : ℕ) (x : X) (old new whole : M) → i < length xs → x ≡ get_or xs i x → new ≡ one x old → all (drop i xs) old ≡ whole
-    → all (drop (i + 1) xs) new ≡ whole
-put-more all one next xs i x old new whole w is e h =
-    ap (all (drop (i + 1) xs)) (e ∙ ap (λ y. one y old) is)
-    ∙ (sym (ap (λ ys. all ys old) (drop_more xs i x w) ∙ next (get_or xs i x) (drop (i + 1) xs) old) ∙ h)
-
 -- nothing is left to be made at the end
 pub all-made : {X Y : Type 0} (F : List X → List Y) → F [] ≡ [] → (xs : List X) (i : ℕ) (made whole : List Y) → length xs ≤ i
     → made ++ F (drop i xs) ≡ whole → made ≡ whole

@@ -32,7 +32,6 @@ pub use Rattle.reason_report.specs.inner.Shown.{reading_value, coherence_members
 pub use Rattle.reason_report.specs.ReasonJson.{with_coherence, edge_value, edges_value, answer_value, place_members, closing_value, step_value, asked_value, never_value_of, from_value, coherence_members, allowed_value}
 pub use Rattle.serde_json.specs.Data.{Data, string, array, Members, no_members, member, put, object}
 pub use Rattle.serde_json.specs.View.{items_of, view, members_view}
-pub use Rattle.serde_json.proofs.Views.{view-Array}
 pub use Rattle.serde_json.specs.Written.{has_float, items_have_float, members_have_float, compact_text}
 pub use Rattle.tso_report.specs.Json.{count}
 pub use Rattle.reason_report.specs.ReasonText.{source_text, model_name, asked_line, from_line, reads_of, coherence_lines, coherence_line, allowed_text}

@@ -1,5 +1,5 @@
 -- Values in a list, made one after the other.
-use Rattle.trace_json.proofs.Vocabulary.{◌≡◌, ◌∙◌, ℕ, suc, ◌+◌, ◌-◌, ◌<◌, List, [], ◌∷◌, ◌++◌, map, length, take, codes, no_members, object, put, string, array_of_numbers, line_name, names_in_line, line_state, state_name, words_per_line, CachedLine, copy_json, sym, ap, append_assoc, append-nil, arith, rules, Global, Vec, Data, array, view, items_of, Value, the_lemmas, Litmus, core_of, Configuration, Running, registers_value, store_text, array_of_texts, set_json, sets_json, core_json, cores_json, core_with, IsMachineOfTest}
+use Rattle.trace_json.proofs.Vocabulary.{◌≡◌, ◌∙◌, ℕ, ◌-◌, List, map, length, take, codes, no_members, object, put, string, array_of_numbers, line_name, names_in_line, line_state, state_name, words_per_line, CachedLine, copy_json, sym, ap, rules, Global, Vec, Data, array, view, items_of, Value, the_lemmas, Litmus, core_of, Configuration, Running, registers_value, store_text, array_of_texts, sets_json, core_json, core_with, IsMachineOfTest}
 use Rattle.serde_json.specs.declared.value.Value.TheVariants.{Array}
 
 -- a list as a value
