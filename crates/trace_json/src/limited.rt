@@ -13,22 +13,12 @@ use tso_model::NoMemory;
 
 /// Shows an observer as many choices as a trace as JSON may have steps, and makes the others without it. Which choices
 /// stalled is noted of all.
+#[derive(Drop)]
 pub(crate) struct Limited<O: Observer> {
     pub(crate) observer: O,
     /// Whether more choices were made than the observer was shown.
     is_passed: bool,
     pub(crate) stalls: Stalls,
-}
-
-// Said by hand, so that who lets it go makes one call, and not one for each part.
-impl<O: Observer> Drop for Limited<O> {
-    fn drop(self) {
-        let Limited {
-            observer: _observer,
-            is_passed: _,
-            stalls: _,
-        } = self;
-    }
 }
 
 impl<O: Observer> Limited<O> {
