@@ -1,5 +1,5 @@
 -- Propositions with a symbol between them, one after the other.
-use Rattle.litmus_reader.proofs.Vocabulary.{◌≡◌, ℕ, suc, ◌≤◌, ◌<◌, List, [], ◌∷◌, length, Some, None, Result, Ok, Err, refl, sym, subst, arith, Claim, Symbol, Piece, symbol_at, Fault, ReadError, Fails, ◌>>=◌, Claimed, claimed, Proposition, chain, chain_of}
+use Rattle.litmus_reader.proofs.Vocabulary.{◌≡◌, ℕ, suc, ◌≤◌, ◌<◌, List, [], ◌∷◌, length, Some, None, Result, Ok, Err, refl, sym, subst, arith, Claim, Symbol, Piece, symbol_at, Fault, ReadError, Fails, ◌>>=◌, Claimed, Proposition, chain, chain_of}
 use Rattle.litmus_reader.proofs.Loops.{After, ends, goes_on}
 use Rattle.litmus_cells.specs.declared.fault.ReadError.TheVariants as errors
 use Rattle.litmus_reader.proofs.GrammarTokens.{ok_is}
@@ -34,13 +34,13 @@ step : (n : ℕ) (symbol : Symbol) (join : Claim → Claim → Claim) (unit : Pr
 unfolding chain
 step n symbol join unit c rest r at is = rw (at, is) refl
 
-pub chain_go_on : (symbol : Symbol) (join : Claim → Claim → Claim) (unit : Proposition) (c right : Claimed) (rest : List Piece) (total : Result Claimed Fault)
+chain_go_on : (symbol : Symbol) (join : Claim → Claim → Claim) (unit : Proposition) (c right : Claimed) (rest : List Piece) (total : Result Claimed Fault)
     → symbol_at symbol c.rest ≡ Some rest → unit c.atoms c.names rest ≡ Ok right → length right.rest < length c.rest
     → ChainAfter symbol join unit c total → ChainAfter symbol join unit (joined_to join c.claim right) total
 chain_go_on symbol join unit c right rest total at is shorter b =
     goes_on left (chain symbol join unit) c (joined_to join c.claim right) total shorter (λ n. step n symbol join unit c rest (Ok right) at is) b
 
-pub chain_fails : (e : ReadError) (symbol : Symbol) (join : Claim → Claim → Claim) (unit : Proposition) (c : Claimed) (rest : List Piece) (total : Result Claimed Fault)
+chain_fails : (e : ReadError) (symbol : Symbol) (join : Claim → Claim → Claim) (unit : Proposition) (c : Claimed) (rest : List Piece) (total : Result Claimed Fault)
     → symbol_at symbol c.rest ≡ Some rest → Fails e (unit c.atoms c.names rest) → ChainAfter symbol join unit c total → Fails e total
 chain_fails errors.NoMemory symbol join unit c rest total at is b = tt
 chain_fails (errors.Fault f) symbol join unit c rest total at is b =
@@ -52,11 +52,26 @@ unfolding chain_of
 chain_never_starts errors.NoMemory symbol join unit atoms names ps is = tt
 chain_never_starts (errors.Fault f) symbol join unit atoms names ps is = rw is refl
 
--- one step more, where the joined claim has another spelling
-pub chain_joined : (symbol : Symbol) (join : Claim → Claim → Claim) (unit : Proposition) (left right whole : Claim) (before atoms : ℕ) (old names : List (List ℕ)) (front after_it rest : List Piece) (total : Result Claimed Fault)
-    → Some after_it ≡ symbol_at symbol front → unit before old after_it ≡ Ok (claimed right atoms names rest) → length rest < length front
-    → (let a : Result Claim Fault = Ok (join left right) in a) ≡ Ok whole
-    → ChainAfter symbol join unit (claimed left before old front) total → ChainAfter symbol join unit (claimed whole atoms names rest) total
-chain_joined symbol join unit left right whole before atoms old names front after_it rest total at is shorter same b =
-    let P : Claim → Type 0 = λ claim. ChainAfter symbol join unit (claimed claim atoms names rest) total in
-    subst P (ok_is (join left right) whole same) (chain_go_on symbol join unit (claimed left before old front) (claimed right atoms names rest) after_it total (sym at) is shorter b)
+-- ---- one step more, as it is read: what the next unit gives, joined to what has been read
+
+failed_in : (e : ReadError) (r : Result Claimed Fault) (f : Claimed → Claimed) → Fails e (r >>= λ x. Ok (f x)) → Fails e r
+failed_in errors.NoMemory r f is = tt
+failed_in (errors.Fault g) (Ok x) f is = absurd (let z : ⊥ = cc in z)
+failed_in (errors.Fault g) (Err h) f is = is
+
+pub chain_stops : (e : ReadError) (symbol : Symbol) (join : Claim → Claim → Claim) (unit : Proposition) (c : Claimed) (rest : List Piece) (total : Result Claimed Fault)
+    → Some rest ≡ symbol_at symbol c.rest → Fails e (unit c.atoms c.names rest >>= λ right. Ok (joined_to join c.claim right)) → ChainAfter symbol join unit c total → Fails e total
+chain_stops e symbol join unit c rest total at is b = chain_fails e symbol join unit c rest total (sym at) (failed_in e (unit c.atoms c.names rest) (joined_to join c.claim) is) b
+
+pub chain_joined : (symbol : Symbol) (join : Claim → Claim → Claim) (unit : Proposition) (c new : Claimed) (rest : List Piece) (total : Result Claimed Fault)
+    → Some rest ≡ symbol_at symbol c.rest → (unit c.atoms c.names rest >>= λ right. Ok (joined_to join c.claim right)) ≡ Ok new → length new.rest < length c.rest
+    → ChainAfter symbol join unit c total → ChainAfter symbol join unit new total
+chain_joined symbol join unit c new rest total at is shorter b = by_unit (unit c.atoms c.names rest) refl is
+  where
+    by_unit : (r : Result Claimed Fault) → unit c.atoms c.names rest ≡ r → (r >>= λ right. Ok (joined_to join c.claim right)) ≡ Ok new → ChainAfter symbol join unit new total
+    by_unit (Ok right) read same =
+        let e : joined_to join c.claim right ≡ new = ok_is (joined_to join c.claim right) new same in
+        let less : length right.rest < length c.rest = subst (λ (x : Claimed). length x.rest < length c.rest) (sym e) shorter in
+        let P : Claimed → Type 0 = λ x. ChainAfter symbol join unit x total in
+        subst P e (chain_go_on symbol join unit c right rest total (sym at) read less b)
+    by_unit (Err f) read same = absurd (let z : ⊥ = cc in z)

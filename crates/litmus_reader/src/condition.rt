@@ -4,15 +4,16 @@
 ghost use Rattle.std.specs.Prelude.{◌≡◌, ◌≤◌, ◌<◌, ◌+◌, length, codes, Some, None, Ok, IfOk, IfSome};
 ghost use Rattle.std.specs.Option.{option_map};
 ghost use Rattle.tso_model.specs.Limits.{most_cores};
-ghost use Rattle.tso_model.specs.Condition.{NotClaim, claim_of, condition_of};
+ghost use Rattle.tso_model.specs.Condition.{claim_of, condition_of};
 ghost use Rattle.litmus_tokens.specs.inner.Pieces.{pieces};
 ghost use Rattle.litmus_cells.specs.inner.Faults.{Gives};
-ghost use Rattle.litmus_tokens.specs.inner.Mapped.{mapped};
 ghost use Rattle.litmus_cells.specs.Locations.{texts};
 ghost use Rattle.litmus_reader.specs.inner.Settings.{setting_of};
 ghost use Rattle.litmus_reader.specs.inner.Conditions as spec;
 ghost use Rattle.litmus_reader.specs.Conditions as inner;
 ghost use Rattle.litmus_cells.specs.inner.Returned.{GivesNamed};
+ghost use Rattle.litmus_reader.specs.inner.Propositions as parts;
+ghost use Rattle.litmus_reader.specs.inner.Propositions.{GivesNext, IsNoLonger};
 ghost use Rattle.litmus_reader.specs.inner.Returned.{GivesClaim, GivesCondition};
 
 use crate::fault::{part_of, remaining_of};
@@ -52,18 +53,26 @@ fn prop_of<'a>(
     }
 }
 
-/// Counts one atom more; `TooLarge` at `remaining` for one too many.
-fn count_atom(remaining: usize, atoms: &mut usize) -> Result<(), Fault>
-    ensures { mapped (λ _. atoms.new) result ≡ inner.one_more remaining atoms.old }
+/// This atom and the tokens after it, with the atom counted; `TooLarge` at `remaining` for one too
+/// many.
+fn counted<'a, 'b>(
+    remaining: usize,
+    atoms: &mut usize,
+    atom: Prop,
+    rest: &'b [Token<'a>],
+) -> Result<(Prop, &'b [Token<'a>]), ReadError>
+    ensures count { Gives (λ _. atoms.new) result (inner.one_more remaining atoms.old) }
+    ensures atom { IfOk result (λ x. claim_of x.0 ≡ claim_of atom) }
+    ensures rest { IfOk result (λ x. x.1.now ≡ rest.now) }
 {
     if *atoms >= MAX_ATOMS {
-        return Err(Fault {
+        return Err(ReadError::Fault(Fault {
             why: Why::TooLarge,
             remaining,
-        });
+        }));
     }
     *atoms += 1;
-    Ok(())
+    Ok((atom, rest))
 }
 
 /// The atom of a register or a location at the front, and the tokens after it.
@@ -82,8 +91,7 @@ fn setting_atom<'a, 'b>(
     let remaining = remaining_of(tokens);
     let (item, rest) = setting_at(part_of(Why::BadCondition, stop), tokens)?;
     let prop = prop_of(cores, remaining, names, item)?;
-    count_atom(remaining, atoms)?;
-    Ok((prop, rest))
+    counted(remaining, atoms, prop, rest)
 }
 
 /// The atom at the front, after so many others, and the tokens after it.
@@ -103,21 +111,71 @@ fn atom_at<'a, 'b>(
     ensures shorter { IfOk result (λ x. length x.1.now < length tokens.now) }
 {
     if let Some(rest) = after_word(b"true", tokens) {
-        count_atom(remaining_of(tokens), atoms)?;
-        return Ok((Prop::Truth(true), rest));
+        return counted(remaining_of(tokens), atoms, Prop::Truth(true), rest);
     }
     if let Some(rest) = after_word(b"false", tokens) {
-        count_atom(remaining_of(tokens), atoms)?;
-        return Ok((Prop::Truth(false), rest));
+        return counted(remaining_of(tokens), atoms, Prop::Truth(false), rest);
     }
     setting_atom(stop, cores, atoms, names, tokens)
 }
 
-/// The negation of a proposition.
-fn not(alloc: Global, inner: Prop) -> Result<Prop, ReadError>
-    ensures { Gives (λ p. claim_of p) result (Ok (NotClaim (claim_of inner))) }
+/// What begins a unit in which others stand.
+#[derive(Clone, Copy)]
+enum Opening {
+    Negation,
+    Bracket,
+}
+
+/// The `~`, the `not` or the `(` at the front, and the tokens after it.
+#[tactic(auto, unfolding(crate::specs::Conditions::negation_at))]
+fn opening_at<'a, 'b>(tokens: &'b [Token<'a>]) -> Option<(Opening, &'b [Token<'a>])>
+    ensures value { option_map (λ x. (x.0, pieces x.1.now)) result ≡ parts.opening_at (pieces tokens.now) }
+    ensures shorter { IfSome result (λ x. length x.1.now < length tokens.now) }
 {
-    Ok(Prop::Not(Box::new(alloc, inner)?))
+    if let Some(inside) = after_symbol(Symbol::Tilde, tokens) {
+        return Some((Opening::Negation, inside));
+    }
+    if let Some(inside) = after_word(b"not", tokens) {
+        return Some((Opening::Negation, inside));
+    }
+    if let Some(inside) = after_symbol(Symbol::OpenRound, tokens) {
+        return Some((Opening::Bracket, inside));
+    }
+    None
+}
+
+// What was read goes to the next three functions as it is, a refusal too: where a proposition is
+// read, no other one has then to be let go.
+
+/// The negation of what was read, and the tokens after it.
+fn negated<'a, 'b>(
+    alloc: Global,
+    read: Result<(Prop, &'b [Token<'a>]), ReadError>,
+) -> Result<(Prop, &'b [Token<'a>]), ReadError>
+    ensures value { GivesNext parts.as_negation read.entry result }
+    ensures shorter { IsNoLonger read.entry result }
+{
+    match read {
+        Ok((inner, rest)) => Ok((Prop::Not(Box::new(alloc, inner)?), rest)),
+        Err(error) => Err(error),
+    }
+}
+
+/// What was read after a `(`, and the tokens after its `)`.
+fn closed<'a, 'b>(
+    stop: Stop,
+    read: Result<(Prop, &'b [Token<'a>]), ReadError>,
+) -> Result<(Prop, &'b [Token<'a>]), ReadError>
+    ensures value { GivesNext (parts.closed stop) read.entry result }
+    ensures shorter { IsNoLonger read.entry result }
+{
+    match read {
+        Ok((prop, inside)) => match after_symbol(Symbol::CloseRound, inside) {
+            Some(rest) => Ok((prop, rest)),
+            None => Err(ReadError::Fault(part_of(Why::BadCondition, stop).unfit(inside))),
+        },
+        Err(error) => Err(error),
+    }
 }
 
 /// What stands between two propositions.
@@ -127,36 +185,28 @@ enum Joint {
     Or,
 }
 
-/// Two propositions with this between them.
-fn joined(alloc: Global, joint: Joint, left: Prop, right: Prop) -> Result<Prop, ReadError>
-    ensures { Gives (λ p. claim_of p) result (Ok (spec.joined_by joint (claim_of left) (claim_of right))) }
+/// A proposition and what was read after it, with this between them, and the tokens after both.
+fn joined<'a, 'b>(
+    alloc: Global,
+    joint: Joint,
+    left: Prop,
+    read: Result<(Prop, &'b [Token<'a>]), ReadError>,
+) -> Result<(Prop, &'b [Token<'a>]), ReadError>
+    ensures value { GivesNext (parts.joined_to joint (claim_of left)) read.entry result }
+    ensures shorter { IsNoLonger read.entry result }
 {
-    let left = Box::new(alloc, left)?;
-    let right = Box::new(alloc, right)?;
-    Ok(match joint {
-        Joint::And => Prop::And(left, right),
-        Joint::Or => Prop::Or(left, right),
-    })
-}
-
-/// What stands after a `~` or a `not`.
-#[tactic(auto, unfolding(crate::specs::Conditions::negation_at))]
-fn after_negation<'a, 'b>(tokens: &'b [Token<'a>]) -> Option<&'b [Token<'a>]>
-    ensures value { option_map (λ x. pieces x.now) result ≡ inner.negation_at (pieces tokens.now) }
-    ensures shorter { IfSome result (λ x. length x.now < length tokens.now) }
-{
-    if let Some(rest) = after_symbol(Symbol::Tilde, tokens) {
-        return Some(rest);
+    match read {
+        Ok((right, rest)) => {
+            let left = Box::new(alloc, left)?;
+            let right = Box::new(alloc, right)?;
+            let whole = match joint {
+                Joint::And => Prop::And(left, right),
+                Joint::Or => Prop::Or(left, right),
+            };
+            Ok((whole, rest))
+        }
+        Err(error) => Err(error),
     }
-    after_word(b"not", tokens)
-}
-
-/// Whether a negation or a bracket begins here.
-#[tactic(auto, unfolding(crate::specs::Conditions::opens_unit))]
-fn opens_unit(tokens: &[Token<'_>]) -> bool
-    ensures { result ≡ inner.opens_unit (pieces tokens.now) }
-{
-    after_negation(tokens).is_some() || after_symbol(Symbol::OpenRound, tokens).is_some()
 }
 
 /// What stands around a condition: what the tokens after it end with, and the cores of its test.
@@ -171,7 +221,6 @@ struct Surroundings {
 ///
 /// `TooLarge` at a negation or a bracket too many.
 #[cycle(condition)]
-#[tactic(auto, using(crate::proofs::Units::unit_last, crate::proofs::Units::unit_next), unfolding(crate::specs::Conditions::unit_by))]
 fn unit_at<'a, 'b>(
     alloc: Global,
     around: Surroundings,
@@ -184,28 +233,25 @@ fn unit_at<'a, 'b>(
     ensures value { GivesClaim (inner.unit_at around.stop around.cores opens) atoms.old names.old.items tokens.now result atoms.new names.new.items }
     ensures shorter { IfOk result (λ x. length x.1.now < length tokens.now) }
 {
-    if opens == 0 {
-        if opens_unit(tokens) {
-            return Err(ReadError::Fault(Fault {
-                why: Why::TooLarge,
-                remaining: remaining_of(tokens),
-            }));
-        }
+    let Some((opening, inside)) = opening_at(tokens) else {
         return atom_at(around.stop, around.cores, atoms, names, tokens);
+    };
+    if opens == 0 {
+        return Err(ReadError::Fault(Fault {
+            why: Why::TooLarge,
+            remaining: remaining_of(tokens),
+        }));
     }
-    if let Some(rest) = after_negation(tokens) {
-        let (inner, rest) = unit_at(alloc, around, opens - 1, atoms, names, rest)?;
-        return Ok((not(alloc, inner)?, rest));
+    match opening {
+        Opening::Negation => {
+            let read = unit_at(alloc, around, opens - 1, atoms, names, inside);
+            negated(alloc, read)
+        }
+        Opening::Bracket => {
+            let read = proposition_at(alloc, around, opens - 1, atoms, names, inside);
+            closed(around.stop, read)
+        }
     }
-    if let Some(inside) = after_symbol(Symbol::OpenRound, tokens) {
-        let (prop, rest) = proposition_at(alloc, around, opens - 1, atoms, names, inside)?;
-        let rest = part_of(Why::BadCondition, around.stop).expect(
-            rest,
-            after_symbol(Symbol::CloseRound, rest),
-        )?;
-        return Ok((prop, rest));
-    }
-    atom_at(around.stop, around.cores, atoms, names, tokens)
 }
 
 /// Units joined by `/\`, and the tokens after them.
@@ -224,8 +270,9 @@ fn conjunction_at<'a, 'b>(
 {
     let (mut prop, mut rest) = unit_at(alloc, around, opens, atoms, names, tokens)?;
     while let Some(next) = after_symbol(Symbol::And, rest) {
-        let (unit, after) = unit_at(alloc, around, opens, atoms, names, next)?;
-        prop = joined(alloc, Joint::And, prop, unit)?;
+        let unit = unit_at(alloc, around, opens, atoms, names, next);
+        let (whole, after) = joined(alloc, Joint::And, prop, unit)?;
+        prop = whole;
         rest = after;
     }
     Ok((prop, rest))
@@ -247,8 +294,9 @@ fn proposition_at<'a, 'b>(
 {
     let (mut prop, mut rest) = conjunction_at(alloc, around, opens, atoms, names, tokens)?;
     while let Some(next) = after_symbol(Symbol::Or, rest) {
-        let (conjunction, after) = conjunction_at(alloc, around, opens, atoms, names, next)?;
-        prop = joined(alloc, Joint::Or, prop, conjunction)?;
+        let conjunction = conjunction_at(alloc, around, opens, atoms, names, next);
+        let (whole, after) = joined(alloc, Joint::Or, prop, conjunction)?;
+        prop = whole;
         rest = after;
     }
     Ok((prop, rest))
@@ -293,8 +341,10 @@ pub fn condition_at<'a, 'b>(
     if let Some(rest) = after_word(b"forall", tokens) {
         return quantified(alloc, stop, cores, Quantifier::Forall, names, rest);
     }
-    if let Some(rest) = after_symbol(Symbol::Tilde, tokens) {
-        let rest = part_of(Why::BadCondition, stop).expect(rest, after_word(b"exists", rest))?;
+    if let Some(after) = after_symbol(Symbol::Tilde, tokens) {
+        let Some(rest) = after_word(b"exists", after) else {
+            return Err(ReadError::Fault(part_of(Why::BadCondition, stop).unfit(after)));
+        };
         return quantified(alloc, stop, cores, Quantifier::NotExists, names, rest);
     }
     Ok((None, tokens))

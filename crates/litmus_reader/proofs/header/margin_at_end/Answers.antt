@@ -1,4 +1,4 @@
-use Rattle.litmus_reader.proofs.Vocabulary.{◌≡◌, ◌<◌, ◌≤◌, length, ap, sym, ◌∙◌, arith}
+use Rattle.litmus_reader.proofs.Vocabulary.{ap, sym, ◌∙◌, arith}
 use Rattle.std.proofs.Common.{reverse}
 use Rattle.std.proofs.lemmas.List.{get_or-reverse, length-reverse}
 use Rattle.litmus_reader.specs.GrammarText.{is_margin}
