@@ -75,30 +75,11 @@ fn counted<'a, 'b>(
     Ok((atom, rest))
 }
 
-/// The atom of a register or a location at the front, and the tokens after it.
-#[tactic(auto, unfolding(crate::specs::Conditions::setting_atom))]
-fn setting_atom<'a, 'b>(
-    stop: Stop,
-    cores: usize,
-    atoms: &mut usize,
-    names: &mut Vec<&'a [u8]>,
-    tokens: &'b [Token<'a>],
-) -> Result<(Prop, &'b [Token<'a>]), ReadError>
-    requires { cores ≤ most_cores }
-    ensures value { GivesClaim (inner.setting_atom stop cores) atoms.old names.old.items tokens.now result atoms.new names.new.items }
-    ensures shorter { IfOk result (λ x. length x.1.now < length tokens.now) }
-{
-    let remaining = remaining_of(tokens);
-    let (item, rest) = setting_at(part_of(Why::BadCondition, stop), tokens)?;
-    let prop = prop_of(cores, remaining, names, item)?;
-    counted(remaining, atoms, prop, rest)
-}
-
 /// The atom at the front, after so many others, and the tokens after it.
 ///
 /// `BadCondition` at a token that doesn't fit; then, at the atom's first token, `NoSuchCore`,
 /// `BadNumber`, and `TooLarge` for a location or an atom too many.
-#[tactic(auto, unfolding(crate::specs::Conditions::atom_at, crate::specs::Conditions::truth_at))]
+#[tactic(auto, unfolding(crate::specs::Conditions::atom_at, crate::specs::Conditions::truth_at, crate::specs::Conditions::setting_atom))]
 fn atom_at<'a, 'b>(
     stop: Stop,
     cores: usize,
@@ -110,13 +91,16 @@ fn atom_at<'a, 'b>(
     ensures value { GivesClaim (inner.atom_at stop cores) atoms.old names.old.items tokens.now result atoms.new names.new.items }
     ensures shorter { IfOk result (λ x. length x.1.now < length tokens.now) }
 {
+    let remaining = remaining_of(tokens);
     if let Some(rest) = after_word(b"true", tokens) {
-        return counted(remaining_of(tokens), atoms, Prop::Truth(true), rest);
+        return counted(remaining, atoms, Prop::Truth(true), rest);
     }
     if let Some(rest) = after_word(b"false", tokens) {
-        return counted(remaining_of(tokens), atoms, Prop::Truth(false), rest);
+        return counted(remaining, atoms, Prop::Truth(false), rest);
     }
-    setting_atom(stop, cores, atoms, names, tokens)
+    let (item, rest) = setting_at(part_of(Why::BadCondition, stop), tokens)?;
+    let prop = prop_of(cores, remaining, names, item)?;
+    counted(remaining, atoms, prop, rest)
 }
 
 /// What begins a unit in which others stand.
@@ -302,29 +286,10 @@ fn proposition_at<'a, 'b>(
     Ok((prop, rest))
 }
 
-/// The condition of this quantifier, and the tokens after it.
-#[tactic(auto, unfolding(crate::specs::Conditions::quantified))]
-fn quantified<'a, 'b>(
-    alloc: Global,
-    stop: Stop,
-    cores: usize,
-    quantifier: Quantifier,
-    names: &mut Vec<&'a [u8]>,
-    tokens: &'b [Token<'a>],
-) -> Result<(Option<Cond>, &'b [Token<'a>]), ReadError>
-    requires { cores ≤ most_cores }
-    ensures { GivesCondition result names.new.items (inner.quantified stop cores quantifier (texts names.old.items) (pieces tokens.now)) }
-{
-    let mut atoms = 0;
-    let around = Surroundings { stop, cores };
-    let (prop, rest) = proposition_at(alloc, around, MAX_OPEN, &mut atoms, names, tokens)?;
-    Ok((Some(Cond { quantifier, prop }), rest))
-}
-
 /// The condition, if there is one, and the tokens after it.
 ///
 /// What stands in a condition and doesn't fit is `BadCondition`.
-#[tactic(auto, unfolding(crate::specs::Conditions::condition_at))]
+#[tactic(auto, unfolding(crate::specs::Conditions::condition_at, crate::specs::Conditions::quantified))]
 pub fn condition_at<'a, 'b>(
     alloc: Global,
     stop: Stop,
@@ -335,17 +300,20 @@ pub fn condition_at<'a, 'b>(
     requires { cores ≤ most_cores }
     ensures { GivesCondition result names.new.items (inner.condition_at stop cores (texts names.old.items) (pieces tokens.now)) }
 {
-    if let Some(rest) = after_word(b"exists", tokens) {
-        return quantified(alloc, stop, cores, Quantifier::Exists, names, rest);
-    }
-    if let Some(rest) = after_word(b"forall", tokens) {
-        return quantified(alloc, stop, cores, Quantifier::Forall, names, rest);
-    }
-    if let Some(after) = after_symbol(Symbol::Tilde, tokens) {
+    let (quantifier, rest) = if let Some(rest) = after_word(b"exists", tokens) {
+        (Quantifier::Exists, rest)
+    } else if let Some(rest) = after_word(b"forall", tokens) {
+        (Quantifier::Forall, rest)
+    } else if let Some(after) = after_symbol(Symbol::Tilde, tokens) {
         let Some(rest) = after_word(b"exists", after) else {
             return Err(ReadError::Fault(part_of(Why::BadCondition, stop).unfit(after)));
         };
-        return quantified(alloc, stop, cores, Quantifier::NotExists, names, rest);
-    }
-    Ok((None, tokens))
+        (Quantifier::NotExists, rest)
+    } else {
+        return Ok((None, tokens));
+    };
+    let mut atoms = 0;
+    let around = Surroundings { stop, cores };
+    let (prop, rest) = proposition_at(alloc, around, MAX_OPEN, &mut atoms, names, rest)?;
+    Ok((Some(Cond { quantifier, prop }), rest))
 }
