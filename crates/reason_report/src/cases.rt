@@ -11,14 +11,16 @@ ghost use Rattle.reason_report.specs.inner.Parts.{IsLayoutReady, root_at};
 ghost use Rattle.reason_report.specs.inner.Closed.{IsGiven, IsLeaf, IsClosed, BranchesAreClosed, closed_branch, alike, known_alike, rest_of};
 
 use crate::closed::{Closed, Leaf, Standing, are_alike, is_alike_to_some};
-use crate::closing::{answer_at, why_closed};
-use crate::parts::Refutation;
+use crate::closing::{answer_at, places_in};
+use crate::leaves::{edges_of, event_at};
+use crate::parts::{Refutation, node_at};
 use crate::replies::Reply;
-use crate::steps::Step;
+use crate::steps::{Closing, Step};
+use refutations::{Acyclic, Node};
 use std::alloc::Global;
 use tso_model::NoMemory;
 
-/// Adds the line of a leaf, which closes its case, and those of the others that are alike.
+/// Adds the line of a leaf, which closes its case, and those of the others that are alike: why it does. A question has none.
 ///
 /// Errors: out of memory only.
 pub fn add_leaf(
@@ -36,9 +38,25 @@ pub fn add_leaf(
         ++ spec.leaf_steps tree.entry.model tree.entry.test.now (asked_claim tree.entry.test.now.condition) depth (known_of leaf.now.given.answers)
         (known_alike leaf.now others.now) (root_at tree.entry leaf.now.at)) }
 {
-    if let Some(closing) = why_closed(alloc, tree, leaf, others)? {
-        steps.push(Step::Leaf(depth, closing))?;
-    }
+    let given = &leaf.given;
+    let closing = match node_at(tree.nodes, leaf.at) {
+        Node::OnLocation(cycle) => {
+            Closing::Uniproc(edges_of(alloc, tree, given, Acyclic::OnLocation, cycle)?)
+        }
+        Node::Globally(cycle) => {
+            Closing::Cycle(edges_of(alloc, tree, given, Acyclic::Globally(tree.model), cycle)?)
+        }
+        Node::Between(read, between, write) => {
+            Closing::Between(
+                event_at(tree, given, read),
+                event_at(tree, given, between),
+                event_at(tree, given, write),
+            )
+        }
+        Node::FalseClaim => Closing::False(places_in(alloc, tree, leaf, others)?),
+        Node::ReadsFrom(_) | Node::ComesFirst(..) => return Ok(()),
+    };
+    steps.push(Step::Leaf(depth, closing))?;
     Ok(())
 }
 

@@ -1,25 +1,23 @@
-//! What is shown of an answer, and why a leaf closes a case.
+//! What is shown of an answer, and of what is false where a leaf closes a case.
 
-ghost use Rattle.std.specs.Prelude.{ℕ, ◌≡◌, IfOk, map, length};
+ghost use Rattle.std.specs.Prelude.{◌≡◌, IfOk, map, length};
 ghost use Rattle.refutation_laws.specs.Refutations.{asked_claim};
 ghost use Rattle.refutations.specs.inner.Trees.{known_of};
 ghost use Rattle.tso_report.specs.inner.Tally.{NameExists};
 ghost use Rattle.reason_report.specs.Places as places;
 ghost use Rattle.reason_report.specs.Steps as spec;
 ghost use Rattle.reason_report.specs.Views.{answer_of, place_of};
-ghost use Rattle.reason_report.specs.inner.Views.{leaf_of};
-ghost use Rattle.reason_report.specs.inner.Parts.{IsLayoutReady, root_at};
-ghost use Rattle.reason_report.specs.inner.Closed.{IsGiven, IsLeaf, BranchesAreClosed, known_alike};
+ghost use Rattle.reason_report.specs.inner.Parts.{IsLayoutReady};
+ghost use Rattle.reason_report.specs.inner.Closed.{IsGiven, BranchesAreClosed, known_alike};
 
 use crate::closed::{Closed, Given, Leaf, are_alike};
-use crate::leaves::{edges_of, event_at};
-use crate::parts::{Refutation, node_at};
+use crate::leaves::event_at;
+use crate::parts::Refutation;
 use crate::places::{distinct_words, suffices, words_at};
 use crate::replies::Reply;
-use crate::steps::{Answer, Closing, Event, Place};
-use refutations::{Acyclic, Node};
+use crate::steps::{Answer, Event, Place};
 use std::alloc::Global;
-use tso_model::{Entry, NoMemory};
+use tso_model::NoMemory;
 use tso_report::named::Named;
 
 /// What is shown of one answer, or of several to which source a read has, where this is given.
@@ -108,7 +106,7 @@ fn place_in(
 /// The places that a leaf's case names, with the values that they have in it and in those that are alike.
 ///
 /// Errors: out of memory only.
-fn places_in(
+pub fn places_in(
     alloc: Global,
     tree: Refutation<'_>,
     leaf: &Leaf,
@@ -127,40 +125,4 @@ fn places_in(
         }
     }
     Ok(all)
-}
-
-/// Why a leaf closes its case, and others that are alike; none of a question.
-///
-/// Errors: out of memory only.
-pub fn why_closed(
-    alloc: Global,
-    tree: Refutation<'_>,
-    leaf: &Leaf,
-    others: &[Closed],
-) -> Result<Option<Closing>, NoMemory>
-    requires tree { IsLayoutReady tree }
-    requires leaf { IsLeaf tree leaf.now }
-    requires others { BranchesAreClosed tree others.now }
-    ensures { IfOk result (λ closing. (depth : ℕ) → leaf_of depth closing
-        ≡ spec.leaf_steps tree.entry.model tree.entry.test.now (asked_claim tree.entry.test.now.condition) depth (known_of leaf.now.given.answers)
-        (known_alike leaf.now others.now) (root_at tree.entry leaf.now.at)) }
-{
-    let given = &leaf.given;
-    Ok(Some(match node_at(tree.nodes, leaf.at) {
-        Node::OnLocation(cycle) => {
-            Closing::Uniproc(edges_of(alloc, tree, given, Acyclic::OnLocation, cycle)?)
-        }
-        Node::Globally(cycle) => {
-            Closing::Cycle(edges_of(alloc, tree, given, Acyclic::Globally(tree.model), cycle)?)
-        }
-        Node::Between(read, between, write) => {
-            Closing::Between(
-                event_at(tree, given, read),
-                event_at(tree, given, between),
-                event_at(tree, given, write),
-            )
-        }
-        Node::FalseClaim => Closing::False(places_in(alloc, tree, leaf, others)?),
-        Node::ReadsFrom(_) | Node::ComesFirst(..) => return Ok(None),
-    }))
 }

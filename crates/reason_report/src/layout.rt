@@ -1,13 +1,12 @@
 //! A refutation laid out in steps: it goes over the nodes as they stand, with a stack of what is still to be laid out.
 
-ghost use Rattle.std.specs.Prelude.{ℕ, ◌≡◌, ◌≤◌, ◌<◌, ◌+◌, ◌^◌, ◌∷◌, ◌++◌, List, [], false, if◌then◌else◌, IfOk, OnOk, map, filter, length, drop, replicate, not};
+ghost use Rattle.std.specs.Prelude.{ℕ, ◌≡◌, ◌≤◌, ◌<◌, ◌+◌, ◌^◌, ◌∷◌, ◌++◌, List, [], false, IfOk, OnOk, map, filter, length, drop, replicate, not};
 ghost use Rattle.tso_model.specs.Litmus.{Litmus};
 ghost use Rattle.refutation_laws.specs.Known.{Known};
 ghost use Rattle.refutation_laws.specs.Refutations.{asked_claim};
 ghost use Rattle.refutations.specs.Trees.{node_of};
 ghost use Rattle.refutations.specs.inner.Trees.{known_of};
 ghost use Rattle.reason_report.specs.Steps as spec;
-ghost use Rattle.reason_report.specs.Views as views;
 ghost use Rattle.reason_report.specs.Views.{reason_step_of};
 ghost use Rattle.reason_report.specs.inner.Parts.{AreBelow, IsLayoutReady, first_part, root_at, parts_of_refutation, branch_in};
 ghost use Rattle.reason_report.specs.inner.Closed.{IsGiven};
@@ -18,7 +17,7 @@ use crate::closed::{Leaf, Standing, closed_among, give, is_leaf};
 use crate::closing::answer_at;
 use crate::parts::{Refutation, branches, next_parts, node_at};
 use crate::replies::{Branch, Reply, reply_count, with_reply};
-use crate::steps::{Answer, Step};
+use crate::steps::Step;
 use refutation_laws::Model;
 use refutations::{Answers, Node, make_events, no_answers};
 use std::alloc::Global;
@@ -197,23 +196,18 @@ fn lay_answer(
     } = answered;
     let given = give(alloc, tree, answers)?;
     let answer = answer_at(alloc, tree, &given, reply, &[reply])?;
-    steps.push(step_of(is_only, depth, answer))?;
+    let step = if is_only {
+        Step::So(depth, answer)
+    } else {
+        Step::Case(depth, answer)
+    };
+    steps.push(step)?;
     let node = Standing {
         at,
         depth: depth_below(is_only, depth),
         given,
     };
     lay_node(alloc, tree, steps, tasks, node)
-}
-
-fn step_of(is_only: bool, depth: usize, answer: Answer) -> Step
-    ensures { reason_step_of result ≡ (if is_only then spec.So depth (views.answer_of answer) else spec.Case depth (views.answer_of answer)) }
-{
-    if is_only {
-        Step::So(depth, answer)
-    } else {
-        Step::Case(depth, answer)
-    }
 }
 
 /// How deep the part of an answer stands.

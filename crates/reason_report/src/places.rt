@@ -1,6 +1,6 @@
 //! Why a proposition is false by the values that are known: the registers and locations that suffice to tell it.
 
-ghost use Rattle.std.specs.Prelude.{◌≡◌, ◌==◌, ◌||◌, IfOk, length, map};
+ghost use Rattle.std.specs.Prelude.{◌≡◌, ◌==◌, IfOk, length, map};
 ghost use Rattle.std.specs.List.{list_any};
 ghost use Rattle.tso_model.specs.Condition.{NamesExist, claim_of};
 ghost use Rattle.refutation_laws.specs.Known.{events_of};
@@ -42,17 +42,6 @@ struct Judged {
     is_told: bool,
 }
 
-/// Judges two parts of which one must have the truth.
-fn either(first: Judged, second: Judged) -> Judged
-    ensures allowed { result.is_allowed ≡ (first.is_allowed || second.is_allowed) }
-    ensures told { result.is_told ≡ (first.is_told || second.is_told) }
-{
-    Judged {
-        is_allowed: first.is_allowed || second.is_allowed,
-        is_told: first.is_told || second.is_told,
-    }
-}
-
 /// Judges a proposition, and each of its parts once: which part of a `/\` tells that it is false depends on whether those before it
 /// can be true.
 fn judge(tree: Refutation<'_>, given: &Given, prop: &Prop, truth: bool, place: Named) -> Judged
@@ -89,7 +78,10 @@ fn judge(tree: Refutation<'_>, given: &Given, prop: &Prop, truth: bool, place: N
             if needs_both {
                 second
             } else {
-                either(first, second)
+                Judged {
+                    is_allowed: first.is_allowed | second.is_allowed,
+                    is_told: first.is_told | second.is_told,
+                }
             }
         }
     }

@@ -60,23 +60,22 @@ pub fn replies(
     requires { events.now ≡ events_of test.now }
     ensures { IfOk result (λ all. all.items ≡ spec.replies test.now (node_of node.now)) }
 {
-    let mut all = Vec::new(alloc);
     match node {
         Node::ReadsFrom(read) => {
-            all.push(Reply::Reads(*read, None))?;
+            let mut all = Vec::from_slice(alloc, &[Reply::Reads(*read, None)])?;
             for w in events {
                 if writes_to(read.loc.0, w) {
                     all.push(Reply::Reads(*read, Some(*w)))?;
                 }
             }
+            Ok(all)
         }
         Node::ComesFirst(first, second) => {
-            all.push(Reply::First(*first, *second))?;
-            all.push(Reply::First(*second, *first))?;
+            let both = [Reply::First(*first, *second), Reply::First(*second, *first)];
+            Ok(Vec::from_slice(alloc, &both)?)
         }
-        _ => {}
+        _ => Ok(Vec::new(alloc)),
     }
-    Ok(all)
 }
 
 /// These answers, and one more.

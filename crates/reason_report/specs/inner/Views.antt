@@ -1,14 +1,11 @@
 -- Steps as the code holds them, and the definitions' own that they stand for.
-use Rattle.std.specs.Prelude.{ℕ, Bool, false, ◌++◌, List, [], ◌∷◌, Option, Some, None, codes}
+use Rattle.std.specs.Prelude.{ℕ, Bool, false, ◌++◌, List, [], ◌∷◌, codes}
 use Rattle.std.specs.List.{flat_map}
 use Rattle.reason_report.specs.Vocabulary.{Claim, key_of, Litmus, LocClaim, Named, RegClaim}
 use Rattle.reason_report.specs.Places.{is_named}
-use Rattle.reason_report.specs.declared.steps.Closing.{Closing}
 use Rattle.reason_report.specs.declared.steps.Edge.{Edge}
 use Rattle.reason_report.specs.declared.steps.Place.{Place}
 use Rattle.reason_report.specs.ReasonText.{event_text, relation_text, words_text}
-use Rattle.reason_report.specs.Steps as spec
-use Rattle.reason_report.specs.Views.{closing_of}
 
 -- `po P0:1 W y=1`, and `1:EAX=0` or `x=1|2`: what stands in a line after a blank
 abbrev pub hop_end : Litmus → Edge → List ℕ
@@ -16,11 +13,6 @@ hop_end t e = relation_text e.relation ++ (codes " " ++ event_text t e.target)
 
 abbrev pub place_end : Litmus → Place → List ℕ
 place_end t p = key_of t p.named ++ (codes "=" ++ words_text p.values.items)
-
--- the line of a leaf, if there is one
-abbrev pub leaf_of : ℕ → Option Closing → List spec.ReasonStep
-leaf_of depth None = []
-leaf_of depth (Some c) = spec.Leaf depth (closing_of c) ∷ []
 
 -- whether a claim without parts is one of this place
 abbrev pub names_place : Claim → Named → Bool
