@@ -15,7 +15,7 @@ use crate::allowed::Shown;
 use crate::asked::{model_name, write_asked};
 use crate::fields::{reading_fields, step_fields};
 use crate::items::{Written, write_each};
-use crate::pieces::{Field, Piece};
+use crate::pieces::Field;
 use crate::pieces_text::{write_piece, write_writes};
 use crate::readings::Reading;
 use crate::steps::{Step, leaves_in};
@@ -123,23 +123,15 @@ pub fn unfinished_text(alloc: Global, limit: u32) -> Result<String, NoMemory>
     Ok(text)
 }
 
-/// Adds a line.
+/// Adds a line: each piece after what stands before it.
 fn write_line(text: &mut String, test: &Test, fields: &[Field<'_>]) -> Result<(), NoMemory>
     ensures { OnOk result (string_bytes text.new ≡ string_bytes text.old ++ (flat_map (field_text test.now) fields.now ++ (10 ∷ []))) }
 {
-    write_each(text, test, "", fields)?;
-    write_characters(text, "\n")
-}
-
-/// A piece, after what stands before it.
-impl<'a> Written for (&'a str, &'a str, Piece<'a>) {
-    ghost written = { field_text };
-
-    fn write(&self, text: &mut String, test: &Test) -> Result<(), NoMemory> {
-        let (before, _key, piece) = self;
+    for (before, _key, piece) in fields {
         write_characters(text, before)?;
-        write_piece(text, test, *piece)
+        write_piece(text, test, *piece)?;
     }
+    write_characters(text, "\n")
 }
 
 impl Written for Step {

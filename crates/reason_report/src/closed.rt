@@ -108,7 +108,7 @@ pub fn is_leaf(node: &Node) -> bool
 fn is_false_source(reply: Reply, node: &Node) -> bool
     ensures { result ≡ (spec.is_source reply && spec.is_false (node_of node.now)) }
 {
-    matches!(reply, Reply::Reads(..)) && matches!(node, Node::FalseClaim)
+    matches!(reply, Reply::Reads(..)) & matches!(node, Node::FalseClaim)
 }
 
 /// A branch of the question where this is given, which the leaf there closes.
