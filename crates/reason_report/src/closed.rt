@@ -1,6 +1,6 @@
 //! The cases of a question that a leaf closes at once, and which of them one line closes together.
 
-ghost use Rattle.std.specs.Prelude.{◌≡◌, ◌<◌, ◌&&◌, IfOk, map, filter, length};
+ghost use Rattle.std.specs.Prelude.{◌≡◌, ◌<◌, IfOk, map, filter, length};
 ghost use Rattle.std.specs.List.{list_any};
 ghost use Rattle.refutations.specs.Trees.{node_of};
 ghost use Rattle.refutations.specs.inner.Trees.{known_of};
@@ -104,13 +104,6 @@ pub fn is_leaf(node: &Node) -> bool
     }
 }
 
-/// Whether the answer is a source of a read, and the node says that what is asked is false.
-fn is_false_source(reply: Reply, node: &Node) -> bool
-    ensures { result ≡ (spec.is_source reply && spec.is_false (node_of node.now)) }
-{
-    matches!(reply, Reply::Reads(..)) & matches!(node, Node::FalseClaim)
-}
-
 /// A branch of the question where this is given, which the leaf there closes.
 ///
 /// Errors: out of memory only.
@@ -128,7 +121,8 @@ fn close(
 {
     let answers = with_reply(alloc, &question.answers, branch.reply)?;
     let given = give(alloc, tree, answers)?;
-    let shares = is_false_source(branch.reply, node_at(tree.nodes, branch.at));
+    let node = node_at(tree.nodes, branch.at);
+    let shares = matches!(branch.reply, Reply::Reads(..)) & matches!(node, Node::FalseClaim);
     let named = if shares {
         named_among(alloc, tree, &given)?
     } else {

@@ -7,7 +7,7 @@ ghost use Rattle.tso_model.specs.Litmus.{Litmus};
 ghost use Rattle.reason_report.specs.ReasonText as text;
 ghost use Rattle.reason_report.specs.ReasonJson as json;
 ghost use Rattle.reason_report.specs.Views.{answer_of, closing_of, reason_step_of};
-ghost use Rattle.reason_report.specs.inner.Pieces.{field_text, head_members, with_fields};
+ghost use Rattle.reason_report.specs.inner.Pieces.{field_text, head_members, piece_text, with_field, with_fields};
 ghost use Rattle.reason_report.specs.inner.Shown.{reading_line, reading_value};
 
 use crate::pieces::{Field, Piece};
@@ -26,7 +26,7 @@ pub fn step_fields(step: &Step) -> [Field<'_>; 5]
         Step::Case(depth, answer) => answer_fields(*depth, "Case ", "case", answer),
         Step::So(depth, answer) => answer_fields(*depth, "So ", "so", answer),
         Step::Leaf(depth, closing) => closing_fields(*depth, closing),
-        Step::Endcases(depth) => row(*depth, "Endcases", "endcases", NOTHING, NOTHING, NOTHING),
+        Step::Endcases(depth) => short_row(*depth, "Endcases", "endcases", "", Piece::Nothing),
     }
 }
 
@@ -47,6 +47,20 @@ fn row<'a>(
     let depth = ("", "depth", Piece::Depth(depth));
     let word = ("", "step", Piece::Word(word, step));
     [depth, word, first, second, third]
+}
+
+/// The same with one thing more at most.
+fn short_row<'a>(
+    depth: usize,
+    word: &'a str,
+    step: &'a str,
+    key: &'a str,
+    piece: Piece<'a>,
+) -> [Field<'a>; 5]
+    ensures line { (t : Litmus) → flat_map (field_text t) result ≡ text.blanks depth ++ (word.now ++ piece_text t piece.entry) }
+    ensures value { (t : Litmus) → with_fields t result no_members ≡ with_field t key.now piece.entry (head_members depth step.now) }
+{
+    row(depth, word, step, ("", key, piece), NOTHING, NOTHING)
 }
 
 /// `Case P1:0 R y=1 from P0:1 W y=1`, or `So P0:0 W x=1 before P1:0 W x=2`.
@@ -81,13 +95,9 @@ fn closing_fields(depth: usize, closing: &Closing) -> [Field<'_>; 5]
 {
     match closing {
         Closing::Uniproc(edges) => {
-            let cycle = ("", "cycle", Piece::Cycle(edges));
-            row(depth, "Uniproc", "uniproc", cycle, NOTHING, NOTHING)
+            short_row(depth, "Uniproc", "uniproc", "cycle", Piece::Cycle(edges))
         }
-        Closing::Cycle(edges) => {
-            let cycle = ("", "cycle", Piece::Cycle(edges));
-            row(depth, "Cycle", "cycle", cycle, NOTHING, NOTHING)
-        }
+        Closing::Cycle(edges) => short_row(depth, "Cycle", "cycle", "cycle", Piece::Cycle(edges)),
         Closing::Between(read, between, write) => {
             let read = ("", "read", Piece::Event(read));
             let between = (" ", "between", Piece::Event(between));
@@ -95,8 +105,7 @@ fn closing_fields(depth: usize, closing: &Closing) -> [Field<'_>; 5]
             row(depth, "Between ", "between", read, between, write)
         }
         Closing::False(places) => {
-            let places = ("", "places", Piece::Places(places));
-            row(depth, "False", "false", places, NOTHING, NOTHING)
+            short_row(depth, "False", "false", "places", Piece::Places(places))
         }
     }
 }

@@ -12,7 +12,6 @@ ghost use Rattle.tso_report.specs.inner.Tally.{NameExists};
 ghost use Rattle.reason_report.specs.Places as spec;
 ghost use Rattle.reason_report.specs.inner.Parts.{IsLayoutReady};
 ghost use Rattle.reason_report.specs.inner.Closed.{IsGiven};
-ghost use Rattle.reason_report.specs.inner.Views.{names_place};
 
 use crate::asked::truth_asked;
 use crate::closed::Given;
@@ -21,19 +20,6 @@ use refutations::propositions::{allows, register_at_end, words_at_end};
 use std::alloc::Global;
 use tso_model::{NoMemory, Prop};
 use tso_report::named::Named;
-
-/// Whether a proposition without parts is one of this place.
-fn names_place(prop: &Prop, place: Named) -> bool
-    ensures { result ≡ names_place (claim_of prop.now) place }
-{
-    match (prop, place) {
-        (Prop::RegIs(core, reg, _), Named::Register(other, named)) => {
-            core.0 == other.0 && reg.index() == named.index()
-        }
-        (Prop::LocIs(loc, _), Named::Location(named)) => loc.0 == named.0,
-        _ => false,
-    }
-}
 
 /// Whether a proposition can have a truth, as far as the answers tell it, and where it can't, whether a place tells that.
 #[derive(Clone, Copy)]
@@ -65,7 +51,13 @@ fn judge(tree: Refutation<'_>, given: &Given, prop: &Prop, truth: bool, place: N
                 prop,
                 truth,
             ),
-            is_told: names_place(prop, place),
+            is_told: match (prop, place) {
+                (Prop::RegIs(core, reg, _), Named::Register(other, named)) => {
+                    core.0 == other.0 && reg.index() == named.index()
+                }
+                (Prop::LocIs(loc, _), Named::Location(named)) => loc.0 == named.0,
+                _ => false,
+            },
         },
         Prop::Not(inner) => judge(tree, given, inner, !truth, place),
         Prop::And(left, right) | Prop::Or(left, right) => {

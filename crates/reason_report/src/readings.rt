@@ -81,15 +81,9 @@ fn place_in(order: &[Entry], e: &Entry) -> usize
     ensures place { order.now ≡ take result order.now ++ (e.now ∷ drop (result + 1) order.now) }
 {
     for at in 0..order.len() {
-        if is_same(&order[at], e) {
+        if order[at] == *e {
             return at;
         }
     }
     0
-}
-
-fn is_same(x: &Entry, y: &Entry) -> bool
-    ensures { IsTrue result ↔ x.now ≡ y.now }
-{
-    x == y
 }

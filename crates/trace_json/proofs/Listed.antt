@@ -1,10 +1,20 @@
 -- Values in a list, made one after the other.
-use Rattle.trace_json.proofs.Vocabulary.{◌≡◌, ◌∙◌, ℕ, ◌-◌, List, map, length, take, codes, no_members, object, put, string, array_of_numbers, line_name, names_in_line, line_state, state_name, words_per_line, CachedLine, copy_json, sym, ap, rules, Global, Vec, Data, array, view, items_of, Value, the_lemmas, Litmus, core_of, Configuration, Running, registers_value, store_text, array_of_texts, sets_json, core_json, core_with, IsMachineOfTest}
+use Rattle.trace_json.proofs.Vocabulary.{◌≡◌, ◌∙◌, ◌++◌, [], ℕ, ◌-◌, List, map, length, take, codes, no_members, object, put, string, array_of_numbers, line_name, names_in_line, line_state, state_name, words_per_line, CachedLine, copy_json, sym, ap, rules, Global, Vec, Data, array, view, items_of, Value, the_lemmas, Litmus, core_of, Configuration, Running, registers_value, store_text, array_of_texts, sets_json, core_json, core_with, IsMachineOfTest}
+use Rattle.std.specs.Prelude.{String, string_bytes}
 use Rattle.serde_json.specs.declared.value.Value.TheVariants.{Array}
+use Rattle.serde_json.specs.declared.value.Value.TheVariants as value
 
 -- a list as a value
 pub view-list : (values : Vec Value Global) → view (Array values) ≡ array (items_of (map view values.items))
 view-list values = search (rules, the_lemmas)
+
+-- a text as a value
+pub view-text : (text : String Global) → view (value.String text) ≡ string (string_bytes text)
+view-text text = search (rules, the_lemmas)
+
+-- what is written to an empty text
+pub all-written : (old new bytes : List ℕ) → old ≡ [] → new ≡ old ++ bytes → new ≡ bytes
+all-written old new bytes none e = e ∙ ap (λ b. b ++ bytes) none
 
 -- a core from its parts
 pub core-made : (t : Litmus) (config : Configuration) (m : Running) (core place : ℕ) (buffer lines registers : Data) → IsMachineOfTest t config m

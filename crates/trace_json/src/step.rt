@@ -2,7 +2,7 @@
 //! has all of them.
 
 ghost use Rattle.std.specs.Prelude.{◌≡◌, ◌<◌, IfOk, IfSome, All, map, option_map};
-ghost use Rattle.serde_json.specs.Data.{Data, string};
+ghost use Rattle.serde_json.specs.Data.{Data};
 ghost use Rattle.serde_json.specs.View.{view};
 ghost use Rattle.trace_report.specs.Shown.{shown_step};
 ghost use Rattle.trace_report.specs.Known.{IsLine, StepNamesExist};
@@ -138,24 +138,11 @@ fn changes_value(
 {
     let mut values = Array::new(alloc);
     for change in changes {
-        values = values.with(change_value(alloc, test, words, *change));
+        let mut text = String::new(alloc);
+        write_change(&mut text, test, words, *change)?;
+        values = values.with(Ok(Value::String(text)));
     }
     values.value()
-}
-
-/// A line whose state changed, `P1.x S>I`.
-fn change_value(
-    alloc: Global,
-    test: &Test,
-    words: u8,
-    change: StateChange,
-) -> Result<Value, NoMemory>
-    requires { IsLine test.now words change.line }
-    ensures { IfOk result (λ value. view value ≡ string (printed_change test.now words change)) }
-{
-    let mut text = String::new(alloc);
-    write_change(&mut text, test, words, change)?;
-    Ok(Value::String(text))
 }
 
 /// What went on the bus, `GetM x`.

@@ -3,11 +3,10 @@
 
 ghost use Rattle.std.specs.Prelude.{◌≡◌, ◌<◌, IfOk, length, option_map};
 ghost use Rattle.serde_json.specs.View.{view};
-ghost use Rattle.machine_core.specs.inner.Keeping.{memory_access_in};
 ghost use Rattle.tso_model.specs.FlatMachine.{chosen};
 ghost use Rattle.trace_report.specs.Shown.{shown_step};
 ghost use Rattle.trace_report.specs.inner.Told.{IsLookedAt};
-ghost use Rattle.trace_json.specs.Supplied.{found_by, line_read, supplier_text, supplied_to, supplier_from};
+ghost use Rattle.trace_json.specs.Supplied.{found_by, supplier_text, supplied_to, supplier_from};
 ghost use Rattle.trace_json.specs.Supplied.{supplier_or_memory, supplies};
 ghost use Rattle.trace_json.specs.Values.{text_or_null};
 
@@ -48,24 +47,17 @@ pub fn found_by<P: Protocol>(
     requires core { chosen choice < length test.now.programs }
     ensures { result ≡ found_by machine.now choice }
 {
-    let line = line_read(machine.access(choice), words)?;
+    let loc = match machine.access(choice) {
+        MemoryAccess::Read(loc) | MemoryAccess::Lock(loc) => loc,
+        MemoryAccess::Nothing | MemoryAccess::Write(_) => return None,
+    };
+    let line = loc.0 / words;
     if machine.copy_state(core_of(choice), line).is_some() {
         Some(Source::Cache)
     } else if machine.awaited().is_some() {
         Some(Source::Bus)
     } else {
         Some(supplier(machine, test, line))
-    }
-}
-
-/// The line that an access reads, where lines have so many words; a store reads none.
-fn line_read(access: MemoryAccess, words: u8) -> Option<u8>
-    requires { 0 < words }
-    ensures { result ≡ line_read words (memory_access_in access) }
-{
-    match access {
-        MemoryAccess::Read(loc) | MemoryAccess::Lock(loc) => Some(loc.0 / words),
-        MemoryAccess::Nothing | MemoryAccess::Write(_) => None,
     }
 }
 

@@ -1,6 +1,6 @@
 //! Texts as values.
 
-ghost use Rattle.std.specs.Prelude.{◌≡◌, ◌<◌, [], IfOk, slice_index_or};
+ghost use Rattle.std.specs.Prelude.{◌≡◌, ◌<◌, IfOk};
 ghost use Rattle.std.specs.List.{flat_map};
 ghost use Rattle.serde_json.specs.Data.{string};
 ghost use Rattle.serde_json.specs.View.{view};
@@ -11,7 +11,7 @@ ghost use Rattle.trace_report.specs.Lines.{line_name, printed_core, store_text};
 use serde_json::Value;
 use std::alloc::Global;
 use trace_report::text::write_line_name;
-use tso_model::{Choice, Core, Entry, Loc, NoMemory, Test};
+use tso_model::{Choice, Core, Entry, NoMemory, Test};
 use tso_report::members::word_value;
 use tso_report::pieces::{Piece, write_pieces};
 
@@ -64,27 +64,21 @@ pub fn line_value(alloc: Global, test: &Test, words: u8, line: u8) -> Result<Val
     Ok(Value::String(name))
 }
 
-/// A pending store, `x=1`.
+/// A pending store, `x=1`. The name is empty where the test has no such location.
 ///
 /// Errors: out of memory only.
 pub fn store_value(alloc: Global, test: &Test, store: Entry) -> Result<Value, NoMemory>
     ensures { IfOk result (λ value. view value ≡ string (store_text test.now store)) }
 {
+    let name = if store.loc.0 < test.locations() {
+        test.location_name(store.loc)
+    } else {
+        ""
+    };
     let pieces = [
-        Piece::Text(name_at(test, store.loc)),
+        Piece::Text(name),
         Piece::Text("="),
         Piece::Number(store.value as u64),
     ];
     text_value(alloc, &pieces)
-}
-
-/// The name of a location. It is empty where the test has no such location.
-fn name_at(test: &Test, loc: Loc) -> &str
-    ensures { result.now ≡ slice_index_or test.now.locations loc.0 [] }
-{
-    if loc.0 < test.locations() {
-        test.location_name(loc)
-    } else {
-        ""
-    }
 }

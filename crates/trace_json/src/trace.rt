@@ -4,16 +4,14 @@ ghost use Rattle.std.specs.Prelude.{◌≡◌, ◌≤◌, IfOk, None, OnOk, leng
 ghost use Rattle.serde_json.specs.Data.{array};
 ghost use Rattle.serde_json.specs.View.{items_of, view};
 ghost use Rattle.tso_model.specs.Runs.{CoresExist};
-ghost use Rattle.trace_report.specs.Known.{StepNamesExist};
-ghost use Rattle.trace_report.specs.Shown.{shown_step};
 ghost use Rattle.simulator.specs.Runs.{run_under, counts_under, AnswersFit};
 ghost use Rattle.simulator.specs.Simulation.{IsEndingOf, FitsEnding, HasCounts};
 ghost use Rattle.trace_json.specs.MachineJson.{machine_json};
-ghost use Rattle.trace_json.specs.TraceJson.{last_step_json, step_to, trace_json};
+ghost use Rattle.trace_json.specs.TraceJson.{last_step_json, trace_json};
 ghost use Rattle.trace_json.specs.TracedRun.{most_steps};
 ghost use Rattle.trace_json.specs.inner.Looked.{sourced, told_last, trace_with};
 ghost use Rattle.trace_json.specs.inner.Following.{CanFollow, Follows};
-ghost use Rattle.trace_json.specs.inner.Observing.{AddsStep, KnowsLast, MakesStep, OpensTrace, told_by, told_under};
+ghost use Rattle.trace_json.specs.inner.Observing.{KnowsLast, MakesStep, OpensTrace, told_by, told_under};
 
 use crate::following::{Follower, SourcedStep};
 use crate::limited::Limited;
@@ -176,7 +174,10 @@ impl<'t> Observer for Tracer<'t> {
     ) -> Result<Outcome, NoMemory> {
         let told = self.follower.tell(machine, choice)?;
         let outcome = told.step.outcome;
-        note_step(&mut self.steps, self.extent, &self.follower, machine, &told)?;
+        match self.extent {
+            Extent::Whole => push_made(&mut self.steps, self.follower.step_to(machine, &told))?,
+            Extent::LastStep => {}
+        }
         self.last = Some(told);
         Ok(outcome)
     }
@@ -217,23 +218,5 @@ impl<'t> Tracer<'t> {
                 .member("start", self.follower.machine(machine))
                 .value(),
         }
-    }
-}
-
-/// Adds the value of a step to those of the steps before it, where all are told.
-fn note_step<P: Protocol>(
-    steps: &mut Vec<Value>,
-    extent: Extent,
-    follower: &Follower<'_>,
-    machine: &Machine<'_, P>,
-    step: &SourcedStep,
-) -> Result<(), NoMemory>
-    requires follows { Follows follower.now machine.now }
-    requires known { StepNamesExist follower.now.test.now follower.now.config.shape.words (shown_step step.now.step) }
-    ensures { OnOk result (AddsStep extent steps.old.items (step_to (sourced step.now) machine.now follower.now.memory.items) steps.new.items) }
-{
-    match extent {
-        Extent::Whole => push_made(steps, follower.step_to(machine, step)),
-        Extent::LastStep => Ok(()),
     }
 }

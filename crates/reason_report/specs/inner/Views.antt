@@ -1,8 +1,7 @@
 -- Steps as the code holds them, and the definitions' own that they stand for.
-use Rattle.std.specs.Prelude.{ℕ, Bool, false, ◌++◌, List, [], ◌∷◌, codes}
+use Rattle.std.specs.Prelude.{ℕ, ◌++◌, List, [], ◌∷◌, codes}
 use Rattle.std.specs.List.{flat_map}
-use Rattle.reason_report.specs.Vocabulary.{Claim, key_of, Litmus, LocClaim, Named, RegClaim}
-use Rattle.reason_report.specs.Places.{is_named}
+use Rattle.reason_report.specs.Vocabulary.{key_of, Litmus}
 use Rattle.reason_report.specs.declared.steps.Edge.{Edge}
 use Rattle.reason_report.specs.declared.steps.Place.{Place}
 use Rattle.reason_report.specs.ReasonText.{event_text, relation_text, words_text}
@@ -13,12 +12,6 @@ hop_end t e = relation_text e.relation ++ (codes " " ++ event_text t e.target)
 
 abbrev pub place_end : Litmus → Place → List ℕ
 place_end t p = key_of t p.named ++ (codes "=" ++ words_text p.values.items)
-
--- whether a claim without parts is one of this place
-abbrev pub names_place : Claim → Named → Bool
-names_place (RegClaim core reg value) place = is_named (RegClaim core reg value) place
-names_place (LocClaim loc value) place = is_named (LocClaim loc value) place
-names_place _ place = false
 
 -- what is made of each item, with this between them
 abbrev pub separated : {X : Type 0} → List ℕ → (X → List ℕ) → List X → List ℕ
