@@ -98,8 +98,8 @@ fn atom_at<'a, 'b>(
     if let Some(rest) = after_word(b"false", tokens) {
         return counted(remaining, atoms, Prop::Truth(false), rest);
     }
-    let (item, rest) = setting_at(part_of(Why::BadCondition, stop), tokens)?;
-    let prop = prop_of(cores, remaining, names, item)?;
+    let (setting, rest) = setting_at(part_of(Why::BadCondition, stop), tokens)?;
+    let prop = prop_of(cores, remaining, names, setting)?;
     counted(remaining, atoms, prop, rest)
 }
 
