@@ -11,9 +11,10 @@ ghost use Rattle.reason_report.specs.inner.Parts.{IsLayoutReady, root_at};
 ghost use Rattle.reason_report.specs.inner.Closed.{IsGiven, IsLeaf, IsClosed, BranchesAreClosed, closed_branch, alike, known_alike, rest_of};
 
 use crate::closed::{Closed, Leaf, Standing, are_alike, is_alike_to_some};
-use crate::closing::{answer_at, places_in};
+use crate::closing::{answer_at, place_in};
 use crate::leaves::{edges_of, event_at};
 use crate::parts::{Refutation, node_at};
+use crate::places::suffices;
 use crate::replies::Reply;
 use crate::steps::{Closing, Step};
 use refutations::{Acyclic, Node};
@@ -53,7 +54,15 @@ pub fn add_leaf(
                 event_at(tree, given, write),
             )
         }
-        Node::FalseClaim => Closing::False(places_in(alloc, tree, leaf, others)?),
+        Node::FalseClaim => {
+            let mut places = Vec::new(alloc);
+            for named in tree.places {
+                if suffices(alloc, tree, given, *named)? {
+                    places.push(place_in(alloc, tree, leaf, others, *named)?)?;
+                }
+            }
+            Closing::False(places)
+        }
         Node::ReadsFrom(_) | Node::ComesFirst(..) => return Ok(()),
     };
     steps.push(Step::Leaf(depth, closing))?;

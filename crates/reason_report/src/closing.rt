@@ -1,7 +1,6 @@
-//! What is shown of an answer, and of what is false where a leaf closes a case.
+//! What is shown of an answer, and of a place by which a leaf closes a case.
 
-ghost use Rattle.std.specs.Prelude.{◌≡◌, IfOk, map, length};
-ghost use Rattle.refutation_laws.specs.Refutations.{asked_claim};
+ghost use Rattle.std.specs.Prelude.{◌≡◌, IfOk, length};
 ghost use Rattle.refutations.specs.inner.Trees.{known_of};
 ghost use Rattle.tso_report.specs.inner.Tally.{NameExists};
 ghost use Rattle.reason_report.specs.Places as places;
@@ -13,7 +12,7 @@ ghost use Rattle.reason_report.specs.inner.Closed.{IsGiven, BranchesAreClosed, k
 use crate::closed::{Closed, Given, Leaf, are_alike};
 use crate::leaves::event_at;
 use crate::parts::Refutation;
-use crate::places::{distinct_words, suffices, words_at};
+use crate::places::{distinct_words, words_at};
 use crate::replies::Reply;
 use crate::steps::{Answer, Event, Place};
 use std::alloc::Global;
@@ -36,7 +35,10 @@ pub fn answer_at(
 {
     match reply {
         Reply::Reads(read, _) => {
-            let writes = writes_in(alloc, tree, given, all)?;
+            let mut writes = Vec::new(alloc);
+            for other in all {
+                writes.push(write_of_answer(tree, given, *other))?;
+            }
             Ok(Answer::From(event_at(tree, given, &read), writes))
         }
         Reply::First(first, second) => {
@@ -46,23 +48,6 @@ pub fn answer_at(
             ))
         }
     }
-}
-
-fn writes_in(
-    alloc: Global,
-    tree: Refutation<'_>,
-    given: &Given,
-    all: &[Reply],
-) -> Result<Vec<Option<Event>>, NoMemory>
-    requires tree { IsLayoutReady tree }
-    requires given { IsGiven tree.test.now given.now }
-    ensures { IfOk result (λ writes. writes.items ≡ map (spec.write_of_answer tree.entry.test.now (known_of given.now.answers)) all.now) }
-{
-    let mut writes = Vec::new(alloc);
-    for reply in all {
-        writes.push(write_of_answer(tree, given, *reply))?;
-    }
-    Ok(writes)
 }
 
 fn write_of_answer(tree: Refutation<'_>, given: &Given, reply: Reply) -> Option<Event>
@@ -79,7 +64,7 @@ fn write_of_answer(tree: Refutation<'_>, given: &Given, reply: Reply) -> Option<
 /// A place, and the values that it may have in these cases: in that of a leaf, and in those that are alike.
 ///
 /// Errors: out of memory only.
-fn place_in(
+pub fn place_in(
     alloc: Global,
     tree: Refutation<'_>,
     leaf: &Leaf,
@@ -101,28 +86,4 @@ fn place_in(
     }
     let values = distinct_words(alloc, &words)?;
     Ok(Place { named, values })
-}
-
-/// The places that a leaf's case names, with the values that they have in it and in those that are alike.
-///
-/// Errors: out of memory only.
-pub fn places_in(
-    alloc: Global,
-    tree: Refutation<'_>,
-    leaf: &Leaf,
-    others: &[Closed],
-) -> Result<Vec<Place>, NoMemory>
-    requires tree { IsLayoutReady tree }
-    requires given { IsGiven tree.test.now leaf.now.given }
-    requires others { BranchesAreClosed tree others.now }
-    ensures { IfOk result (λ all. map place_of all.items
-        ≡ places.places_in tree.entry.test.now (asked_claim tree.entry.test.now.condition) (known_of leaf.now.given.answers) (known_alike leaf.now others.now)) }
-{
-    let mut all = Vec::new(alloc);
-    for named in tree.places {
-        if suffices(alloc, tree, &leaf.given, *named)? {
-            all.push(place_in(alloc, tree, leaf, others, *named)?)?;
-        }
-    }
-    Ok(all)
 }

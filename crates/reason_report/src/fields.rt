@@ -6,7 +6,7 @@ ghost use Rattle.serde_json.specs.Data.{object, no_members};
 ghost use Rattle.tso_model.specs.Litmus.{Litmus};
 ghost use Rattle.reason_report.specs.ReasonText as text;
 ghost use Rattle.reason_report.specs.ReasonJson as json;
-ghost use Rattle.reason_report.specs.Views.{answer_of, closing_of, reason_step_of};
+ghost use Rattle.reason_report.specs.Views.{answer_of, reason_step_of};
 ghost use Rattle.reason_report.specs.inner.Pieces.{field_text, head_members, piece_text, with_field, with_fields};
 ghost use Rattle.reason_report.specs.inner.Shown.{reading_line, reading_value};
 
@@ -17,7 +17,8 @@ use crate::steps::{Answer, Closing, Step};
 /// Nothing more in a line, and no further key.
 const NOTHING: Field<'static> = ("", "", Piece::Nothing);
 
-/// What a step shows.
+/// What a step shows: an answer; `Cycle P0:0 W x=1 po ..`, `Between P0:0 LR x=0 P1:0 W x=1 P0:0 LW x=0` or `False 1:EAX=0`; or where
+/// cases end.
 pub fn step_fields(step: &Step) -> [Field<'_>; 5]
     ensures line { (t : Litmus) → flat_map (field_text t) result ++ (10 ∷ []) ≡ text.reason_step_line t (reason_step_of step.now) }
     ensures value { (t : Litmus) → object (with_fields t result no_members) ≡ json.step_value t (reason_step_of step.now) }
@@ -25,7 +26,21 @@ pub fn step_fields(step: &Step) -> [Field<'_>; 5]
     match step {
         Step::Case(depth, answer) => answer_fields(*depth, "Case ", "case", answer),
         Step::So(depth, answer) => answer_fields(*depth, "So ", "so", answer),
-        Step::Leaf(depth, closing) => closing_fields(*depth, closing),
+        Step::Leaf(depth, Closing::Uniproc(edges)) => {
+            short_row(*depth, "Uniproc", "uniproc", "cycle", Piece::Cycle(edges))
+        }
+        Step::Leaf(depth, Closing::Cycle(edges)) => {
+            short_row(*depth, "Cycle", "cycle", "cycle", Piece::Cycle(edges))
+        }
+        Step::Leaf(depth, Closing::Between(read, between, write)) => {
+            let read = ("", "read", Piece::Event(read));
+            let between = (" ", "between", Piece::Event(between));
+            let write = (" ", "write", Piece::Event(write));
+            row(*depth, "Between ", "between", read, between, write)
+        }
+        Step::Leaf(depth, Closing::False(places)) => {
+            short_row(*depth, "False", "false", "places", Piece::Places(places))
+        }
         Step::Endcases(depth) => short_row(*depth, "Endcases", "endcases", "", Piece::Nothing),
     }
 }
@@ -84,28 +99,6 @@ fn answer_fields<'a>(
             let first = ("", "first", Piece::Event(first));
             let second = (" before ", "second", Piece::Event(second));
             row(depth, word, step, first, second, NOTHING)
-        }
-    }
-}
-
-/// `Cycle P0:0 W x=1 po ..`, `Between P0:0 LR x=0 P1:0 W x=1 P0:0 LW x=0`, or `False 1:EAX=0`.
-fn closing_fields(depth: usize, closing: &Closing) -> [Field<'_>; 5]
-    ensures line { (t : Litmus) → flat_map (field_text t) result ≡ text.blanks depth ++ text.closing_text t (closing_of closing.now) }
-    ensures value { (t : Litmus) → object (with_fields t result no_members) ≡ json.closing_value t depth (closing_of closing.now) }
-{
-    match closing {
-        Closing::Uniproc(edges) => {
-            short_row(depth, "Uniproc", "uniproc", "cycle", Piece::Cycle(edges))
-        }
-        Closing::Cycle(edges) => short_row(depth, "Cycle", "cycle", "cycle", Piece::Cycle(edges)),
-        Closing::Between(read, between, write) => {
-            let read = ("", "read", Piece::Event(read));
-            let between = (" ", "between", Piece::Event(between));
-            let write = (" ", "write", Piece::Event(write));
-            row(depth, "Between ", "between", read, between, write)
-        }
-        Closing::False(places) => {
-            short_row(depth, "False", "false", "places", Piece::Places(places))
         }
     }
 }

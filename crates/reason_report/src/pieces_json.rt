@@ -1,20 +1,19 @@
 //! Pieces as JSON values: events, cycles, places and the like.
 
 ghost use Rattle.std.specs.Prelude.{◌≡◌, IfOk, OnOk, filter, map};
-ghost use Rattle.serde_json.specs.Data.{object, array, string};
+ghost use Rattle.serde_json.specs.Data.{array, string};
 ghost use Rattle.serde_json.specs.View.{view, members_view, items_of};
 ghost use Rattle.tso_model.specs.ProgramOrder as program_order;
 ghost use Rattle.order_builder.specs.PrintedOrder.{printed_entry};
 ghost use Rattle.reason_report.specs.ReasonText as text;
 ghost use Rattle.reason_report.specs.ReasonJson as spec;
 ghost use Rattle.reason_report.specs.inner.Pieces as pieces;
-ghost use Rattle.reason_report.specs.Views.{place_of};
 
 use crate::items::{Valued, array_of};
 use crate::pieces::Piece;
 use crate::pieces_text::{relation_text, write_piece};
 use crate::readings::event_of;
-use crate::steps::{Edge, Event, Place};
+use crate::steps::{Edge, Event};
 use outcome_report::keys::key_text;
 use refutations::events::writes_to;
 use serde_json::Value;
@@ -43,7 +42,15 @@ pub fn piece_value(alloc: Global, test: &Test, piece: Piece<'_>) -> Result<Value
         Piece::Event(_) | Piece::Source(_) => text_value(alloc, test, piece),
         Piece::Sources(writes) => array_of(alloc, test, writes),
         Piece::Cycle(edges) => array_of(alloc, test, edges),
-        Piece::Places(places) => places_value(alloc, test, places),
+        Piece::Places(places) => {
+            let mut members = Object::new(alloc);
+            for at in (0..places.len()).rev() {
+                let place = &places[at];
+                let key = key_text(alloc, test, place.named)?;
+                members = members.member(&key, numbers_value(alloc, &place.values));
+            }
+            members.value()
+        }
         Piece::Nothing => Ok(Value::Null),
     }
 }
@@ -99,16 +106,4 @@ impl Valued for Edge {
             .member("to", text_value(alloc, test, Piece::Event(&self.target)))
             .value()
     }
-}
-
-fn places_value(alloc: Global, test: &Test, places: &[Place]) -> Result<Value, NoMemory>
-    ensures { IfOk result (λ value. view value ≡ object (spec.place_members test.now (map place_of places.now))) }
-{
-    let mut members = Object::new(alloc);
-    for at in (0..places.len()).rev() {
-        let place = &places[at];
-        let key = key_text(alloc, test, place.named)?;
-        members = members.member(&key, numbers_value(alloc, &place.values));
-    }
-    members.value()
 }

@@ -29,23 +29,26 @@ pub fn write_piece(text: &mut String, test: &Test, piece: Piece<'_>) -> Result<(
 {
     match piece {
         Piece::Word(characters, _) => write_characters(text, characters),
-        Piece::Depth(depth) => write_blanks(text, depth),
+        Piece::Depth(depth) => {
+            for _deeper in 0..depth {
+                write_characters(text, " ")?;
+            }
+            Ok(())
+        }
         Piece::Event(event) => write_event(text, test, event),
         Piece::Source(write) => write.write(text, test),
         Piece::Sources(writes) => write_separated(text, test, " or ", writes),
-        Piece::Cycle(edges) => write_cycle(text, test, edges),
+        Piece::Cycle(edges) => {
+            let Some((first, _)) = edges.split_first() else {
+                return Ok(());
+            };
+            write_characters(text, " ")?;
+            write_event(text, test, &first.source)?;
+            write_each(text, test, " ", edges)
+        }
         Piece::Places(places) => write_each(text, test, " ", places),
         Piece::Nothing => Ok(()),
     }
-}
-
-fn write_blanks(text: &mut String, depth: usize) -> Result<(), NoMemory>
-    ensures { OnOk result (string_bytes text.new ≡ string_bytes text.old ++ spec.blanks depth) }
-{
-    for _deeper in 0..depth {
-        write_characters(text, " ")?;
-    }
-    Ok(())
 }
 
 /// A write, or `initial`.
@@ -58,18 +61,6 @@ impl Written for Option<Event> {
             Some(event) => write_event(text, test, event),
         }
     }
-}
-
-/// ` P0:0 W x=1 po P0:1 W y=1 ..`, back to the first event.
-fn write_cycle(text: &mut String, test: &Test, edges: &[Edge]) -> Result<(), NoMemory>
-    ensures { OnOk result (string_bytes text.new ≡ string_bytes text.old ++ spec.cycle_text test.now edges.now) }
-{
-    let Some((first, _)) = edges.split_first() else {
-        return Ok(());
-    };
-    write_characters(text, " ")?;
-    write_event(text, test, &first.source)?;
-    write_each(text, test, " ", edges)
 }
 
 /// `po P0:1 W y=1`
