@@ -245,12 +245,6 @@ module _ (t : Litmus) (whole : List Part) (p : Part) (ps : List Part) (is : whol
   answer-laid true line = so-laid line
   answer-laid false line = case-laid line
 
--- how deep the part of an answer stands, by its task
-pub answered-within : (most : ℕ) (single : Bool) (d : ℕ) (reply : Reply) (k : Known) → task_depth (cond single (So d reply k) (Case d reply k)) ≤ most
-    → depth_below single d ≤ most
-answered-within most true d reply k h = h
-answered-within most false d reply k h = h
-
 -- ---- the tasks of a question
 
 pub pass-more : (n m : ℕ) (old new : List declared.Task) (base : List Task) → m ≡ n + 1 → new ≡ old ++ (code.Part wanted.Passed ∷ [])

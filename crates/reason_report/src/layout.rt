@@ -10,7 +10,7 @@ ghost use Rattle.reason_report.specs.Steps as spec;
 ghost use Rattle.reason_report.specs.Views.{reason_step_of};
 ghost use Rattle.reason_report.specs.inner.Parts.{AreBelow, IsLayoutReady, first_part, root_at, parts_of_refutation, branch_in};
 ghost use Rattle.reason_report.specs.inner.Closed.{IsGiven};
-ghost use Rattle.reason_report.specs.inner.Tasks.{TasksAreWithin, IsUsed, Passed, with_wanted, tasks_of, branch_tasks, depth_below, emit, task_of_answered};
+ghost use Rattle.reason_report.specs.inner.Tasks.{TasksAreWithin, IsUsed, Passed, with_wanted, tasks_of, branch_tasks, depth_below, emit};
 
 use crate::cases::{add_closed, add_leaf};
 use crate::closed::{Leaf, Standing, closed_among, give, is_leaf};
@@ -165,49 +165,29 @@ fn lay_part(
             let count = reply_count(tree.test, tree.events, node_at(tree.nodes, at));
             pass(tasks, count)
         }
-        Some(Wanted::Answered(answered)) => lay_answer(alloc, tree, steps, tasks, at, answered),
+        Some(Wanted::Answered(answered)) => {
+            let Answered {
+                is_only,
+                depth,
+                reply,
+                answers,
+            } = answered;
+            let given = give(alloc, tree, answers)?;
+            let answer = answer_at(alloc, tree, &given, reply, &[reply])?;
+            let step = if is_only {
+                Step::So(depth, answer)
+            } else {
+                Step::Case(depth, answer)
+            };
+            steps.push(step)?;
+            let node = Standing {
+                at,
+                depth: depth_below(is_only, depth),
+                given,
+            };
+            lay_node(alloc, tree, steps, tasks, node)
+        }
     }
-}
-
-/// Lays out an answer, and the part that begins here as its part.
-///
-/// Errors: out of memory only.
-fn lay_answer(
-    alloc: Global,
-    tree: Refutation<'_>,
-    steps: &mut Vec<Step>,
-    tasks: &mut Vec<Task>,
-    at: usize,
-    answered: Answered,
-) -> Result<(), NoMemory>
-    requires tree { IsLayoutReady tree }
-    requires at { at < length tree.nodes.now }
-    requires depth { depth_below answered.is_only answered.depth ≤ at }
-    requires within { TasksAreWithin at (tasks_of tasks.old.items) }
-    ensures left { OnOk result (map reason_step_of steps.new.items ++ emit tree.entry.test.now (tasks_of tasks.new.items) (parts_of_refutation tree.entry (at + 1))
-        ≡ map reason_step_of steps.old.items ++ emit tree.entry.test.now (task_of_answered answered ∷ tasks_of tasks.old.items) (parts_of_refutation tree.entry at)) }
-    ensures within { OnOk result (TasksAreWithin (at + 1) (tasks_of tasks.new.items)) }
-{
-    let Answered {
-        is_only,
-        depth,
-        reply,
-        answers,
-    } = answered;
-    let given = give(alloc, tree, answers)?;
-    let answer = answer_at(alloc, tree, &given, reply, &[reply])?;
-    let step = if is_only {
-        Step::So(depth, answer)
-    } else {
-        Step::Case(depth, answer)
-    };
-    steps.push(step)?;
-    let node = Standing {
-        at,
-        depth: depth_below(is_only, depth),
-        given,
-    };
-    lay_node(alloc, tree, steps, tasks, node)
 }
 
 /// How deep the part of an answer stands.

@@ -1,8 +1,9 @@
-use Rattle.reason_report.proofs.Vocabulary.{◌∙◌, ◌+◌, ◌++◌, Some, ap, sym, refl, subst, arith, map, length, on_ok_weaker, nothing, asked_claim, known_of, reason_step_of, parts_of_refutation, root_at, TasksAreWithin, tasks_of, with_wanted, emit}
+use Rattle.reason_report.proofs.Vocabulary.{Bool, ◌≡◌, ◌∙◌, ◌+◌, [], ◌∷◌, ◌++◌, Some, cond, ap, sym, refl, subst, arith, drop, first_part, map, length, on_ok_weaker, nothing, asked_claim, known_of, reason_step_of, parts_of_refutation, root_at, Case, So, TasksAreWithin, tasks_of, with_wanted, emit}
 use Rattle.reason_report.specs.Steps as spec
 use Rattle.reason_report.proofs.Cutting.{cut-part}
-use Rattle.reason_report.proofs.Laying.{part-passed, within-passed, within-more, wanted-within, answered-within}
+use Rattle.reason_report.proofs.Laying.{part-passed, within-passed, within-more, wanted-within, answer-laid}
 use Rattle.reason_report.proofs.layout.lay_part.Goals as goal
+use Rattle.reason_report.proofs.layout.lay_part.Goals.{then-is_only, else-is_only}
 
 pub returns-in-Some-Passed-clause-left : goal.returns-in-Some-Passed-clause-left
 returns-in-Some-Passed-clause-left c =
@@ -24,20 +25,30 @@ returns-in-Some-Passed-clause-within c =
     (λ e. subst (TasksAreWithin (c.args.at + 1)) (sym e) (within-passed _ (c.args.at + 1) ts
     (within-more c.args.at (c.args.at + 1) (omega arith) ts (wanted-within c.args.at c.args.wanted ts c.requires.within)))) c.pass.ensures
 
-pub lay_answer-requires-clause-depth : goal.lay_answer-requires-clause-depth
-lay_answer-requires-clause-depth c =
+pub returns-in_ok-push-in-Some-Answered-clause-left : goal.returns-in_ok-push-in-Some-Answered-clause-left
+returns-in_ok-push-in-Some-Answered-clause-left c =
+    let tree = c.args.tree in
+    let t = tree.test.now in
     let ts = tasks_of c.args.tasks.now.items in
     let w = c.in-Some-Answered.answered in
-    answered-within c.args.at w.is_only w.depth w.reply (known_of w.answers)
-    (subst (λ x. TasksAreWithin c.args.at (with_wanted x ts)) (c.in-Some-Answered.is ∙ ap (λ x. Some x) c.in-Some-Answered.field-0-is) c.requires.within).0
-
-pub lay_answer-requires-clause-within : goal.lay_answer-requires-clause-within
-lay_answer-requires-clause-within c = wanted-within c.args.at c.args.wanted (tasks_of c.args.tasks.now.items) c.requires.within
-
-pub returns-in-Some-Answered-clause-left : goal.returns-in-Some-Answered-clause-left
-returns-in-Some-Answered-clause-left c =
-    let tree = c.args.tree in
-    let ts = tasks_of c.args.tasks.now.items in
-    on_ok_weaker c.lay_answer.result
-    (λ e. e ∙ ap (λ w. map reason_step_of c.args.steps.now.items ++ emit tree.test.now (with_wanted w ts) (parts_of_refutation tree c.args.at))
-    (sym (c.in-Some-Answered.is ∙ ap (λ w. Some w) c.in-Some-Answered.field-0-is))) c.lay_answer.ensures.left
+    let k = known_of c.in_ok-given-in-Some-Answered.given.answers in
+    let so = spec.So w.depth (spec.answer_at t k w.reply (w.reply ∷ [])) in
+    let case = spec.Case w.depth (spec.answer_at t k w.reply (w.reply ∷ [])) in
+    let line : reason_step_of c.if-is_only.step ≡ cond w.is_only so case =
+    elim c.if-is_only.branch [
+      | then-is_only b ↦
+          ap reason_step_of b.step-is ∙ (ap (spec.So w.depth) c.in_ok-answer-in-Some-Answered.ensures ∙ sym (ap (λ (x : Bool). cond x so case) b.if-is_only.true))
+      | else-is_only b ↦
+          ap reason_step_of b.step-is ∙ (ap (spec.Case w.depth) c.in_ok-answer-in-Some-Answered.ensures ∙ sym (ap (λ (x : Bool). cond x so case) b.if-is_only.false))
+    ] in
+    on_ok_weaker c.lay_node-in-Some-Answered.result
+    (λ e. e
+    ∙ (ap (λ d. map reason_step_of c.push.new.self.items ++ ((first_part (parts_of_refutation tree c.args.at)).steps d k ++ emit t ts (drop 1 (parts_of_refutation tree c.args.at)))) c.depth_below.ensures
+    ∙ (answer-laid t (parts_of_refutation tree c.args.at) _ _
+    (cut-part tree.model t tree.nodes.now c.args.at (c.args.at + 1) c.requires.at refl) w.depth w.reply k ts
+    c.args.steps.now.items c.push.new.self.items _ c.in_ok-push-in-Some-Answered.ensures.items w.is_only
+    line
+    ∙ (ap (λ j. map reason_step_of c.args.steps.now.items ++ emit t (cond w.is_only (So w.depth w.reply j) (Case w.depth w.reply j) ∷ ts) (parts_of_refutation tree c.args.at))
+    c.in_ok-given-in-Some-Answered.ensures.answers
+    ∙ ap (λ x. map reason_step_of c.args.steps.now.items ++ emit t (with_wanted x ts) (parts_of_refutation tree c.args.at))
+    (sym (c.in-Some-Answered.is ∙ ap (λ x. Some x) c.in-Some-Answered.field-0-is)))))) c.lay_node-in-Some-Answered.ensures.left
