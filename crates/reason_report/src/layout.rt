@@ -163,7 +163,10 @@ fn lay_part(
         }
         Some(Wanted::Passed) => {
             let count = reply_count(tree.test, tree.events, node_at(tree.nodes, at));
-            pass(tasks, count)
+            for _part in 0..count {
+                tasks.push(Task::Part(Wanted::Passed))?;
+            }
+            Ok(())
         }
         Some(Wanted::Answered(answered)) => {
             let Answered {
@@ -196,18 +199,6 @@ fn depth_below(is_only: bool, depth: usize) -> usize
     ensures { result ≡ depth_below is_only depth }
 {
     if is_only { depth } else { depth + 1 }
-}
-
-/// Passes over so many parts.
-///
-/// Errors: out of memory only.
-fn pass(tasks: &mut Vec<Task>, count: usize) -> Result<(), NoMemory>
-    ensures { OnOk result (tasks_of tasks.new.items ≡ replicate count Passed ++ tasks_of tasks.old.items) }
-{
-    for _part in 0..count {
-        tasks.push(Task::Part(Wanted::Passed))?;
-    }
-    Ok(())
 }
 
 /// Lays out a node where it stands.

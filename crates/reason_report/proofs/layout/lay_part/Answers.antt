@@ -1,29 +1,32 @@
 use Rattle.reason_report.proofs.Vocabulary.{Bool, ◌≡◌, ◌∙◌, ◌+◌, [], ◌∷◌, ◌++◌, Some, cond, ap, sym, refl, subst, arith, drop, first_part, map, length, on_ok_weaker, nothing, asked_claim, known_of, reason_step_of, parts_of_refutation, root_at, Case, So, TasksAreWithin, tasks_of, with_wanted, emit}
 use Rattle.reason_report.specs.Steps as spec
 use Rattle.reason_report.proofs.Cutting.{cut-part}
-use Rattle.reason_report.proofs.Laying.{part-passed, within-passed, within-more, wanted-within, answer-laid}
+use Rattle.reason_report.proofs.Laying.{pass-more, part-passed, within-passed, within-more, wanted-within, answer-laid}
 use Rattle.reason_report.proofs.layout.lay_part.Goals as goal
 use Rattle.reason_report.proofs.layout.lay_part.Goals.{then-is_only, else-is_only}
 
-pub returns-in-Some-Passed-clause-left : goal.returns-in-Some-Passed-clause-left
-returns-in-Some-Passed-clause-left c =
+pub loop-part-preserved : goal.loop-part-preserved
+loop-part-preserved c =
+    pass-more c.loop-part._part (c.loop-part._part + 1) c.loop-part.tasks.items c.push.new.self.items _ refl c.in_ok-push-in-Some-Passed.ensures.items c.loop-part.invariant
+
+pub returns-after-loop-part-clause-left : goal.returns-after-loop-part-clause-left
+returns-after-loop-part-clause-left c =
     let tree = c.args.tree in
     let t = tree.test.now in
     let ts = tasks_of c.args.tasks.now.items in
-    on_ok_weaker c.pass.result
-    (λ e. part-passed tree.model t (asked_claim t.condition) (parts_of_refutation tree c.args.at) (parts_of_refutation tree (c.args.at + 1)) (root_at tree c.args.at)
+    let all : c.loop-part._part ≡ c.reply_count-count.result = omega (arith, c.loop-part-test.false, c.loop-part.auto._part-end) in
+    part-passed tree.model t (asked_claim t.condition) (parts_of_refutation tree c.args.at) (parts_of_refutation tree (c.args.at + 1)) (root_at tree c.args.at)
     (cut-part tree.model t tree.nodes.now c.args.at (c.args.at + 1) c.requires.at refl) 0 nothing (map reason_step_of c.args.steps.now.items)
-    (map reason_step_of c.args.steps.now.items) ts c.reply_count-count.result
-    (c.reply_count-count.ensures ∙ ap (λ n. length (spec.replies t n)) (c.node_at.ensures tree.model t)) (tasks_of c.pass.new.tasks.items) e
+    (map reason_step_of c.args.steps.now.items) ts c.loop-part._part
+    (all ∙ (c.reply_count-count.ensures ∙ ap (λ n. length (spec.replies t n)) (c.node_at.ensures tree.model t))) (tasks_of c.loop-part.tasks.items) c.loop-part.invariant
     ∙ ap (λ w. map reason_step_of c.args.steps.now.items ++ emit t (with_wanted w ts) (parts_of_refutation tree c.args.at))
-    (sym (c.in-Some-Passed.is ∙ ap (λ w. Some w) c.in-Some-Passed.field-0-is))) c.pass.ensures
+    (sym (c.in-Some-Passed.is ∙ ap (λ w. Some w) c.in-Some-Passed.field-0-is))
 
-pub returns-in-Some-Passed-clause-within : goal.returns-in-Some-Passed-clause-within
-returns-in-Some-Passed-clause-within c =
+pub returns-after-loop-part-clause-within : goal.returns-after-loop-part-clause-within
+returns-after-loop-part-clause-within c =
     let ts = tasks_of c.args.tasks.now.items in
-    on_ok_weaker c.pass.result
-    (λ e. subst (TasksAreWithin (c.args.at + 1)) (sym e) (within-passed _ (c.args.at + 1) ts
-    (within-more c.args.at (c.args.at + 1) (omega arith) ts (wanted-within c.args.at c.args.wanted ts c.requires.within)))) c.pass.ensures
+    subst (TasksAreWithin (c.args.at + 1)) (sym c.loop-part.invariant) (within-passed _ (c.args.at + 1) ts
+    (within-more c.args.at (c.args.at + 1) (omega arith) ts (wanted-within c.args.at c.args.wanted ts c.requires.within)))
 
 pub returns-in_ok-push-in-Some-Answered-clause-left : goal.returns-in_ok-push-in-Some-Answered-clause-left
 returns-in_ok-push-in-Some-Answered-clause-left c =
@@ -43,10 +46,10 @@ returns-in_ok-push-in-Some-Answered-clause-left c =
     ] in
     on_ok_weaker c.lay_node-in-Some-Answered.result
     (λ e. e
-    ∙ (ap (λ d. map reason_step_of c.push.new.self.items ++ ((first_part (parts_of_refutation tree c.args.at)).steps d k ++ emit t ts (drop 1 (parts_of_refutation tree c.args.at)))) c.depth_below.ensures
+    ∙ (ap (λ d. map reason_step_of c.push-in-Some-Answered.new.self.items ++ ((first_part (parts_of_refutation tree c.args.at)).steps d k ++ emit t ts (drop 1 (parts_of_refutation tree c.args.at)))) c.depth_below.ensures
     ∙ (answer-laid t (parts_of_refutation tree c.args.at) _ _
     (cut-part tree.model t tree.nodes.now c.args.at (c.args.at + 1) c.requires.at refl) w.depth w.reply k ts
-    c.args.steps.now.items c.push.new.self.items _ c.in_ok-push-in-Some-Answered.ensures.items w.is_only
+    c.args.steps.now.items c.push-in-Some-Answered.new.self.items _ c.in_ok-push-in-Some-Answered.ensures.items w.is_only
     line
     ∙ (ap (λ j. map reason_step_of c.args.steps.now.items ++ emit t (cond w.is_only (So w.depth w.reply j) (Case w.depth w.reply j) ∷ ts) (parts_of_refutation tree c.args.at))
     c.in_ok-given-in-Some-Answered.ensures.answers
