@@ -7,9 +7,9 @@ pub use Rattle.snoop_bus.specs.Asks.{hits, tag_at, or_invalid, asked_caches_in, 
 unfoldable pub use Rattle.snoop_bus.specs.Asks.{awaiting}
 pub use Rattle.protocol_tables.specs.Laws.{is_dirty}
 pub use Rattle.protocol_tables.specs.declared.state.State.TheVariants.{I, S, E, O, M}
-pub use Rattle.snoop_bus.specs.Lines.{Words, line_in}
+pub use Rattle.cache_set.specs.Lines.{Words, line_in}
 pub use Rattle.snoop_bus.specs.Coherent.{state_of_copy, may_share}
-pub use Rattle.snoop_bus.specs.Copies.{Sets, copy_at, copy_in, tags_of, cache_of, set_at}
+pub use Rattle.cache_set.specs.Copies.{Sets, copy_at, copy_in, tags_of, cache_of, set_at}
 pub use Rattle.snoop_bus.specs.Bus.{AllCoherent, BusModel, counted_copies, holder_of, IsFree}
 pub use Rattle.basic_laws.proofs.Basics.{lt-or, decide}
 pub use Rattle.bus_laws.specs.Owners.{IsOwner}
@@ -24,7 +24,7 @@ pub use Rattle.std.proofs.lemmas.List.{get_or_past}
 pub use Rattle.std.proofs.Math.ListN.{length-set}
 pub use Rattle.std.specs.Map.{lookup, remove_entry}
 pub use Rattle.protocol_tables.specs.declared.state.Snoop.{Snoop}
-pub use Rattle.snoop_bus.specs.Tags.{TagSet, tag_set, tag_of, used, filled, leaving, restated, in_next, snooped, snooped_in}
+pub use Rattle.cache_set.specs.Tags.{TagSet, tag_set, tag_of, used, filled, leaving, restated, in_next, snooped, snooped_in}
 pub use Rattle.protocol_tables.specs.declared.kind.ProtocolKind.{ProtocolKind}
 pub use Rattle.cache_set.specs.declared.Line.{Line}
 pub use Rattle.cache_set.specs.declared.Victim.{Victim}

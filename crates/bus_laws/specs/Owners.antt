@@ -2,7 +2,7 @@
 use Rattle.std.specs.Prelude.{ℕ, ◌≡◌, ◌≢◌, true, List}
 use Rattle.protocol_tables.specs.Laws.{is_dirty}
 use Rattle.snoop_bus.specs.Coherent.{state_of_copy}
-use Rattle.snoop_bus.specs.Copies.{Sets, copy_at}
+use Rattle.cache_set.specs.Copies.{Sets, copy_at}
 use Rattle.snoop_bus.specs.Bus.{BusModel, IsCoherent, counted_copies}
 
 -- this core's copy of the line, among these, is dirty

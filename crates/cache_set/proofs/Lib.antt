@@ -3,3 +3,5 @@ pub mod Entries
 pub mod SetLemmas
 pub mod WayContents
 pub mod WayLists
+pub mod WholeCache
+pub mod PutLines

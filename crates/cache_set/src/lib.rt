@@ -1,12 +1,18 @@
 //! One set of a cache: copies of lines, in the order of their last use. Where a new line finds the
 //! set full, the line that was used longest ago leaves (least recently used, LRU). What a use is, is
 //! the caller's to say: `touch` and `fill` bring a line to the front, and nothing else moves one.
+//!
+//! Over it stand the whole cache of one core (`cache`), whose sets they are, and what tells where a word stands: the shape
+//! of a cache (`shape`), and memory as lines (`lines`). None of them knows a protocol.
 #![tactic(auto)]
 
 ghost use Rattle.std.specs.Prelude.{◌≡◌, ◌≢◌, ◌<◌, ◌≤◌, ℕ, [], Some, None, IsSome, IfSome, IsOk, IfOk, OnErr, option_map, option_copied, slice_get};
 ghost use Rattle.cache_set.specs.Limits.{most_ways, most_words};
 
+pub mod cache;
 mod hashing;
+pub mod lines;
+pub mod shape;
 mod ways;
 
 use crate::ways::{

@@ -3,7 +3,7 @@ use Rattle.machine_core.proofs.Vocabulary.{◌≡◌, ◌≢◌, ◌≤◌, ◌<
 use Rattle.std.proofs.lemmas.List.Sums.{sum_by-set, sum_by-le}
 use Rattle.protocol_tables.specs.declared.state.State as protocol
 use Rattle.protocol_tables.specs.declared.state.Snoop.{Snoop}
-use Rattle.snoop_bus.specs.Tags.{tag_of}
+use Rattle.cache_set.specs.Tags.{tag_of}
 use Rattle.protocol_tables.specs.declared.requests.Request.{Request}
 use Rattle.protocol_tables.specs.declared.requests.Request.TheVariants.{GetS, GetM}
 use Rattle.protocol_tables.specs.declared.requests.Transient.{Transient}

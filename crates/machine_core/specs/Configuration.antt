@@ -3,7 +3,7 @@
 use Rattle.std.specs.Prelude.{ℕ, ◌≤◌}
 use Rattle.machine_core.specs.Vocabulary.{Geometry, most_depth}
 use Rattle.tso_model.specs.declared.choice.Bus.{Bus}
-use Rattle.snoop_bus.specs.Geometry as shape
+use Rattle.cache_set.specs.Geometry as shape
 
 -- how many stores each core's buffer holds (0: no core has a buffer), the shape of each core's cache, and the kind of bus
 -- that the caches share

@@ -18,4 +18,4 @@ pub use Rattle.tso_model.specs.MemoryAccess
 pub use Rattle.tso_model.specs.SplitMachine
 pub use Rattle.tso_model.specs.EitherBus
 pub use Rattle.tso_model.specs.Together
-pub use Rattle.snoop_bus.specs.Geometry
+pub use Rattle.cache_set.specs.Geometry

@@ -16,6 +16,6 @@ pub use Rattle.protocol_tables.specs.Tables.{Table}
 pub use Rattle.snoop_bus.specs.Accesses.{awaited_of, contents_of, new_bus, with_words}
 pub use Rattle.snoop_bus.specs.Asks.{Awaited, tag_at}
 pub use Rattle.snoop_bus.specs.Bus.{BusModel, cores_of, holder_of, IsFree, words_of}
-pub use Rattle.snoop_bus.specs.Geometry.{Geometry, geometry}
+pub use Rattle.cache_set.specs.Geometry.{Geometry, geometry}
 pub use Rattle.snoop_bus.specs.Rows.{table_of_rows, TableColumns}
 pub use Rattle.snoop_bus.specs.declared.holding.Stage.TheVariants.{Locked}

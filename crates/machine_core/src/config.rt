@@ -2,7 +2,7 @@
 //! Depth 0 is a machine without store buffers, whose runs are sequentially consistent. (Primer, chapter 3.)
 
 ghost use Rattle.std.specs.Prelude.{◌≡◌, ◌≤◌, ◌↔◌, IsSome, IfSome};
-ghost use Rattle.snoop_bus.specs.Geometry.{IsLineSize, IsShapeWithinLimits};
+ghost use Rattle.cache_set.specs.Geometry.{IsLineSize, IsShapeWithinLimits};
 ghost use Rattle.tso_model.specs.Limits.{most_depth};
 ghost use Rattle.machine_core.specs.Configuration.{IsConfigurationWithinLimits};
 

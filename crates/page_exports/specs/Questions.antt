@@ -2,7 +2,7 @@
 -- that its promises hold of the page.
 use Rattle.std.specs.Prelude.{ℕ, ◌≡◌, ◌<◌, ◌≤◌, ◌⊎◌, true, List, Some, length, take}
 use Rattle.tso_model.specs.declared.choice.Bus.{Bus}
-use Rattle.snoop_bus.specs.Geometry.{geometry, IsShapeWithinLimits}
+use Rattle.cache_set.specs.Geometry.{geometry, IsShapeWithinLimits}
 use Rattle.protocol_tables.specs.declared.kind.ProtocolKind.{ProtocolKind}
 use Rattle.refutation_laws.specs.declared.model.Model.{Model}
 use Rattle.tso_model.specs.Limits.{most_depth}

@@ -4,7 +4,7 @@ use Rattle.std.specs.Prelude.{option_map}
 use Rattle.tso_model.specs.MemoryAccess.{Reads}
 use Rattle.snoop_bus.specs.Accesses.{with_words}
 use Rattle.cache_set.specs.Limits.{most_words}
-use Rattle.snoop_bus.specs.Lines.{offset_of, line_of_words}
+use Rattle.cache_set.specs.Lines.{offset_of, line_of_words}
 use Rattle.protocol_tables.specs.declared.state.State.{State}
 use Rattle.printed_laws.proofs.Lists.{word-at}
 use Rattle.printed_laws.proofs.JsonReading.{ReadsBack, ItemsReadBack, deeper, each-back, words-back, strings-back, text-back}

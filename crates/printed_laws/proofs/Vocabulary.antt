@@ -23,7 +23,7 @@ pub use Rattle.tso_model.specs.Names.{is_printable, is_test_name, is_among, is_n
 pub use Rattle.basic_laws.specs.Types.{Bus, Atomic, Split, Reg, Entry, Eax, Ebx, Ecx, Edx, Esi, Edi, Choice, Drain, Core, Loc, Kind, R, W, F, LR, LW, Stall, Committed, Buffered, Moved, Asked, Stalled, Instr, Operand, Number, Held, Update, Exchange, Add, Action, Quantifier, Exists, NotExists, Forall}
 pub use Rattle.protocol_tables.specs.Names.{protocol_name}
 pub use Rattle.protocol_tables.specs.declared.kind.ProtocolKind.{ProtocolKind}
-pub use Rattle.snoop_bus.specs.Geometry.{IsLineSize}
+pub use Rattle.cache_set.specs.Geometry.{IsLineSize}
 pub use Rattle.machine_core.specs.Configuration.{Configuration, IsConfigurationWithinLimits}
 pub use Rattle.std.proofs.lemmas.List.Elements.{All-head, All-tail, All-contains, All-weaker, All-map, All-cons, All-nil, All-push, All-set, All-filter, All-drop, All-append, All-take}
 pub use Rattle.tso_model.specs.Condition.{Condition, Claim, truth_of, TruthClaim, RegClaim, LocClaim, NotClaim, AndClaim, OrClaim}

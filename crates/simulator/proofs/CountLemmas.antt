@@ -2,7 +2,7 @@
 use Rattle.simulator.proofs.Vocabulary.{◌≡◌, ◌≤◌, ◌+◌, ℕ, Bool, true, false, cond, List, [], ◌∷◌, length, All, refl, ◌∙◌, arith, Litmus, start, BusState, unheld, after_on, Bus, has_ended, Choice, Table, attempt_of, Statistics, no_counts, statistics_from, statistics_after, no_statistics, counts_of}
 use Rattle.std.proofs.lemmas.List.{length-replicate}
 use Rattle.std.proofs.lemmas.List.Elements.{All-replicate, All-weaker}
-use Rattle.snoop_bus.specs.Geometry.{Geometry}
+use Rattle.cache_set.specs.Geometry.{Geometry}
 use Rattle.machine_core.specs.Keeping.{IsAtMost}
 use Rattle.machine_core.proofs.CountBounds.{IsAtMost-more, none-counted, use-counted, length-counted}
 

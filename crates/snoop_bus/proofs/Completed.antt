@@ -1,6 +1,6 @@
 -- What a bus has once the access of its holder was completed.
 use Rattle.snoop_bus.proofs.Vocabulary.{◌≡◌, ◌/◌, ◌%◌, ℕ, Option, Some, None, List, length, slice_index, refl, sym, ap, ◌∙◌, Core, Loc, Table, Transient, SmD, Access, Hierarchy, HeldBus, Stage, Locked, M, Transaction, Geometry, Words, state_of_copy, Sets, copy_at, ways_of, victim_at, counted_copies_of, counted_in, holder, held_by, BusModel, bus_with, words_of, holder_of, program_words, current_words, IsSameMachine, IsBus, awaited_in, completed_memory, completed_memory_in, IsCurrentWord, CompletesAt, words_due, Completes, KeepsWords}
-use Rattle.snoop_bus.specs.declared.target.Target.{Target}
+use Rattle.cache_set.specs.declared.shape.Target.{Target}
 use Rattle.snoop_bus.proofs.MemoryLemmas.{length-written_back}
 use Rattle.snoop_bus.proofs.WordLemmas.{words-get, words-same}
 use Rattle.snoop_bus.proofs.NewLemmas.{same_cores, bus-kept}

@@ -1,9 +1,6 @@
 -- A bus that begins anew: its caches are emptied, and memory gets its first words again.
-use Rattle.snoop_bus.proofs.Vocabulary.{◌≡◌, ◌<◌, ◌≤◌, ℕ, Option, None, List, [], ◌∷◌, length, map, replicate, refl, sym, ap, ◌∙◌, arith, div_ceil, div_ceil_times, length-map, length-map-range_with_len, get_or-map, Table, most_words, contents, copy_of, Geometry, rows_of, Words, words_in_lines, lines_of_words, Sets, emptied, ways_of, AtHome, BusModel, words_of, current_words, empty_caches, IsBus, new_bus, HeldBus}
+use Rattle.snoop_bus.proofs.Vocabulary.{arith, ◌≡◌, ℕ, ◌≤◌, None, refl, Option, sym, ap, ◌∙◌, List, [], ◌∷◌, length, map, replicate, Table, rows_of, Words, words_in_lines, lines_of_words, Sets, current_words, empty_caches, BusModel, words_of, contents, ways_of, emptied, length-map-range_with_len, most_words, div_ceil, Geometry, IsBus, HeldBus, new_bus, div_ceil_times}
 use Rattle.snoop_bus.proofs.NewLemmas.{map-replicate, new-bus, new-words}
-
-pub home-emptied : (sets : Sets) → 0 < length sets → (0 < length (map emptied sets)) × AtHome (map emptied sets)
-home-emptied sets some = ((rw (length-map sets emptied) some), λ i line within other. ap (λ s. copy_of s line) (get_or-map emptied sets i (contents [] 1)))
 
 emptied-sets : (sets : Sets) → map emptied sets ≡ map (λ ways. contents [] ways) (map (λ s. s.ways) sets)
 emptied-sets [] = refl

@@ -1,6 +1,5 @@
 -- Each line has its words of the list of words, and 0 at every other offset: what keeps that.
-use Rattle.snoop_bus.proofs.Vocabulary.{cases_eq, cases_lt, nat_tests, ext_get_or, get_or-set_same, get_or-set_other, length-set, drop_more, length-map-range_with_len, get_or-map-range_with_len, map-range_with_len_more, range_with_len, [], ◌∷◌, ◌++◌, map, drop, append_assoc, div-add-mod', div-mul-add, mod-mul-add, mod_below, arith, ◌≡◌, ◌≢◌, ◌⊎◌, inl, inr, ℕ, ◌+◌, ◌*◌, ◌/◌, ◌%◌, ◌<◌, ◌≤◌, true, false, nat_eq, nat_lt, List, length, refl, sym, ap, ◌∙◌, slice_index, slice_index_or, slice_set, if◌then◌else◌, most_words, Words, words_in_lines, offset_of, line_of_words}
-use Rattle.std.proofs.lemmas.List.{set_at}
+use Rattle.snoop_bus.proofs.Vocabulary.{nat_tests, arith, ◌≡◌, ◌≢◌, ◌⊎◌, inl, inr, ℕ, ◌<◌, ◌≤◌, nat_eq, true, false, refl, sym, ap, ◌∙◌, List, length, slice_set, if◌then◌else◌, ◌%◌, slice_index_or, nat_lt, ◌+◌, ◌*◌, ◌/◌, slice_index, cases_eq, cases_lt, Words, words_in_lines, offset_of, line_of_words, get_or-set_same, get_or-set_other, ext_get_or, length-set, length-map-range_with_len, get_or-map-range_with_len, div-add-mod', div-mul-add, mod-mul-add, mod_below, most_words}
 use Rattle.snoop_bus.proofs.Numbers.{differ, itself}
 use Rattle.snoop_bus.proofs.WordLemmas.{length-words, words-same, words-set}
 
@@ -90,14 +89,3 @@ lines-set words n size l0 l2 loc value some enough within offset set was k b =
     by_line (inr p) =
         let no : nat_eq k (loc / words) ≡ false = differ k (loc / words) p in
         (rw no at (set k b)) ∙ was k b ∙ sym (line-away words (words_in_lines words l0 n) loc value some there k p)
-
--- one line more comes in the place of the one that was there
-pub put-next : {A : Type 0} (f : ℕ → A) (n : ℕ) (xs ys : List A) (d : A) → n < length xs → ys ≡ map f (range_with_len 0 n) ++ drop n xs →
-    slice_set ys n (f n) ≡ map f (range_with_len 0 (n + 1)) ++ drop (n + 1) xs
-put-next f n xs ys d within so_far =
-    let front = map f (range_with_len 0 n) in
-    let parts : ys ≡ front ++ slice_index_or xs n d ∷ drop (n + 1) xs = so_far ∙ ap (λ l. front ++ l) (drop_more xs n d within) in
-    ap (λ l. slice_set l n (f n)) parts
-    ∙ set_at front _ _ (f n) n (length-map-range_with_len f 0 n)
-    ∙ sym (append_assoc front (f n ∷ []) _)
-    ∙ ap (λ l. l ++ drop (n + 1) xs) (sym (map-range_with_len_more f 0 n n (omega arith)))

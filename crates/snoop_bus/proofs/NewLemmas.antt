@@ -1,29 +1,10 @@
 -- A new bus, and what holds of a bus from one access to the next.
-use Rattle.snoop_bus.proofs.Vocabulary.{arith, ◌≡◌, ◌⊎◌, inl, inr, ℕ, zero, suc, ◌+◌, ◌*◌, ◌/◌, ◌<◌, ◌≤◌, ◌%◌, nat_lt, true, Option, None, IfSome, List, [], ◌∷◌, length, map, replicate, slice_index, slice_index_or, refl, sym, ap, ◌∙◌, div_ceil, length-map, length-map-range_with_len, get_or-map-range_with_len, fill_by_all, div-add-mod', mod_below, mul-le, cases_lt, nat_tests, get_or-map, Contents, contents, copy_of, Table, most_words, most_cores, Geometry, Words, line_in, word_in_lines, words_in_lines, offset_of, line_of_words, lines_of_words, Coherent, Sets, copy_in, copy_at, cache_of, ways_of, AtHome, current_words, AllCoherent, empty_caches, HasWholeLines, IsBus, Updated, Hierarchy, HeldBus, counted_copies_of, IsHeld, IsPlaced, KeepsWords, SetsWord, Updates}
+use Rattle.snoop_bus.proofs.Vocabulary.{nat_tests, arith, ◌≡◌, inl, inr, ℕ, ◌<◌, ◌≤◌, true, None, refl, Option, sym, ap, ◌∙◌, zero, suc, List, [], ◌∷◌, length, map, ◌%◌, slice_index_or, nat_lt, ◌+◌, replicate, ◌*◌, ◌/◌, slice_index, IfSome, Table, cases_lt, Words, line_in, word_in_lines, words_in_lines, offset_of, line_of_words, lines_of_words, Coherent, length-map, Sets, copy_in, copy_at, cache_of, current_words, AllCoherent, empty_caches, Contents, copy_of, contents, get_or-map, ways_of, most_cores, length-map-range_with_len, get_or-map-range_with_len, fill_by_all, div-add-mod', mod_below, mul-le, most_words, div_ceil, Geometry, HasWholeLines, IsBus, Updated, Hierarchy, HeldBus, counted_copies_of, IsHeld, IsPlaced, KeepsWords, SetsWord, Updates}
+use Rattle.std.proofs.lemmas.List.{length-replicate}
+use Rattle.cache_set.proofs.WholeCache.{replicate-at}
 use Rattle.snoop_bus.proofs.CurrentWords.{seen_is, all_coherent}
 use Rattle.snoop_bus.proofs.LineLemmas.{lines-same, lines-set}
 use Rattle.snoop_bus.proofs.WordLemmas.{words-same, line_below}
-
-replicate-at : {A : Type 0} (n i : ℕ) (x d : A) → (slice_index_or (replicate n x) i d ≡ x) ⊎ (slice_index_or (replicate n x) i d ≡ d)
-replicate-at zero i x d = inr refl
-replicate-at (suc n) zero x d = inl refl
-replicate-at (suc n) (suc i) x d = replicate-at n i x d
-
-length-replicate : {A : Type 0} (n : ℕ) (x : A) → length (replicate n x) ≡ n
-length-replicate zero x = refl
-length-replicate (suc n) x = ap suc (length-replicate n x)
-
--- where all sets are empty, each line lies in its own set
-pub new-home : (sets : Sets) (n ways : ℕ) → 1 ≤ n → sets ≡ replicate n (contents [] ways) → (0 < length sets) × AtHome sets
-new-home sets n ways some is =
-    let as_many : length sets ≡ n = ap length is ∙ length-replicate n (contents [] ways) in
-    let there : 0 < length sets = omega arith in
-    (there, λ i line within other. by i line (replicate-at n i (contents [] ways) (contents [] 1)))
-  where
-    by : (i line : ℕ) → (slice_index_or (replicate n (contents [] ways)) i (contents [] 1) ≡ contents [] ways) ⊎ (slice_index_or (replicate n (contents [] ways)) i (contents [] 1) ≡ contents [] 1)
-        → copy_of (slice_index_or sets i (contents [] 1)) line ≡ None
-    by i line (inl same) = ap (λ s. copy_of (slice_index_or s i (contents [] 1)) line) is ∙ ap (λ s. copy_of s line) same
-    by i line (inr same) = ap (λ s. copy_of (slice_index_or s i (contents [] 1)) line) is ∙ ap (λ s. copy_of s line) same
 
 pub map-replicate : {A B : Type 0} (f : A → B) (n : ℕ) (x : A) → map f (replicate n x) ≡ replicate n (f x)
 map-replicate f zero x = refl

@@ -10,11 +10,11 @@ pub use Rattle.protocol_tables.specs.Laws.{is_dirty, in_place, WritesInPlace}
 pub use Rattle.protocol_tables.specs.inner.Laws.{Shares, CleansByMemory, MayBecome, WritesBackDirty, Supplies, FillsExclusiveOnlyAlone, GivesUp}
 pub use Rattle.protocol_tables.specs.declared.state.Snoop.{Snoop}
 pub use Rattle.cache_set.specs.declared.Line.{Line}
-pub use Rattle.snoop_bus.specs.Lines.{Words, line_in, word_in_lines, words_in_lines, offset_of, line_of_words, lines_of_words}
+pub use Rattle.cache_set.specs.Lines.{Words, line_in, word_in_lines, words_in_lines, offset_of, line_of_words, lines_of_words}
 pub use Rattle.snoop_bus.specs.Coherent.{state_of_copy, may_share, Coherent}
 pub use Rattle.snoop_bus.specs.inner.Requests.{copy_if, copy_left_by, with_next_state, after_request, after_request_in, SeenBelow, after_request_if, SeenAt, LeftAt, LeftBelow, LeftByOthers, supplied_of, Supplied, ChangesCopy, clean_copy, words_if_dirty, cleaned_at, cleaned_below, clean_tag_at, clean_tag_below, copy_left_if}
 pub use Rattle.std.proofs.lemmas.List.{get_or-set_same, get_or-set_other, take-map, map-set, set-get_or, length-map, ext_get_or, set-set, length-set, get_or_past, drop_more, get_or_default, with_items_is, replicate_more, take_all, drop_all, append-nil}
-pub use Rattle.snoop_bus.specs.Copies.{Sets, copy_in, copy_at, cache_of, tags_of, tags_in, set_at, in_set}
+pub use Rattle.cache_set.specs.Copies.{Sets, copy_in, copy_at, cache_of, tags_of, tags_in, set_at, in_set}
 pub use Rattle.snoop_bus.specs.Bus.{current_words, words_among, AllCoherent, empty_caches, bus_with, BusModel, words_of, holder_of, program_words, IsSameMachine, IsFree, IsCoherent, cores_of}
 pub use Rattle.snoop_bus.specs.CacheContents.{TagSets, tag_in, tags_at, at_line, sets_of, at_others, requested, is_held, used_by, filled_by, flusher_from, sends_in, accessed, writes_back, dirty_in, Accessed, at_core}
 pub use Rattle.snoop_bus.specs.Asks.{tag_at, asked_memory, hits, request_for, asked_for, asked_caches, or_invalid, awaited_in, completed_memory, completed_memory_in, asking, completed, in_halves, next_in_place, awaited_as, whole_access, whole_in, whole_memory, whole_memory_in}
@@ -25,11 +25,11 @@ pub use Rattle.cache_set.specs.declared.Victim.{Victim}
 pub use Rattle.cache_set.specs.Contents.{Contents, copy_of, victim_of, as_victim, contents}
 pub use Rattle.cache_set.specs.inner.Contents.{to_front, with_new, with_changed, changed_at, without, IsCacheSet, after_fill, NoLineTwice}
 pub use Rattle.cache_set.specs.inner.Copy.{copy_with, with_state, with_word}
-pub use Rattle.snoop_bus.specs.Tags.{tag_set, tag_of, used, filled, leaving, restated, removed, in_next, TagSet, snooped}
+pub use Rattle.cache_set.specs.Tags.{tag_set, tag_of, used, filled, leaving, restated, removed, in_next, TagSet, snooped}
 pub use Rattle.std.specs.List.{list_any, range_with_len}
 pub use Rattle.std.proofs.Math.ListN.{get_or-map}
 pub use Rattle.std.proofs.Math.Seq.{map-set_same, drop-cons, drop-length}
-pub use Rattle.snoop_bus.specs.inner.Copies.{ways_of, OnlyAt, AtHome, emptied, copy_state_in}
+pub use Rattle.cache_set.specs.inner.Copies.{ways_of, OnlyAt, AtHome, emptied, copy_state_in}
 pub use Rattle.std.specs.Option.{option_or, option_copied}
 pub use Rattle.basic_laws.specs.Types.{Core, Loc}
 pub use Rattle.tso_model.specs.Limits.{most_cores}
@@ -41,7 +41,7 @@ pub use Rattle.std.proofs.lemmas.List.FromFn.{length-map-range_with_len, get_or-
 pub use Rattle.std.proofs.lemmas.Nat.{div-add-mod', div_below, div-mul-add, mod-mul-add, mod_below, mul-le}
 pub use Rattle.cache_set.specs.Limits.{most_words}
 pub use Rattle.std.specs.Int.{div_ceil}
-pub use Rattle.snoop_bus.specs.Geometry.{Geometry}
+pub use Rattle.cache_set.specs.Geometry.{Geometry}
 pub use Rattle.snoop_bus.specs.inner.Bus.{HasWholeLines, IsBus}
 pub use Rattle.snoop_bus.specs.declared.access.Updated.{Updated}
 pub use Rattle.snoop_bus.specs.declared.hierarchy.Hierarchy.{Hierarchy}

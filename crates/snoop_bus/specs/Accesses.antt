@@ -4,11 +4,11 @@ use Rattle.std.specs.Prelude.{◌≡◌, ℕ, ◌/◌, Bool, true, false, Option
 use Rattle.std.specs.Int.{div_ceil}
 use Rattle.snoop_bus.specs.Vocabulary.{Core, Loc, State, Table}
 use Rattle.snoop_bus.specs.declared.access.Access.{Access}
-use Rattle.snoop_bus.specs.Geometry.{Geometry}
+use Rattle.cache_set.specs.Geometry.{Geometry}
 use Rattle.snoop_bus.specs.Rows.{table_of_rows}
-use Rattle.snoop_bus.specs.Lines.{Words, lines_of_words, line_of_words}
+use Rattle.cache_set.specs.Lines.{Words, lines_of_words, line_of_words}
 use Rattle.snoop_bus.specs.CacheContents.{TagSets, Accessed}
-use Rattle.snoop_bus.specs.Copies.{cache_of, tags_of}
+use Rattle.cache_set.specs.Copies.{cache_of, tags_of}
 use Rattle.snoop_bus.specs.Bus.{BusModel, bus_with, words_of, holder_of, empty_caches}
 use Rattle.snoop_bus.specs.Held.{transaction_in, holder, stage_for}
 use Rattle.snoop_bus.specs.Asks.{Awaited, AskedAccess, hits, request_for, asking, asked_memory, awaited_in, completed, completed_memory, whole_access, whole_memory}

@@ -4,11 +4,11 @@
 use Rattle.std.specs.Prelude.{◌≡◌, ◌≤◌, ◌<◌, ℕ, List, [], ◌∷◌, length, replicate, Option, None, unwrap_or, option_map}
 use Rattle.std.specs.Option.{option_or}
 use Rattle.cache_set.specs.Contents.{contents}
-use Rattle.snoop_bus.specs.Geometry.{Geometry}
+use Rattle.cache_set.specs.Geometry.{Geometry}
 use Rattle.snoop_bus.specs.Vocabulary.{Table}
 use Rattle.snoop_bus.specs.Rows.{TableColumns, rows_of}
-use Rattle.snoop_bus.specs.Lines.{Words, line_in, words_in_lines}
-use Rattle.snoop_bus.specs.Copies.{Sets, copy_in, copy_at}
+use Rattle.cache_set.specs.Lines.{Words, line_in, words_in_lines}
+use Rattle.cache_set.specs.Copies.{Sets, copy_in, copy_at}
 use Rattle.snoop_bus.specs.Coherent.{Coherent}
 use Rattle.snoop_bus.specs.Held.{counted_copies_of, holder_in}
 use Rattle.snoop_bus.specs.declared.holding.BusAction.{BusAction}

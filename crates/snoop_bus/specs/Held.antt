@@ -4,7 +4,7 @@
 use Rattle.std.specs.Prelude.{ℕ, Bool, true, false, List, ◌∷◌, slice_set, Option, Some, None, option_map}
 use Rattle.snoop_bus.specs.Vocabulary.{Core, Line, Loc}
 use Rattle.cache_set.specs.Contents.{Contents, contents}
-use Rattle.snoop_bus.specs.Copies.{Sets, in_set, cache_of}
+use Rattle.cache_set.specs.Copies.{Sets, in_set, cache_of}
 use Rattle.snoop_bus.specs.declared.holding.Stage.{Stage}
 use Rattle.snoop_bus.specs.declared.holding.Stage.TheVariants.{Load, Write}
 use Rattle.snoop_bus.specs.declared.holding.BusAction.{BusAction}

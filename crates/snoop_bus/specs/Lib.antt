@@ -1,11 +1,6 @@
 pub mod Vocabulary
-pub mod Limits
-pub mod Geometry
 pub mod Rows
-pub mod Lines
-pub mod Tags
 pub mod CacheContents
-pub mod Copies
 pub mod Coherent
 pub mod Held
 pub mod Bus

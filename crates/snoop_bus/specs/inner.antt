@@ -5,7 +5,6 @@ pub mod Asks
 pub mod Bus
 pub mod CacheContents
 pub mod Completing
-pub mod Copies
 pub mod Finding
 pub mod Held
 pub mod Requests

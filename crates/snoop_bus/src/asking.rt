@@ -7,19 +7,28 @@ ghost use Rattle.snoop_bus.specs.inner.Asks.{transacting_at, transaction_at, hel
 ghost use Rattle.snoop_bus.specs.Held.{with_counted_copy, counted_in, counted_copies_of};
 ghost use Rattle.snoop_bus.specs.inner.Held.{Awaits, IsHeld};
 ghost use Rattle.snoop_bus.specs.CacheContents.{requested};
-ghost use Rattle.snoop_bus.specs.Copies.{cache_of, copy_at, tags_of};
-ghost use Rattle.snoop_bus.specs.inner.Copies.{ways_of};
+ghost use Rattle.cache_set.specs.Copies.{cache_of, copy_at, tags_of};
+ghost use Rattle.cache_set.specs.inner.Copies.{ways_of};
 ghost use Rattle.snoop_bus.specs.inner.Accessing.{IsReady, KeepsWords};
 ghost use Rattle.snoop_bus.specs.declared.holding.Stage.TheVariants.{Write};
 ghost use Rattle.protocol_tables.specs.declared.requests.Request.TheVariants.{GetS, GetM};
 ghost use Rattle.protocol_tables.specs.declared.requests.Transient.TheVariants.{IsD};
 
-use crate::cache::know_sets;
 use crate::hierarchy::Hierarchy;
 use crate::holding::{HeldBus, Stage, Transaction, held_at};
-use crate::target::Wanted;
 use cache_set::Line;
+use cache_set::cache::know_sets;
 use protocol_tables::{Protocol, Request, State, Transient, transient};
+use tso_model::{Core, Loc};
+
+/// What a core asks the bus for: the line of a location, to read the word or to write it.
+#[derive(Clone, Copy)]
+pub struct Wanted {
+    pub core: Core,
+    pub loc: Loc,
+    pub line: u8,
+    pub write: bool,
+}
 
 impl Hierarchy {
     /// A core asks for what it wants, where that isn't a load's hit. Answers what then holds the bus.

@@ -16,12 +16,13 @@ ghost use Rattle.snoop_bus.specs.Accesses.{IsCurrentWord, LoadsAt, WritesAt, Ask
 ghost use Rattle.snoop_bus.specs.inner.Accesses.{MayGoOn, KeepsOut, IsOutOfMemory};
 
 use crate::access::{Access, Updated};
-use crate::cache::empty_caches;
+use crate::asking::Wanted;
 use crate::hierarchy::Hierarchy;
 use crate::holding::{HeldBus, Stage, held_at};
-use crate::lines::lines_of;
 use crate::shape::Shape;
-use crate::target::{Target, Wanted};
+use cache_set::cache::empty_caches;
+use cache_set::lines::lines_of;
+use cache_set::shape::Target;
 use protocol_tables::Protocol;
 use std::alloc::Global;
 use std::marker::Model;

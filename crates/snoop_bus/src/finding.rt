@@ -4,8 +4,8 @@ ghost use Rattle.std.specs.Prelude.{◌≡◌, ◌<◌, ◌≤◌, ℕ, None, le
 ghost use Rattle.std.specs.List.{list_any};
 ghost use Rattle.tso_model.specs.Limits.{most_cores};
 ghost use Rattle.snoop_bus.specs.CacheContents.{flusher_from};
-ghost use Rattle.snoop_bus.specs.Copies.{copy_in, tags_of};
-ghost use Rattle.snoop_bus.specs.inner.Copies.{state_at};
+ghost use Rattle.cache_set.specs.Copies.{copy_in, tags_of};
+ghost use Rattle.cache_set.specs.inner.Copies.{state_at};
 ghost use Rattle.snoop_bus.specs.Requests.{snoop_column};
 ghost use Rattle.snoop_bus.specs.inner.Requests.{HasSupplied};
 ghost use Rattle.snoop_bus.specs.inner.Finding.{noting};

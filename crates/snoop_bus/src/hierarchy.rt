@@ -1,7 +1,7 @@
 //! The memory hierarchy: the caches of all cores, and memory after them.
 
-use crate::cache::Cache;
 use cache_set::MAX_WORDS;
+use cache_set::cache::Cache;
 
 /// The caches of all cores, and memory after them as lines. It knows neither the protocol nor who holds the bus:
 /// whoever makes an access says so.

@@ -10,19 +10,16 @@
 pub mod access;
 mod asking;
 pub mod bus;
-mod cache;
 mod cleaning;
 mod completing;
 mod finding;
 mod hierarchy;
 pub mod holding;
-mod lines;
 mod loading;
 pub mod looking;
 mod restarting;
 pub mod shape;
 mod snoop;
-mod target;
 pub mod whole_accesses;
 mod writing;
 

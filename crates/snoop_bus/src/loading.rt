@@ -4,13 +4,13 @@
 
 ghost use Rattle.std.specs.Prelude.{◌≡◌, ◌<◌, ◌⊎◌, None, IsSome};
 ghost use Rattle.cache_set.specs.Limits.{most_words};
-ghost use Rattle.snoop_bus.specs.Copies.{copy_at};
+ghost use Rattle.cache_set.specs.Copies.{copy_at};
 ghost use Rattle.snoop_bus.specs.inner.Accessing.{IsReady, Loads, KeepsBeside};
 
 use crate::access::{Access, AccessKind};
 use crate::hierarchy::Hierarchy;
 use crate::holding::HeldBus;
-use crate::target::Target;
+use cache_set::shape::Target;
 use protocol_tables::Protocol;
 
 impl Hierarchy {

@@ -10,8 +10,8 @@ ghost use Rattle.snoop_bus.specs.inner.Accesses.{copies_of, ranked_line, memory_
 ghost use Rattle.snoop_bus.specs.Asks.{tag_at, awaited_by};
 
 use crate::bus::SnoopBus;
-use crate::cache::Cache;
 use crate::holding::{HeldBus, Transaction};
+use cache_set::cache::Cache;
 use cache_set::{CacheSet, Line, MAX_WORDS};
 use protocol_tables::{Protocol, State, Transient};
 use tso_model::{Core, Loc};

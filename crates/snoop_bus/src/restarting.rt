@@ -1,14 +1,13 @@
 //! A bus that begins anew, with its room: one machine runs a test again and again, and takes no memory for the next run. A
 //! line that stayed in a cache would be a copy of the run before.
-ghost use Rattle.std.specs.Prelude.{◌≡◌, length, map};
+ghost use Rattle.std.specs.Prelude.{◌≡◌, length};
 ghost use Rattle.snoop_bus.specs.Rows.{table_of_rows};
-ghost use Rattle.snoop_bus.specs.inner.Copies.{emptied};
 ghost use Rattle.snoop_bus.specs.Bus.{words_of, cores_of, IsCoherent, IsSameMachine};
 ghost use Rattle.snoop_bus.specs.Accesses.{new_bus};
 
 use crate::bus::SnoopBus;
-use crate::cache::Cache;
-use crate::lines::put_lines;
+use cache_set::cache::clear_caches;
+use cache_set::lines::put_lines;
 use protocol_tables::Protocol;
 
 impl<P: Protocol> SnoopBus<P> {
@@ -24,15 +23,5 @@ impl<P: Protocol> SnoopBus<P> {
         clear_caches(&mut self.hierarchy.caches);
         put_lines(&mut self.hierarchy.memory, self.shape, init);
         self.held = None;
-    }
-}
-
-/// Every line leaves these caches.
-fn clear_caches(caches: &mut [Cache])
-    ensures { caches.new ≡ map (map emptied) caches.old }
-{
-    for core in 0..caches.len() {
-        let cache = &mut caches[core];
-        cache.clear();
     }
 }

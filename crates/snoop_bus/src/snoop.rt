@@ -4,15 +4,15 @@ ghost use Rattle.std.specs.Prelude.{◌≡◌, ◌≢◌, ◌<◌, ◌≤◌, �
 ghost use Rattle.std.specs.Prelude.{slice_set, slice_index_or, is_some, option_map, if◌then◌else◌};
 ghost use Rattle.tso_model.specs.Limits.{most_cores};
 ghost use Rattle.snoop_bus.specs.CacheContents.{requested, dirty_in};
-ghost use Rattle.snoop_bus.specs.Copies.{tags_of, cache_of};
-ghost use Rattle.snoop_bus.specs.inner.Copies.{ways_of, ways_in, copy_state_in, state_at, OnlyAt};
+ghost use Rattle.cache_set.specs.Copies.{tags_of, cache_of};
+ghost use Rattle.cache_set.specs.inner.Copies.{ways_of, ways_in, copy_state_in, state_at, OnlyAt};
 ghost use Rattle.snoop_bus.specs.Requests.{snoop_column};
 ghost use Rattle.snoop_bus.specs.inner.Requests.{after_request, copy_left_by, LeftByOthers};
 ghost use Rattle.snoop_bus.specs.MemoryAfter.{written_back};
 
 use crate::bus::MAX_CORES;
-use crate::cache::Cache;
 use crate::hierarchy::Hierarchy;
+use cache_set::cache::Cache;
 use cache_set::{MAX_WORDS, Victim};
 use protocol_tables::{Protocol, Request, Snoop, State};
 use tso_model::Core;

@@ -5,16 +5,16 @@ ghost use Rattle.std.specs.Prelude.{◌≡◌, ◌≢◌, ◌<◌, Some, IsSome,
 ghost use Rattle.cache_set.specs.Limits.{most_words};
 ghost use Rattle.cache_set.specs.inner.Copy.{with_state, with_word};
 ghost use Rattle.snoop_bus.specs.CacheContents.{used_by};
-ghost use Rattle.snoop_bus.specs.Copies.{copy_at, tags_of};
-ghost use Rattle.snoop_bus.specs.inner.Copies.{ways_of};
+ghost use Rattle.cache_set.specs.Copies.{copy_at, tags_of};
+ghost use Rattle.cache_set.specs.inner.Copies.{ways_of};
 ghost use Rattle.snoop_bus.specs.inner.Requests.{ChangesCopy};
 ghost use Rattle.snoop_bus.specs.inner.Accessing.{IsReady, MayWrite, Acquires, KeepsBeside};
 
 use crate::access::{Access, AccessKind};
 use crate::hierarchy::Hierarchy;
 use crate::holding::HeldBus;
-use crate::target::Target;
 use cache_set::MAX_WORDS;
+use cache_set::shape::Target;
 use protocol_tables::{Protocol, State};
 
 impl Hierarchy {

@@ -4,7 +4,7 @@ use Rattle.tso_model.specs.MemoryAccess.{access_of}
 use Rattle.tso_model.specs.Together.{together}
 use Rattle.protocol_tables.specs.Tables.{table_of as table_of_kind}
 use Rattle.snoop_bus.specs.Rows.{TableColumns, rows_of, table_of_rows}
-use Rattle.snoop_bus.specs.Geometry.{Geometry}
+use Rattle.cache_set.specs.Geometry.{Geometry}
 use Rattle.machine_core.specs.Caches.{Caches, attempt_of, is_awaited}
 use Rattle.machine_core.proofs.EachUse.{used-machine}
 use Rattle.machine_core.specs.Statistics.{Statistics, statistics_from, statistics_after}

@@ -6,8 +6,8 @@ use Rattle.protocol_tables.specs.Laws.{is_dirty}
 use Rattle.protocol_tables.specs.declared.requests.Transient.TheVariants.{IsD, ImD, SmD}
 use Rattle.protocol_tables.specs.declared.state.State.{State}
 use Rattle.snoop_bus.specs.Coherent.{state_of_copy}
-use Rattle.snoop_bus.specs.Lines.{Words, line_in, word_in_lines}
-use Rattle.snoop_bus.specs.Copies.{Sets, copy_at, copy_in}
+use Rattle.cache_set.specs.Lines.{Words, line_in, word_in_lines}
+use Rattle.cache_set.specs.Copies.{Sets, copy_at, copy_in}
 use Rattle.snoop_bus.specs.Rows.{rows_of}
 use Rattle.snoop_bus.specs.Held.{counted_copies_of, counted_in}
 use Rattle.snoop_bus.specs.Bus.{BusModel, counted_copies, current_words, IsSameMachine}

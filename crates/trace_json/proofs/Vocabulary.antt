@@ -38,7 +38,7 @@ pub use Rattle.machine_core.specs.Caches.{Caches, at_access}
 pub use Rattle.trace_report.specs.Steps.{line_state, number_of_lines, trace_step_of, awaited_at, state_with}
 pub use Rattle.serde_json.specs.declared.value.Value.{Value, the_lemmas}
 pub use Rattle.trace_json.specs.inner.Looked.{IsMachineOfTest, told_last, sourced, trace_with}
-pub use Rattle.snoop_bus.specs.Geometry.{IsLineSize}
+pub use Rattle.cache_set.specs.Geometry.{IsLineSize}
 pub use Rattle.trace_report.specs.Told.{IsTraced}
 pub use Rattle.trace_report.specs.inner.Told.{IsLookedAt}
 pub use Rattle.trace_report.proofs.Whole.{some-word, looked-at}

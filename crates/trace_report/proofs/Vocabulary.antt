@@ -45,7 +45,7 @@ pub use Rattle.trace_report.specs.declared.step.StateChange.{StateChange}
 pub use Rattle.trace_report.specs.declared.states.PlacedState.{PlacedState}
 pub use Rattle.std.specs.Option.{option_and_then, unwrap_or}
 pub use Rattle.snoop_bus.specs.declared.access.AccessKind.{AccessKind}
-pub use Rattle.snoop_bus.specs.Geometry.{Geometry, IsLineSize}
+pub use Rattle.cache_set.specs.Geometry.{Geometry, IsLineSize}
 pub use Rattle.basic_laws.proofs.Basics.{test-true, lt-or, test-false, and-false, decide}
 pub use Rattle.machine_core.specs.Configuration.{Configuration}
 pub use Rattle.trace_report.specs.Shown.{ShownStep}
@@ -72,11 +72,11 @@ pub use Rattle.snoop_bus.specs.CacheContents.{TagSets, tags_at, tag_in, at_line,
 pub use Rattle.split_laws.proofs.Waiting.{AllStores, access-kept, choice-stores, start-stores}
 pub use Rattle.split_laws.proofs.Effects.{HolderWaits, Live, LiveIn, live-after, live-start}
 pub use Rattle.protocol_tables.specs.declared.state.State.TheVariants.{I, S, E, O, M}
-pub use Rattle.snoop_bus.specs.Tags.{TagSet, tag_of, used, filled, in_next, snooped_in, snooped, leaving}
+pub use Rattle.cache_set.specs.Tags.{TagSet, tag_of, used, filled, in_next, snooped_in, snooped, leaving}
 pub use Rattle.bus_laws.specs.Uses.{IsUseFor}
 pub use Rattle.bus_laws.proofs.Victims.{no_set, AllNeat, found-valid, all-requested, all-used, all-filled, absent-remove, own-kept, IsNeat, none-neat, no-sets, sets-leave}
 pub use Rattle.bus_laws.proofs.Counted.{choice-use}
 pub use Rattle.snoop_bus.specs.Requests.{snoop_column}
-pub use Rattle.snoop_bus.specs.Copies.{tags_in}
+pub use Rattle.cache_set.specs.Copies.{tags_in}
 pub use Rattle.trace_report.specs.StepLaws.{WriteBacksAreTold, after_choices, with_moved, pending_told, CoresAreTold, IsWordOfStall, done, full, lock, empty, IsHeldByOther, IsWordOfStallOn, flat, bus, StallsAreTold, with_seen, OthersSeeTheRequest}
 pub use Rattle.machine_core.specs.inner.Keeping.{IsAmong, IsFlusherAmong, IsSenderAmong, memory_access_in}

@@ -13,7 +13,7 @@ use Rattle.tso_model.specs.declared.choice.Outcome.TheVariants as out
 use Rattle.protocol_tables.specs.Tables.{Table}
 use Rattle.protocol_tables.specs.declared.state.State as protocol
 use Rattle.snoop_bus.specs.Asks.{tag_at}
-use Rattle.snoop_bus.specs.Tags.{leaving, snooped}
+use Rattle.cache_set.specs.Tags.{leaving, snooped}
 use Rattle.snoop_bus.specs.CacheContents.{TagSets, tags_at, at_line, sets_of}
 use Rattle.snoop_bus.specs.Requests.{snoop_column}
 use Rattle.machine_core.specs.Configuration.{Configuration}

@@ -1,7 +1,7 @@
 -- What `check` answers, and what that means.
 use Rattle.tso_cli.proofs.Vocabulary.{◌≡◌, ◌≢◌, ℕ, false, ◌<◌, ◌≤◌, ◌^◌, List, [], length, get_or, Some, slice_get, slice_index_or, All, refl, sym, ap, subst, arith, slice_get-get_or, Litmus, IsTest, IsWhole, IsTsoExecution, StandsIn, Run, program_of, Entry, FitsTest, IsExecution, HasWord, HasAccess, IsEntryFor, IsOrderFor, SpellsOrder, HasFault, OrderFault, IsFirstBreach, Breach, ProtocolKind, Configuration, report, ShownRun, shown_of, IsCheckAnswer, IsJudgement, valid, valid_line, invalid_line, JudgesOrder, JudgesEachOrder, PrintsExecution, Status, Good}
 use Rattle.basic_laws.specs.Types.{Kind, F}
-use Rattle.snoop_bus.specs.Geometry.{IsShapeWithinLimits}
+use Rattle.cache_set.specs.Geometry.{IsShapeWithinLimits}
 use Rattle.tso_cli.specs.CommandAnswers.{refused, judged, invalid}
 
 -- ---- what an answer means

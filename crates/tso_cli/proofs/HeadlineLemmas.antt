@@ -1,7 +1,7 @@
 -- The headline holds of each answer.
 use Rattle.tso_cli.proofs.Vocabulary.{◌≡◌, ◌<◌, ◌^◌, ℕ, Bool, List, ◌++◌, length, true, false, Option, Some, None, IfSome, subst, refl, arith, Litmus, IsTest, IsWhole, StandsIn, KeepsAllOrder, Bus, Atomic, Choice, Entry, FitsTest, IsExecution, IsDecidedAsChoices, IsOrderFor, SpellsOrder, Table, table_of, ProtocolKind, Configuration, IsConfigurationWithinLimits, head, report, ShownRun, IsAnswerTo, IsInputAnswer, IsAnswer, too_large, answered, run_text, IsRunAnswer, ran, IsWithinLimits, parts_of, Plan, PrintsExecution, PrintsEachRun, HeadlineOfRuns, ending_text, traced_in, IsTooLong, IsTraceAnswer, too_long, traced, PrintsTraceIn, PrintsEachTrace, HeadlineOfTraces, PrintsSweep, HeadlineOfSweeps, HeadlineOf, InputHeadline, Headline, run_by, run_under, AnswersFitBy, AnswersFit, counts_under, unfinished_run_line, report_in, unfinished_in, shown_of, Settings, Status, AreReadOneWay}
 use Rattle.tso_laws.specs.Words.{HoldsWords}
-use Rattle.snoop_bus.specs.Geometry.{IsShapeWithinLimits as IsShape}
+use Rattle.cache_set.specs.Geometry.{IsShapeWithinLimits as IsShape}
 use Rattle.tso_cli.specs.Answers.{refused}
 use Rattle.tso_cli.specs.CommandAnswers.{refused}
 use Rattle.tso_cli.specs.Trace.{refused}

@@ -4,7 +4,7 @@ use Rattle.std.specs.Prelude.{codes}
 use Rattle.tso_model.specs.Registers.{IsWord, AreRegisters, index_of, name_of}
 use Rattle.tso_model.specs.Thread.{value_in}
 use Rattle.basic_laws.specs.Types.{Eax, Quantifier, Exists, Kind, R, F}
-use Rattle.snoop_bus.specs.Geometry.{IsShapeWithinLimits as IsShape}
+use Rattle.cache_set.specs.Geometry.{IsShapeWithinLimits as IsShape}
 use Rattle.machine_core.specs.Keeping.{IsAtMost}
 use Rattle.tso_report.specs.Limits.{longest_report, IsSmall}
 

@@ -15,7 +15,7 @@ pub use Rattle.tso_report.specs.Shown.{ShownRun, shown_run}
 pub use Rattle.protocol_tables.specs.Names.{protocol_name}
 pub use Rattle.protocol_tables.specs.declared.kind.ProtocolKind.{ProtocolKind}
 pub use Rattle.protocol_tables.specs.declared.kind.ProtocolKind.TheVariants.{Msi, Mesi, Moesi, Mosi}
-pub use Rattle.snoop_bus.specs.Geometry.{Geometry, IsLineSize, IsShapeWithinLimits}
+pub use Rattle.cache_set.specs.Geometry.{Geometry, IsLineSize, IsShapeWithinLimits}
 pub use Rattle.machine_core.specs.Configuration.{Configuration, IsConfigurationWithinLimits}
 pub use Rattle.tso_report.specs.Report.{report, line, test_line, shape_text, bus_text, register_lines, memory_line, condition_line, choices_line, cache_lines, machine_line, printed_register, printed_registers, register_line, printed_words, printed_quantifier, printed_truth, printed_verdict, traffic_text, cache_line}
 unfoldable pub use Rattle.tso_report.specs.Report.{all_registers}

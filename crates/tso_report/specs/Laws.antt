@@ -4,7 +4,7 @@ use Rattle.std.specs.Prelude.{ℕ, ◌≡◌, ◌≢◌, ◌+◌, ◌<◌, ◌�
 use Rattle.tso_model.specs.Litmus.{Litmus, IsTest}
 use Rattle.order_builder.specs.Spelling.{IsOrderFor, SpellsOrder}
 use Rattle.protocol_tables.specs.declared.kind.ProtocolKind.{ProtocolKind}
-use Rattle.snoop_bus.specs.Geometry as shape
+use Rattle.cache_set.specs.Geometry as shape
 use Rattle.machine_core.specs.Configuration.{Configuration, IsConfigurationWithinLimits}
 use Rattle.tso_report.specs.Shown.{ShownRun}
 use Rattle.tso_report.specs.Report.{report}

@@ -11,7 +11,7 @@ use Rattle.order_builder.specs.PrintedOrder.{printed_order}
 use Rattle.protocol_tables.specs.Names.{protocol_name}
 pub use Rattle.protocol_tables.specs.PrintedTable.{line}
 use Rattle.protocol_tables.specs.declared.kind.ProtocolKind.{ProtocolKind}
-use Rattle.snoop_bus.specs.Geometry.{Geometry}
+use Rattle.cache_set.specs.Geometry.{Geometry}
 use Rattle.machine_core.specs.Configuration.{Configuration}
 use Rattle.machine_core.specs.declared.counts.Counts.{Counts}
 use Rattle.tso_report.specs.Shown.{ShownRun}

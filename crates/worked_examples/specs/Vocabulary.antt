@@ -10,5 +10,5 @@ pub use Rattle.protocol_tables.specs.Tables.{msi, Table}
 pub use Rattle.protocol_tables.specs.declared.state.State.{State}
 pub use Rattle.protocol_tables.specs.declared.state.State.TheVariants.{E, I, M, O, S}
 pub use Rattle.snoop_bus.specs.CacheContents.{Accessed, TagSets}
-pub use Rattle.snoop_bus.specs.Geometry.{Geometry, geometry}
-pub use Rattle.snoop_bus.specs.Tags.{TagSet}
+pub use Rattle.cache_set.specs.Geometry.{Geometry, geometry}
+pub use Rattle.cache_set.specs.Tags.{TagSet}

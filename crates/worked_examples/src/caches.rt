@@ -9,7 +9,7 @@ ghost use Rattle.protocol_tables.specs.Tables.{msi, mesi, moesi};
 ghost use Rattle.snoop_bus.specs.declared.access.AccessKind.TheVariants.{Hit, Upgrade, Miss};
 ghost use Rattle.protocol_tables.specs.Laws.{is_dirty, in_place};
 ghost use Rattle.snoop_bus.specs.Coherent.{may_share};
-ghost use Rattle.snoop_bus.specs.Lines.{line_of_words, lines_of_words};
+ghost use Rattle.cache_set.specs.Lines.{line_of_words, lines_of_words};
 ghost use Rattle.snoop_bus.specs.inner.CacheContents.{settled};
 ghost use Rattle.snoop_bus.specs.Asks.{hits, asking, completed, whole_access};
 ghost use Rattle.snoop_bus.specs.Bus.{words_of};

@@ -8,11 +8,11 @@ use Rattle.snoop_bus.specs.declared.access.AccessKind.TheVariants.{Miss}
 use Rattle.snoop_bus.specs.declared.holding.BusAction.{BusAction}
 use Rattle.snoop_bus.specs.declared.holding.Stage.TheVariants.{Load, Locked}
 use Rattle.snoop_bus.specs.declared.looking.CachedLine.{CachedLine}
-use Rattle.snoop_bus.specs.Lines.{line_in, words_in_lines}
-use Rattle.snoop_bus.specs.Tags.{tag_set}
+use Rattle.cache_set.specs.Lines.{line_in, words_in_lines}
+use Rattle.cache_set.specs.Tags.{tag_set}
 use Rattle.snoop_bus.specs.CacheContents.{TagSets, sets_of}
 use Rattle.snoop_bus.specs.inner.CacheContents.{settled}
-use Rattle.snoop_bus.specs.Copies.{cache_of}
+use Rattle.cache_set.specs.Copies.{cache_of}
 use Rattle.snoop_bus.specs.Bus.{BusModel, words_of, IsFree}
 use Rattle.snoop_bus.specs.Asks.{tag_at, or_invalid}
 use Rattle.snoop_bus.specs.Accesses.{contents_of, line_of_location, would_hit, with_words}

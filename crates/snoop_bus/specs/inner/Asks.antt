@@ -4,9 +4,9 @@ use Rattle.std.specs.Prelude.{ℕ, Bool, List, Option, option_map}
 use Rattle.snoop_bus.specs.Vocabulary.{copy_with, Core, Loc, Request, Table, Transient}
 use Rattle.snoop_bus.specs.declared.holding.Transaction.{Transaction}
 use Rattle.snoop_bus.specs.declared.holding.HeldBus.{HeldBus}
-use Rattle.snoop_bus.specs.Lines.{Words}
+use Rattle.cache_set.specs.Lines.{Words}
 use Rattle.snoop_bus.specs.CacheContents.{TagSets}
-use Rattle.snoop_bus.specs.Copies.{Sets, tags_of}
+use Rattle.cache_set.specs.Copies.{Sets, tags_of}
 use Rattle.snoop_bus.specs.Held.{stage_for}
 use Rattle.snoop_bus.specs.inner.Held.{held_by}
 use Rattle.snoop_bus.specs.Bus.{current_words}

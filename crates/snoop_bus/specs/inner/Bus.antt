@@ -3,10 +3,10 @@
 use Rattle.std.specs.Prelude.{◌≡◌, ◌*◌, ◌≤◌, ◌<◌, ℕ, List, length, replicate, Option, IfSome}
 use Rattle.std.specs.Int.{div_ceil}
 use Rattle.snoop_bus.specs.Vocabulary.{most_cores, most_locations}
-use Rattle.snoop_bus.specs.Geometry.{Geometry}
-use Rattle.snoop_bus.specs.Lines.{Words, line_of_words}
-use Rattle.snoop_bus.specs.Copies.{Sets}
-use Rattle.snoop_bus.specs.inner.Copies.{ways_of}
+use Rattle.cache_set.specs.Geometry.{Geometry}
+use Rattle.cache_set.specs.Lines.{Words, line_of_words}
+use Rattle.cache_set.specs.Copies.{Sets}
+use Rattle.cache_set.specs.inner.Copies.{ways_of}
 use Rattle.snoop_bus.specs.Held.{counted_copies_of}
 use Rattle.snoop_bus.specs.inner.Held.{IsHeld, IsPlaced}
 use Rattle.snoop_bus.specs.declared.holding.HeldBus.{HeldBus}

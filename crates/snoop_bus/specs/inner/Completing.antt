@@ -5,9 +5,9 @@ use Rattle.snoop_bus.specs.declared.access.Access.{Access}
 use Rattle.snoop_bus.specs.declared.holding.Stage.{Stage}
 use Rattle.snoop_bus.specs.declared.hierarchy.Hierarchy.{Hierarchy}
 use Rattle.snoop_bus.specs.declared.holding.Transaction.{Transaction}
-use Rattle.snoop_bus.specs.Lines.{Words}
+use Rattle.cache_set.specs.Lines.{Words}
 use Rattle.snoop_bus.specs.CacheContents.{Accessed}
-use Rattle.snoop_bus.specs.Copies.{Sets, cache_of, copy_at, tags_of}
+use Rattle.cache_set.specs.Copies.{Sets, cache_of, copy_at, tags_of}
 use Rattle.snoop_bus.specs.Held.{counted_in}
 use Rattle.snoop_bus.specs.inner.Held.{Awaits}
 use Rattle.snoop_bus.specs.Bus.{AllCoherent, current_words}

@@ -2,10 +2,10 @@
 -- coherence holds between the two halves of an access too. (Primer, chapter 7.)
 use Rattle.std.specs.Prelude.{◌≡◌, ◌≢◌, ◌<◌, ◌/◌, ◌==◌, ◌⊎◌, if◌then◌else◌, ℕ, List, length, Option, Some, None}
 use Rattle.snoop_bus.specs.Vocabulary.{Core, ImD, in_place, IsD, Line, Loc, M, O, S, SmD, Transient, with_state}
-use Rattle.snoop_bus.specs.Geometry.{Geometry}
-use Rattle.snoop_bus.specs.Lines.{Words}
+use Rattle.cache_set.specs.Geometry.{Geometry}
+use Rattle.cache_set.specs.Lines.{Words}
 use Rattle.snoop_bus.specs.Coherent.{state_of_copy}
-use Rattle.snoop_bus.specs.Copies.{Sets, copy_at, cache_of}
+use Rattle.cache_set.specs.Copies.{Sets, copy_at, cache_of}
 use Rattle.snoop_bus.specs.declared.holding.Stage.{Stage}
 use Rattle.snoop_bus.specs.declared.holding.Stage.TheVariants.{Load, Write, Locked}
 use Rattle.snoop_bus.specs.declared.holding.Transaction.{Transaction}

@@ -2,10 +2,10 @@
 -- place. (Primer, chapters 6 and 7.)
 use Rattle.std.specs.Prelude.{◌≡◌, ◌<◌, ◌⊎◌, ℕ, Bool, not, ◌&&◌, nat_eq, nat_lt, if◌then◌else◌, List, length, map, Option, Some, None, unwrap_or}
 use Rattle.snoop_bus.specs.Vocabulary.{Contents, copy_with, E, I, is_dirty, Line, M, O, S, Snoop, State, with_changed, with_state, without}
-use Rattle.snoop_bus.specs.Lines.{Words, line_in}
-use Rattle.snoop_bus.specs.Tags.{TagSet, tag_set}
+use Rattle.cache_set.specs.Lines.{Words, line_in}
+use Rattle.cache_set.specs.Tags.{TagSet, tag_set}
 use Rattle.snoop_bus.specs.inner.Tags.{clean}
-use Rattle.snoop_bus.specs.Copies.{Sets, in_set, copy_in, copy_at, cache_of}
+use Rattle.cache_set.specs.Copies.{Sets, in_set, copy_in, copy_at, cache_of}
 
 -- a set once its copy of a line went to this state: in I it leaves
 abbrev pub with_next_state : ℕ → State → Contents → Contents

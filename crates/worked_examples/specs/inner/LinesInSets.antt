@@ -8,8 +8,8 @@ use Rattle.cache_set.specs.declared.Victim.{Victim}
 use Rattle.cache_set.specs.Contents.{Contents}
 use Rattle.snoop_bus.specs.declared.holding.Stage.TheVariants.{Write}
 use Rattle.snoop_bus.specs.declared.holding.HeldBus.{HeldBus}
-use Rattle.snoop_bus.specs.Lines.{Words}
-use Rattle.snoop_bus.specs.Copies.{Sets}
+use Rattle.cache_set.specs.Lines.{Words}
+use Rattle.cache_set.specs.Copies.{Sets}
 use Rattle.snoop_bus.specs.Bus.{BusModel, bus_with}
 use Rattle.snoop_bus.specs.Accesses.{new_bus}
 use Rattle.snoop_bus.specs.Asks.{Awaited, AskedAccess}

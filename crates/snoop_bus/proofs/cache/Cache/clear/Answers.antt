@@ -1,5 +1,0 @@
-use Rattle.snoop_bus.proofs.Vocabulary.{rules, map_over_more, emptied}
-use Rattle.snoop_bus.proofs.cache.Cache.clear.Goals as goal
-
-pub loop-at-preserved : goal.loop-at-preserved
-loop-at-preserved c = search (rules, map_over_more emptied)
