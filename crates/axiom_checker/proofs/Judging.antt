@@ -1,12 +1,8 @@
 -- The breach that is named of what the passes met is the first.
-use Rattle.axiom_checker.proofs.Vocabulary.{◌≡◌, ◌≤◌, ℕ, true, inl, List, length, Option, Some, None, IfSome, IsNone, refl, sym, subst, arith, Litmus, IsTest, is_write_kind, made, IsTsoExecution, IsWhole, Entry, IsFirst, IsEarliest, IsNowhere, IsExtra, IsStray, IsWrongWrite, made_reading, reads_that_came, IsIndex, HasCome, HasNotCome, NamesStray, Overtakes, IsLate, IsSeparated, IsWrongRead, IsMatched, HasMet, AreOfPrograms, IsFirstWrongRead, IsFirstBreach, TellsFirstBreach, Met, Breach, Extra, Twice, Missing, ProgramOrder, NotAdjacent, ReadValue}
-use Rattle.axiom_checker.proofs.Firsts.{none_at_all}
-use Rattle.axiom_checker.proofs.Whole.{made-of, whole-from}
-use Rattle.axiom_checker.proofs.Made.{made-within}
-use Rattle.axiom_checker.proofs.Shapes.{AreAlike, extra-alike, shape-alike}
-use Rattle.axiom_checker.proofs.Coming.{stray-alike, first-missing, none-missing, index-alike}
-use Rattle.axiom_checker.proofs.Reading.{ReadsAll, came-reads}
-use Rattle.axiom_checker.proofs.Keeps.{keeps-order, keeps-pairs, has-values}
+use Rattle.axiom_checker.proofs.Vocabulary.{◌≡◌, ℕ, List, length, Option, Some, None, IfSome, IsNone, refl, sym, subst, arith, Litmus, made, IsTsoExecution, IsWhole, Entry, IsFirst, IsEarliest, IsNowhere, IsWrongWrite, Overtakes, IsLate, IsSeparated, IsWrongRead, IsMatched, HasMet, IsFirstWrongRead, IsFirstBreach, TellsFirstBreach, Met, Breach, ProgramOrder, NotAdjacent, ReadValue}
+use Rattle.order_breaches.proofs.Firsts.{none_at_all}
+use Rattle.order_breaches.proofs.Whole.{whole-from}
+use Rattle.order_breaches.proofs.Keeps.{keeps-order, keeps-pairs, has-values}
 
 module _ (t : Litmus) (order : List Entry) (met : Met) (matched : IsMatched t order) (all : HasMet t order (length order) met) where
   no-wrong-write : met.wrong_write ≡ None → IsNowhere order (IsWrongWrite (made t order))
@@ -46,64 +42,6 @@ module _ (t : Litmus) (order : List Entry) (met : Met) (matched : IsMatched t or
         adjacent = keeps-pairs order (none-separated p);
         read_values = has-values t order (none_at_all order (IsWrongRead t order) (length order) (omega arith) ((all.wrong_read (whole w) keeps).none (subst (λ o. IsNone o) (sym r) refl)));
       }
-
-pub of-programs : (t : Litmus) (order entries : List Entry) (cores words : ℕ) → IsTest t → IsMatched t order → entries ≡ made t order → length t.programs ≤ cores → words ≡ length t.locations
-    → AreOfPrograms entries cores words order
-of-programs t order entries cores words valid matched is c w = record {
-  made_by_one = λ k x f extra. matched.no_stray k x f (inl (subst (λ es. IsExtra es x) is extra));
-  of_a_core = λ k x f.
-      let m = made-of (made t order) x (λ q. matched.no_stray k x f (inl q)) in
-      let l = (made-within t order valid m.place m.entry m.stands).core in
-      let q = m.same.action.core in omega arith;
-  to_a_word = λ k x f write.
-      let m = made-of (made t order) x (λ q. matched.no_stray k x f (inl q)) in
-      let l = (made-within t order valid m.place m.entry m.stands).known (subst (λ n. is_write_kind n ≡ true) (sym m.same.action.kind) write) in
-      let q = m.same.loc in omega (arith, l, q, w);
-}
-
-stray-first : (xs ys order : List Entry) → AreAlike xs ys → (x : Entry) → IsEarliest order (IsStray xs order) x → IsEarliest order (IsStray ys order) x
-stray-first xs ys order alike x first = (
-  first.0,
-  record {
-    stands = first.1.stands;
-    holds = stray-alike xs ys order alike first.0 x first.1.holds;
-    earliest = λ k y l f s. first.1.earliest k y l f (stray-alike ys xs order (sym alike) k y s);
-  },
-)
-
-pub names-first-stray : (t : Litmus) (order shape : List Entry) → AreAlike shape (made t order) → (b : Breach) → NamesStray shape order b → IsFirstBreach t order b
-names-first-stray t order shape alike (Extra x) h = (extra-alike shape (made t order) alike x h.0, stray-first shape (made t order) order alike x h.1)
-names-first-stray t order shape alike (Twice x) h = (λ e. h.0 (extra-alike (made t order) shape (sym alike) x e), stray-first shape (made t order) order alike x h.1)
-names-first-stray t order shape alike _ h = absurd h
-
--- what the programs make with some reads
-abbrev pub IsShape : Litmus → List Entry → Type 0
-IsShape t shape = (reads : List ℕ) × (shape ≡ made_reading 0 t.programs t.registers reads)
-
-pub alike-of : (t : Litmus) (order shape : List Entry) → IsShape t shape → AreAlike shape (made t order)
-alike-of t order shape is = subst (λ s. AreAlike s (made t order)) (sym is.1) (shape-alike t order is.0)
-
--- after a first pass that met nothing
-module _ (t : Litmus) (order shape : List Entry) (is : IsShape t shape) (slots : List (Option ℕ)) (index : IsIndex shape slots) (came : List (Option ℕ))
-    (stray : IsNowhere order (IsStray shape order)) (come : HasCome shape order (length order) came) where
-  looks-alike : AreAlike shape (made t order)
-  looks-alike = alike-of t order shape is
-
-  no-strays : IsNowhere order (IsStray (made t order) order)
-  no-strays k x f s = stray k x f (stray-alike (made t order) shape order (sym looks-alike) k x s)
-
-  pub names-first-missing : (e : Entry) (k : ℕ) → IsFirst shape (HasNotCome came) k e → IsFirstBreach t order (Missing e.core e.place e.kind e.loc)
-  names-first-missing e k first =
-      let m = first-missing shape (made t order) order slots (length order) came looks-alike index come (omega arith) e k first in (no-strays, (k, m.0, m.1))
-
-  pub all-matched : IsNowhere shape (HasNotCome came) → IsMatched t order
-  all-matched none = record { no_stray = no-strays; no_missing = none-missing shape (made t order) order (length order) came looks-alike come none }
-
-  pub all-read : IsNowhere shape (HasNotCome came) → ReadsAll t order (reads_that_came 0 came shape)
-  all-read none = came-reads t order (length order) came shape is stray come none
-
-  pub made-index : IsIndex (made t order) slots
-  made-index = index-alike shape (made t order) slots looks-alike index
 
 -- what the last step tells of the order as it is after the pass
 pub tells-met : (t : Litmus) (order now : List Entry) (met : Met) (breach : Option Breach) → now ≡ order → IsMatched t order → HasMet t order (length order) met

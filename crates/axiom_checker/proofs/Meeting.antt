@@ -1,8 +1,8 @@
 -- What the second pass has met among the entries so far.
 use Rattle.axiom_checker.proofs.Vocabulary.{◌≡◌, ◌≢◌, ◌<◌, ◌≤◌, ℕ, ◌+◌, suc, List, length, Option, Some, None, IfSome, IsNone, if◌then◌else◌, slice_get, slice_index, take, filter, Bool, true, false, arith, ap, sym, ◌∙◌, inl, inr, subst, refl, unwrap_or, slice_get-get_or, leb_tells, Litmus, is_read, is_write, writes_to, made, last_value, IsStorePart, Entry, LR, LW, NoneBefore, IsFirst, IsEarliest, IsWrongWrite, written_value, IsLate, IsSeparated, IsWrongRead, due_at, is_late, IsSource, IsFound, HasMet, IsFirstWrongWrite, IsFirstWrongRead, NamesWrongWrite, NamesWrongRead, IsDueFrom, AreOfPrograms, first_of_two, due_from, Met}
-use Rattle.axiom_checker.proofs.Marking.{AreMarks, AreWords, of_core, past_loads, late-tells}
-use Rattle.axiom_checker.proofs.Following.{due-right}
-use Rattle.axiom_checker.proofs.Firsts.{one_more, none_in_nothing, same_or_below}
+use Rattle.order_breaches.proofs.Marking.{AreMarks, AreWords, of_core, past_loads, late-tells}
+use Rattle.order_breaches.proofs.Following.{due-right}
+use Rattle.order_breaches.proofs.Firsts.{one_more, none_in_nothing, same_or_below}
 
 pub nothing-so-far : {X : Type 0} (list : List Entry) (Fact : ℕ → Entry → Type 0) (Names : X → Type 0) → IsFound list Fact 0 Names None
 nothing-so-far list Fact Names = record { named = tt; none = λ _. none_in_nothing list Fact }

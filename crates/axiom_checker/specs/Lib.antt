@@ -1,7 +1,3 @@
-pub mod First
-pub mod Entries
-pub mod FirstBreach
-pub mod AxiomBreaches
 pub mod inner
 pub use Rattle.tso_model.specs.Litmus
 pub use Rattle.tso_model.specs.ProgramEntries

@@ -1,7 +1,3 @@
 -- Words of contracts inside the project.
 pub mod FirstBreach
 pub mod Passing
-pub mod Programs
-pub mod Progress
-pub mod Slots
-pub mod Sources

@@ -3,22 +3,20 @@
 ghost use Rattle.std.specs.Prelude.{◌≡◌, ◌≢◌, ◌+◌, ◌*◌, ◌<◌, ◌≤◌, ℕ, List, None, length, OnOk, IfErr, IfOk, IsOkUnless, IfSome, IsNone};
 ghost use Rattle.tso_model.specs.Litmus.{Litmus, IsTest};
 ghost use Rattle.tso_model.specs.Axioms.{IsTsoExecution};
-ghost use Rattle.tso_model.specs.ProgramEntries as execution_programentries;
-ghost use Rattle.tso_model.specs.Axioms as execution_axioms;
-ghost use Rattle.tso_model.specs.ProgramOrder as execution_axioms_programorder;
-ghost use Rattle.tso_model.specs.SequentialConsistency as execution_sequentialconsistency;
-ghost use Rattle.axiom_checker.specs.inner.Passing.{IsMatched, HasMet};
-ghost use Rattle.axiom_checker.specs.inner.Programs.{made_reading, kept_in};
-ghost use Rattle.axiom_checker.specs.inner.Slots.{IsIndex};
-ghost use Rattle.axiom_checker.specs.FirstBreach.{IsFirstBreach, IsJudged};
+ghost use Rattle.tso_model.specs.ProgramEntries as program_entries;
+ghost use Rattle.order_breaches.specs.FirstBreach.{IsFirstBreach, IsJudged};
+ghost use Rattle.order_breaches.specs.inner.Matched.{IsMatched};
+ghost use Rattle.order_breaches.specs.inner.Programs.{made_reading, kept_in};
+ghost use Rattle.order_breaches.specs.inner.Slots.{IsIndex};
+ghost use Rattle.axiom_checker.specs.inner.Passing.{HasMet};
 ghost use Rattle.axiom_checker.specs.inner.FirstBreach.{TellsFirstBreach};
 
-use crate::arrivals::{first_missing, first_stray};
-use crate::breach::Breach;
-use crate::index::index_of;
 use crate::passing::{Met, Programs, first_overtaking, pass};
-use crate::programs::{made_entries, reads_in_order};
-use crate::sources::own_writes;
+use order_breaches::Breach;
+use order_breaches::arrivals::{first_missing, first_stray};
+use order_breaches::index::index_of;
+use order_breaches::programs::{made_entries, reads_in_order};
+use order_breaches::sources::own_writes;
 use std::alloc::Global;
 use std::marker::Brand;
 use std::sync::ledger::{Blank, Ledger};
@@ -129,7 +127,7 @@ fn breach_of_all<L: Ledger>(
     slots: &[Option<usize>],
     order: &mut Watched<'_, L>,
 ) -> Result<Option<Breach>, NoMemory>
-    requires made { made.now ≡ execution_programentries.made test.now order.old.order }
+    requires made { made.now ≡ program_entries.made test.now order.old.order }
     requires index { IsIndex made.now slots.now }
     requires matched { IsMatched test.now order.old.order }
     requires test { IsTest test.now }

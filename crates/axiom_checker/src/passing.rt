@@ -5,18 +5,19 @@ ghost use Rattle.std.specs.Prelude.{◌≡◌, ◌+◌, ◌≤◌, ◌<◌, ℕ,
 ghost use Rattle.std.specs.Option.{unwrap_or};
 ghost use Rattle.tso_model.specs.ProgramOrder as program_order;
 ghost use Rattle.tso_model.specs.ProgramOrder.{IsStorePart};
-ghost use Rattle.axiom_checker.specs.First.{IsEarliest};
-ghost use Rattle.axiom_checker.specs.Entries.{IsExtra, IsWrongWrite};
-ghost use Rattle.axiom_checker.specs.AxiomBreaches.{Overtakes, IsLate};
-ghost use Rattle.axiom_checker.specs.inner.Slots.{IsIndex};
-ghost use Rattle.axiom_checker.specs.inner.Sources.{TellsSources};
+ghost use Rattle.order_breaches.specs.First.{IsEarliest};
+ghost use Rattle.order_breaches.specs.Entries.{IsExtra, IsWrongWrite};
+ghost use Rattle.order_breaches.specs.AxiomBreaches.{Overtakes, IsLate};
+ghost use Rattle.order_breaches.specs.inner.Slots.{IsIndex};
+ghost use Rattle.order_breaches.specs.inner.Sources.{TellsSources, IsDueFrom, due_from};
 ghost use Rattle.tso_model.specs.declared.execution.Kind.TheVariants.{LR};
-ghost use Rattle.axiom_checker.specs.inner.Progress as progress;
-ghost use Rattle.axiom_checker.specs.inner.Passing.{AreOfPrograms, HasMetFor, IsDueFrom, NamesWrongWrite, NamesWrongRead, due_from, first_of_two};
+ghost use Rattle.order_breaches.specs.inner.Progress as progress;
+ghost use Rattle.order_breaches.specs.inner.Matched.{AreOfPrograms};
+ghost use Rattle.axiom_checker.specs.inner.Passing.{HasMetFor, NamesWrongWrite, NamesWrongRead, first_of_two};
 
-use crate::entries::{is_read, is_store_part, is_write, must_stand_before, rank};
-use crate::progress::{is_late, reach, settle, write};
-use crate::sources::{program_value, source};
+use order_breaches::entries::{is_read, is_store_part, is_write, must_stand_before, rank};
+use order_breaches::progress::{is_late, reach, settle, write};
+use order_breaches::sources::{program_value, source};
 use std::sync::ledger::Ledger;
 use tso_model::{Entry, Kind, Watched};
 

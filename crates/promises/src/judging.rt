@@ -3,7 +3,7 @@
 
 ghost use Rattle.std.specs.Prelude.{◌≡◌, ◌≢◌, ◌+◌, ◌*◌, ◌<◌, ◌≤◌, IfErr, IsOkUnless, OnOk, length};
 ghost use Rattle.tso_model.specs.Axioms.{IsTsoExecution};
-ghost use Rattle.axiom_checker.specs.FirstBreach.{IsFirstBreach, IsJudged};
+ghost use Rattle.order_breaches.specs.FirstBreach.{IsFirstBreach, IsJudged};
 
 use axiom_checker::{Breach, check_counted, check_order};
 use std::alloc::Global;

@@ -1,7 +1,7 @@
 //! Which fault a text of an order has, and what a breach is, field by field.
 
 ghost use Rattle.std.specs.Prelude.{◌+◌, ◌<◌, ◌∷◌, ◌≡◌, ◌≢◌, List, length, true, ℕ};
-ghost use Rattle.axiom_checker.specs.AxiomBreaches.{IsWrongRead, Overtakes, due_at, must_stand_before};
+ghost use Rattle.order_breaches.specs.AxiomBreaches.{IsWrongRead, Overtakes, due_at, must_stand_before};
 ghost use Rattle.order_builder.specs.Spelling.{BeginsOrder, HasBadCount, HasBadLine, HasNoCount, IsNoEnd, IsNoEntry};
 ghost use Rattle.tso_model.specs.Litmus.{Litmus};
 ghost use Rattle.tso_model.specs.ProgramOrder.{is_read};

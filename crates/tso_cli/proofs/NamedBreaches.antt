@@ -5,9 +5,9 @@ use Rattle.tso_model.specs.Standing.{StandsIn}
 use Rattle.basic_laws.specs.Types.{Entry, Kind, R, W, F, LR, LW}
 use Rattle.tso_laws.specs.Entries.{FitsTest}
 use Rattle.order_builder.specs.PrintedOrder.{HasLocation, IsLocationFor}
-use Rattle.axiom_checker.specs.FirstBreach.{IsFirstBreach}
-use Rattle.axiom_checker.specs.declared.breach.Breach.{Breach}
-use Rattle.axiom_checker.specs.declared.breach.Breach.TheVariants.{Extra, Twice, Missing, WrongValue, ProgramOrder, NotAdjacent, ReadValue, NoMemory}
+use Rattle.order_breaches.specs.FirstBreach.{IsFirstBreach}
+use Rattle.order_breaches.specs.declared.breach.Breach.{Breach}
+use Rattle.order_breaches.specs.declared.breach.Breach.TheVariants.{Extra, Twice, Missing, WrongValue, ProgramOrder, NotAdjacent, ReadValue, NoMemory}
 use Rattle.tso_cli.specs.inner.CheckLines.{CanBeNamed}
 
 in-order : (t : Litmus) (order : List Entry) (at : ℕ) (x : Entry) → All (HasLocation t) order → slice_get order at ≡ Some x → HasLocation t x

@@ -76,8 +76,8 @@ pub use Rattle.tso_cli.specs.RunTexts.{report_in, unfinished_in}
 pub use Rattle.std.proofs.lemmas.Option.{slice_get-get_or, get_or_from_slice_get, slice_get_within}
 pub use Rattle.order_builder.specs.PrintedOrder.{HasWord, printed_order, HasLocation}
 pub use Rattle.order_builder.specs.declared.fault.OrderFault.{OrderFault}
-pub use Rattle.axiom_checker.specs.FirstBreach.{IsFirstBreach}
-pub use Rattle.axiom_checker.specs.declared.breach.Breach.{Breach}
+pub use Rattle.order_breaches.specs.FirstBreach.{IsFirstBreach}
+pub use Rattle.order_breaches.specs.declared.breach.Breach.{Breach}
 pub use Rattle.tso_io.specs.Limits.{longest_input}
 pub use Rattle.tso_model.specs.Registers.{AreRegisters, IsWord, index_of}
 pub use Rattle.tso_model.specs.ProgramEntries.{made_by, made_from, read_values}

@@ -12,9 +12,9 @@ pub use Rattle.refutation_laws.specs.declared.model.Model.{Model}
 pub use Rattle.reasons.specs.Reasons.{HasMoreCases, most_cases}
 pub use Rattle.litmus_reader.specs.Spelling.{SpellsTest}
 pub use Rattle.litmus_reader.specs.declared.fault.TextFault.{TextFault}
-pub use Rattle.axiom_checker.specs.FirstBreach.{IsFirstBreach}
-pub use Rattle.axiom_checker.specs.declared.breach.Breach.{Breach}
-pub use Rattle.axiom_checker.specs.declared.breach.Breach.TheVariants.{Extra, Missing, NoMemory, NotAdjacent, ProgramOrder, ReadValue, Twice, WrongValue}
+pub use Rattle.order_breaches.specs.FirstBreach.{IsFirstBreach}
+pub use Rattle.order_breaches.specs.declared.breach.Breach.{Breach}
+pub use Rattle.order_breaches.specs.declared.breach.Breach.TheVariants.{Extra, Missing, NoMemory, NotAdjacent, ProgramOrder, ReadValue, Twice, WrongValue}
 pub use Rattle.scheduler.specs.Grammar.{SpellsChoices}
 pub use Rattle.scheduler.specs.Plan.{most_seeds, Plan}
 pub use Rattle.scheduler.specs.Printed.{printed_choices}

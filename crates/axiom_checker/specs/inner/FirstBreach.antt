@@ -4,8 +4,8 @@ use Rattle.std.specs.Prelude.{List, Option, IfSome, IsNone}
 use Rattle.tso_model.specs.Litmus.{Litmus}
 use Rattle.tso_model.specs.Axioms.{IsTsoExecution}
 use Rattle.tso_model.specs.declared.execution.Entry.{Entry}
-use Rattle.axiom_checker.specs.declared.breach.Breach.{Breach}
-use Rattle.axiom_checker.specs.FirstBreach.{IsFirstBreach}
+use Rattle.order_breaches.specs.declared.breach.Breach.{Breach}
+use Rattle.order_breaches.specs.FirstBreach.{IsFirstBreach}
 
 -- it is the first breach of the order, or there is none and the order is a TSO execution
 pub record TellsFirstBreach (t : Litmus) (order : List Entry) (breach : Option Breach) : Type 0 where

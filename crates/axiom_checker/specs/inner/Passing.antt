@@ -1,38 +1,16 @@
 -- What the second pass over an order goes by: each action stands there once, so how far each core has come is enough to
 -- judge an entry.
-use Rattle.std.specs.Prelude.{ℕ, ◌<◌, ◌≡◌, ◌≢◌, nat_le, true, if◌then◌else◌, List, length, Option, Some, None, IfSome, IsNone, slice_get, slice_index}
+use Rattle.std.specs.Prelude.{ℕ, ◌≡◌, ◌≢◌, true, List, length, Option, Some, None, IfSome, IsNone}
 use Rattle.tso_model.specs.Litmus.{Litmus}
-use Rattle.tso_model.specs.ProgramOrder.{is_read, is_write}
-use Rattle.basic_laws.specs.Ranks.{rank}
+use Rattle.tso_model.specs.ProgramOrder.{is_read}
 use Rattle.tso_model.specs.declared.execution.Entry.{Entry}
 use Rattle.tso_model.specs.ProgramEntries.{made}
 use Rattle.tso_model.specs.Axioms.{IsWhole, KeepsProgramOrder}
-use Rattle.axiom_checker.specs.First.{NoneBefore, IsFirst, IsEarliest, IsNowhere}
-use Rattle.axiom_checker.specs.Entries.{IsExtra, IsStray, IsMissing, IsWrongWrite, written_value}
-use Rattle.axiom_checker.specs.AxiomBreaches.{IsLate, IsSeparated, IsWrongRead, due_at}
-use Rattle.axiom_checker.specs.inner.Sources.{IsSource}
+use Rattle.order_breaches.specs.First.{NoneBefore, IsFirst, IsEarliest}
+use Rattle.order_breaches.specs.Entries.{IsWrongWrite, written_value}
+use Rattle.order_breaches.specs.AxiomBreaches.{IsLate, IsSeparated, IsWrongRead, due_at}
+use Rattle.order_breaches.specs.inner.Sources.{IsDueFrom}
 use Rattle.axiom_checker.specs.declared.passing.Met.{Met}
-
--- each action of the programs stands in the order once, and nothing else does; values aside
-pub record IsMatched (t : Litmus) (order : List Entry) : Type 0 where
-  pub no_stray : IsNowhere order (IsStray (made t order) order)
-  pub no_missing : IsNowhere (made t order) (IsMissing order)
-
--- each entry of the order is one of those that the programs made, but for its value; there are so many cores and words
-pub record AreOfPrograms (made : List Entry) (cores words : ℕ) (order : List Entry) : Type 0 where
-  pub made_by_one : (k : ℕ) (x : Entry) → slice_get order k ≡ Some x → ¬ IsExtra made x
-  pub of_a_core : (k : ℕ) (x : Entry) → slice_get order k ≡ Some x → x.core.0 < cores
-  pub to_a_word : (k : ℕ) (x : Entry) → slice_get order k ≡ Some x → is_write x ≡ true → x.loc.0 < words
-
--- the value that is due to a read, given its source: the source's where its core hasn't come as far, else the word
-abbrev pub due_from : Option Entry → List ℕ → List ℕ → Entry → ℕ
-due_from None settled words x = slice_index words x.loc.0
-due_from (Some w) settled words x = if nat_le (slice_index settled x.core.0) (rank w) then w.value else slice_index words x.loc.0
-
--- the value is the one that is due to the read, by what its source is among the programs' entries
-abbrev pub IsDueFrom : List Entry → List ℕ → List ℕ → Entry → ℕ → Type 0
-IsDueFrom made settled words x value =
-    (source : Option Entry) × IsSource made x source × (value ≡ due_from source settled words x)
 
 -- the first of the two that is there
 abbrev pub first_of_two : {X : Type 0} → Option X → Option X → Option X

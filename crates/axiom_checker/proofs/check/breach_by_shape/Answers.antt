@@ -1,5 +1,5 @@
 use Rattle.axiom_checker.proofs.Vocabulary.{◌≤◌, IfOk, length, ap, sym, ◌∙◌, refl, subst, true≢false, made, made_reading, reads_of_all, IsIndex, IsMatched, TellsFirstBreach}
-use Rattle.axiom_checker.proofs.Judging.{alike-of, names-first-stray, names-first-missing, all-matched, all-read, made-index}
+use Rattle.order_breaches.proofs.Matching.{alike-of, names-first-stray, names-first-missing, all-matched, all-read, made-index}
 use Rattle.axiom_checker.proofs.check.breach_by_shape.Goals as goal
 
 pub returns-in-Some-clause-breach : goal.returns-in-Some-clause-breach

@@ -1,7 +1,8 @@
 use Rattle.axiom_checker.proofs.Vocabulary.{length, ap, sym, ◌∙◌, subst, Ascends, EntriesAreWithin, TellsSources}
-use Rattle.axiom_checker.proofs.Made.{made-ascends, made-within}
-use Rattle.axiom_checker.proofs.Judging.{of-programs, tells-met}
-use Rattle.axiom_checker.proofs.Coming.{zeros-are}
+use Rattle.order_breaches.proofs.Made.{made-ascends, made-within}
+use Rattle.order_breaches.proofs.Matching.{of-programs}
+use Rattle.axiom_checker.proofs.Judging.{tells-met}
+use Rattle.order_breaches.proofs.Coming.{zeros-are}
 use Rattle.axiom_checker.proofs.check.breach_of_all.Goals as goal
 
 pub own_writes-requires-clause-ascends : goal.own_writes-requires-clause-ascends

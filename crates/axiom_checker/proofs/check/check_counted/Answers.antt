@@ -1,5 +1,5 @@
 use Rattle.axiom_checker.proofs.Vocabulary.{subst, IfSome, IsFirstBreach}
-use Rattle.axiom_checker.proofs.Breaches.{breach-is-real}
+use Rattle.order_breaches.proofs.Breaches.{breach-is-real}
 use Rattle.axiom_checker.proofs.check.check_counted.Goals as goal
 
 pub returns-in-Some-clause-judged : goal.returns-in-Some-clause-judged

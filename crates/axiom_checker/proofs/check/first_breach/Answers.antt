@@ -1,5 +1,5 @@
 use Rattle.axiom_checker.proofs.Vocabulary.{length, arith, sym, ◌∙◌, subst, Ascends, EntriesAreWithin}
-use Rattle.axiom_checker.proofs.Made.{reads-few, reading-ascends, reading-within}
+use Rattle.order_breaches.proofs.Made.{reads-few, reading-ascends, reading-within}
 use Rattle.axiom_checker.proofs.check.first_breach.Goals as goal
 
 pub made_entries-requires : goal.made_entries-requires

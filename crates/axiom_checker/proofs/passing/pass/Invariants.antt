@@ -1,5 +1,5 @@
 use Rattle.axiom_checker.proofs.Vocabulary.{◌≡◌, ◌≤◌, ◌<◌, ◌+◌, Some, IfSome, length, slice_get, Litmus, made, HasMet}
-use Rattle.axiom_checker.proofs.Marking.{AreMarks, AreWords, of_core, past_loads}
+use Rattle.order_breaches.proofs.Marking.{AreMarks, AreWords, of_core, past_loads}
 use Rattle.axiom_checker.proofs.passing.pass.Given as goal
 
 -- one look each, and one ahead; how far the cores have come, the words, and what was met among the entries so far

@@ -1,5 +1,5 @@
 use Rattle.std.proofs.Common.{[], length, slice_index_or, ap, ◌∙◌}
-use Rattle.axiom_checker.proofs.Made.{reads-count}
+use Rattle.order_breaches.proofs.Made.{reads-count}
 use Rattle.execution_check.proofs.final_state.thread_of.Goals as goal
 
 pub thread_entries-requires-clause-reads : goal.thread_entries-requires-clause-reads

@@ -1,5 +1,5 @@
 use Rattle.tso_cli.proofs.Vocabulary.{◌≡◌, ◌≢◌, string_bytes, subst, sym, IsCheckAnswer, valid, valid_line, invalid_line, order_refusal, Good, Invalid, Refused}
-use Rattle.axiom_checker.specs.declared.breach.Breach.TheVariants as breaches
+use Rattle.order_breaches.specs.declared.breach.Breach.TheVariants as breaches
 use Rattle.order_builder.specs.declared.fault.OrderFault.TheVariants as faults
 use Rattle.tso_cli.proofs.AnswerLemmas.{refusal-is}
 use Rattle.tso_cli.proofs.NamedBreaches.{named}

@@ -1,5 +1,5 @@
 use Rattle.tso_cli.proofs.Vocabulary.{◌≢◌, order_refusal, invalid_line, IsWitness, IsWitnessAnswer, Refused, Invalid, invalid, judged}
-use Rattle.axiom_checker.specs.declared.breach.Breach.TheVariants as breaches
+use Rattle.order_breaches.specs.declared.breach.Breach.TheVariants as breaches
 use Rattle.order_builder.specs.declared.fault.OrderFault.TheVariants as faults
 use Rattle.tso_cli.specs.Witness.{refused}
 use Rattle.tso_cli.proofs.AnswerLemmas.{answer-means, refusal-is}

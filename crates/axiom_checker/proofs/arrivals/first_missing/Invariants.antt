@@ -1,5 +1,0 @@
-use Rattle.axiom_checker.proofs.Vocabulary.{HasNotCome, NoneBefore}
-use Rattle.axiom_checker.proofs.arrivals.first_missing.Given as goal
-
-abbrev pub invariant-loop-i : goal.invariant-loop-i
-invariant-loop-i l = NoneBefore l.shape (HasNotCome l.came) l.i

@@ -1,0 +1,18 @@
+//! What breaks the axioms in an order of memory actions, which breach is the first, and what one needs to find it: where an
+//! entry stands among those of the programs, whether it came, which write its program has before it, and how far its core
+//! has come.
+//!
+//! What a breach is and which one is the first stands in `specs/`, as facts about orders. Nothing here goes over an order
+//! but for what is missing, extra or there twice: `axiom_checker` judges.
+#![tactic(auto)]
+
+pub mod arrivals;
+pub mod breach;
+pub mod entries;
+pub mod first_breaches;
+pub mod index;
+pub mod programs;
+pub mod progress;
+pub mod sources;
+
+pub use breach::Breach;
