@@ -1,3 +1,1 @@
 pub mod Vocabulary
-pub mod Meeting
-pub mod Judging

@@ -1,4 +1,3 @@
-pub mod inner
 pub use Rattle.tso_model.specs.Litmus
 pub use Rattle.tso_model.specs.ProgramEntries
 pub use Rattle.tso_model.specs.Axioms

@@ -8,13 +8,14 @@ ghost use Rattle.order_breaches.specs.FirstBreach.{IsFirstBreach, IsJudged};
 ghost use Rattle.order_breaches.specs.inner.Matched.{IsMatched};
 ghost use Rattle.order_breaches.specs.inner.Programs.{made_reading, kept_in};
 ghost use Rattle.order_breaches.specs.inner.Slots.{IsIndex};
-ghost use Rattle.axiom_checker.specs.inner.Passing.{HasMet};
-ghost use Rattle.axiom_checker.specs.inner.FirstBreach.{TellsFirstBreach};
+ghost use Rattle.order_breaches.specs.inner.FirstBreach.{TellsFirstBreach};
 
-use crate::passing::{Met, Programs, first_overtaking, pass};
+use crate::passing::pass;
 use order_breaches::Breach;
 use order_breaches::arrivals::{first_missing, first_stray};
+use order_breaches::entry_breaches::Programs;
 use order_breaches::index::index_of;
+use order_breaches::met::first_met;
 use order_breaches::programs::{made_entries, reads_in_order};
 use order_breaches::sources::own_writes;
 use std::alloc::Global;
@@ -146,32 +147,4 @@ fn breach_of_all<L: Ledger>(
     let mut words = Vec::from_slice(alloc, test.initial_words())?;
     let met = pass(programs, &mut reached, &mut settled, &mut words, order);
     Ok(first_met(met, order))
-}
-
-/// The first of the axioms' order among what was met.
-fn first_met<L: Ledger>(met: Met, order: &mut Watched<'_, L>) -> Option<Breach>
-    requires { IfSome met.late (λ a. a.0 < length order.old.order) }
-    ensures found { (t : Litmus) → IsMatched t order.old.order → HasMet t order.old.order (length order.old.order) met
-        → IfSome result (IsFirstBreach t order.old.order) }
-    ensures none { (t : Litmus) → IsMatched t order.old.order → HasMet t order.old.order (length order.old.order) met
-        → IsNone result → IsTsoExecution t order.old.order }
-    ensures same { order.new.order ≡ order.old.order }
-    ensures looks { order.new.looks ≤ order.old.looks + length order.old.order }
-{
-    if let Some((x, due)) = met.wrong_write {
-        return Some(Breach::WrongValue(x, due));
-    }
-    if let Some((at, a)) = met.late {
-        return match first_overtaking(order, at, &a) {
-            Some(b) => Some(Breach::ProgramOrder(a, b)),
-            None => None,
-        };
-    }
-    if let Some(x) = met.separated {
-        return Some(Breach::NotAdjacent(x));
-    }
-    match met.wrong_read {
-        Some((x, due)) => Some(Breach::ReadValue(x, due)),
-        None => None,
-    }
 }

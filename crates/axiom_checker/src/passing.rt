@@ -1,49 +1,22 @@
 //! The pass over a whole order that looks for breaches of the axioms. A read is judged by the last write before it in
 //! memory order or in its own program, which may come later in memory order: to look at what is before it in the order
 //! alone is wrong. (Primer, chapter 4.)
-ghost use Rattle.std.specs.Prelude.{◌≡◌, ◌+◌, ◌≤◌, ◌<◌, ℕ, true, length, slice_get, slice_index, Some, None, if◌then◌else◌, IfSome, IsNone};
+ghost use Rattle.std.specs.Prelude.{◌≡◌, ◌+◌, ◌≤◌, ◌<◌, ℕ, true, length, slice_get, slice_index, IfSome, IsNone};
 ghost use Rattle.std.specs.Option.{unwrap_or};
 ghost use Rattle.tso_model.specs.ProgramOrder as program_order;
-ghost use Rattle.tso_model.specs.ProgramOrder.{IsStorePart};
-ghost use Rattle.order_breaches.specs.First.{IsEarliest};
-ghost use Rattle.order_breaches.specs.Entries.{IsExtra, IsWrongWrite};
-ghost use Rattle.order_breaches.specs.AxiomBreaches.{Overtakes, IsLate};
+ghost use Rattle.order_breaches.specs.Entries.{IsExtra};
 ghost use Rattle.order_breaches.specs.inner.Slots.{IsIndex};
 ghost use Rattle.order_breaches.specs.inner.Sources.{TellsSources, IsDueFrom, due_from};
-ghost use Rattle.tso_model.specs.declared.execution.Kind.TheVariants.{LR};
-ghost use Rattle.order_breaches.specs.inner.Progress as progress;
 ghost use Rattle.order_breaches.specs.inner.Matched.{AreOfPrograms};
-ghost use Rattle.axiom_checker.specs.inner.Passing.{HasMetFor, NamesWrongWrite, NamesWrongRead, first_of_two};
+ghost use Rattle.order_breaches.specs.inner.Passing.{HasMetFor, NamesWrongRead};
 
-use order_breaches::entries::{is_read, is_store_part, is_write, must_stand_before, rank};
-use order_breaches::progress::{is_late, reach, settle, write};
-use order_breaches::sources::{program_value, source};
+use order_breaches::entries::{is_read, rank};
+use order_breaches::entry_breaches::{Programs, late, separated, wrong_write};
+use order_breaches::met::{Met, first};
+use order_breaches::progress::{reach, settle, write};
+use order_breaches::sources::source;
 use std::sync::ledger::Ledger;
-use tso_model::{Entry, Kind, Watched};
-
-/// What the programs make, with the tables that go with it.
-#[derive(Clone, Copy)]
-pub struct Programs<'a> {
-    /// The entries with the order's own read values, core by core and in program order.
-    pub made: &'a [Entry],
-    /// Where the entry of each slot stands among them.
-    pub slots: &'a [Option<usize>],
-    /// For each of them the last write to its location that its own program has before it.
-    pub sources: &'a [Option<Entry>],
-}
-
-/// The first of each kind of breach that the second pass met.
-#[derive(Clone, Copy)]
-pub struct Met {
-    /// A write of another value than its program's, and that value.
-    pub wrong_write: Option<(Entry, u32)>,
-    /// An entry that came too late, and its place in the order.
-    pub late: Option<(usize, Entry)>,
-    /// A load part that isn't followed at once by its store part.
-    pub separated: Option<Entry>,
-    /// A read of another value than is due, and that value.
-    pub wrong_read: Option<(Entry, u32)>,
-}
+use tso_model::{Entry, Watched};
 
 /// Goes over an order that holds each action of the programs once, and notes the first wrong value
 /// of a write, late entry, separated pair and wrong read that it meets. A wrong read is one only where
@@ -91,16 +64,6 @@ pub fn pass<L: Ledger>(
     met
 }
 
-/// The first of the two that is there.
-fn first<T: Copy>(earlier: Option<T>, later: Option<T>) -> Option<T>
-    ensures { result ≡ first_of_two earlier later }
-{
-    match earlier {
-        Some(_) => earlier,
-        None => later,
-    }
-}
-
 /// The entry after this place, or x, the one at this place, where it is the last.
 fn entry_after<L: Ledger>(order: &mut Watched<'_, L>, at: usize, x: Entry) -> Entry
     requires { at < length order.old.order }
@@ -113,47 +76,6 @@ fn entry_after<L: Ledger>(order: &mut Watched<'_, L>, at: usize, x: Entry) -> En
         order.look(at + 1)
     } else {
         x
-    }
-}
-
-/// A write with the value that its program gives it, where that is another.
-fn wrong_write(programs: Programs<'_>, x: &Entry) -> Option<(Entry, u32)>
-    requires { IsIndex programs.made.now programs.slots.now }
-    ensures found { ¬ IsExtra programs.entry.made.now x.now → IfSome result (NamesWrongWrite programs.entry.made.now x.now) }
-    ensures none { ¬ IsExtra programs.entry.made.now x.now → IsNone result → ¬ IsWrongWrite programs.entry.made.now 0 x.now }
-{
-    if !is_write(x) {
-        return None;
-    }
-    let due = program_value(programs.made, programs.slots, x);
-    if x.value == due {
-        return None;
-    }
-    Some((*x, due))
-}
-
-/// The entry with its place, where it comes late.
-fn late(reached: &[u32], settled: &[u32], at: usize, x: &Entry) -> Option<(usize, Entry)>
-    requires reached { x.now.core.0 < length reached.now }
-    requires settled { x.now.core.0 < length settled.now }
-    ensures { result ≡ (if progress.is_late reached.now settled.now x.now then Some (at, x.now) else None) }
-{
-    if is_late(reached, settled, x) {
-        Some((at, *x))
-    } else {
-        None
-    }
-}
-
-/// The entry where it is a load part and the next one isn't its store part.
-fn separated(x: &Entry, next: &Entry) -> Option<Entry>
-    ensures found { IfSome result (λ p. (p ≡ x.now) × (x.now.kind ≡ LR) × ¬ IsStorePart x.now next.now) }
-    ensures none { IsNone result → x.now.kind ≡ LR → IsStorePart x.now next.now }
-{
-    if x.kind == Kind::LR && !is_store_part(x, next) {
-        Some(*x)
-    } else {
-        None
     }
 }
 
@@ -196,25 +118,4 @@ fn mark_at(marks: &[u32], at: usize) -> u32
     ensures { result ≡ slice_index marks.now at }
 {
     if at < marks.len() { marks[at] } else { 0 }
-}
-
-/// The earliest entry before this place which its program has after a, and which may not pass it.
-pub fn first_overtaking<L: Ledger>(
-    order: &mut Watched<'_, L>,
-    at: usize,
-    a: &Entry,
-) -> Option<Entry>
-    requires { at ≤ length order.old.order }
-    ensures found { IfSome result (λ b. IsEarliest order.old.order (Overtakes at a.now) b) }
-    ensures none { IsNone result → ¬ IsLate order.old.order at a.now }
-    ensures same { order.new.order ≡ order.old.order }
-    ensures looks { order.new.looks ≤ order.old.looks + at }
-{
-    for j in 0..at {
-        let b = order.look(j);
-        if must_stand_before(a, &b) {
-            return Some(b);
-        }
-    }
-    None
 }

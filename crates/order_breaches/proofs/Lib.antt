@@ -19,3 +19,5 @@ pub mod Following
 pub mod Making
 pub mod Matching
 pub mod Looks
+pub mod Meeting
+pub mod Judging

@@ -1,5 +1,5 @@
 -- The names that the proofs of this crate bring in from definitions and from crates below; each file takes its own from here.
-pub use Rattle.std.proofs.Common.{◌≡◌, ◌<◌, ◌≤◌, ℕ, ◌+◌, suc, zero, List, length, Some, slice_get, Bool, true, false, arith, ap, sym, ◌∙◌, ◌⊎◌, inl, inr, subst, [], ◌∷◌, ◌++◌, filter, refl, cond, ◌==◌, ◌&&◌, ◌||◌, if◌then◌else◌, slice_index, slice_index_or, length-append, Option, None, take, drop, not, ◌≢◌, ◌*◌, IfSome, All, map, slice_set, replicate, max, nat_lt, get_or, append_assoc, append-nil}
+pub use Rattle.std.proofs.Common.{◌≡◌, ◌<◌, ◌≤◌, ℕ, ◌+◌, suc, zero, List, length, Some, slice_get, Bool, true, false, arith, ap, sym, ◌∙◌, ◌⊎◌, inl, inr, subst, [], ◌∷◌, ◌++◌, filter, refl, cond, ◌==◌, ◌&&◌, ◌||◌, if◌then◌else◌, slice_index, slice_index_or, length-append, Option, None, take, drop, not, ◌≢◌, ◌*◌, IfSome, All, map, slice_set, replicate, max, nat_lt, get_or, append_assoc, append-nil, IsNone}
 pub use Rattle.std.proofs.lemmas.Bool.{cases_Bool, cases_lt, false_from_ne_true, cases_order, eq-eqb, eqb-true, and_parts, cases_eq, and_from, not_from_false, not-true, ne_eqb, and_left, and_right, not_from_true, lt-ltb, ltb-true, ltb-false, eqb-false}
 pub use Rattle.std.proofs.lemmas.Option.{slice_get_within, slice_get_cases, slice_get-get_or, get_or_from_slice_get}
 pub use Rattle.basic_laws.specs.Types.{Entry, Kind, R, W, F, LR, LW, Instr, Action}
@@ -25,6 +25,9 @@ pub use Rattle.order_breaches.specs.inner.Slots.{Precedes, Ascends, IsEntryWithi
 pub use Rattle.std.proofs.lemmas.List.{map-append, get_or-set_same, get_or-set_other, take_more, get_or_push, get_or_append_left, at_drop_more, at_drop_all, length-set}
 pub use Rattle.std.specs.Option.{is_some, unwrap_or}
 pub use Rattle.order_breaches.specs.inner.Progress.{reached, reached_but_for_loads, words_with, is_late}
-pub use Rattle.order_breaches.specs.inner.Sources.{own_write, noted_write, IsSource, IsLastOwn, due_from}
+pub use Rattle.order_breaches.specs.inner.Sources.{own_write, noted_write, IsSource, IsLastOwn, due_from, IsDueFrom}
 pub use Rattle.std.proofs.lemmas.Bool.Decides.{leb_tells}
 pub use Rattle.order_breaches.specs.inner.Matched.{IsMatched, AreOfPrograms}
+pub use Rattle.order_breaches.specs.inner.Passing.{IsFound, HasMet, IsFirstWrongWrite, IsFirstWrongRead, NamesWrongWrite, NamesWrongRead, first_of_two}
+pub use Rattle.order_breaches.specs.declared.met.Met.{Met}
+pub use Rattle.order_breaches.specs.inner.FirstBreach.{TellsFirstBreach}

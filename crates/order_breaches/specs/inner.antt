@@ -1,5 +1,7 @@
 -- Words of contracts inside the project.
+pub mod FirstBreach
 pub mod Matched
+pub mod Passing
 pub mod Programs
 pub mod Progress
 pub mod Slots

@@ -2,15 +2,17 @@
 //! entry stands among those of the programs, whether it came, which write its program has before it, and how far its core
 //! has come.
 //!
-//! What a breach is and which one is the first stands in `specs/`, as facts about orders. Nothing here goes over an order
-//! but for what is missing, extra or there twice: `axiom_checker` judges.
+//! What a breach is and which one is the first stands in `specs/`, as facts about orders. Here single entries are judged, by
+//! tables; `axiom_checker` goes over the order with these.
 #![tactic(auto)]
 
 pub mod arrivals;
 pub mod breach;
 pub mod entries;
+pub mod entry_breaches;
 pub mod first_breaches;
 pub mod index;
+pub mod met;
 pub mod programs;
 pub mod progress;
 pub mod sources;

@@ -1,7 +1,7 @@
 use Rattle.axiom_checker.proofs.Vocabulary.{length, ap, sym, ◌∙◌, subst, Ascends, EntriesAreWithin, TellsSources}
 use Rattle.order_breaches.proofs.Made.{made-ascends, made-within}
 use Rattle.order_breaches.proofs.Matching.{of-programs}
-use Rattle.axiom_checker.proofs.Judging.{tells-met}
+use Rattle.order_breaches.proofs.Judging.{tells-met}
 use Rattle.order_breaches.proofs.Coming.{zeros-are}
 use Rattle.axiom_checker.proofs.check.breach_of_all.Goals as goal
 

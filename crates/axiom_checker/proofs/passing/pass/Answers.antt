@@ -1,6 +1,6 @@
 use Rattle.axiom_checker.proofs.Vocabulary.{None, ◌<◌, length, slice_get, ap, sym, ◌∙◌, arith, subst, refl, ◌+◌, length-set, unwrap_or, HasMet}
 use Rattle.order_breaches.proofs.Marking.{AreMarks, AreWords, of_core, past_loads, marks-none, all-reached, all-settled, words-written}
-use Rattle.axiom_checker.proofs.Meeting.{met-more, nothing-met, late-within, ahead, no-more-looks, core-within, word-within}
+use Rattle.order_breaches.proofs.Meeting.{met-more, nothing-met, late-within, ahead, no-more-looks, core-within, word-within}
 use Rattle.order_breaches.proofs.Looks.{end-is}
 use Rattle.axiom_checker.proofs.passing.pass.Goals as goal
 

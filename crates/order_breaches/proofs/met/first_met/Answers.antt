@@ -1,5 +1,5 @@
-use Rattle.axiom_checker.proofs.Judging.{names-met-late, late-has-one, names-met-separated, names-met-read, names-met-none}
-use Rattle.axiom_checker.proofs.check.first_met.Goals as goal
+use Rattle.order_breaches.proofs.Judging.{names-met-late, late-has-one, names-met-separated, names-met-read, names-met-none}
+use Rattle.order_breaches.proofs.met.first_met.Goals as goal
 
 pub returns-in-None-clause-none : goal.returns-in-None-clause-none
 returns-in-None-clause-none g c t matched met _ =

@@ -10,7 +10,7 @@ use Rattle.order_breaches.specs.First.{NoneBefore, IsFirst, IsEarliest}
 use Rattle.order_breaches.specs.Entries.{IsWrongWrite, written_value}
 use Rattle.order_breaches.specs.AxiomBreaches.{IsLate, IsSeparated, IsWrongRead, due_at}
 use Rattle.order_breaches.specs.inner.Sources.{IsDueFrom}
-use Rattle.axiom_checker.specs.declared.passing.Met.{Met}
+use Rattle.order_breaches.specs.declared.met.Met.{Met}
 
 -- the first of the two that is there
 abbrev pub first_of_two : {X : Type 0} → Option X → Option X → Option X

@@ -1,5 +1,5 @@
 -- What the second pass has met among the entries so far.
-use Rattle.axiom_checker.proofs.Vocabulary.{◌≡◌, ◌≢◌, ◌<◌, ◌≤◌, ℕ, ◌+◌, suc, List, length, Option, Some, None, IfSome, IsNone, if◌then◌else◌, slice_get, slice_index, take, filter, Bool, true, false, arith, ap, sym, ◌∙◌, inl, inr, subst, refl, unwrap_or, slice_get-get_or, leb_tells, Litmus, is_read, is_write, writes_to, made, last_value, IsStorePart, Entry, LR, LW, NoneBefore, IsFirst, IsEarliest, IsWrongWrite, written_value, IsLate, IsSeparated, IsWrongRead, due_at, is_late, IsSource, IsFound, HasMet, IsFirstWrongWrite, IsFirstWrongRead, NamesWrongWrite, NamesWrongRead, IsDueFrom, AreOfPrograms, first_of_two, due_from, Met}
+use Rattle.order_breaches.proofs.Vocabulary.{◌≡◌, ◌≢◌, ◌<◌, ◌≤◌, ℕ, ◌+◌, suc, List, length, Option, Some, None, IfSome, IsNone, if◌then◌else◌, slice_get, slice_index, take, filter, Bool, true, false, arith, ap, sym, ◌∙◌, inl, inr, subst, refl, unwrap_or, slice_get-get_or, leb_tells, Litmus, is_read, is_write, writes_to, made, last_value, IsStorePart, Entry, LR, LW, NoneBefore, IsFirst, IsEarliest, IsWrongWrite, written_value, IsLate, IsSeparated, IsWrongRead, due_at, is_late, IsSource, IsFound, HasMet, IsFirstWrongWrite, IsFirstWrongRead, NamesWrongWrite, NamesWrongRead, IsDueFrom, AreOfPrograms, first_of_two, due_from, Met}
 use Rattle.order_breaches.proofs.Marking.{AreMarks, AreWords, of_core, past_loads, late-tells}
 use Rattle.order_breaches.proofs.Following.{due-right}
 use Rattle.order_breaches.proofs.Firsts.{one_more, none_in_nothing, same_or_below}

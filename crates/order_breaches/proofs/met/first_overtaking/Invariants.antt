@@ -1,5 +1,5 @@
-use Rattle.axiom_checker.proofs.Vocabulary.{◌≡◌, ◌≤◌, ◌<◌, ◌+◌, ℕ, Some, false, slice_get, Entry, must_stand_before}
-use Rattle.axiom_checker.proofs.passing.first_overtaking.Given as goal
+use Rattle.order_breaches.proofs.Vocabulary.{◌≡◌, ◌≤◌, ◌<◌, ◌+◌, ℕ, Some, false, slice_get, Entry, must_stand_before}
+use Rattle.order_breaches.proofs.met.first_overtaking.Given as goal
 
 -- one look each, and none of the entries so far overtook
 abbrev pub invariant-loop-j : goal.invariant-loop-j

@@ -1,6 +1,6 @@
-use Rattle.axiom_checker.proofs.Vocabulary.{slice_get, ap, sym, ◌∙◌, arith, must_stand_before}
-use Rattle.axiom_checker.proofs.Meeting.{one-more-fails}
-use Rattle.axiom_checker.proofs.passing.first_overtaking.Goals as goal
+use Rattle.order_breaches.proofs.Vocabulary.{slice_get, ap, sym, ◌∙◌, arith, must_stand_before}
+use Rattle.order_breaches.proofs.Meeting.{one-more-fails}
+use Rattle.order_breaches.proofs.met.first_overtaking.Goals as goal
 
 pub loop-j-preserved : goal.loop-j-preserved
 loop-j-preserved g c =

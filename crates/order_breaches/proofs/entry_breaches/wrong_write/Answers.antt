@@ -1,5 +1,5 @@
-use Rattle.axiom_checker.proofs.Vocabulary.{sym, ◌∙◌, refl}
-use Rattle.axiom_checker.proofs.passing.wrong_write.Goals as goal
+use Rattle.order_breaches.proofs.Vocabulary.{sym, ◌∙◌, refl}
+use Rattle.order_breaches.proofs.entry_breaches.wrong_write.Goals as goal
 
 pub returns-clause-found : goal.returns-clause-found
 returns-clause-found c ours = (

@@ -1,5 +1,5 @@
 -- The breach that is named of what the passes met is the first.
-use Rattle.axiom_checker.proofs.Vocabulary.{◌≡◌, ℕ, List, length, Option, Some, None, IfSome, IsNone, refl, sym, subst, arith, Litmus, made, IsTsoExecution, IsWhole, Entry, IsFirst, IsEarliest, IsNowhere, IsWrongWrite, Overtakes, IsLate, IsSeparated, IsWrongRead, IsMatched, HasMet, IsFirstWrongRead, IsFirstBreach, TellsFirstBreach, Met, Breach, ProgramOrder, NotAdjacent, ReadValue}
+use Rattle.order_breaches.proofs.Vocabulary.{◌≡◌, ℕ, List, length, Option, Some, None, IfSome, IsNone, refl, sym, subst, arith, Litmus, made, IsTsoExecution, IsWhole, Entry, IsFirst, IsEarliest, IsNowhere, IsWrongWrite, Overtakes, IsLate, IsSeparated, IsWrongRead, IsMatched, HasMet, IsFirstWrongRead, IsFirstBreach, TellsFirstBreach, Met, Breach, ProgramOrder, NotAdjacent, ReadValue}
 use Rattle.order_breaches.proofs.Firsts.{none_at_all}
 use Rattle.order_breaches.proofs.Whole.{whole-from}
 use Rattle.order_breaches.proofs.Keeps.{keeps-order, keeps-pairs, has-values}

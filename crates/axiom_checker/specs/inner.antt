@@ -1,3 +1,0 @@
--- Words of contracts inside the project.
-pub mod FirstBreach
-pub mod Passing
