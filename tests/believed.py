@@ -285,7 +285,7 @@ def topic(module):
         return "grammar and refusals of tests"
     if crate in ("scheduler", "witnesses", "order_builder", "commit_order", "decimals"):
         return "choices and orders as texts"
-    if crate in ("snoop_bus", "cache_set", "machine_core", "protocol_tables"):
+    if crate in ("snoop_bus", "cache_set", "multiprocessor", "machine_core", "protocol_tables"):
         return "caches"
     if crate in ("tso_cli", "simulator", "sweeper", "tso_io", "command_line", "page_exports"):
         return "commands"

@@ -1,7 +1,7 @@
 //! Calls that do nothing: what they ensure is known from the call on. Here it is that settings are within their limits,
 //! once they are made.
 
-ghost use Rattle.machine_core.specs.Configuration.{IsConfigurationWithinLimits};
+ghost use Rattle.multiprocessor.specs.Configuration.{IsConfigurationWithinLimits};
 ghost use Rattle.command_line.specs.Explanation.{IsExplanationWithinLimits};
 ghost use Rattle.scheduler.specs.Plan.{IsPlanWithinLimits};
 ghost use Rattle.command_line.specs.Search.{IsSearchWithinLimits};

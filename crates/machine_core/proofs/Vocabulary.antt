@@ -1,68 +1,59 @@
 -- The names that the proofs of this crate bring in from definitions and from crates below; each file takes its own from here.
-pub use Rattle.std.proofs.Common.{◌≡◌, ◌<◌, ◌≤◌, ◌+◌, ℕ, zero, suc, nat_lt, Bor, List, [], ◌∷◌, length, Option, None, Some, is_some, IfSome, option_copied, slice_get, slice_index_or, refl, sym, ap, ◌∙◌, arith, map, slice_set, subst, ◌||◌, ◌==◌, Bool, true, false, if◌then◌else◌, filter, ◌++◌, drop, append-nil, IsTrue, Result, ◌≢◌, Ok, Err, IfOk, OnOk, OnErr, inr, inl, All, ◌-◌, ◌⊎◌, length-append, length-set, replicate, slice_index, ◌*◌, take, ◌&&◌, unwrap_or, drop-cons, add-one, append_assoc, not, IsOk, rules}
-pub use Rattle.std.proofs.lemmas.Bool.{cases_Bool}
-pub use Rattle.std.proofs.lemmas.Bool.Decides.{nat_tests}
-pub use Rattle.std.proofs.lemmas.Option.{slice_get_past, slice_get_read, slice_get_within}
-pub use Rattle.machine_core.specs.declared.processor.Processor.{Processor}
-pub use Rattle.machine_core.specs.Cores.{core_state, core_states, store_of, state_of_cores, AreKnown}
-pub use Rattle.std.specs.Option.{option_map, IsSome}
-pub use Rattle.std.specs.List.{last_or, list_any, sum_by}
-pub use Rattle.tso_model.specs.ProgramOrder.{writes_to, same_kind}
-pub use Rattle.tso_model.specs.FlatMachine.{CoreState, Effect, stalled, memory_after, stored, State, after_choice, chosen, core_of, idle, effect_by, step_of, effect_of, program_of, advanced_with, started, is_none_pending, start, drain_of}
-pub use Rattle.basic_laws.specs.Types.{Reg, Loc, Update, Entry, Core, Outcome, Committed, Stalled, Buffered, Moved, W, R, F, LR, LW, NoMemory, Split, Atomic, Choice, Bus, Instr, Action, Step, Drain, Kind}
-pub use Rattle.store_buffer.specs.declared.Pending.{Pending}
-pub use Rattle.store_buffer.specs.inner.Newest.{newest_for}
-pub use Rattle.snoop_bus.specs.declared.access.Access.{Access}
-pub use Rattle.snoop_bus.specs.Bus.{BusModel, words_of, IsSameMachine, cores_of, holder_of, IsFree}
-pub use Rattle.snoop_bus.specs.Accesses.{LoadsAt, WritesAt, AsksFor, CompletesAt, awaited_of, contents_of, IsCurrentWord, new_bus}
-pub use Rattle.machine_core.specs.declared.accesses.CacheUse.{CacheUse}
-pub use Rattle.machine_core.specs.declared.accesses.CacheUse.TheVariants.{Unused, Forwarded, Through}
-pub use Rattle.machine_core.specs.inner.Cores.{pending_in, effect_of_lock, effect_of_drain, effect_of_store, action_by, both_parts, at_next, word_on_bus, own_access, step_by, effect_of_fence, at_start, buffered_entries}
-pub use Rattle.machine_core.specs.Caches.{Caches, caches_of, not_through, load_after, use_of, Used, at_access, ask_by, hits_by, is_awaited, used_between, completing_by, completion_by, use_by_kind, use_with, attempt_of, whole_by, asking_by}
-pub use Rattle.machine_core.specs.Effects.{HasUsed, ChoiceAnswer, HasEffect}
-pub use Rattle.basic_laws.proofs.WithPending.{drain_with, fenced_with, locked_with}
-pub use Rattle.tso_model.specs.MemoryAccess.{MemoryAccess, NoAccess, Writes, drain_access, store_access, Reads, load_access, locked_access, Locks, access_of, access_by, step_access}
-pub use Rattle.commit_order.specs.inner.Noted.{Noted}
-pub use Rattle.machine_core.specs.declared.turn.Way.{Way}
-pub use Rattle.machine_core.specs.declared.turn.Way.TheVariants.{Whole, Asked}
-pub use Rattle.machine_core.specs.declared.turn.Turn.{Turn}
-pub use Rattle.machine_core.specs.inner.Effects.{MayMakeBy, MayMake, MayAccess, MayAct, attempt_in, flat_effect_in, MayMakeIn, effect_in}
-pub use Rattle.machine_core.specs.inner.Turns.{HasAsked, by_way, whole}
-pub use Rattle.machine_core.specs.inner.OneCore.{HasActed, Waits, IsMade, IsStored, Acts, SucceedsUnlessCommitting, Notes, AreUnchanged}
-pub use Rattle.tso_model.specs.Thread.{entry, value_in, with_value, value_of, updated}
-pub use Rattle.std.proofs.lemmas.List.{set-get_or, length-map, length-replicate, with_items_is}
-pub use Rattle.tso_model.specs.Litmus.{Litmus, IsTest, KnownLocation}
-pub use Rattle.tso_model.specs.SplitMachine.{Holder, Free, HeldBy, HeldBetween, Attempt, BusEffect, acts, asks, needs_bus, same_choice, begins, completes, writes_last, as_read, split_effect, reads_first, after_first}
+pub use Rattle.std.proofs.Common.{◌≡◌, ◌<◌, ◌≤◌, ◌+◌, ℕ, zero, suc, nat_lt, Bor, List, [], ◌∷◌, length, Option, None, Some, is_some, IfSome, option_copied, slice_get, slice_index_or, refl, sym, ap, ◌∙◌, arith, map, slice_set, subst, ◌==◌, Bool, true, false, if◌then◌else◌, filter, ◌++◌, append-nil, IsTrue, Result, ◌≢◌, Ok, Err, IfOk, OnOk, OnErr, inr, inl, All, ◌-◌, ◌⊎◌, length-set, replicate, take, ◌&&◌, not, IsOk, rules, ◌↔◌, ◌/◌, ◌%◌, nat_eq, get_or-set_same, get_or-set_other}
+pub use Rattle.std.proofs.lemmas.Bool.{cases_Bool, eq-eqb}
+pub use Rattle.std.proofs.lemmas.Bool.Decides.{nat_tests, eqb_tells}
+pub use Rattle.std.proofs.lemmas.Option.{slice_get_past, slice_get_read}
+pub use Rattle.multiprocessor.specs.declared.processor.Processor.{Processor}
+pub use Rattle.multiprocessor.specs.Cores.{core_state, core_states}
+pub use Rattle.std.specs.Option.{option_map}
+pub use Rattle.tso_model.specs.ProgramOrder.{same_kind}
+pub use Rattle.tso_model.specs.FlatMachine.{chosen, core_of, start}
+pub use Rattle.basic_laws.specs.Types.{Reg, Loc, Entry, Committed, Stalled, W, LR, NoMemory, Choice, Bus, Instr, Action, Step, Drain, Kind}
+pub use Rattle.snoop_bus.specs.Bus.{BusModel, words_of, holder_of, IsFree, AllCoherent, counted_copies}
+pub use Rattle.snoop_bus.specs.Accesses.{AsksFor, CompletesAt, awaited_of, contents_of, memory_of, would_hit, line_of_location}
+pub use Rattle.multiprocessor.specs.inner.Cores.{at_start}
+pub use Rattle.multiprocessor.specs.Caches.{Caches, not_through, load_after, use_of, Used, at_access, hits_by, is_awaited, used_between, attempt_of, whole_by}
+pub use Rattle.multiprocessor.specs.Effects.{ChoiceAnswer, HasEffect}
+pub use Rattle.tso_model.specs.MemoryAccess.{MemoryAccess, NoAccess, drain_access, store_access, load_access, locked_access, access_of, access_by, step_access, next_of}
+pub use Rattle.multiprocessor.specs.inner.Effects.{attempt_in, effect_in}
+pub use Rattle.multiprocessor.specs.inner.OneCore.{SucceedsUnlessCommitting}
+pub use Rattle.std.proofs.lemmas.List.{length-map, with_items_is, get_or_past}
+pub use Rattle.tso_model.specs.Litmus.{Litmus}
+pub use Rattle.tso_model.specs.SplitMachine.{Free, Attempt}
 pub use Rattle.tso_model.specs.EitherBus.{BusState, HitFits, effect_on, unheld, after_on}
-pub use Rattle.split_laws.specs.Holders.{HolderFits, HasRead}
 pub use Rattle.snoop_bus.specs.declared.holding.Stage.TheVariants.{Locked}
-pub use Rattle.machine_core.specs.declared.accesses.Next.{Next}
-pub use Rattle.machine_core.specs.declared.accesses.Next.TheVariants.{Complete, Write}
-pub use Rattle.machine_core.specs.declared.hardware.Hardware.{Hardware}
-pub use Rattle.machine_core.specs.Keeping.{HardwareFitsTest, IsHeldForAccess, held_as, held_for, core_in, holder_by, state_in, IsAtMost, next_in, IsCore}
-pub use Rattle.machine_core.specs.Split.{use_by, completes_in}
-pub use Rattle.machine_core.specs.inner.Split.{IsOther, begins_in, split_effect_in, writes_last_in, IsLock, WritesAs}
-pub use Rattle.machine_core.specs.OneChoice.{HasMade, IsUndone, AreConsistent}
-pub use Rattle.machine_core.specs.inner.OneChoice.{effect_made_in, AnswerFitsIn, use_in, statistics_next, IsAloneIn}
-pub use Rattle.snoop_bus.specs.Held.{holder_in, transaction_in, holder}
-pub use Rattle.snoop_bus.specs.Asks.{awaited_in, Awaited, asking, asked_for, completed, completed_in, flusher_of, request_for, awaited_as, whole_in}
+pub use Rattle.multiprocessor.specs.declared.hardware.Hardware.{Hardware}
+pub use Rattle.multiprocessor.specs.Keeping.{IsHeldForAccess, held_as, state_in, IsCore}
+pub use Rattle.multiprocessor.specs.inner.OneChoice.{use_in, statistics_next, IsAloneIn}
+pub use Rattle.snoop_bus.specs.Held.{holder}
+pub use Rattle.snoop_bus.specs.Asks.{awaited_in, Awaited, completed, completed_in, request_for, awaited_as, whole_in, hits, tag_at, or_invalid, asked_caches_in, awaited_by, completed_memory, completed_memory_in, in_halves, next_in_place, to_fill, asked_memory, whole_access, whole_memory, whole_memory_in, asked_at_once}
 unfoldable pub use Rattle.snoop_bus.specs.Asks.{awaiting}
-pub use Rattle.tso_model.specs.Actions.{action_of}
-pub use Rattle.tso_model.specs.declared.action.Action.TheVariants.{Store, Load, Move, Fence, Lock}
-pub use Rattle.std.proofs.lemmas.List.Elements.{All-set, All-append, All-drop, All-replicate, All-head, All-tail, All-weaker}
-pub use Rattle.tso_model.specs.Limits.{most_instructions}
-pub use Rattle.protocol_tables.specs.Tables.{Table}
-pub use Rattle.snoop_bus.specs.Rows.{table_of_rows}
-pub use Rattle.snoop_bus.specs.CacheContents.{TagSets, sends_in, flusher_from, tags_at}
-pub use Rattle.machine_core.specs.declared.counts.Counts.{Counts}
-pub use Rattle.machine_core.specs.Statistics.{no_counts, with_access, with_write_back, with_forward, with_flush, counts_at_core, flush_counted, with_use_counted, Statistics, no_statistics, statistics_with, statistics_after}
-pub use Rattle.machine_core.specs.inner.Keeping.{HasIssuedItsStores, IsAmong, IsFlusherAmong, done_by, IsSenderAmong, IsTallied, done_in, half_done, most_counted, statistics_in, memory_access_in}
-pub use Rattle.tso_model.specs.Runs.{is_done, all_done}
-pub use Rattle.store_buffer.specs.inner.Stores.{stores}
-pub use Rattle.snoop_bus.specs.inner.Accesses.{MayGoOn, StandsAlone, memory_words_of}
+pub use Rattle.protocol_tables.specs.Tables.{Table, table_of, is_written_back, filled_by_sharing, get_s_flushing, get_s_owning}
+pub use Rattle.snoop_bus.specs.Rows.{table_of_rows, rows_of}
+pub use Rattle.snoop_bus.specs.CacheContents.{TagSets, tags_at, Accessed, tag_in, at_line, sets_of, at_core, at_others, requested, used_by, filled_by, is_held}
+pub use Rattle.multiprocessor.specs.Statistics.{no_counts, Statistics, no_statistics, statistics_with, statistics_after}
+pub use Rattle.multiprocessor.specs.inner.Keeping.{statistics_in}
+pub use Rattle.snoop_bus.specs.inner.Accesses.{StandsAlone}
 pub use Rattle.split_laws.specs.BusChoices.{IsPossibleOn}
-pub use Rattle.split_laws.proofs.Ways.{same-is, if-by, begins-by, completes-by, split-by}
 pub use Rattle.split_laws.specs.Between.{IsAnswered, ArePaired}
 pub use Rattle.machine_core.specs.Running.{Running, machine_after, AnswerFits, restarted, machine_effect, machine_use}
 pub use Rattle.std.specs.Result.{is_err}
 pub use Rattle.machine_core.specs.inner.Running.{HasFailed, is_ended}
+pub use Rattle.protocol_tables.specs.Laws.{is_dirty}
+pub use Rattle.protocol_tables.specs.declared.state.State.{State}
+pub use Rattle.protocol_tables.specs.declared.state.State.TheVariants.{I, O, M}
+pub use Rattle.cache_set.specs.Lines.{Words, line_in}
+pub use Rattle.snoop_bus.specs.Coherent.{state_of_copy, may_share}
+pub use Rattle.cache_set.specs.Copies.{Sets, copy_at, copy_in, tags_of, cache_of, set_at}
+pub use Rattle.basic_laws.proofs.Basics.{lt-or, decide}
+pub use Rattle.machine_core.specs.Owners.{IsOwner}
+pub use Rattle.machine_core.specs.Uses.{IsUseFor, IsHitUse, use_at}
+pub use Rattle.std.specs.Map.{lookup, remove_entry}
+pub use Rattle.protocol_tables.specs.declared.state.Snoop.{Snoop}
+pub use Rattle.cache_set.specs.Tags.{TagSet, tag_set, tag_of, used, filled, leaving, restated, in_next, snooped, snooped_in}
+pub use Rattle.protocol_tables.specs.declared.kind.ProtocolKind.{ProtocolKind}
+pub use Rattle.cache_set.specs.declared.Line.{Line}
+pub use Rattle.cache_set.specs.declared.Victim.{Victim}
+pub use Rattle.snoop_bus.specs.MemoryAfter.{written_back, flushed, sent_of, first_of_two, sent_words, victim_at}
+pub use Rattle.snoop_bus.proofs.StateLemmas.{tag_at-copy}
+pub use Rattle.protocol_tables.specs.declared.requests.Request.TheVariants.{GetS, GetM}

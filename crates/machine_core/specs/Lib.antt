@@ -1,17 +1,11 @@
 pub mod Vocabulary
-pub mod Configuration
-pub mod Caches
-pub mod Statistics
-pub mod Answered
 pub mod Running
-pub mod Cores
-pub mod Keeping
-pub mod Effects
-pub mod Split
-pub mod OneChoice
 pub mod WorkedCounts
-pub mod inner
 pub mod Looking
+pub mod Hits
+pub mod Owners
+pub mod Uses
+pub mod inner
 pub use Rattle.tso_model.specs.FlatMachine
 pub use Rattle.tso_model.specs.Runs
 pub use Rattle.tso_model.specs.MemoryAccess
@@ -19,3 +13,12 @@ pub use Rattle.tso_model.specs.SplitMachine
 pub use Rattle.tso_model.specs.EitherBus
 pub use Rattle.tso_model.specs.Together
 pub use Rattle.cache_set.specs.Geometry
+pub use Rattle.snoop_bus.specs.Accesses
+pub use Rattle.snoop_bus.specs.inner.Accesses as InnerAccesses
+pub use Rattle.snoop_bus.specs.Bus
+pub use Rattle.snoop_bus.specs.inner.Bus as InnerBus
+pub use Rattle.multiprocessor.specs.Configuration
+pub use Rattle.multiprocessor.specs.Caches
+pub use Rattle.multiprocessor.specs.inner.Caches as InnerCaches
+pub use Rattle.multiprocessor.specs.Statistics
+pub use Rattle.multiprocessor.specs.Answered

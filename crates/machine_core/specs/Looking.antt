@@ -4,7 +4,7 @@ use Rattle.std.specs.Prelude.{ℕ, Option, None, Some, option_map}
 use Rattle.machine_core.specs.Vocabulary.{access_of, Awaited, Free, HeldBetween, HeldBy, Holder, Litmus, State}
 use Rattle.basic_laws.specs.Types.{Loc, Choice, Step}
 use Rattle.machine_core.specs.declared.looking.BusHolder.{BusHolder}
-use Rattle.machine_core.specs.Caches.{at_access}
+use Rattle.multiprocessor.specs.Caches.{at_access}
 use Rattle.machine_core.specs.Running.{Running}
 
 -- the action at this location that holds the bus, by its next choice, and what its line is in while words are awaited

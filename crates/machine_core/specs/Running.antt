@@ -3,9 +3,9 @@
 use Rattle.std.specs.Prelude.{ℕ, Bool, false, List, [], ◌++◌}
 use Rattle.machine_core.specs.Vocabulary.{Attempt, BusEffect, BusState, effect_on, HitFits, Litmus, start, Table, table_of_rows, unheld}
 use Rattle.basic_laws.specs.Types.{Bus, Entry, Choice}
-use Rattle.machine_core.specs.Configuration.{Configuration}
-use Rattle.machine_core.specs.Statistics.{Statistics, no_statistics, statistics_after}
-use Rattle.machine_core.specs.Caches.{Used, attempt_of, use_on, state_after_on}
+use Rattle.multiprocessor.specs.Configuration.{Configuration}
+use Rattle.multiprocessor.specs.Statistics.{Statistics, no_statistics, statistics_after}
+use Rattle.multiprocessor.specs.Caches.{Used, attempt_of, use_on, state_after_on}
 
 -- a machine: its test, the kind of its bus, the depth of its store buffers, the flat machine's state with who holds the bus,
 -- the entries committed so far, the statistics so far, and whether memory was refused to it

@@ -1,21 +1,12 @@
 -- The words of the crates below that the definitions of this crate use, in one place: each file takes its own from here.
-pub use Rattle.tso_model.specs.EitherBus.{after_on, BusState, effect_on, HitFits, unheld}
-pub use Rattle.tso_model.specs.FlatMachine.{applied, chosen, core_of, CoreState, drain, drain_of, Effect, effect_by, effect_of, fenced, memory_after, start, State, step, stored}
-pub use Rattle.tso_model.specs.Limits.{most_cores, most_depth, most_instructions}
-pub use Rattle.tso_model.specs.Litmus.{IsTest, Litmus}
-pub use Rattle.tso_model.specs.MemoryAccess.{access_by, access_of, Locks, MemoryAccess, NoAccess, Reads, Writes}
-pub use Rattle.tso_model.specs.ProgramOrder.{writes_to}
+pub use Rattle.tso_model.specs.EitherBus.{BusState, effect_on, HitFits, unheld}
+pub use Rattle.tso_model.specs.FlatMachine.{CoreState, drain, start, State, step}
+pub use Rattle.tso_model.specs.Litmus.{Litmus}
+pub use Rattle.tso_model.specs.MemoryAccess.{access_of}
 pub use Rattle.tso_model.specs.Runs.{has_ended}
-pub use Rattle.tso_model.specs.SplitMachine.{acts, Attempt, begins, BusEffect, completes, Free, HeldBetween, HeldBy, Holder, needs_bus, same_choice, split_effect, writes_last}
-pub use Rattle.tso_model.specs.Thread.{entry, updated, value_in}
-pub use Rattle.tso_model.specs.declared.action.Action.TheVariants.{Lock}
-pub use Rattle.store_buffer.specs.Stores.{Stores}
-pub use Rattle.store_buffer.specs.declared.Pending.{Pending}
-pub use Rattle.store_buffer.specs.inner.Stores.{stores}
+pub use Rattle.tso_model.specs.SplitMachine.{Attempt, BusEffect, Free, HeldBetween, HeldBy, Holder}
 pub use Rattle.protocol_tables.specs.Tables.{Table}
-pub use Rattle.snoop_bus.specs.Accesses.{awaited_of, contents_of, new_bus, with_words}
-pub use Rattle.snoop_bus.specs.Asks.{Awaited, tag_at}
-pub use Rattle.snoop_bus.specs.Bus.{BusModel, cores_of, holder_of, IsFree, words_of}
 pub use Rattle.cache_set.specs.Geometry.{Geometry, geometry}
-pub use Rattle.snoop_bus.specs.Rows.{table_of_rows, TableColumns}
-pub use Rattle.snoop_bus.specs.declared.holding.Stage.TheVariants.{Locked}
+pub use Rattle.snoop_bus.specs.Accesses.{with_words}
+pub use Rattle.snoop_bus.specs.Asks.{Awaited}
+pub use Rattle.snoop_bus.specs.Rows.{table_of_rows}

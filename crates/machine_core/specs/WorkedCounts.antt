@@ -4,8 +4,8 @@ use Rattle.std.specs.Prelude.{ℕ, List, [], ◌∷◌, None, codes}
 use Rattle.machine_core.specs.Vocabulary.{drain, Geometry, geometry, Litmus, step}
 use Rattle.tso_model.specs.Examples.{loc_x, loc_y, zeros}
 use Rattle.basic_laws.specs.Types.{Eax, Ebx, Loc, Instr, StoreImm, Load, Xchg, Xadd, Choice}
-use Rattle.machine_core.specs.declared.counts.Counts.{Counts}
-use Rattle.machine_core.specs.Statistics.{counts}
+use Rattle.multiprocessor.specs.declared.counts.Counts.{Counts}
+use Rattle.multiprocessor.specs.Statistics.{counts}
 
 -- one set for two lines of a word, and one for a single line
 abbrev pub two_lines : Geometry

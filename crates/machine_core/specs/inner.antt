@@ -1,13 +1,5 @@
 -- Words of contracts inside the project.
-pub mod OneCore
-pub mod Buffers
-pub mod Caches
-pub mod Cores
-pub mod Keeping
 pub mod Looking
 pub mod Machine
-pub mod OneChoice
-pub mod Effects
 pub mod Running
-pub mod Split
-pub mod Turns
+pub mod Calls

@@ -6,28 +6,15 @@
 //! were, which goes by both.
 #![tactic(auto)]
 
-pub mod accesses;
-mod completing;
-pub mod config;
-pub mod counts;
-pub mod ending;
-mod entries;
-mod hardware;
-mod locked;
+pub mod bus_laws;
 pub mod looking;
 pub mod machine;
-mod pending_stores;
-mod processor;
 mod restarting;
-mod split;
-mod turn;
 pub mod worked;
 
-pub use accesses::{CacheUse, MemoryAccess};
-pub use config::Config;
-pub use counts::Counts;
-pub use ending::FinalState;
 pub use looking::BusHolder;
 pub use machine::{Final, Machine};
+pub use multiprocessor::{CacheUse, Config, Counts, FinalState, MemoryAccess};
+pub use multiprocessor::{accesses, config, counts, ending};
 pub use snoop_bus::{CachedLine, Shape};
 pub use tso_model::{Bus, Choice, Outcome, Stall};

@@ -4,15 +4,13 @@ ghost use Rattle.std.specs.Prelude.{◌≡◌, ℕ, All, length, map, replicate}
 ghost use Rattle.tso_model.specs.Litmus.{IsTest};
 ghost use Rattle.tso_model.specs.FlatMachine.{started};
 ghost use Rattle.snoop_bus.specs.Rows.{table_of_rows};
-ghost use Rattle.machine_core.specs.Cores.{core_states};
-ghost use Rattle.machine_core.specs.Statistics.{no_counts, no_statistics};
-ghost use Rattle.machine_core.specs.Keeping.{IsCore, HardwareFitsTest};
-ghost use Rattle.machine_core.specs.inner.Keeping.{statistics_in};
-ghost use Rattle.machine_core.specs.inner.OneChoice.{AreAtStart};
+ghost use Rattle.multiprocessor.specs.Cores.{core_states};
+ghost use Rattle.multiprocessor.specs.Statistics.{no_counts, no_statistics};
+ghost use Rattle.multiprocessor.specs.Keeping.{IsCore, HardwareFitsTest};
+ghost use Rattle.multiprocessor.specs.inner.Keeping.{statistics_in};
+ghost use Rattle.multiprocessor.specs.inner.OneChoice.{AreAtStart};
 
-use crate::counts::Counts;
-use crate::hardware::Hardware;
-use crate::processor::Processor;
+use multiprocessor::{Counts, Hardware, Processor};
 use protocol_tables::Protocol;
 use tso_model::{Core, Test};
 

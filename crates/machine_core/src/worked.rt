@@ -4,7 +4,7 @@ ghost use Rattle.std.specs.Prelude.{◌≡◌, [], ◌∷◌};
 ghost use Rattle.tso_model.specs.Examples.{sb, sb_choices, n6};
 ghost use Rattle.tso_model.specs.declared.choice.Bus.TheVariants.{Atomic, Split};
 ghost use Rattle.protocol_tables.specs.Tables.{msi, mesi, moesi};
-ghost use Rattle.machine_core.specs.Statistics.{counts, counts_of};
+ghost use Rattle.multiprocessor.specs.Statistics.{counts, counts_of};
 ghost use Rattle.machine_core.specs.WorkedCounts.{two_lines, one_line, missed, in_turn, sb_steps, own_store_first};
 ghost use Rattle.machine_core.specs.WorkedCounts.{load_store, load_store_choices, load_store_steps, two_stores, between};
 ghost use Rattle.machine_core.specs.WorkedCounts.{five_loads, five_loads_choices, sb_asks, sb_waits};

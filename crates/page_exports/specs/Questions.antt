@@ -6,7 +6,7 @@ use Rattle.cache_set.specs.Geometry.{geometry, IsShapeWithinLimits}
 use Rattle.protocol_tables.specs.declared.kind.ProtocolKind.{ProtocolKind}
 use Rattle.refutation_laws.specs.declared.model.Model.{Model}
 use Rattle.tso_model.specs.Limits.{most_depth}
-use Rattle.machine_core.specs.Configuration.{Configuration}
+use Rattle.multiprocessor.specs.Configuration.{Configuration}
 use Rattle.command_line.specs.Limits.{IsDepth}
 use Rattle.scheduler.specs.Plan.{IsPlanWithinLimits}
 use Rattle.command_line.specs.Search.{most_states}

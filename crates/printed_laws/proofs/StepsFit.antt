@@ -1,12 +1,12 @@
 -- Each step of a trace fits its test.
 use Rattle.printed_laws.proofs.Vocabulary.{◌≡◌, ℕ, ◌<◌, Bool, true, false, List, [], ◌∷◌, ◌++◌, drop, subst, ◌∙◌, zero, suc, ◌≤◌, Option, arith, ◌+◌, length, All, Some, None, ◌==◌, if◌then◌else◌, IfSome, slice_get, length-replicate, Litmus, IsTest, Bus, Atomic, Split, ProtocolKind, Configuration, IsConfigurationWithinLimits, All-head, All-tail, All-weaker, All-cons, All-nil, All-drop, All-append, IsWord, index_of, Entry, HasWord, IsEntryFor, has_ended, CoresExist, Choice, Drain, chosen, program_of, core_of, Core, IsAt, AreStoresKnown, LineRequest, StateChange, Asked, TraceStepFits, action_of, access_of, Instr, Action, Move, access-known, Table, table_of, Awaited, is_awaited, Running, new_machine, machine_after, moved_by, moved_at, moved_from, buffer_if_changed, sent_on, placed, line_states, placed_states_from, number_of_lines, states_of, number_of_state, change_of, changes_in, steps_from, trace_under, trace_step_of, IsTraced, traced-first, step-known, traced-next, attempt_on, machine_effect, machine_use}
 use Rattle.basic_laws.specs.Types.{Step, Outcome}
-use Rattle.machine_core.specs.Statistics.{no_counts}
-use Rattle.machine_core.specs.declared.accesses.CacheUse.{CacheUse}
-use Rattle.machine_core.specs.declared.accesses.CacheUse.TheVariants.{Through}
-use Rattle.machine_core.specs.inner.Keeping.{IsAmong, IsFlusherAmong, IsSenderAmong}
-use Rattle.machine_core.proofs.CountBounds.{length-counted}
-use Rattle.machine_core.proofs.CountsOnBus.{senders}
+use Rattle.multiprocessor.specs.Statistics.{no_counts}
+use Rattle.multiprocessor.specs.declared.accesses.CacheUse.{CacheUse}
+use Rattle.multiprocessor.specs.declared.accesses.CacheUse.TheVariants.{Through}
+use Rattle.multiprocessor.specs.inner.Keeping.{IsAmong, IsFlusherAmong, IsSenderAmong}
+use Rattle.multiprocessor.proofs.CountBounds.{length-counted}
+use Rattle.multiprocessor.proofs.CountsOnBus.{senders}
 use Rattle.trace_report.specs.declared.states.PlacedState.{PlacedState}
 use Rattle.trace_report.proofs.FlushesTold.{IsSound, sound-first, sound-after}
 use Rattle.printed_laws.proofs.MachinesFit.{PendingFits, pending-entry, CoresFit, HolderFits, BusFits, effect-fits, memory-fits, cores-fit, start-fits}

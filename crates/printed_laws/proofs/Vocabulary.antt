@@ -24,13 +24,13 @@ pub use Rattle.basic_laws.specs.Types.{Bus, Atomic, Split, Reg, Entry, Eax, Ebx,
 pub use Rattle.protocol_tables.specs.Names.{protocol_name}
 pub use Rattle.protocol_tables.specs.declared.kind.ProtocolKind.{ProtocolKind}
 pub use Rattle.cache_set.specs.Geometry.{IsLineSize}
-pub use Rattle.machine_core.specs.Configuration.{Configuration, IsConfigurationWithinLimits}
+pub use Rattle.multiprocessor.specs.Configuration.{Configuration, IsConfigurationWithinLimits}
 pub use Rattle.std.proofs.lemmas.List.Elements.{All-head, All-tail, All-contains, All-weaker, All-map, All-cons, All-nil, All-push, All-set, All-filter, All-drop, All-append, All-take}
 pub use Rattle.tso_model.specs.Condition.{Condition, Claim, truth_of, TruthClaim, RegClaim, LocClaim, NotClaim, AndClaim, OrClaim}
 pub use Rattle.tso_model.specs.Registers.{IsWord, AreRegisters, index_of, name_of}
 pub use Rattle.tso_model.specs.Thread.{value_in, entry, fence, value_of, sum_of, updated, entries_by, registers_by, values_after, entries_of}
-pub use Rattle.machine_core.specs.Keeping.{IsAtMost}
-pub use Rattle.machine_core.specs.declared.counts.Counts.{Counts}
+pub use Rattle.multiprocessor.specs.Keeping.{IsAtMost}
+pub use Rattle.multiprocessor.specs.declared.counts.Counts.{Counts}
 pub use Rattle.order_builder.specs.PrintedOrder.{printed_order, printed_entry, printed_end, printed_lines, letters_of, printed_access, HasWord}
 pub use Rattle.order_builder.specs.Spelling.{SpellsOrder, IsOrderFor, HasAccess, IsEntryFor}
 pub use Rattle.tso_report.specs.Laws.{ReportSpellsItsOrder, ReportsAreShort}
@@ -103,7 +103,7 @@ pub use Rattle.tso_model.specs.declared.action.Action.TheVariants.{Store, Load, 
 pub use Rattle.trace_report.proofs.Places.{ActionKnown, AccessKnown, access-known}
 pub use Rattle.protocol_tables.specs.Tables.{Table, table_of}
 pub use Rattle.snoop_bus.specs.Asks.{Awaited}
-pub use Rattle.machine_core.specs.Caches.{is_awaited, at_access}
+pub use Rattle.multiprocessor.specs.Caches.{is_awaited, at_access}
 pub use Rattle.machine_core.specs.Running.{Running, new_machine, machine_after, attempt_on, machine_effect, machine_use}
 pub use Rattle.trace_report.specs.Steps.{moved_by, moved_at, moved_from, buffer_if_changed, sent_on, placed, line_states, placed_states_from, number_of_lines, states_of, number_of_state, change_of, changes_in, steps_from, trace_under, line_state}
 unfoldable pub use Rattle.trace_report.specs.Steps.{trace_step_of}

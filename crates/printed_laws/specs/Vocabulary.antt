@@ -13,7 +13,7 @@ pub use Rattle.litmus_reader.specs.Spelling.{SpellsTest}
 pub use Rattle.scheduler.specs.Limits.{most_choices}
 pub use Rattle.protocol_tables.specs.declared.kind.ProtocolKind.{ProtocolKind}
 pub use Rattle.order_builder.specs.Spelling.{IsEntryFor, IsOrderFor}
-pub use Rattle.machine_core.specs.Configuration.{Configuration, IsConfigurationWithinLimits}
+pub use Rattle.multiprocessor.specs.Configuration.{Configuration, IsConfigurationWithinLimits}
 pub use Rattle.tso_report.specs.Report.{line}
 pub use Rattle.tso_report.specs.declared.named.Named.{Named}
 pub use Rattle.trace_report.specs.Lines.{line_name, names_in_line, trace_text}

@@ -4,7 +4,7 @@ pub use Rattle.tso_model.specs.Litmus.{Litmus, IsTest}
 pub use Rattle.tso_model.specs.Runs.{Run, run, CoresExist}
 pub use Rattle.basic_laws.specs.Types.{Atomic, Split, Choice, Step, Drain, Entry, Bus, Stalled}
 pub use Rattle.protocol_tables.specs.declared.kind.ProtocolKind.{ProtocolKind}
-pub use Rattle.machine_core.specs.Configuration.{Configuration}
+pub use Rattle.multiprocessor.specs.Configuration.{Configuration}
 pub use Rattle.tso_cli.specs.Dividing.{parts_of}
 pub use Rattle.std.specs.Prelude.{◌↔◌, codes}
 pub use Rattle.eager_laws.specs.Dead.{seen, AreAlike}

@@ -5,7 +5,7 @@ use Rattle.tso_model.specs.MemoryAccess.{MemoryAccess, NoAccess, Reads, Writes, 
 use Rattle.tso_model.specs.SplitMachine.{HeldBetween, Holder, needs_bus, same_choice, acts, asks, begins, writes_last, split_effect}
 use Rattle.tso_model.specs.EitherBus.{effect_on}
 use Rattle.tso_model.specs.declared.choice.Stall.TheVariants as stall
-use Rattle.machine_core.specs.Caches.{Caches, would_hit, hits_by}
+use Rattle.multiprocessor.specs.Caches.{Caches, would_hit, hits_by}
 use Rattle.machine_core.specs.Running.{Running, attempt_on, machine_effect}
 use Rattle.promises.specs.Locked.{HitsAlone, OwnCoreAloneHits}
 use Rattle.promises.specs.inner.Waiting.{IsAtLine, OthersWaitForTheLine}

@@ -3,7 +3,7 @@
 use Rattle.std.specs.Prelude.{ℕ, ◌/◌, ◌≡◌, ◌≢◌, Bool, true, false}
 use Rattle.tso_model.specs.SplitMachine.{HeldBetween}
 use Rattle.tso_model.specs.declared.execution.Entry.{Entry}
-use Rattle.machine_core.specs.Caches.{Caches, would_hit}
+use Rattle.multiprocessor.specs.Caches.{Caches, would_hit}
 use Rattle.machine_core.specs.Running.{Running}
 
 -- both are locations of one line

@@ -4,7 +4,7 @@ use Rattle.tso_model.specs.Litmus.{Litmus}
 use Rattle.litmus_reader.specs.Spelling.{SpellsTest}
 use Rattle.scheduler.specs.Printed.{printed_choices}
 use Rattle.protocol_tables.specs.declared.kind.ProtocolKind.{ProtocolKind}
-use Rattle.machine_core.specs.Configuration.{Configuration}
+use Rattle.multiprocessor.specs.Configuration.{Configuration}
 use Rattle.tso_report.specs.Shown.{ShownRun}
 use Rattle.tso_report.specs.Report.{line}
 use Rattle.tso_report.specs.declared.named.Named.{Named}

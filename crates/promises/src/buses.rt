@@ -2,9 +2,9 @@
 //! machine's. (Primer, chapters 6 and 7.)
 
 ghost use Rattle.std.specs.Prelude.{◌++◌, ◌+◌, ◌↔◌, ◌≡◌, ◌≢◌, List, Some, false, length, take, true, ℕ};
-ghost use Rattle.bus_laws.specs.Hits.{IsHit};
-ghost use Rattle.bus_laws.specs.Uses.{IsHitUse, IsUseFor, use_at};
-ghost use Rattle.machine_core.specs.Caches.{Caches, hits_by};
+ghost use Rattle.machine_core.specs.Hits.{IsHit};
+ghost use Rattle.machine_core.specs.Uses.{IsHitUse, IsUseFor, use_at};
+ghost use Rattle.multiprocessor.specs.Caches.{Caches, hits_by};
 ghost use Rattle.protocol_tables.specs.Laws.{WritesInPlace};
 ghost use Rattle.protocol_tables.specs.Tables.{Table};
 ghost use Rattle.protocol_tables.specs.declared.requests.Request.TheVariants.{GetM, GetS};
@@ -32,7 +32,7 @@ ghost use Rattle.tso_model.specs.Together.{put_together};
 ghost use Rattle.basic_laws.specs.Types.{Bus, Atomic, Choice, Entry, LR, LW, Core, Loc};
 ghost use Rattle.tso_model.specs.declared.choice.Bus as kind;
 
-use bus_laws::{accesses_are_what_is_counted, hits_are_told_beforehand};
+use machine_core::bus_laws::{accesses_are_what_is_counted, hits_are_told_beforehand};
 use snoop_bus::whole_accesses::halves_leave_what_whole_accesses_do;
 use split_laws::{atomic_runs_are_flat_runs, what_holds_so_far_on_either_bus};
 

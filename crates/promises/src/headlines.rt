@@ -14,7 +14,7 @@ ghost use Rattle.tso_cli.specs.declared.answer.Status.{Status};
 ghost use Rattle.tso_cli.specs.declared.answer.Status.TheVariants.{Good};
 ghost use Rattle.litmus_reader.specs.Spelling.{IsRefused as IsRefusedTest, SpellsTest};
 ghost use Rattle.litmus_reader.specs.declared.fault.TextFault.{TextFault};
-ghost use Rattle.machine_core.specs.Configuration.{Configuration};
+ghost use Rattle.multiprocessor.specs.Configuration.{Configuration};
 ghost use Rattle.order_builder.specs.Spelling.{SpellsOrder};
 ghost use Rattle.outcome_laws.specs.Outcomes.{IsSequentiallyConsistent};
 ghost use Rattle.outcome_report.specs.Printed.{outcomes_in};

@@ -7,7 +7,7 @@ ghost use Rattle.command_line.specs.declared.settings.Settings.{Settings};
 ghost use Rattle.tso_cli.specs.Dividing.{EndsInFeed};
 ghost use Rattle.tso_cli.specs.declared.answer.Status.{Status};
 ghost use Rattle.tso_cli.specs.declared.answer.Status.TheVariants.{Good, Refused};
-ghost use Rattle.machine_core.specs.Configuration.{Configuration};
+ghost use Rattle.multiprocessor.specs.Configuration.{Configuration};
 ghost use Rattle.protocol_tables.specs.declared.kind.ProtocolKind.{ProtocolKind};
 ghost use Rattle.trace_json.specs.TracedRun.{json_ended, json_unended};
 ghost use Rattle.trace_report.specs.Lines.{trace_text};

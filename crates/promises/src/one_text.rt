@@ -12,7 +12,7 @@ ghost use Rattle.tso_cli.specs.RunTexts.{report_in};
 ghost use Rattle.tso_cli.specs.Witness.{HasEndedWith, IsEndingAlong};
 ghost use Rattle.tso_cli.specs.declared.answer.Status.{Status};
 ghost use Rattle.tso_cli.specs.declared.answer.Status.TheVariants.{Good};
-ghost use Rattle.machine_core.specs.Configuration.{Configuration};
+ghost use Rattle.multiprocessor.specs.Configuration.{Configuration};
 ghost use Rattle.outcome_report.specs.Laws.{OutcomesAreAlike};
 ghost use Rattle.outcome_report.specs.Outcomes.{Outcome, failed_in, held_in, shown_values, true_in};
 ghost use Rattle.outcome_report.specs.OutcomesJson.{holds_in};

@@ -3,7 +3,7 @@
 ghost use Rattle.std.specs.Prelude.{◌≡◌, ◌≤◌, Bool, List, false, length, true};
 ghost use Rattle.tso_cli.specs.CommandAnswers.{text_under};
 ghost use Rattle.tso_cli.specs.RunTexts.{report_in};
-ghost use Rattle.machine_core.specs.Configuration.{Configuration, IsConfigurationWithinLimits};
+ghost use Rattle.multiprocessor.specs.Configuration.{Configuration, IsConfigurationWithinLimits};
 ghost use Rattle.protocol_tables.specs.declared.kind.ProtocolKind.{ProtocolKind};
 ghost use Rattle.scheduler.specs.Limits.{most_choices};
 ghost use Rattle.simulator.specs.Runs.{AnswersFit, run_under};

@@ -22,7 +22,7 @@ ghost use Rattle.command_line.specs.Explanation.{Explanation, IsExplanationWithi
 ghost use Rattle.command_line.specs.declared.settings.Settings.{Settings};
 ghost use Rattle.tso_cli.specs.Dividing.{parts_of};
 ghost use Rattle.protocol_tables.specs.declared.kind.ProtocolKind.{ProtocolKind};
-ghost use Rattle.machine_core.specs.Configuration.{Configuration};
+ghost use Rattle.multiprocessor.specs.Configuration.{Configuration};
 ghost use Rattle.tso_cli.specs.RunTexts.{report_in};
 ghost use Rattle.tso_cli.specs.Explained.{ReportsExecution};
 ghost use Rattle.tso_cli.specs.Headline.{InputHeadline};

@@ -8,7 +8,7 @@ ghost use Rattle.outcome_laws.specs.Outcomes.{IsAllowedAtDepth};
 ghost use Rattle.explorer.specs.FinalStates.{AreDistinct, AreReached, AreWhat, HaveEveryEnd, HasMoreStates};
 ghost use Rattle.explorer.specs.declared.search.Extent.{Extent};
 ghost use Rattle.protocol_tables.specs.declared.kind.ProtocolKind.{ProtocolKind};
-ghost use Rattle.machine_core.specs.Configuration.{Configuration};
+ghost use Rattle.multiprocessor.specs.Configuration.{Configuration};
 ghost use Rattle.tso_report.specs.Tally.{claim_names_register, named_register};
 ghost use Rattle.tso_report.specs.inner.Tally.{NameExists};
 ghost use Rattle.shown_values.specs.Shown as shown;

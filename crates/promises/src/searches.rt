@@ -14,7 +14,7 @@ ghost use Rattle.outcome_report.specs.Hidden.{AreNotShown};
 ghost use Rattle.explorer.specs.declared.fault.ExploreFault.{ExploreFault};
 ghost use Rattle.explorer.specs.declared.final_states.FinalState.{FinalState};
 ghost use Rattle.protocol_tables.specs.declared.kind.ProtocolKind.{ProtocolKind};
-ghost use Rattle.machine_core.specs.Configuration.{Configuration};
+ghost use Rattle.multiprocessor.specs.Configuration.{Configuration};
 ghost use Rattle.outcome_report.specs.Outcomes.{Outcome, ArePrinted, shown_values};
 ghost use Rattle.outcome_report.specs.Laws.{OutcomesAreAlike};
 ghost use Rattle.command_line.specs.Limits.{IsWithinLimits};

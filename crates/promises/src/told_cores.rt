@@ -1,8 +1,8 @@
 //! What a step tells of its core, of a stall, of the other caches and of the line that gave way, each said again.
 
 ghost use Rattle.std.specs.Prelude.{◌/◌, ◌<◌, ◌≡◌, ◌≢◌, List, None, Some, length, true, ℕ};
-ghost use Rattle.machine_core.specs.Caches.{at_access};
-ghost use Rattle.machine_core.specs.Configuration.{Configuration};
+ghost use Rattle.multiprocessor.specs.Caches.{at_access};
+ghost use Rattle.multiprocessor.specs.Configuration.{Configuration};
 ghost use Rattle.machine_core.specs.Running.{Running, machine_after, new_machine, table_in};
 ghost use Rattle.protocol_tables.specs.Tables.{Table};
 ghost use Rattle.snoop_bus.specs.Asks.{tag_at};

@@ -1,9 +1,9 @@
 //! What the laws of traces say, field by field.
 
 ghost use Rattle.std.specs.Prelude.{◌<◌, ◌≡◌, ◌≢◌, All, Bool, List, Some, length, slice_index_or, true, ℕ};
-ghost use Rattle.machine_core.specs.Configuration.{Configuration};
+ghost use Rattle.multiprocessor.specs.Configuration.{Configuration};
 ghost use Rattle.machine_core.specs.Running.{Running, machine_after};
-ghost use Rattle.machine_core.specs.Statistics.{counts_of, no_counts};
+ghost use Rattle.multiprocessor.specs.Statistics.{counts_of, no_counts};
 ghost use Rattle.protocol_tables.specs.Tables.{Table, table_of};
 ghost use Rattle.protocol_tables.specs.declared.kind.ProtocolKind.{ProtocolKind};
 ghost use Rattle.protocol_tables.specs.declared.state.State.{State};

@@ -2,7 +2,7 @@
 
 ghost use Rattle.std.specs.Prelude.{◌≡◌, ◌<◌, List, length, map, ℕ};
 ghost use Rattle.std.specs.Option.{option_map};
-ghost use Rattle.machine_core.specs.Configuration.{Configuration};
+ghost use Rattle.multiprocessor.specs.Configuration.{Configuration};
 ghost use Rattle.machine_core.specs.Looking.{bus_holder_of};
 ghost use Rattle.machine_core.specs.Running.{Running};
 ghost use Rattle.printed_laws.specs.TracedMachines.{AreWordsOf, ShowTheSameMachine, copies_shown, holder_shown, machine_under};

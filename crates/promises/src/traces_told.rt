@@ -3,7 +3,7 @@
 ghost use Rattle.std.specs.Prelude.{◌≡◌, ◌≤◌, ◌++◌, All, IfSome, List, Option, false, length, map, true, ℕ};
 ghost use Rattle.std.specs.Option.{option_map};
 ghost use Rattle.tso_cli.specs.Trace.{traced_in};
-ghost use Rattle.machine_core.specs.Configuration.{Configuration, IsConfigurationWithinLimits};
+ghost use Rattle.multiprocessor.specs.Configuration.{Configuration, IsConfigurationWithinLimits};
 ghost use Rattle.printed_laws.specs.OfRuns.{RunsLeaveTheSame};
 ghost use Rattle.printed_laws.specs.Telling.{NameTheSame};
 ghost use Rattle.printed_laws.specs.Traces.{IsReadable, IsTraceable, SourceFits, TraceStepFits, bare_store, told_by_line, told_by_object};

@@ -3,8 +3,8 @@ use Rattle.simulator.proofs.Vocabulary.{◌≡◌, ◌≤◌, ◌+◌, ℕ, Bool
 use Rattle.std.proofs.lemmas.List.{length-replicate}
 use Rattle.std.proofs.lemmas.List.Elements.{All-replicate, All-weaker}
 use Rattle.cache_set.specs.Geometry.{Geometry}
-use Rattle.machine_core.specs.Keeping.{IsAtMost}
-use Rattle.machine_core.proofs.CountBounds.{IsAtMost-more, none-counted, use-counted, length-counted}
+use Rattle.multiprocessor.specs.Keeping.{IsAtMost}
+use Rattle.multiprocessor.proofs.CountBounds.{IsAtMost-more, none-counted, use-counted, length-counted}
 
 -- ---- as many as cores
 

@@ -13,9 +13,9 @@ pub use Rattle.tso_laws.specs.EndedRuns.{End, IsExecution}
 pub use Rattle.split_laws.specs.BusRuns.{EndOn, waiting, IsFlatRun, left_by}
 pub use Rattle.split_laws.specs.inner.BusRuns.{StopsAtTheEndOn, ChangesNothingOn}
 pub use Rattle.protocol_tables.specs.Tables.{Table, table_of}
-pub use Rattle.machine_core.specs.declared.counts.Counts.{Counts}
-pub use Rattle.machine_core.specs.Configuration.{Configuration}
-pub use Rattle.machine_core.specs.Statistics.{Statistics, counts_of, statistics_from, no_counts, with_access, with_write_back, with_forward, with_flush, counts_at_core, flush_counted, with_use_counted, statistics_after, no_statistics}
+pub use Rattle.multiprocessor.specs.declared.counts.Counts.{Counts}
+pub use Rattle.multiprocessor.specs.Configuration.{Configuration}
+pub use Rattle.multiprocessor.specs.Statistics.{Statistics, counts_of, statistics_from, no_counts, with_access, with_write_back, with_forward, with_flush, counts_at_core, flush_counted, with_use_counted, statistics_after, no_statistics}
 pub use Rattle.machine_core.specs.Running.{Running, new_machine, attempt_on, machine_effect, machine_after, AnswerFits}
 pub use Rattle.tso_report.specs.Shown.{ShownRun, shown_run}
 pub use Rattle.simulator.specs.Runs.{run_by, AnswersFitBy, counts_by, run_under, AnswersFit}
@@ -24,4 +24,4 @@ pub use Rattle.simulator.specs.declared.simulation.Ending.TheVariants.{Ended, Un
 pub use Rattle.simulator.specs.Simulation.{shown_of, verdict, IsEndingOf, IsCounted, HasAllOrder, HasEnded, drains, FitsEnding, HasCounts}
 pub use Rattle.simulator.specs.inner.Simulation.{Drives, answers_of, bus_run_of, HaveFittingAnswers, IsEndingLeftBy}
 pub use Rattle.tso_model.specs.Axioms.{IsTsoExecution, IsWhole}
-pub use Rattle.machine_core.specs.Caches.{Caches, attempt_of, use_on}
+pub use Rattle.multiprocessor.specs.Caches.{Caches, attempt_of, use_on}

@@ -9,10 +9,10 @@ use Rattle.tso_model.specs.Together.{together}
 use Rattle.basic_laws.specs.Types.{Bus, Atomic, Split, Choice}
 use Rattle.protocol_tables.specs.Tables.{Table, table_of}
 use Rattle.protocol_tables.specs.declared.kind.ProtocolKind.{ProtocolKind}
-use Rattle.machine_core.specs.Answered.{answered}
-use Rattle.machine_core.specs.Configuration.{Configuration}
-use Rattle.machine_core.specs.Statistics.{counts_of}
-use Rattle.machine_core.specs.declared.counts.Counts.{Counts}
+use Rattle.multiprocessor.specs.Answered.{answered}
+use Rattle.multiprocessor.specs.Configuration.{Configuration}
+use Rattle.multiprocessor.specs.Statistics.{counts_of}
+use Rattle.multiprocessor.specs.declared.counts.Counts.{Counts}
 
 -- on the atomic bus, the flat machine's run: neither the protocol nor the caches have a part in it. On the split bus, the
 -- split machine's run with the caches' answers whether an access hits, each locked instruction's load part put directly

@@ -10,7 +10,7 @@ use Rattle.tso_model.specs.Runs.{Run}
 use Rattle.tso_model.specs.declared.choice.Choice.{Choice}
 use Rattle.tso_laws.specs.Counting.{instructions, stores_of_all}
 use Rattle.tso_laws.specs.Rounds.{CanBeCutIntoRounds}
-use Rattle.machine_core.specs.declared.counts.Counts.{Counts}
+use Rattle.multiprocessor.specs.declared.counts.Counts.{Counts}
 use Rattle.tso_report.specs.Shown.{ShownRun, shown_run, IsRunOf}
 use Rattle.simulator.specs.declared.simulation.Ending.{Ending}
 use Rattle.simulator.specs.declared.simulation.Ending.TheVariants.{Ended, Unfinished}

@@ -8,7 +8,7 @@ ghost use Rattle.tso_model.specs.declared.choice.Choice.{Choice};
 ghost use Rattle.tso_laws.specs.EndedRuns.{IsExecution};
 ghost use Rattle.tso_laws.specs.Words.{HoldsWords};
 ghost use Rattle.protocol_tables.specs.Tables.{Table};
-ghost use Rattle.machine_core.specs.Configuration.{Configuration};
+ghost use Rattle.multiprocessor.specs.Configuration.{Configuration};
 ghost use Rattle.simulator.specs.Runs.{run_by, AnswersFitBy};
 ghost use Rattle.simulator.specs.inner.Runs.{EndsBy};
 

@@ -5,9 +5,9 @@ use Rattle.tso_model.specs.Together.{together}
 use Rattle.protocol_tables.specs.Tables.{table_of as table_of_kind}
 use Rattle.snoop_bus.specs.Rows.{TableColumns, rows_of, table_of_rows}
 use Rattle.cache_set.specs.Geometry.{Geometry}
-use Rattle.machine_core.specs.Caches.{Caches, attempt_of, is_awaited}
-use Rattle.machine_core.proofs.EachUse.{used-machine}
-use Rattle.machine_core.specs.Statistics.{Statistics, statistics_from, statistics_after}
+use Rattle.multiprocessor.specs.Caches.{Caches, attempt_of, is_awaited}
+use Rattle.multiprocessor.proofs.EachUse.{used-machine}
+use Rattle.multiprocessor.specs.Statistics.{Statistics, statistics_from, statistics_after}
 use Rattle.machine_core.specs.inner.Running.{is_ended}
 use Rattle.simulator.specs.inner.Simulation.{Drives}
 use Rattle.simulator.proofs.BusLemmas.{bus_run, run-is}

@@ -6,7 +6,7 @@ pub use Rattle.tso_model.specs.FlatMachine.{registers_in, State, chosen, core_of
 pub use Rattle.tso_model.specs.Litmus.{Litmus}
 pub use Rattle.tso_model.specs.Runs.{Run, has_ended, run, run_from}
 pub use Rattle.protocol_tables.specs.declared.kind.ProtocolKind.{ProtocolKind}
-pub use Rattle.machine_core.specs.Configuration.{Configuration}
+pub use Rattle.multiprocessor.specs.Configuration.{Configuration}
 pub use Rattle.tso_report.specs.Tally.{RunCounts, with_state_counted, with_verdict, values_in, runs_in, with_unfinished, count_of_runs, with_values, Ascend}
 pub use Rattle.simulator.specs.Runs.{AnswersFit, run_by, run_under, AnswersFitBy}
 pub use Rattle.simulator.specs.Simulation.{verdict}

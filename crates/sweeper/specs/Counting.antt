@@ -6,7 +6,7 @@ use Rattle.tso_model.specs.Runs.{Run}
 use Rattle.tso_model.specs.declared.choice.Choice.{Choice}
 use Rattle.scheduler.specs.Seeds.{seeded_choices}
 use Rattle.protocol_tables.specs.declared.kind.ProtocolKind.{ProtocolKind}
-use Rattle.machine_core.specs.Configuration.{Configuration}
+use Rattle.multiprocessor.specs.Configuration.{Configuration}
 use Rattle.tso_report.specs.Tally.{RunCounts, nothing_counted, with_state_counted, with_verdict, with_unfinished, values_in}
 use Rattle.scheduler.specs.Plan.{Plan}
 use Rattle.simulator.specs.Runs.{run_under, AnswersFit}

@@ -6,7 +6,7 @@ ghost use Rattle.tso_model.specs.Litmus.{Litmus};
 ghost use Rattle.tso_model.specs.Runs.{Run, CoresExist};
 ghost use Rattle.tso_model.specs.declared.choice.Choice.{Choice};
 ghost use Rattle.protocol_tables.specs.declared.kind.ProtocolKind.{ProtocolKind};
-ghost use Rattle.machine_core.specs.Configuration.{Configuration};
+ghost use Rattle.multiprocessor.specs.Configuration.{Configuration};
 ghost use Rattle.tso_report.specs.Tally.{nothing_counted, runs_in, values_in, with_state_counted, with_verdict};
 ghost use Rattle.simulator.specs.Runs.{run_under, AnswersFit};
 ghost use Rattle.simulator.specs.Simulation.{verdict};

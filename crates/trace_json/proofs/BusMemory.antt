@@ -14,10 +14,10 @@ use Rattle.snoop_bus.specs.Bus.{BusModel, counted_copies, current_words, IsSameM
 use Rattle.snoop_bus.specs.inner.Accesses.{memory_words_of}
 use Rattle.snoop_bus.specs.declared.holding.HeldBus.{HeldBus}
 use Rattle.snoop_bus.specs.declared.holding.Transaction.{Transaction}
-use Rattle.bus_laws.specs.Owners.{IsOwner}
-use Rattle.bus_laws.specs.inner.Calls.{IsCalled}
-use Rattle.bus_laws.proofs.Victims.{AllNeat}
-use Rattle.bus_laws.proofs.Called.{called-stale}
+use Rattle.machine_core.specs.Owners.{IsOwner}
+use Rattle.machine_core.specs.inner.Calls.{IsCalled}
+use Rattle.machine_core.proofs.Victims.{AllNeat}
+use Rattle.machine_core.proofs.Called.{called-stale}
 use Rattle.trace_report.specs.StepLaws.{after_choices}
 use Rattle.trace_report.specs.declared.step.LineState.{LineState}
 use Rattle.trace_report.specs.declared.step.LineState.TheVariants.{Stable, Transient}

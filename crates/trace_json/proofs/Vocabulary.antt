@@ -12,7 +12,7 @@ pub use Rattle.order_builder.specs.PrintedOrder.{printed_entry, HasLocation}
 pub use Rattle.protocol_tables.specs.Tables.{table_of, Table}
 pub use Rattle.protocol_tables.specs.declared.kind.ProtocolKind.{ProtocolKind}
 pub use Rattle.snoop_bus.specs.declared.looking.CachedLine.{CachedLine}
-pub use Rattle.machine_core.specs.Configuration.{Configuration}
+pub use Rattle.multiprocessor.specs.Configuration.{Configuration}
 pub use Rattle.machine_core.specs.Running.{Running, new_machine, machine_after, machine_effect}
 pub use Rattle.machine_core.specs.Looking.{bus_holder_of, bus_holder, bus_holder_as}
 pub use Rattle.tso_report.specs.Json.{count, memory_value, order_value, registers_value}
@@ -34,7 +34,7 @@ pub use Rattle.std.specs.Option.{unwrap_or}
 pub use Rattle.std.proofs.lemmas.List.{drop-set-lt, take_more_set, with_items_is, drop_all, length-drop, length-map, length-take, drop_more, get_or_past, take_more, take_all}
 pub use Rattle.std.proofs.Math.ListN.{length-set}
 pub use Rattle.std.proofs.lemmas.Option.{unwrap_or-slice_get}
-pub use Rattle.machine_core.specs.Caches.{Caches, at_access}
+pub use Rattle.multiprocessor.specs.Caches.{Caches, at_access}
 pub use Rattle.trace_report.specs.Steps.{line_state, number_of_lines, trace_step_of, awaited_at, state_with}
 pub use Rattle.serde_json.specs.declared.value.Value.{Value, the_lemmas}
 pub use Rattle.trace_json.specs.inner.Looked.{IsMachineOfTest, told_last, sourced, trace_with}

@@ -13,7 +13,7 @@ pub use Rattle.protocol_tables.specs.declared.requests.Transient.TheVariants.{Im
 pub use Rattle.protocol_tables.specs.declared.state.State.{State}
 pub use Rattle.protocol_tables.specs.declared.state.State.TheVariants.{E, I, M, O, S}
 pub use Rattle.snoop_bus.specs.Asks.{tag_at}
-pub use Rattle.machine_core.specs.Configuration.{Configuration}
+pub use Rattle.multiprocessor.specs.Configuration.{Configuration}
 pub use Rattle.machine_core.specs.Looking.{bus_holder_of}
 pub use Rattle.machine_core.specs.Running.{configuration_of, machine_after, new_machine, Running}
 pub use Rattle.machine_core.specs.declared.looking.BusHolder.{BusHolder}

@@ -1,6 +1,6 @@
 -- The accesses that a trace tells, and those that are counted.
 use Rattle.trace_report.proofs.Vocabulary.{◌≡◌, ◌∙◌, ℕ, zero, suc, ◌+◌, ◌<◌, ◌==◌, ◌&&◌, Bool, true, false, List, [], ◌∷◌, length, replicate, slice_index_or, Option, Some, None, refl, sym, ap, subst, arith, get_or_past, test-true, test-false, chosen, has_ended, CoresExist, Core, Choice, AccessKind, Hit, Upgrade, Miss, Running, machine_use, machine_after, Statistics, no_counts, with_access, with_forward, with_write_back, with_flush, counts_at_core, flush_counted, with_use_counted, statistics_from, Counts, CacheUse, Unused, Forwarded, Through, length-counted, ShownStep, is_forwarded, access_kind_in, trace_step_of, steps_from, count_of_accesses, is_kind, is_access_of_kind, tells_access, tells_forward, one_if, steps_that, if◌then◌else◌, cases_Bool, inl, inr}
-use Rattle.bus_laws.proofs.Changed.{slot}
+use Rattle.machine_core.proofs.Changed.{slot}
 
 -- the counts of one core among those of all
 abbrev pub of : List Counts → ℕ → Counts

@@ -3,7 +3,7 @@
 use Rattle.trace_report.proofs.Vocabulary.{◌≡◌, ◌≢◌, ◌∙◌, ◌<◌, ◌/◌, ℕ, Bool, true, false, List, Option, Some, None, inl, inr, refl, sym, ap, subst, MemoryAccess, NoAccess, Reads, Writes, Locks, Holder, HeldBy, chosen, Choice, Table, transient_of, I, E, M, Request, GetS, GetM, Transient, Geometry, table_of_rows, TagSets, tag_in, sets_of, snoop_column, Awaited, tag_at, or_invalid, awaiting, asking, asked_caches_in, Caches, Used, is_awaited, asking_by, completing_by, Unused, IsUseFor, KeepsNoCopyInI, AllNeat, found-valid, all-requested, own-kept, at_access, whole_by, Bus, Outcome, request_for}
 use Rattle.std.specs.Option.{option_map}
 use Rattle.protocol_tables.specs.declared.state.State.{State}
-use Rattle.machine_core.proofs.EachUse.{asks-nothing}
+use Rattle.multiprocessor.proofs.EachUse.{asks-nothing}
 use Rattle.trace_report.proofs.InPlace.{wrote_in, IsStill, none-still, use-still, is_write_access}
 use Rattle.trace_report.proofs.VictimsLeave.{MayComplete, ComesIn, modified, completed-neat, completed-fills, whole-neat, whole-fills}
 use Rattle.trace_report.proofs.UsesOnBus.{Stays, UsesOn, made, unused, begun, ended}

@@ -2,7 +2,7 @@
 use Rattle.trace_report.proofs.Vocabulary.{◌≡◌, ◌∙◌, ℕ, ◌+◌, ◌==◌, ◌&&◌, Bool, true, false, List, [], ◌∷◌, length, map, Option, Some, None, refl, sym, ap, subst, arith, length-replicate, length-map, Litmus, chosen, core_of, has_ended, MemoryAccess, access_of, BusRun, Core, Choice, Table, Entry, tags_in, Configuration, AllStores, start-stores, LiveIn, live-after, live-start, Caches, is_awaited, used_between, no_counts, with_access, with_forward, with_write_back, with_flush, counts_at_core, flush_counted, with_use_counted, Counts, CacheUse, Unused, Forwarded, Through, Running, new_machine, attempt_on, machine_use, machine_after, length-counted, trace_step_of, steps_from, request_at, is_sender, tells_flush, one_if, steps_that, CoresExist, cases_Bool, ended-free, inl, inr, machine_effect, IsAmong, IsFlusherAmong, IsSenderAmong}
 use Rattle.std.proofs.Common.{length-set}
 use Rattle.snoop_bus.specs.Bus.{empty_caches}
-use Rattle.machine_core.proofs.CountsOnBus.{senders}
+use Rattle.multiprocessor.proofs.CountsOnBus.{senders}
 use Rattle.trace_report.proofs.AccessesTold.{of, kept, added, counts_after, end_of, summed, through-keeps}
 use Rattle.trace_report.proofs.RunsTold.{run_of, going}
 use Rattle.trace_report.proofs.Rooms.{room_of, used-rooms}

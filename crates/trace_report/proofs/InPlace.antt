@@ -1,8 +1,8 @@
 -- An access that needs no bus: no other cache sees it, nothing is sent to memory, and no line leaves.
 use Rattle.trace_report.proofs.Vocabulary.{◌≡◌, ◌≢◌, ◌∙◌, ◌/◌, ℕ, Bool, false, not, List, slice_index_or, Option, Some, None, is_some, inl, inr, refl, sym, subst, eqb_tells, MemoryAccess, NoAccess, Locks, needs_bus, Table, table_of_rows, TagSet, tag_of, used, TagSets, tags_at, tag_in, at_line, sets_of, used_by, tag_at, Caches, Used, not_through, hits_by, Unused, IsUseFor, no_set, absent-remove, would_hit, through, whole_by, Forwarded, Through, next_in_place, whole_in, CacheUse, Core, at_access}
 use Rattle.protocol_tables.specs.declared.state.State.{State}
-use Rattle.bus_laws.proofs.Changed.{set-at, core-at}
-use Rattle.bus_laws.proofs.Snooped.{own-alone}
+use Rattle.machine_core.proofs.Changed.{set-at, core-at}
+use Rattle.machine_core.proofs.Snooped.{own-alone}
 
 -- whether an access is a write access
 abbrev pub is_write_access : MemoryAccess → Bool

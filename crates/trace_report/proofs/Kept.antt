@@ -3,7 +3,7 @@ use Rattle.trace_report.proofs.Vocabulary.{arith, ◌≡◌, ◌≢◌, ◌∙�
 use Rattle.protocol_tables.specs.declared.state.State as protocol
 use Rattle.protocol_tables.specs.declared.state.State.TheVariants as tag
 use Rattle.trace_report.proofs.Awaiting.{HolderMayMake, IsWithin, FillsIf, neat-after, may-after, fills-by}
-use Rattle.machine_core.proofs.EachUse.{used-machine}
+use Rattle.multiprocessor.proofs.EachUse.{used-machine}
 use Rattle.trace_report.proofs.Rooms.{room_of, rooms_of, used-rooms}
 use Rattle.trace_report.proofs.FlushesTold.{IsSound, sound-first, sound-after, uses-of}
 use Rattle.trace_report.proofs.Places.{AccessKnown, access-known, stores-first}

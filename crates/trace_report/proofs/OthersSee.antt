@@ -1,7 +1,7 @@
 -- The request that a step tells is the one that the other caches see.
 use Rattle.trace_report.proofs.Vocabulary.{◌≡◌, ◌≢◌, ◌∙◌, ◌/◌, ℕ, Bool, List, [], ◌∷◌, Option, Some, None, option_map, inl, inr, refl, sym, ap, subst, Litmus, chosen, MemoryAccess, NoAccess, access_of, Holder, Bus, Atomic, Split, Choice, Outcome, Table, Request, Transient, SmD, M, table_of_rows, snoop_column, used, filled, TagSets, at_line, sets_of, Awaited, asking, awaiting, asked_for, asked_caches_in, completed, completed_in, Through, Caches, Used, asking_by, completing_by, Configuration, Running, new_machine, machine_after, IsUseFor, nothing_sent, request_at, sent_whole, sent_asked, sent_at, sent_on, with_seen, OthersSeeTheRequest, after_choices, Sent, LineRequest, whole_by, awaited_as, request_for, whole_in, asked_at_once, machine_use, requested, to_fill, machine_effect}
 use Rattle.protocol_tables.specs.declared.state.State as protocol
-use Rattle.bus_laws.proofs.Snooped.{requested-at, own-alone}
+use Rattle.machine_core.proofs.Snooped.{requested-at, own-alone}
 use Rattle.trace_report.specs.Steps as steps
 use Rattle.trace_report.proofs.InPlace.{use-still, is_write_access}
 use Rattle.trace_report.proofs.Flushes.{none-sent}

@@ -3,7 +3,7 @@ use Rattle.trace_report.proofs.Vocabulary.{Awaited, Bool, Caches, Entry, I, List
 use Rattle.std.proofs.Math.Seq.{map-set_same}
 use Rattle.protocol_tables.specs.declared.state.State.{State}
 use Rattle.protocol_tables.specs.declared.state.Snoop.{Snoop}
-use Rattle.machine_core.proofs.EachUse.{each-use}
+use Rattle.multiprocessor.proofs.EachUse.{each-use}
 
 -- for how many lines each set of a cache has room, and each set of each core's
 abbrev pub room_of : TagSets → List ℕ

@@ -9,8 +9,8 @@ pub use Rattle.std.specs.List.{list_any}
 pub use Rattle.tso_model.specs.ProgramOrder.{writes_to}
 pub use Rattle.tso_model.specs.MemoryAccess.{MemoryAccess, NoAccess, Reads, Writes, Locks, access_of, next_of, access_by, step_access, load_access, locked_access, store_access, drain_access}
 pub use Rattle.basic_laws.specs.Types.{Entry, Kind, R, W, F, LR, LW, Bus, Atomic, Split, Instr, Action, Choice, Step, Drain, Outcome, Committed, Buffered, Moved, Asked, Stalled, Stall, Loc, Core, Reg, Operand}
-pub use Rattle.machine_core.specs.Caches.{Caches, not_through, asking_by, completing_by, use_by_kind, use_of, used_between, is_awaited, use_on, state_after_on, Used, load_after, hits_by, would_hit, attempt_of, at_access, through, completion_by, whole_by}
-pub use Rattle.machine_core.specs.declared.accesses.CacheUse.TheVariants.{Forwarded, Unused, Through}
+pub use Rattle.multiprocessor.specs.Caches.{Caches, not_through, asking_by, completing_by, use_by_kind, use_of, used_between, is_awaited, use_on, state_after_on, Used, load_after, hits_by, would_hit, attempt_of, at_access, through, completion_by, whole_by}
+pub use Rattle.multiprocessor.specs.declared.accesses.CacheUse.TheVariants.{Forwarded, Unused, Through}
 pub use Rattle.tso_model.specs.Actions.{action_of, location_of}
 pub use Rattle.tso_model.specs.FlatMachine.{CoreState, State, Effect, is_none_pending, stalled, stored, effect_by, effect_of, core_of, chosen, program_of, applied, start, idle, step_of, load_value, after_choice}
 pub use Rattle.basic_laws.proofs.WithPending.{drain_with}
@@ -37,7 +37,7 @@ pub use Rattle.std.proofs.lemmas.Bool.Decides.{nat_tests, eqb_tells}
 pub use Rattle.snoop_bus.specs.Asks.{Awaited, tag_at, or_invalid, asking, completed, completed_in, asked_caches_in, asked_for, awaited_by, next_in_place, awaited_as, request_for, whole_in, whole_access, asked_at_once, to_fill}
 unfoldable pub use Rattle.snoop_bus.specs.Asks.{awaiting}
 pub use Rattle.machine_core.specs.Running.{Running, attempt_on, machine_use, machine_after, new_machine, configuration_of, machine_effect}
-pub use Rattle.machine_core.specs.declared.accesses.CacheUse.{CacheUse}
+pub use Rattle.multiprocessor.specs.declared.accesses.CacheUse.{CacheUse}
 pub use Rattle.trace_report.specs.Steps.{goes_on_bus, request_at, sent_on, line_states, placed_states_from, number_of_lines, states_of, number_of_state, change_of, changes_in, last_line, among, giving_way, wrote_back_by, buffer_if_changed, moved_by, placed, is_forwarded, access_kind_in, moved_from, nothing_sent, moved_at, steps_from, trace_of, sent_whole, sent_at, state_with, awaited_at, sent_asked}
 unfoldable pub use Rattle.trace_report.specs.Steps.{trace_step_of}
 pub use Rattle.trace_report.specs.declared.step.LineRequest.{LineRequest}
@@ -47,7 +47,7 @@ pub use Rattle.std.specs.Option.{option_and_then, unwrap_or}
 pub use Rattle.snoop_bus.specs.declared.access.AccessKind.{AccessKind}
 pub use Rattle.cache_set.specs.Geometry.{Geometry, IsLineSize}
 pub use Rattle.basic_laws.proofs.Basics.{test-true, lt-or, test-false, and-false, decide}
-pub use Rattle.machine_core.specs.Configuration.{Configuration}
+pub use Rattle.multiprocessor.specs.Configuration.{Configuration}
 pub use Rattle.trace_report.specs.Shown.{ShownStep}
 pub use Rattle.trace_report.specs.Told.{IsTraced, IsTracedInStates}
 pub use Rattle.trace_report.specs.inner.Left.{stores_on, waited_on, IsLeftBy}
@@ -55,14 +55,14 @@ pub use Rattle.trace_report.specs.declared.sending.Sent.{Sent}
 pub use Rattle.trace_report.specs.Stalls.{stalled_step}
 pub use Rattle.protocol_tables.specs.Tables.{Table, filled_shared, filled_by_sharing, written_in_place}
 pub use Rattle.tso_model.specs.Runs.{Run, has_ended, stall_count, then_run, run, CoresExist, is_done}
-pub use Rattle.machine_core.specs.Statistics.{no_statistics, Statistics, no_counts, with_access, with_forward, with_write_back, with_flush, counts_at_core, flush_counted, with_use_counted, statistics_from}
+pub use Rattle.multiprocessor.specs.Statistics.{no_statistics, Statistics, no_counts, with_access, with_forward, with_write_back, with_flush, counts_at_core, flush_counted, with_use_counted, statistics_from}
 pub use Rattle.basic_laws.proofs.Lists.{Each, each-append, each-at}
 pub use Rattle.protocol_tables.specs.declared.requests.Transient.TheVariants.{IsD, ImD, SmD}
 pub use Rattle.trace_report.specs.declared.step.LineState.{LineState}
 pub use Rattle.snoop_bus.specs.declared.access.AccessKind.TheVariants.{Hit, Upgrade, Miss}
-pub use Rattle.machine_core.specs.declared.counts.Counts.{Counts}
-pub use Rattle.machine_core.proofs.CountBounds.{length-counted}
-pub use Rattle.machine_core.proofs.Advancing.{last-unused}
+pub use Rattle.multiprocessor.specs.declared.counts.Counts.{Counts}
+pub use Rattle.multiprocessor.proofs.CountBounds.{length-counted}
+pub use Rattle.multiprocessor.proofs.Advancing.{last-unused}
 pub use Rattle.protocol_tables.specs.Transients.{transient_of}
 pub use Rattle.protocol_tables.specs.declared.requests.Request.{Request}
 pub use Rattle.protocol_tables.specs.declared.requests.Request.TheVariants.{GetS, GetM}
@@ -73,10 +73,10 @@ pub use Rattle.split_laws.proofs.Waiting.{AllStores, access-kept, choice-stores,
 pub use Rattle.split_laws.proofs.Effects.{HolderWaits, Live, LiveIn, live-after, live-start}
 pub use Rattle.protocol_tables.specs.declared.state.State.TheVariants.{I, S, E, O, M}
 pub use Rattle.cache_set.specs.Tags.{TagSet, tag_of, used, filled, in_next, snooped_in, snooped, leaving}
-pub use Rattle.bus_laws.specs.Uses.{IsUseFor}
-pub use Rattle.bus_laws.proofs.Victims.{no_set, AllNeat, found-valid, all-requested, all-used, all-filled, absent-remove, own-kept, IsNeat, none-neat, no-sets, sets-leave}
-pub use Rattle.bus_laws.proofs.Counted.{choice-use}
+pub use Rattle.machine_core.specs.Uses.{IsUseFor}
+pub use Rattle.machine_core.proofs.Victims.{no_set, AllNeat, found-valid, all-requested, all-used, all-filled, absent-remove, own-kept, IsNeat, none-neat, no-sets, sets-leave}
+pub use Rattle.machine_core.proofs.Counted.{choice-use}
 pub use Rattle.snoop_bus.specs.Requests.{snoop_column}
 pub use Rattle.cache_set.specs.Copies.{tags_in}
 pub use Rattle.trace_report.specs.StepLaws.{WriteBacksAreTold, after_choices, with_moved, pending_told, CoresAreTold, IsWordOfStall, done, full, lock, empty, IsHeldByOther, IsWordOfStallOn, flat, bus, StallsAreTold, with_seen, OthersSeeTheRequest}
-pub use Rattle.machine_core.specs.inner.Keeping.{IsAmong, IsFlusherAmong, IsSenderAmong, memory_access_in}
+pub use Rattle.multiprocessor.specs.inner.Keeping.{IsAmong, IsFlusherAmong, IsSenderAmong, memory_access_in}

@@ -4,7 +4,7 @@ use Rattle.trace_report.specs.inner.Told.{IsLookedAt}
 use Rattle.trace_report.proofs.Effects.{Form, effect-form, waited-is}
 use Rattle.trace_report.proofs.Places.{effect-places, stores-next, access-known, at-place}
 use Rattle.trace_report.proofs.Named.{sent-known, request-known, victim-known, written-back-known, changes-known, states-known, buffer-known}
-use Rattle.machine_core.proofs.EachUse.{used-machine}
+use Rattle.multiprocessor.proofs.EachUse.{used-machine}
 use Rattle.trace_report.specs.declared.step.Moved.{Moved}
 use Rattle.trace_report.specs.declared.telling.Left.{Left}
 

@@ -16,8 +16,8 @@ use Rattle.snoop_bus.specs.Asks.{tag_at}
 use Rattle.cache_set.specs.Tags.{leaving, snooped}
 use Rattle.snoop_bus.specs.CacheContents.{TagSets, tags_at, at_line, sets_of}
 use Rattle.snoop_bus.specs.Requests.{snoop_column}
-use Rattle.machine_core.specs.Configuration.{Configuration}
-use Rattle.machine_core.specs.Caches.{at_access}
+use Rattle.multiprocessor.specs.Configuration.{Configuration}
+use Rattle.multiprocessor.specs.Caches.{at_access}
 use Rattle.machine_core.specs.Running.{Running, new_machine, machine_after, attempt_on, table_in}
 use Rattle.trace_report.specs.Lines.{stall_name}
 use Rattle.trace_report.specs.Steps.{trace_step_of}

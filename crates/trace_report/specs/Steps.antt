@@ -20,13 +20,13 @@ use Rattle.snoop_bus.specs.CacheContents.{sets_of}
 use Rattle.snoop_bus.specs.Asks.{Awaited, tag_at, or_invalid, request_for}
 use Rattle.snoop_bus.specs.declared.access.AccessKind.{AccessKind}
 use Rattle.snoop_bus.specs.declared.access.AccessKind.TheVariants.{Hit, Upgrade, Miss}
-use Rattle.machine_core.specs.Configuration.{Configuration}
-use Rattle.machine_core.specs.Caches.{at_access}
+use Rattle.multiprocessor.specs.Configuration.{Configuration}
+use Rattle.multiprocessor.specs.Caches.{at_access}
 use Rattle.machine_core.specs.Running.{Running, new_machine, machine_effect, machine_use, machine_after}
 use Rattle.machine_core.specs.Looking.{bus_holder_of}
 use Rattle.machine_core.specs.declared.looking.BusHolder.{BusHolder}
-use Rattle.machine_core.specs.declared.accesses.CacheUse.{CacheUse}
-use Rattle.machine_core.specs.declared.accesses.CacheUse.TheVariants.{Unused, Forwarded, Through}
+use Rattle.multiprocessor.specs.declared.accesses.CacheUse.{CacheUse}
+use Rattle.multiprocessor.specs.declared.accesses.CacheUse.TheVariants.{Unused, Forwarded, Through}
 use Rattle.trace_report.specs.Shown.{ShownStep}
 use Rattle.trace_report.specs.declared.step.Moved.{Moved}
 use Rattle.trace_report.specs.declared.step.LineRequest.{LineRequest}

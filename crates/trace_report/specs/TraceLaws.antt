@@ -11,12 +11,12 @@ use Rattle.protocol_tables.specs.Tables.{Table, table_of}
 use Rattle.protocol_tables.specs.declared.kind.ProtocolKind.{ProtocolKind}
 use Rattle.protocol_tables.specs.declared.state.State.{State}
 use Rattle.protocol_tables.specs.declared.state.State.TheVariants.{I}
-use Rattle.machine_core.specs.Configuration.{Configuration}
+use Rattle.multiprocessor.specs.Configuration.{Configuration}
 use Rattle.snoop_bus.specs.declared.access.AccessKind.{AccessKind}
 use Rattle.snoop_bus.specs.declared.access.AccessKind.TheVariants.{Hit, Upgrade, Miss}
-use Rattle.machine_core.specs.Answered.{answered}
-use Rattle.machine_core.specs.Statistics.{no_counts, counts_of}
-use Rattle.machine_core.specs.declared.counts.Counts.{Counts}
+use Rattle.multiprocessor.specs.Answered.{answered}
+use Rattle.multiprocessor.specs.Statistics.{no_counts, counts_of}
+use Rattle.multiprocessor.specs.declared.counts.Counts.{Counts}
 use Rattle.machine_core.specs.Running.{Running, machine_after}
 use Rattle.trace_report.specs.Shown.{ShownStep}
 use Rattle.trace_report.specs.Steps.{trace_step_of, states_of, number_of_state, trace_of}

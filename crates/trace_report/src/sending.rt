@@ -3,7 +3,7 @@
 
 ghost use Rattle.std.specs.Prelude.{◌≡◌, ◌<◌, ◌/◌, option_map};
 ghost use Rattle.snoop_bus.specs.Asks.{awaited_by};
-ghost use Rattle.machine_core.specs.inner.Keeping.{memory_access_in};
+ghost use Rattle.multiprocessor.specs.inner.Keeping.{memory_access_in};
 ghost use Rattle.trace_report.specs.Steps.{request_at, sent_whole, sent_asked, sent_on};
 
 use crate::step::LineRequest;

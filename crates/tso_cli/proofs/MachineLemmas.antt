@@ -1,6 +1,6 @@
 -- On the atomic bus the protocol and the shape of the caches change two kinds of lines alone.
 use Rattle.tso_cli.proofs.Vocabulary.{◌≡◌, ◌<◌, ◌==◌, ◌+◌, ℕ, zero, suc, Bool, true, false, cond, List, [], ◌∷◌, ◌++◌, length, Some, codes, refl, sym, ap, subst, ◌∙◌, inl, inr, append_assoc, append-nil, decimal, Litmus, registers_in, Run, run, Choice, IsDecidedAsChoices, TooMany, table_of, ProtocolKind, Configuration, printed_order, ShownRun, line, head, body, test_line, machine_line, register_lines, memory_line, condition_line, choices_line, cache_lines, report, RunCounts, tally_text, Plan, EndsInFeed, choices_refusal, unfinished_run_line, report_in, unfinished_in, run_under, counts_under, shown_of, verdict, sweep_status, IsSweepAnswer, choices_of, seeded_run, with_one_run, counts_from, sweep_counts, IsAnswer, run_text, run_status, status_under, IsRunAnswer, ran, ending_text, IsTraceAnswer, traced, traced_in, FitsForm, IsTooLong, too_long, trace_text, trace_under, json_ended, json_unended, AreReadOneWay, Status, Good, Refused, Unended, atomic-run, counts-each}
-use Rattle.machine_core.specs.declared.counts.Counts.{Counts}
+use Rattle.multiprocessor.specs.declared.counts.Counts.{Counts}
 use Rattle.tso_report.specs.Json.{json_report}
 use Rattle.tso_report.specs.inner.JsonFrame.{other_members}
 use Rattle.command_line.specs.declared.settings.Settings.TheVariants as settings

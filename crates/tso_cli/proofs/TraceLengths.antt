@@ -8,8 +8,8 @@ use Rattle.tso_laws.proofs.Beginnings.{run-begins}
 use Rattle.scheduler.specs.WordOfChoice.{IsWordOfChoice}
 use Rattle.scheduler.specs.declared.fault.ChoiceFault.{ChoiceFault}
 use Rattle.scheduler.proofs.Stopping.{stops}
-use Rattle.machine_core.specs.Answered.{answered}
-use Rattle.machine_core.specs.Statistics.{no_statistics}
+use Rattle.multiprocessor.specs.Answered.{answered}
+use Rattle.multiprocessor.specs.Statistics.{no_statistics}
 use Rattle.trace_json.specs.TracedRun.{most_steps}
 use Rattle.tso_cli.specs.inner.Trace.{used_in, IsMeasured}
 use Rattle.simulator.specs.declared.simulation.Ending.{Ending}

@@ -13,7 +13,7 @@ pub use Rattle.tso_model.specs.Runs.{Run, run, CoresExist, has_ended, stall_coun
 pub use Rattle.basic_laws.specs.Types.{Atomic, Split, Choice, Entry, Instr, StoreImm, StoreReg, Load, SetImm, SetReg, Fence, Xchg, Xadd, Bus}
 pub use Rattle.tso_laws.specs.EndedRuns.{IsExecution, End}
 pub use Rattle.protocol_tables.specs.declared.kind.ProtocolKind.{ProtocolKind}
-pub use Rattle.machine_core.specs.Configuration.{Configuration, IsConfigurationWithinLimits}
+pub use Rattle.multiprocessor.specs.Configuration.{Configuration, IsConfigurationWithinLimits}
 pub use Rattle.tso_report.specs.Tally.{RunCounts, with_state_counted, with_verdict, values_in, count_of_runs, runs_in, counted_state_line, tally_text, counted_state_lines, sweep_line, ended_in, observation, run_counts, looked_at, shown_value}
 pub use Rattle.scheduler.specs.Plan.{Plan}
 pub use Rattle.simulator.specs.Runs.{run_under, AnswersFit, counts_under, run_by, AnswersFitBy}
@@ -97,7 +97,7 @@ pub use Rattle.tso_cli.specs.Fitting.{EndedRunsFit, ChoicesAreCounted, IsStateAt
 pub use Rattle.tso_cli.specs.Step.{IsStepAnswer}
 pub use Rattle.tso_cli.specs.inner.Step.{IsLastStep, told}
 pub use Rattle.litmus_reader.specs.Reading.{refusal}
-pub use Rattle.machine_core.specs.declared.counts.Counts.{Counts}
+pub use Rattle.multiprocessor.specs.declared.counts.Counts.{Counts}
 pub use Rattle.machine_core.specs.Running.{Running, new_machine, machine_after}
 pub use Rattle.trace_report.specs.Shown.{ShownStep, shown_step}
 pub use Rattle.trace_report.specs.inner.ToldSteps.{told_step}

@@ -6,7 +6,7 @@ use Rattle.tso_cli.specs.Vocabulary.{Atomic, cache_lines, cache_value, Choice, C
 use Rattle.tso_cli.specs.Dividing.{EndsInFeed}
 use Rattle.tso_cli.specs.declared.answer.Status.{Status}
 use Rattle.tso_cli.specs.declared.answer.Status.TheVariants.{Good, Refused}
-use Rattle.machine_core.specs.declared.counts.Counts.{Counts}
+use Rattle.multiprocessor.specs.declared.counts.Counts.{Counts}
 use Rattle.trace_report.specs.Shown.{ShownStep as Step}
 use Rattle.tso_report.specs.JsonFrame.{OtherMembers, json_with}
 

@@ -4,7 +4,7 @@ use Rattle.std.specs.Prelude.{List}
 use Rattle.tso_cli.specs.Vocabulary.{Choice, Configuration, Litmus, ProtocolKind, Run, Split, table_of}
 use Rattle.tso_model.specs.EitherBus.{run_on}
 use Rattle.tso_model.specs.Together.{together}
-use Rattle.machine_core.specs.Answered.{answered}
+use Rattle.multiprocessor.specs.Answered.{answered}
 
 -- the split machine's run, with the caches' answers whether an access hits; in its order each locked instruction's load part is
 -- put directly before its store part

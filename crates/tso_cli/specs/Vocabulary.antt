@@ -29,8 +29,8 @@ pub use Rattle.explorer.specs.FinalStates.{HasMoreStates}
 pub use Rattle.order_builder.specs.PrintedOrder.{HasLocation, IsLocationFor, letters_of, printed_entry}
 pub use Rattle.order_builder.specs.Spelling.{HasFault, SpellsOrder}
 pub use Rattle.order_builder.specs.declared.fault.OrderFault.{OrderFault}
-pub use Rattle.machine_core.specs.Configuration.{Configuration}
-pub use Rattle.machine_core.specs.declared.counts.Counts.{Counts}
+pub use Rattle.multiprocessor.specs.Configuration.{Configuration}
+pub use Rattle.multiprocessor.specs.declared.counts.Counts.{Counts}
 pub use Rattle.tso_report.specs.Json.{cache_value, json_report, machine_value}
 pub use Rattle.tso_report.specs.Report.{body, cache_lines, head, machine_line, report}
 pub use Rattle.tso_report.specs.Shown.{IsRunOf, ShownRun}

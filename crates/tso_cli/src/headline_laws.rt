@@ -2,7 +2,7 @@
 
 ghost use Rattle.std.specs.Prelude.{◌≡◌, ℕ, Bool, List};
 ghost use Rattle.protocol_tables.specs.declared.kind.ProtocolKind.{ProtocolKind};
-ghost use Rattle.machine_core.specs.Configuration.{Configuration};
+ghost use Rattle.multiprocessor.specs.Configuration.{Configuration};
 ghost use Rattle.command_line.specs.Explanation.{Explanation};
 ghost use Rattle.scheduler.specs.Plan.{Plan};
 ghost use Rattle.command_line.specs.Search.{Search};

@@ -3,7 +3,7 @@
 
 ghost use Rattle.std.specs.Prelude.{ℕ, Bool, List, Some};
 ghost use Rattle.protocol_tables.specs.declared.kind.ProtocolKind.{ProtocolKind};
-ghost use Rattle.machine_core.specs.Configuration.{Configuration};
+ghost use Rattle.multiprocessor.specs.Configuration.{Configuration};
 ghost use Rattle.scheduler.specs.Plan.{Plan};
 ghost use Rattle.command_line.specs.declared.settings.Settings.{Settings};
 ghost use Rattle.tso_cli.specs.Answers.{IsAnswer};

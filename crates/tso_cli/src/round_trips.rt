@@ -13,7 +13,7 @@ ghost use Rattle.tso_laws.specs.Along.{choices_along, LeadTo};
 ghost use Rattle.tso_laws.specs.Depth.{needed};
 ghost use Rattle.refutation_laws.specs.Models.{depth_of};
 ghost use Rattle.protocol_tables.specs.declared.kind.ProtocolKind.{ProtocolKind};
-ghost use Rattle.machine_core.specs.Configuration.{Configuration};
+ghost use Rattle.multiprocessor.specs.Configuration.{Configuration};
 ghost use Rattle.tso_cli.specs.Answers.{IsAnswer, IsPrinted};
 ghost use Rattle.tso_cli.specs.CommandAnswers.{IsCheckAnswer};
 ghost use Rattle.tso_cli.specs.CheckLines.{valid_line};

@@ -5,7 +5,7 @@ use Rattle.tso_model.specs.Registers.{IsWord, AreRegisters, index_of, name_of}
 use Rattle.tso_model.specs.Thread.{value_in}
 use Rattle.basic_laws.specs.Types.{Eax, Quantifier, Exists, Kind, R, F}
 use Rattle.cache_set.specs.Geometry.{IsShapeWithinLimits as IsShape}
-use Rattle.machine_core.specs.Keeping.{IsAtMost}
+use Rattle.multiprocessor.specs.Keeping.{IsAtMost}
 use Rattle.tso_report.specs.Limits.{longest_report, IsSmall}
 
 -- ---- texts put together

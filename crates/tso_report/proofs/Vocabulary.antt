@@ -16,11 +16,11 @@ pub use Rattle.protocol_tables.specs.Names.{protocol_name}
 pub use Rattle.protocol_tables.specs.declared.kind.ProtocolKind.{ProtocolKind}
 pub use Rattle.protocol_tables.specs.declared.kind.ProtocolKind.TheVariants.{Msi, Mesi, Moesi, Mosi}
 pub use Rattle.cache_set.specs.Geometry.{Geometry, IsLineSize, IsShapeWithinLimits}
-pub use Rattle.machine_core.specs.Configuration.{Configuration, IsConfigurationWithinLimits}
+pub use Rattle.multiprocessor.specs.Configuration.{Configuration, IsConfigurationWithinLimits}
 pub use Rattle.tso_report.specs.Report.{report, line, test_line, shape_text, bus_text, register_lines, memory_line, condition_line, choices_line, cache_lines, machine_line, printed_register, printed_registers, register_line, printed_words, printed_quantifier, printed_truth, printed_verdict, traffic_text, cache_line}
 unfoldable pub use Rattle.tso_report.specs.Report.{all_registers}
 pub use Rattle.tso_model.specs.Condition.{Condition}
-pub use Rattle.machine_core.specs.declared.counts.Counts.{Counts}
+pub use Rattle.multiprocessor.specs.declared.counts.Counts.{Counts}
 pub use Rattle.tso_report.specs.declared.named.Named.{Named}
 pub use Rattle.tso_report.specs.Tally.{printed_value, printed_values, is_looked_at, named_register, named_location, named_registers, named_locations, looked_at, count_of_runs, with_values, sweep_line, counted_state_lines, observation, tally_text, Ascend, shown_value, frequency_text, ends_text}
 pub use Rattle.std.specs.Ordering.{nat_cmp, match_ordering, is_eq, ordering_reverse}

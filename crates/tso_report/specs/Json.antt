@@ -11,8 +11,8 @@ use Rattle.basic_laws.specs.Types.{Bus, Atomic, Split, Eax, Ebx, Ecx, Edx, Esi, 
 use Rattle.order_builder.specs.PrintedOrder.{printed_entry}
 use Rattle.protocol_tables.specs.Names.{protocol_name}
 use Rattle.protocol_tables.specs.declared.kind.ProtocolKind.{ProtocolKind}
-use Rattle.machine_core.specs.Configuration.{Configuration}
-use Rattle.machine_core.specs.declared.counts.Counts.{Counts}
+use Rattle.multiprocessor.specs.Configuration.{Configuration}
+use Rattle.multiprocessor.specs.declared.counts.Counts.{Counts}
 use Rattle.tso_report.specs.Shown.{ShownRun}
 use Rattle.tso_report.specs.Report.{line, printed_quantifier}
 

@@ -5,7 +5,7 @@ use Rattle.tso_model.specs.Litmus.{Litmus, IsTest}
 use Rattle.order_builder.specs.Spelling.{IsOrderFor, SpellsOrder}
 use Rattle.protocol_tables.specs.declared.kind.ProtocolKind.{ProtocolKind}
 use Rattle.cache_set.specs.Geometry as shape
-use Rattle.machine_core.specs.Configuration.{Configuration, IsConfigurationWithinLimits}
+use Rattle.multiprocessor.specs.Configuration.{Configuration, IsConfigurationWithinLimits}
 use Rattle.tso_report.specs.Shown.{ShownRun}
 use Rattle.tso_report.specs.Report.{report}
 use Rattle.tso_report.specs.Limits.{longest_report, IsSmall}

@@ -4,7 +4,7 @@ use Rattle.tso_model.specs.Limits.{most_cores, most_instructions}
 use Rattle.tso_model.specs.Litmus.{Litmus}
 use Rattle.tso_model.specs.Registers.{IsWord, AreRegisters}
 use Rattle.order_builder.specs.Spelling.{IsOrderFor}
-use Rattle.machine_core.specs.Keeping.{IsAtMost}
+use Rattle.multiprocessor.specs.Keeping.{IsAtMost}
 use Rattle.tso_report.specs.Shown.{ShownRun}
 
 -- maximum length of a report, in bytes

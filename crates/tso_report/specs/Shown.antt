@@ -3,7 +3,7 @@ use Rattle.std.specs.Prelude.{ℕ, ◌≡◌, Bool, List, length, Option, is_som
 use Rattle.tso_model.specs.Litmus.{Litmus}
 use Rattle.tso_model.specs.declared.execution.Entry.{Entry}
 use Rattle.order_builder.specs.PrintedOrder.{HasLocation}
-use Rattle.machine_core.specs.declared.counts.Counts.{Counts}
+use Rattle.multiprocessor.specs.declared.counts.Counts.{Counts}
 use Rattle.tso_report.specs.declared.run.Run.{Run}
 
 -- the order, the registers of each core, the words, the verdict, the counts of choices, and those of each core's cache

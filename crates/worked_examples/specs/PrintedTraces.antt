@@ -2,7 +2,7 @@
 use Rattle.std.specs.Prelude.{ℕ, List, [], ◌∷◌, ◌++◌, codes}
 use Rattle.worked_examples.specs.Vocabulary.{geometry, Litmus}
 use Rattle.basic_laws.specs.Types.{Eax, Ebx, Ecx, StoreImm, Load, SetImm, Fence, Xchg, Atomic, Split, Choice}
-use Rattle.machine_core.specs.Configuration.{Configuration}
+use Rattle.multiprocessor.specs.Configuration.{Configuration}
 use Rattle.worked_examples.specs.Written.{loc_x, loc_y, step, drain}
 use Rattle.worked_examples.specs.SharedBus.{shared}
 

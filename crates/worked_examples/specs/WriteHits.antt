@@ -3,7 +3,7 @@
 use Rattle.std.specs.Prelude.{ℕ, List, [], ◌∷◌, None, codes}
 use Rattle.worked_examples.specs.Vocabulary.{after_on, Attempt, BusState, effect_on, Geometry, Litmus, start, unheld}
 use Rattle.basic_laws.specs.Types.{Bus, Eax, StoreImm, Load, Entry, R, W, Choice, Outcome, Committed, Buffered, Asked}
-use Rattle.machine_core.specs.declared.counts.Counts.{Counts}
+use Rattle.multiprocessor.specs.declared.counts.Counts.{Counts}
 use Rattle.worked_examples.specs.Written.{loc_x, loc_y, step, drain, six, memory_action}
 use Rattle.worked_examples.specs.SharedBus.{missing, hitting}
 

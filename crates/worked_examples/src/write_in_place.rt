@@ -4,8 +4,8 @@ ghost use Rattle.std.specs.Prelude.{◌≡◌, true, [], ◌∷◌};
 ghost use Rattle.tso_model.specs.EitherBus.{run_on};
 ghost use Rattle.tso_model.specs.declared.choice.Bus.TheVariants.{Split};
 ghost use Rattle.protocol_tables.specs.Tables.{msi, mesi};
-ghost use Rattle.machine_core.specs.Statistics.{counts_of};
-ghost use Rattle.machine_core.specs.Answered.{answered};
+ghost use Rattle.multiprocessor.specs.Statistics.{counts_of};
+ghost use Rattle.multiprocessor.specs.Answered.{answered};
 ghost use Rattle.worked_examples.specs.WriteHits.{outcomes, two_lines, these, twice, drains, drains_hit, drains_come_to, drains_order};
 ghost use Rattle.worked_examples.specs.WriteHits.{steps, steps_hit, steps_come_to, first_asks, first_comes_to};
 

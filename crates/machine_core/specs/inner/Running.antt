@@ -2,7 +2,7 @@
 use Rattle.std.specs.Prelude.{◌≡◌, ◌&&◌, Bool, true, not}
 use Rattle.machine_core.specs.Vocabulary.{has_ended, HeldBetween}
 use Rattle.tso_model.specs.declared.execution.Entry.{Entry}
-use Rattle.machine_core.specs.inner.Caches.{HasLineAlone}
+use Rattle.multiprocessor.specs.inner.Caches.{HasLineAlone}
 use Rattle.machine_core.specs.Running.{Running}
 
 -- between the two parts of a locked instruction no other core has its line

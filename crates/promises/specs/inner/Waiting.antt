@@ -5,7 +5,7 @@ use Rattle.tso_model.specs.MemoryAccess.{MemoryAccess, NoAccess, Reads, Writes, 
 use Rattle.tso_model.specs.SplitMachine.{HeldBetween}
 use Rattle.basic_laws.specs.Types.{Split, Choice, Stalled, Entry}
 use Rattle.tso_model.specs.declared.choice.Stall.TheVariants.{Bus}
-use Rattle.machine_core.specs.Caches.{Caches}
+use Rattle.multiprocessor.specs.Caches.{Caches}
 use Rattle.machine_core.specs.Running.{Running, machine_effect}
 use Rattle.promises.specs.Locked.{ShareLine}
 

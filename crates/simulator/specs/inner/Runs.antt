@@ -4,7 +4,7 @@ use Rattle.tso_model.specs.Litmus.{Litmus}
 use Rattle.tso_model.specs.Runs.{Run}
 use Rattle.tso_model.specs.declared.choice.Choice.{Choice}
 use Rattle.protocol_tables.specs.Tables.{Table}
-use Rattle.machine_core.specs.Configuration.{Configuration}
+use Rattle.multiprocessor.specs.Configuration.{Configuration}
 use Rattle.machine_core.specs.Running.{Running, table_in, configuration_of}
 use Rattle.simulator.specs.Runs.{AnswersFitBy, run_by}
 

@@ -7,8 +7,8 @@ use Rattle.cache_set.specs.Copies.{copy_at}
 use Rattle.snoop_bus.specs.Bus.{BusModel, words_of, cores_of, counted_copies, IsSameMachine}
 use Rattle.snoop_bus.specs.inner.Bus.{IsBus}
 use Rattle.snoop_bus.specs.inner.Accesses.{memory_words_of}
-use Rattle.machine_core.specs.Caches.{caches_of}
-use Rattle.bus_laws.specs.inner.Calls.{IsCalled}
+use Rattle.multiprocessor.specs.Caches.{caches_of}
+use Rattle.machine_core.specs.inner.Calls.{IsCalled}
 use Rattle.trace_report.specs.StepLaws.{after_choices}
 use Rattle.trace_report.specs.declared.step.LineState.TheVariants.{Stable, Transient}
 use Rattle.trace_json.specs.OwnWords.{own_words}

@@ -1,7 +1,7 @@
 use Rattle.machine_core.proofs.Vocabulary.{ap, ◌∙◌, length, length-map, map, sym, subst, IsTrue, ArePaired, is_ended, state_in, Processor}
 use Rattle.machine_core.proofs.RunningLemmas.{has-ended, free-bus}
 use Rattle.machine_core.proofs.Paired.{paired}
-use Rattle.machine_core.proofs.CoreLemmas.{registers-core_states}
+use Rattle.multiprocessor.proofs.CoreLemmas.{registers-core_states}
 use Rattle.machine_core.proofs.machine.Machine.finish.Goals as goal
 
 pub returns-clause-registers : goal.returns-clause-registers

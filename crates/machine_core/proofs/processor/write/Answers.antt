@@ -1,9 +1,0 @@
-use Rattle.machine_core.proofs.Vocabulary.{rules}
-use Rattle.machine_core.proofs.processor.write.Goals as goal
-
-pub returns-clause-stored : goal.returns-clause-stored
-returns-clause-stored g c = search rules
-
--- there is room for the entry
-pub unwrap-requires : goal.unwrap-requires
-unwrap-requires g c = c.note.ensures.succeeds c.in_ok-make_room.ensures.ok

@@ -1,0 +1,10 @@
+-- Words of contracts inside the project.
+pub mod OneCore
+pub mod Buffers
+pub mod Caches
+pub mod Cores
+pub mod Keeping
+pub mod OneChoice
+pub mod Effects
+pub mod Split
+pub mod Turns

@@ -1,0 +1,55 @@
+//! What a choice reads or writes beyond its core's own store buffer, what it had to do with the caches, and what the
+//! holder of a split bus goes on with. A store that waits in the buffer, and a load that the buffer answers, access
+//! nothing there, and so need no bus. A choice answers its use of the caches beside its outcome, so that what is
+//! counted is the very access that was made, and not what a second look at changed caches would find. The bus knows its
+//! holder's access, and not its instruction: that a locked instruction has its store part still to do, and with which
+//! entry, is kept here.
+
+ghost use Rattle.std.specs.Prelude.{◌≡◌};
+ghost use Rattle.multiprocessor.specs.Keeping.{next_in};
+
+use crate::hardware::Hardware;
+use protocol_tables::Protocol;
+use snoop_bus::Access;
+use tso_model::{Choice, Entry, Loc};
+
+/// What a choice had to do with the caches.
+#[derive(Clone, Copy)]
+pub enum CacheUse {
+    /// Nothing.
+    Unused,
+    /// It was a load that the core's own pending stores answered.
+    Forwarded,
+    /// It went through the core's cache, by this access.
+    Through(Access),
+}
+
+/// What a choice is to read or write beyond its core's own buffer.
+#[derive(Clone, Copy)]
+pub enum MemoryAccess {
+    Nothing,
+    Read(Loc),
+    Write(Loc),
+    /// A locked instruction's read and write.
+    Lock(Loc),
+}
+
+/// What the action that holds the bus goes on with, at its core's next choice. While nobody holds the bus it
+/// says nothing.
+#[derive(Clone, Copy)]
+pub enum Next {
+    /// This choice completes the access that was asked for.
+    Complete(Choice),
+    /// A locked instruction, of which this is the load part, writes.
+    Write(Entry),
+}
+
+/// What the action that holds the bus goes on with; `None` where nobody holds it.
+pub fn next_of<P: Protocol>(hardware: &Hardware<P>) -> Option<Next>
+    ensures { result ≡ next_in hardware.now }
+{
+    match hardware.bus.who_holds() {
+        None => None,
+        Some(_) => Some(hardware.next),
+    }
+}

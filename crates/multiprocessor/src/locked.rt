@@ -1,0 +1,63 @@
+//! A locked instruction made whole: its word is read and written at one choice, with nothing between. It waits until its
+//! core's store buffer is empty; else its own older stores would come after it in memory order. (x86-TSO, section 3;
+//! Primer, chapter 4.)
+ghost use Rattle.std.specs.Prelude.{◌≡◌, ◌<◌, IfOk, OnErr};
+ghost use Rattle.tso_model.specs.Limits.{most_instructions};
+ghost use Rattle.tso_model.specs.MemoryAccess.{locked_access};
+ghost use Rattle.snoop_bus.specs.Bus.{words_of};
+ghost use Rattle.multiprocessor.specs.inner.Cores.{pending_in, effect_of_lock};
+ghost use Rattle.multiprocessor.specs.inner.Effects.{MayAccess};
+ghost use Rattle.multiprocessor.specs.inner.Turns.{whole};
+ghost use Rattle.multiprocessor.specs.inner.OneCore.{Acts, SucceedsUnlessCommitting, AreUnchanged, HasSameSizes};
+
+use crate::accesses::CacheUse;
+use crate::entries::entry;
+use crate::processor::{Processor, advance};
+use commit_order::Commits;
+use protocol_tables::Protocol;
+use snoop_bus::SnoopBus;
+use tso_model::{Core, Kind, Loc, NoMemory, Outcome, Reg, Stall, Update};
+
+/// A locked instruction: the location that it reads and writes, its register, and what it makes of the word.
+#[derive(Clone, Copy)]
+pub struct Locked {
+    pub loc: Loc,
+    pub reg: Reg,
+    pub update: Update,
+}
+
+/// A locked instruction waits until nothing is pending. Then it reads the word into the register and
+/// writes what the update makes of the word and the register's value, both at once.
+#[inline(always)]
+pub fn read_and_write<P: Protocol>(
+    processor: &mut Processor,
+    core: Core,
+    locked: Locked,
+    bus: &mut SnoopBus<P>,
+    commits: &mut Commits,
+) -> Result<(Outcome, CacheUse), NoMemory>
+    requires place { processor.old.place < most_instructions }
+    requires access { MayAccess (whole core) bus.old locked.loc (locked_access locked.loc (pending_in core.0 processor.old)) }
+
+    ensures acts { IfOk result (Acts (whole core) (locked_access locked.loc (pending_in core.0 processor.old)) (effect_of_lock locked.loc locked.reg locked.update) processor.old processor.new bus.old bus.new commits.old commits.new) }
+    ensures succeeds { SucceedsUnlessCommitting result (effect_of_lock locked.loc locked.reg locked.update core.0 processor.old (words_of bus.old)) }
+    ensures err { OnErr result (AreUnchanged processor.old processor.new bus.old bus.new commits.old commits.new) }
+    ensures sizes { HasSameSizes bus.old bus.new }
+    ensures stores { processor.new.stores ≡ processor.old.stores }
+{
+    if !processor.stores.is_empty() {
+        return Ok((Outcome::Stalled(Stall::Lock), CacheUse::Unused));
+    }
+    let Locked { loc, reg, update } = locked;
+    let place = processor.place;
+    let value = processor.register(reg);
+    commits.make_room(2)?;
+    let updated = bus.update(core, loc, update, value)?;
+    // There is room for both parts.
+    let load_part = entry(core, place, Kind::LR, loc, updated.before);
+    commits.note(load_part).unwrap();
+    let store_part = entry(core, place, Kind::LW, loc, updated.after);
+    commits.note(store_part).unwrap();
+    advance(processor, reg, updated.before);
+    Ok((Outcome::Committed, CacheUse::Through(updated.access)))
+}
