@@ -86,7 +86,7 @@ def ends_of_heads(name, body):
 def handed_on(module):
     """What a crate's vocabulary, of proofs or of definitions, hands on from other files: the module and the name there, by the name."""
     found = {}
-    if module.endswith((".proofs.Vocabulary", ".specs.Vocabulary")):
+    if re.search(r"\.(?:proofs|specs)\.\w*Vocabulary$", module):
         with open(os.path.join(TOP, "crates", *module.split(".")) + ".antt", encoding="utf-8") as file:
             lines = [believed.IMPORT.match(line.removeprefix("unfoldable ").strip()) for line in file if "pub use " in line]
         for line in lines:

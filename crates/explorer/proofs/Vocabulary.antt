@@ -6,24 +6,24 @@ pub use Rattle.basic_laws.proofs.Lists.{drop-at, append-nil, drop-end}
 pub use Rattle.tso_model.specs.Litmus.{Litmus, IsTest}
 pub use Rattle.tso_model.specs.FlatMachine.{State, CoreState, idle, program_of, after_choice, effect_of, start, chosen, step, drain, core_of, is_none_pending, step_of, drain_of, registers_in, started}
 pub use Rattle.basic_laws.specs.Types.{Choice, Instr, Entry, Step, Drain, Action}
-pub use Rattle.eager_laws.specs.Exchanged.{exchanged, exchanged_by, IsOneOf, AreOf, CoresAreAlike, AreAllAlike, AlikeCoresAreExchangeable, exchanged_core, exchanged_choice, renamed, IsExchangeable, exchanged_entry}
+pub use Rattle.tso_laws.specs.Exchanged.{exchanged, exchanged_by, IsOneOf, AreOf, CoresAreAlike, AreAllAlike, AlikeCoresAreExchangeable, exchanged_core, exchanged_choice, renamed, IsExchangeable, exchanged_entry}
 pub use Rattle.flat_machine.specs.State.{core_of_processor, state_of_snapshot}
 pub use Rattle.explorer.specs.inner.Arranged.{played, IsArranged, ArePairs, HasExchanged, AreExchanged}
 pub use Rattle.explorer.specs.declared.link.Turn.{Turn}
 pub use Rattle.flat_machine.specs.declared.snapshot.Processor.{Processor}
 pub use Rattle.flat_machine.proofs.Choosing.{map-set, beyond, map-at, on-ok-2, stall-why, takes-effect, on-ok, core-at}
 pub use Rattle.tso_model.specs.Limits.{most_depth}
-pub use Rattle.outcome_laws.specs.Outcomes.{IsEnd, LeadToEnd, EndsAreWhatTsoAllows}
+pub use Rattle.tso_laws.specs.Outcomes.{IsEnd, LeadToEnd, EndsAreWhatTsoAllows}
 pub use Rattle.explorer.specs.FinalStates.{AreReached, HaveEveryEnd, AreWhatTsoAllows, AreWhatSequentialConsistencyAllows, IsReachable, HasMoreStates, Have, AreDistinct}
 pub use Rattle.explorer.specs.declared.final_states.FinalState.{FinalState}
-pub use Rattle.eager_laws.specs.Dead.{dead_at, cleared, hidden_of, forgotten_core, forgotten_cores, forgotten, DeadRegistersChangeNothing, dead_before, AreAlike, seen}
+pub use Rattle.tso_laws.specs.Dead.{dead_at, cleared, hidden_of, forgotten_core, forgotten_cores, forgotten, DeadRegistersChangeNothing, dead_before, AreAlike, seen}
 pub use Rattle.explorer.specs.inner.Planned.{AreDead}
 pub use Rattle.std.specs.List.{list_any, AllByRecursion}
 unfoldable pub use Rattle.std.specs.List.{IsDistinct}
 pub use Rattle.indexmap.specs.IndexSet.{insert_key}
 pub use Rattle.tso_model.specs.Runs.{stall_count, CoresExist, is_done, all_done, has_ended, resting, then_run, run_from, run}
-pub use Rattle.eager_laws.specs.Eager.{IsEager, IsEagerBy, Avoids, meets}
-pub use Rattle.eager_laws.specs.Closed.{LeadsEagerly, IsAmongStates, IsCovered, IsExpandedEnough, ArePartlyClosed, PartlyClosedStatesMissNone}
+pub use Rattle.tso_laws.specs.Eager.{IsEager, IsEagerBy, Avoids, meets}
+pub use Rattle.tso_laws.specs.Closed.{LeadsEagerly, IsAmongStates, IsCovered, IsExpandedEnough, ArePartlyClosed, PartlyClosedStatesMissNone}
 pub use Rattle.explorer.specs.Settled.{LeadsBy, IsSettled, LeadsToForgotten}
 pub use Rattle.explorer.specs.inner.Settled.{Grows, IsKeptState, HaveCores, IsCurrent, LeadOn, IsReachedByChoice, IsVisited, ArePicksVisited, AreLinked, LeadByTurns, IsLinked, IsPath, GoBack, LeadToExchanged, IsInOrder}
 pub use Rattle.flat_machine.specs.declared.snapshot.Snapshot.{Snapshot}
@@ -46,5 +46,5 @@ pub use Rattle.tso_laws.specs.inner.Laws.{RunsStopWhereTheyEnd}
 pub use Rattle.explorer.specs.inner.Collected.{IsFinalOf, IsMadeOf, AreFinalsOf, MissesNoEnd}
 pub use Rattle.std.specs.declared.vec.Vec.{Vec}
 pub use Rattle.std.specs.declared.alloc.Global.{Global}
-pub use Rattle.eager_laws.specs.Stubborn.{ChoiceSet, has_step, has_drain, has_choice, IsHeldBack, IsApartBy, IsApartStep, IsApartDrain, IsStubborn, away, by_drain, by_step}
+pub use Rattle.tso_laws.specs.Stubborn.{ChoiceSet, has_step, has_drain, has_choice, IsHeldBack, IsApartBy, IsApartStep, IsApartDrain, IsStubborn, away, by_drain, by_step}
 pub use Rattle.explorer.specs.inner.Picked.{set_of, HasEvery, ArePicksApart}

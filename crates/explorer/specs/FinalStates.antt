@@ -6,8 +6,8 @@ use Rattle.tso_model.specs.FlatMachine.{State, start}
 use Rattle.tso_model.specs.Runs.{CoresExist}
 use Rattle.tso_model.specs.declared.choice.Choice.{Choice}
 use Rattle.tso_laws.specs.Choices.{state_after}
-use Rattle.outcome_laws.specs.Outcomes.{IsEnd, LeadToEnd, IsAllowedByTso, IsAllowedSequentially}
-use Rattle.eager_laws.specs.Dead.{seen}
+use Rattle.tso_laws.specs.Outcomes.{IsEnd, LeadToEnd, IsAllowedByTso, IsAllowedSequentially}
+use Rattle.tso_laws.specs.Dead.{seen}
 use Rattle.explorer.specs.declared.final_states.FinalState.{FinalState}
 
 -- the choices of each lead to its registers and its memory

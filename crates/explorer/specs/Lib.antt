@@ -5,8 +5,8 @@ pub use Rattle.tso_model.specs.FlatMachine
 pub use Rattle.tso_model.specs.Litmus
 pub use Rattle.tso_model.specs.Runs
 pub use Rattle.tso_laws.specs.Choices
-pub use Rattle.eager_laws.specs.Eager
-pub use Rattle.eager_laws.specs.Exchanged
-pub use Rattle.eager_laws.specs.Closed
-pub use Rattle.eager_laws.specs.Dead
-pub use Rattle.outcome_laws.specs.Outcomes
+pub use Rattle.tso_laws.specs.Eager
+pub use Rattle.tso_laws.specs.Exchanged
+pub use Rattle.tso_laws.specs.Closed
+pub use Rattle.tso_laws.specs.Dead
+pub use Rattle.tso_laws.specs.Outcomes

@@ -4,8 +4,8 @@ use Rattle.tso_model.specs.Litmus.{Litmus}
 use Rattle.tso_model.specs.FlatMachine.{State, after_choice, effect_of, chosen}
 use Rattle.tso_model.specs.Runs.{stall_count}
 use Rattle.tso_model.specs.declared.choice.Choice.{Choice}
-use Rattle.eager_laws.specs.Closed.{LeadsEagerly}
-use Rattle.eager_laws.specs.Dead.{forgotten}
+use Rattle.tso_laws.specs.Closed.{LeadsEagerly}
+use Rattle.tso_laws.specs.Dead.{forgotten}
 
 -- made one after the other, the choices lead from the one state to the other; each is of one of the test's cores and takes effect
 abbrev pub LeadsBy : ℕ → Litmus → State → List Choice → State → Type 0

@@ -2,7 +2,7 @@
 //! differ by which of two such cores is which are kept as one; cores called alike that differ would make a search miss final
 //! states.
 ghost use Rattle.std.specs.Prelude.{◌≡◌, ◌<◌, IfOk, IfSome, length, true};
-ghost use Rattle.eager_laws.specs.Exchanged.{CoresAreAlike, AreAllAlike};
+ghost use Rattle.tso_laws.specs.Exchanged.{CoresAreAlike, AreAllAlike};
 
 use crate::plan::hidden_of;
 use std::alloc::Global;

@@ -2,8 +2,8 @@
 //! differ by such exchanges; all of those that have ended are added to it at its end, each with choices that lead there.
 ghost use Rattle.std.specs.Prelude.{◌≡◌, ◌<◌, ◌≤◌, true, OnOk, map, length, slice_get, Some};
 ghost use Rattle.tso_model.specs.Runs.{has_ended};
-ghost use Rattle.eager_laws.specs.Closed.{IsAmongStates};
-ghost use Rattle.eager_laws.specs.Exchanged.{exchanged, IsOneOf};
+ghost use Rattle.tso_laws.specs.Closed.{IsAmongStates};
+ghost use Rattle.tso_laws.specs.Exchanged.{exchanged, IsOneOf};
 ghost use Rattle.flat_machine.specs.State.{state_of_snapshot};
 ghost use Rattle.explorer.specs.inner.Packed.{state_of_packed};
 ghost use Rattle.explorer.specs.inner.Settled.{Grows, IsCurrent, IsInOrder};
@@ -15,9 +15,9 @@ use crate::exchange::exchange;
 use crate::found::{Found, keep};
 use crate::plan::Plan;
 use crate::unpacking::unpack;
-use eager_laws::{alike_cores_are_exchangeable, dead_registers_change_nothing};
 use flat_machine::{has_ended, overwrite};
 use std::alloc::Global;
+use tso_laws::{alike_cores_are_exchangeable, dead_registers_change_nothing};
 use tso_model::NoMemory;
 
 /// Adds what one exchange makes of the state that is gone through, if it isn't there yet.

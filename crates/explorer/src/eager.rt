@@ -3,15 +3,15 @@
 ghost use Rattle.std.specs.Prelude.{◌≡◌, ◌<◌, true, length, IfSome, OnOk};
 ghost use Rattle.tso_model.specs.FlatMachine.{chosen};
 ghost use Rattle.tso_model.specs.declared.choice.Choice.{Choice};
-ghost use Rattle.eager_laws.specs.Eager.{OthersAvoid, IsEager, IsEagerBy};
+ghost use Rattle.tso_laws.specs.Eager.{OthersAvoid, IsEager, IsEagerBy};
 ghost use Rattle.flat_machine.specs.State.{state_of_snapshot};
 ghost use Rattle.explorer.specs.Settled.{IsSettled};
 
 use crate::meeting::Meeting;
 use crate::situation::Situation;
 use crate::stubborn::{NOTHING, others_are_held_back};
-use eager_laws::eager_choices_take_effect;
 use flat_machine::{Snapshot, act};
+use tso_laws::eager_choices_take_effect;
 use tso_model::{Action, Choice, Core, Entry, NoMemory, Test};
 
 /// Maximum number of choices that a test takes: for each core two for each instruction.

@@ -1,6 +1,6 @@
 //! Two cores exchanged: each has the other's state, and what the one has pending or chooses is the other's.
 ghost use Rattle.std.specs.Prelude.{◌≡◌, ◌<◌, length, map};
-ghost use Rattle.eager_laws.specs.Exchanged.{exchanged_core, exchanged_choice, exchanged_entry, exchanged};
+ghost use Rattle.tso_laws.specs.Exchanged.{exchanged_core, exchanged_choice, exchanged_entry, exchanged};
 ghost use Rattle.flat_machine.specs.State.{state_of_snapshot};
 
 use flat_machine::Snapshot;
@@ -8,7 +8,7 @@ use tso_model::{Choice, Core, Entry};
 
 /// The core that stands for this one where two are exchanged.
 fn exchanged_core(core: Core, pair: (u8, u8)) -> Core
-    ensures { result.0 ≡ Rattle.eager_laws.specs.Exchanged.exchanged_core pair core.0 }
+    ensures { result.0 ≡ Rattle.tso_laws.specs.Exchanged.exchanged_core pair core.0 }
 {
     if core.0 == pair.0 {
         Core(pair.1)

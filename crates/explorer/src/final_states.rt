@@ -6,7 +6,7 @@ ghost use Rattle.tso_model.specs.Limits.{most_depth};
 ghost use Rattle.tso_model.specs.Runs.{CoresExist};
 ghost use Rattle.tso_laws.specs.Choices.{state_after};
 ghost use Rattle.flat_machine.specs.State.{state_of_snapshot};
-ghost use Rattle.eager_laws.specs.Closed.{IsCovered};
+ghost use Rattle.tso_laws.specs.Closed.{IsCovered};
 ghost use Rattle.explorer.specs.inner.Planned.{IsPlan};
 ghost use Rattle.explorer.specs.inner.Packed.{state_of_packed};
 ghost use Rattle.explorer.specs.inner.Settled.{IsInOrder, IsNothingYet};
@@ -25,14 +25,13 @@ use crate::plan::{Plan, plan_of};
 use crate::search::{Extent, expand_all};
 use crate::unpacking::unpack;
 use crate::watching::{Unwatched, Watcher};
-use eager_laws::{
-    alike_cores_are_exchangeable, dead_registers_change_nothing, partly_closed_states_miss_none,
-};
 use flat_machine::{act, has_ended, registers_of, start};
-use outcome_laws::ends_are_what_tso_allows;
 use std::alloc::Global;
 use std::mem::replace;
-use tso_laws::runs_stop_where_they_end;
+use tso_laws::{
+    alike_cores_are_exchangeable, dead_registers_change_nothing, ends_are_what_tso_allows,
+    partly_closed_states_miss_none, runs_stop_where_they_end,
+};
 use tso_model::{Choice, NoMemory, Test};
 
 /// A final state of a test: the registers of each core, in the order of `Reg::ALL`, the word of each

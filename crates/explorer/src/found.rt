@@ -1,7 +1,7 @@
 //! What a search has found: states, packed, each once, in the order in which they were found, and how each was reached.
 ghost use Rattle.std.specs.Prelude.{◌≡◌, IfOk, OnOk, map};
 ghost use Rattle.tso_model.specs.FlatMachine.{start};
-ghost use Rattle.eager_laws.specs.Closed.{IsAmongStates, IsCovered};
+ghost use Rattle.tso_laws.specs.Closed.{IsAmongStates, IsCovered};
 ghost use Rattle.flat_machine.specs.State.{state_of_snapshot};
 ghost use Rattle.explorer.specs.inner.Settled.{Grows, LeadOn, IsInOrder, IsNothingYet};
 ghost use Rattle.explorer.specs.inner.Packed.{state_of_packed};

@@ -3,7 +3,7 @@
 //!
 //! A search keeps the machine's states in one set, each packed into a string of bytes, in the order in which they were found, and in each
 //! of them in turn makes the choices of a stubborn set, or every choice. Choices that need not wait are made at once, as
-//! `eager_laws` allows, so the states on their way aren't kept. States that differ in dead registers
+//! `tso_laws` allows, so the states on their way aren't kept. States that differ in dead registers
 //! alone are kept as one: those that nothing reads any more, and that nobody looks at in the end. So
 //! are states that differ by which of some cores that are alike is which; at the end all of those in
 //! which the test has ended are put back. Where there are more states than may be kept, the search ends

@@ -6,8 +6,8 @@ ghost use Rattle.explorer.specs.inner.Arranged.{played};
 ghost use Rattle.explorer.specs.inner.Settled.{GoBack, IsPath};
 
 use crate::exchange::exchange_choices;
-use eager_laws::{alike_cores_are_exchangeable, dead_registers_change_nothing};
 use std::alloc::Global;
+use tso_laws::{alike_cores_are_exchangeable, dead_registers_change_nothing};
 use tso_model::{Choice, NoMemory};
 
 /// What leads on from a state: a choice, or an exchange of two cores that are alike. Both are told in one

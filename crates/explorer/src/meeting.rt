@@ -2,8 +2,8 @@
 //! meets another core's access says whether that one may go first.
 ghost use Rattle.std.specs.Prelude.{◌≡◌, ◌≤◌, ℕ, true, false, Some, slice_get};
 ghost use Rattle.tso_model.specs.Actions.{action_of};
-ghost use Rattle.eager_laws.specs.Eager.{meets};
-ghost use Rattle.eager_laws.specs.Stubborn.{HasPending, HasNonePending};
+ghost use Rattle.tso_laws.specs.Eager.{meets};
+ghost use Rattle.tso_laws.specs.Stubborn.{HasPending, HasNonePending};
 ghost use Rattle.flat_machine.specs.State.{core_of_processor};
 ghost use Rattle.tso_model.specs.declared.instruction.Instr.{Instr};
 

@@ -2,7 +2,7 @@
 //! in turn and adds what the choices of the set need. That the set is stubborn is tested afterwards: how it was found loses no
 //! final state.
 ghost use Rattle.std.specs.Prelude.{◌≡◌, ◌<◌, ◌⊎◌, length};
-ghost use Rattle.eager_laws.specs.Stubborn.{IsStubborn};
+ghost use Rattle.tso_laws.specs.Stubborn.{IsStubborn};
 ghost use Rattle.flat_machine.specs.State.{state_of_snapshot};
 ghost use Rattle.explorer.specs.inner.Picked.{set_of, HasEvery};
 

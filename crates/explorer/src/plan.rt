@@ -2,7 +2,7 @@
 //! program. That depends on the place alone, so it is worked out once, before the search, and not in each state. A register
 //! called dead that is read would make the search take different states for one.
 ghost use Rattle.std.specs.Prelude.{◌≡◌, IfOk};
-ghost use Rattle.eager_laws.specs.Dead.{unless_read, dead_before, hidden_of};
+ghost use Rattle.tso_laws.specs.Dead.{unless_read, dead_before, hidden_of};
 ghost use Rattle.explorer.specs.inner.Planned.{AreDead, IsPlan};
 
 use crate::alike::alike_pairs;
@@ -25,7 +25,7 @@ pub struct Plan<'a> {
 
 /// A register that the operand reads isn't dead.
 fn unless_read(operand: Operand, dead: [bool; 6]) -> [bool; 6]
-    ensures { result ≡ Rattle.eager_laws.specs.Dead.unless_read operand dead }
+    ensures { result ≡ Rattle.tso_laws.specs.Dead.unless_read operand dead }
 {
     let mut before = dead;
     if let Operand::Held(reg) = operand {
@@ -36,7 +36,7 @@ fn unless_read(operand: Operand, dead: [bool; 6]) -> [bool; 6]
 
 /// Which registers are dead before an action, where these are dead after it.
 fn dead_before(action: Action, dead: [bool; 6]) -> [bool; 6]
-    ensures { result ≡ Rattle.eager_laws.specs.Dead.dead_before action dead }
+    ensures { result ≡ Rattle.tso_laws.specs.Dead.dead_before action dead }
 {
     let mut before = dead;
     match action {
@@ -79,7 +79,7 @@ fn dead_registers(
 
 /// The hidden registers of a core, if there are any.
 pub fn hidden_of(hidden: &[[bool; 6]], core: u8) -> [bool; 6]
-    ensures { result ≡ Rattle.eager_laws.specs.Dead.hidden_of hidden.now core }
+    ensures { result ≡ Rattle.tso_laws.specs.Dead.hidden_of hidden.now core }
 {
     match hidden.get(usize::from(core)) {
         Some(registers) => *registers,

@@ -2,7 +2,7 @@
 //! through, and where there are more than may be kept the search says so and ends there.
 ghost use Rattle.std.specs.Prelude.{◌≡◌, ℕ, ◌<◌, ◌≤◌, true, OnOk, map, length, slice_get, Some};
 ghost use Rattle.tso_model.specs.FlatMachine.{chosen, start};
-ghost use Rattle.eager_laws.specs.Closed.{IsCovered, IsExpandedEnough, ArePartlyClosed};
+ghost use Rattle.tso_laws.specs.Closed.{IsCovered, IsExpandedEnough, ArePartlyClosed};
 ghost use Rattle.flat_machine.specs.State.{state_of_snapshot};
 ghost use Rattle.explorer.specs.inner.Settled.{Grows, IsCurrent, IsVisited, IsInOrder};
 ghost use Rattle.explorer.specs.inner.Planned.{IsPlan};

@@ -2,7 +2,7 @@
 //! one such set alone. A set that is called stubborn and isn't would lose final states.
 ghost use Rattle.std.specs.Prelude.{◌≡◌, ◌≢◌, ◌<◌, ◌≤◌, ℕ, [], true, false, length, slice_index_or, IfSome};
 ghost use Rattle.tso_model.specs.FlatMachine.{program_of, core_of};
-ghost use Rattle.eager_laws.specs.Stubborn.{has_step, has_drain, has_choice, IsHeldBack, OthersAreHeldBack, IsApartBy, IsApartStep, IsApartDrain, IsStubborn};
+ghost use Rattle.tso_laws.specs.Stubborn.{has_step, has_drain, has_choice, IsHeldBack, OthersAreHeldBack, IsApartBy, IsApartStep, IsApartDrain, IsStubborn};
 ghost use Rattle.flat_machine.specs.State.{state_of_snapshot};
 ghost use Rattle.explorer.specs.inner.Picked.{set_of, ArePicksApart};
 

@@ -7,7 +7,7 @@ use Rattle.tso_model.specs.Thread.{entry}
 use Rattle.tso_model.specs.ProgramOrder.{writes_to}
 use Rattle.tso_model.specs.FlatMachine.{CoreState, State, Effect, stored, effect_by, step_of, core_of}
 use Rattle.tso_model.specs.declared.action.Action.TheVariants.{Store, Load, Move, Fence, Lock}
-use Rattle.split_laws.specs.inner.Pending.{IsStoreOf, PendingIsOwn}
+use Rattle.tso_laws.specs.inner.Pending.{IsStoreOf, PendingIsOwn}
 use Rattle.multiprocessor.specs.declared.accesses.CacheUse.TheVariants.{Unused, Forwarded}
 use Rattle.basic_laws.proofs.WithPending.{drain_with, fenced_with, locked_with}
 use Rattle.machine_core.proofs.Told.{access-told}

@@ -34,8 +34,8 @@ pub use Rattle.snoop_bus.specs.CacheContents.{TagSets, tags_at, Accessed, tag_in
 pub use Rattle.multiprocessor.specs.Statistics.{no_counts, Statistics, no_statistics, statistics_with, statistics_after}
 pub use Rattle.multiprocessor.specs.inner.Keeping.{statistics_in}
 pub use Rattle.snoop_bus.specs.inner.Accesses.{StandsAlone}
-pub use Rattle.split_laws.specs.BusChoices.{IsPossibleOn}
-pub use Rattle.split_laws.specs.Between.{IsAnswered, ArePaired}
+pub use Rattle.tso_laws.specs.BusChoices.{IsPossibleOn}
+pub use Rattle.tso_laws.specs.Between.{IsAnswered, ArePaired}
 pub use Rattle.machine_core.specs.Running.{Running, machine_after, AnswerFits, restarted, machine_effect, machine_use}
 pub use Rattle.std.specs.Result.{is_err}
 pub use Rattle.machine_core.specs.inner.Running.{HasFailed, is_ended}

@@ -6,7 +6,7 @@ use Rattle.tso_model.specs.MemoryAccess.{MemoryAccess, NoAccess, Reads, Writes, 
 use Rattle.tso_model.specs.EitherBus.{BusState}
 use Rattle.tso_model.specs.declared.choice.Bus as kind
 use Rattle.basic_laws.specs.Types.{Entry, Choice}
-use Rattle.split_laws.specs.BusChoices.{IsPossibleOn}
+use Rattle.tso_laws.specs.BusChoices.{IsPossibleOn}
 use Rattle.snoop_bus.specs.declared.access.AccessKind.TheVariants.{Hit}
 use Rattle.multiprocessor.specs.declared.accesses.CacheUse.{CacheUse}
 use Rattle.multiprocessor.specs.declared.accesses.CacheUse.TheVariants.{Unused, Forwarded, Through}

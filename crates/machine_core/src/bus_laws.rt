@@ -11,7 +11,7 @@ ghost use Rattle.machine_core.specs.Owners.{OneOwnerAtMost};
 ghost use Rattle.machine_core.specs.Uses.{AccessesAreWhatIsCounted};
 
 use snoop_bus::whole_accesses::whole_accesses_are_two_halves;
-use split_laws::pending_stores_are_own;
+use tso_laws::pending_stores_are_own;
 
 /// An access is a hit, by what it makes of the contents, exactly where `would_hit` says so beforehand: a
 /// load, a write access, and either of them asked for and completed.

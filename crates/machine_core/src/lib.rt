@@ -14,7 +14,8 @@ pub mod worked;
 
 pub use looking::BusHolder;
 pub use machine::{Final, Machine};
-pub use multiprocessor::{CacheUse, Config, Counts, FinalState, MemoryAccess};
-pub use multiprocessor::{accesses, config, counts, ending};
+pub use multiprocessor::{
+    CacheUse, Config, Counts, FinalState, MemoryAccess, accesses, config, counts, ending,
+};
 pub use snoop_bus::{CachedLine, Shape};
 pub use tso_model::{Bus, Choice, Outcome, Stall};

@@ -15,12 +15,12 @@ use multiprocessor::ending::final_state;
 use multiprocessor::hardware::{are_done, begin, make_choice};
 use multiprocessor::{CacheUse, Config, Counts, FinalState, Hardware};
 use protocol_tables::Protocol;
-use split_laws::{
+use std::alloc::Global;
+use std::marker::Model;
+use tso_laws::{
     attempts_lead_from_state_to_state, stalls_on_either_bus_change_nothing,
     what_holds_so_far_on_either_bus,
 };
-use std::alloc::Global;
-use std::marker::Model;
 use tso_model::{Choice, Execution, NoMemory, Outcome, Stall, Test};
 
 /// What a machine leaves when its test has ended.

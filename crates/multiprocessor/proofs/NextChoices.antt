@@ -1,6 +1,6 @@
 -- A choice on a split bus: the next one of the action that holds it, or another.
 use Rattle.multiprocessor.proofs.Vocabulary.{◌≡◌, ℕ, true, Bool, if◌then◌else◌, refl, sym, ap, ◌∙◌, Litmus, State, chosen, Holder, Free, HeldBy, HeldBetween, Attempt, BusEffect, begins, same_choice, split_effect, HitFits, Entry, Choice, Step, Hardware, state_in, attempt_in, IsOther, begins_in, split_effect_in, completes_in, writes_last_in}
-use Rattle.split_laws.proofs.Ways.{same-is}
+use Rattle.tso_laws.proofs.Ways.{same-is}
 
 -- another one begins
 pub other-begins : {P : Type 0} (t : Litmus) (m : Hardware P) (choice : Choice) → IsOther (state_in m).holder choice → split_effect_in t m choice ≡ begins_in t m choice

@@ -33,7 +33,7 @@ pub use Rattle.std.proofs.lemmas.List.{set-get_or, length-map, length-replicate}
 pub use Rattle.tso_model.specs.Litmus.{Litmus, IsTest, KnownLocation}
 pub use Rattle.tso_model.specs.SplitMachine.{Holder, Free, HeldBy, HeldBetween, Attempt, BusEffect, acts, asks, needs_bus, same_choice, begins, completes, writes_last, as_read, split_effect, reads_first, after_first}
 pub use Rattle.tso_model.specs.EitherBus.{BusState, HitFits, effect_on, unheld}
-pub use Rattle.split_laws.specs.Holders.{HolderFits, HasRead}
+pub use Rattle.tso_laws.specs.Holders.{HolderFits, HasRead}
 pub use Rattle.snoop_bus.specs.declared.holding.Stage.TheVariants.{Locked}
 pub use Rattle.multiprocessor.specs.declared.accesses.Next.{Next}
 pub use Rattle.multiprocessor.specs.declared.accesses.Next.TheVariants.{Complete, Write}
@@ -59,5 +59,5 @@ pub use Rattle.multiprocessor.specs.inner.Keeping.{HasIssuedItsStores, IsAmong, 
 pub use Rattle.tso_model.specs.Runs.{is_done, all_done}
 pub use Rattle.store_buffer.specs.inner.Stores.{stores}
 pub use Rattle.snoop_bus.specs.inner.Accesses.{MayGoOn, memory_words_of}
-pub use Rattle.split_laws.specs.BusChoices.{IsPossibleOn}
-pub use Rattle.split_laws.proofs.Ways.{if-by, begins-by, completes-by, split-by}
+pub use Rattle.tso_laws.specs.BusChoices.{IsPossibleOn}
+pub use Rattle.tso_laws.proofs.Ways.{if-by, begins-by, completes-by, split-by}

@@ -3,7 +3,7 @@
 use Rattle.std.specs.Prelude.{◌≡◌}
 use Rattle.multiprocessor.specs.Vocabulary.{BusEffect, Litmus}
 use Rattle.tso_model.specs.declared.choice.Choice.{Choice}
-use Rattle.split_laws.specs.Holders.{HolderFits}
+use Rattle.tso_laws.specs.Holders.{HolderFits}
 use Rattle.multiprocessor.specs.declared.hardware.Hardware.{Hardware}
 use Rattle.multiprocessor.specs.Keeping.{HardwareFitsTest, IsHeldForAccess, state_in}
 use Rattle.multiprocessor.specs.Effects.{ChoiceAnswer, HasUsed, HasEffect}

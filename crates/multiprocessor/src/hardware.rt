@@ -251,7 +251,10 @@ pub fn are_done<P: Protocol>(hardware: &Hardware<P>, test: &Test) -> bool
 }
 
 /// The registers of each core.
-pub(crate) fn registers_of(alloc: Global, processors: &[Processor]) -> Result<Vec<[u32; 6]>, NoMemory>
+pub(crate) fn registers_of(
+    alloc: Global,
+    processors: &[Processor],
+) -> Result<Vec<[u32; 6]>, NoMemory>
     ensures { IfOk result (λ rs. rs.items ≡ map (λ p. p.registers) processors.now) }
 {
     let mut registers = Vec::new(alloc);

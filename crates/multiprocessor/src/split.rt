@@ -27,7 +27,7 @@ use crate::processor::Processor;
 use crate::turn::Way;
 use protocol_tables::Protocol;
 use snoop_bus::SnoopBus;
-use split_laws::accesses_wait;
+use tso_laws::accesses_wait;
 use tso_model::{Action, Choice, Core, Instr, Loc, NoMemory, Outcome, Stall, Test};
 
 /// Makes a choice on a split bus, and answers its outcome and what it had to do with the caches.

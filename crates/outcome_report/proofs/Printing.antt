@@ -4,7 +4,7 @@ use Rattle.tso_model.specs.FinalState.{words_from, registers_from}
 use Rattle.tso_model.specs.Runs.{run}
 use Rattle.basic_laws.specs.Types.{Choice, Entry, Instr}
 use Rattle.tso_laws.specs.EndedRuns.{End, IsExecution}
-use Rattle.outcome_laws.specs.Outcomes.{LeadToEnd}
+use Rattle.tso_laws.specs.Outcomes.{LeadToEnd}
 use Rattle.outcome_report.proofs.Keeping.{kept-shown, kept-printed}
 
 -- ---- a final state has registers for each core and a word for each location

@@ -38,7 +38,7 @@ pub use Rattle.shown_values.specs.Shown.{is_added, is_shown, names_shown, values
 pub use Rattle.shown_values.specs.declared.show.Show.{Show}
 pub use Rattle.outcome_report.specs.Laws.{TruthIsShown, OutcomesAreAlike, OutcomesOfTheSameValuesAreAlike, OutcomesAreOneButForChoices}
 pub use Rattle.outcome_report.specs.Hidden.{AreNotShown, IsHidden}
-pub use Rattle.eager_laws.specs.Dead.{cleared, hidden_of, seen_from, seen, none_hidden}
+pub use Rattle.tso_laws.specs.Dead.{cleared, hidden_of, seen_from, seen, none_hidden}
 pub use Rattle.tso_report.specs.declared.named.Named.TheVariants.{Register, Location}
 pub use Rattle.outcome_report.specs.inner.Hidden.{IsNotHidden}
 pub use Rattle.std.proofs.lemmas.Result.{on_ok_weaker}

@@ -3,7 +3,7 @@ use Rattle.std.specs.Prelude.{ℕ, ◌<◌, ◌≡◌, Bool, true, false, List, 
 use Rattle.tso_model.specs.Litmus.{Litmus}
 use Rattle.tso_model.specs.Registers.{index_of}
 use Rattle.tso_model.specs.declared.register.Reg.{Reg}
-use Rattle.eager_laws.specs.Dead.{seen, hidden_of}
+use Rattle.tso_laws.specs.Dead.{seen, hidden_of}
 use Rattle.tso_report.specs.Tally.{named_register}
 use Rattle.tso_report.specs.declared.named.Named.{Named}
 use Rattle.shown_values.specs.Shown.{is_shown, values_at}

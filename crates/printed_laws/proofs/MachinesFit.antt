@@ -7,7 +7,7 @@ use Rattle.tso_model.specs.EitherBus.{BusState, effect_on}
 use Rattle.basic_laws.specs.Types.{StoreImm, SetImm, Step}
 use Rattle.tso_model.specs.declared.choice.Stall.TheVariants as stall
 use Rattle.basic_laws.proofs.Cores.{starts-idle}
-use Rattle.split_laws.proofs.Cores.{core-cases}
+use Rattle.tso_laws.proofs.Cores.{core-cases}
 use Rattle.printed_laws.proofs.Lists.{word-at}
 
 -- ---- words

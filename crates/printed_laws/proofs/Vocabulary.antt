@@ -74,7 +74,7 @@ pub use Rattle.reason_report.specs.ReasonText.{model_name, truth_asked, asked_li
 pub use Rattle.reason_report.specs.ReasonJson.{asked_value, step_value, edge_value, answer_value, place_members, never_value_of, allowed_value, unfinished_reason_json, cycle_value}
 pub use Rattle.tso_model.specs.FinalState.{final_words, final_registers}
 pub use Rattle.tso_model.specs.FlatMachine.{registers_in, chosen, CoreState, State, Effect, is_none_pending, stalled, advanced_with, stored, load_value, effect_by, idle, program_of, core_of, effect_of, memory_after, applied, started, start, step_of}
-pub use Rattle.outcome_laws.specs.Outcomes.{IsEnd, EndsAreWhatTsoAllows}
+pub use Rattle.tso_laws.specs.Outcomes.{IsEnd, EndsAreWhatTsoAllows}
 pub use Rattle.litmus_reader.specs.Spelling.{SpellsTest}
 pub use Rattle.outcome_report.specs.Laws.{TruthIsShown}
 pub use Rattle.tso_cli.specs.Dividing.{parts_of}

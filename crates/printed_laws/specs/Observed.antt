@@ -8,7 +8,7 @@ use Rattle.tso_model.specs.FinalState.{final_words, final_registers}
 use Rattle.tso_model.specs.Runs.{run, CoresExist}
 use Rattle.basic_laws.specs.Types.{Choice, Entry}
 use Rattle.tso_laws.specs.Depth.{needed}
-use Rattle.outcome_laws.specs.Outcomes.{IsSequentiallyConsistent}
+use Rattle.tso_laws.specs.Outcomes.{IsSequentiallyConsistent}
 use Rattle.command_line.specs.declared.settings.Settings.TheVariants as settings
 
 -- ---- where the word stands

@@ -7,10 +7,10 @@ pub use Rattle.protocol_tables.specs.declared.kind.ProtocolKind.{ProtocolKind}
 pub use Rattle.multiprocessor.specs.Configuration.{Configuration}
 pub use Rattle.tso_cli.specs.Dividing.{parts_of}
 pub use Rattle.std.specs.Prelude.{◌↔◌, codes}
-pub use Rattle.eager_laws.specs.Dead.{seen, AreAlike}
+pub use Rattle.tso_laws.specs.Dead.{seen, AreAlike}
 pub use Rattle.explorer.specs.FinalStates.{AreWhat, AreAmong, AreReached, HaveEveryEnd}
 pub use Rattle.std.proofs.lemmas.List.{append_assoc, length-append}
-pub use Rattle.outcome_laws.specs.Outcomes.{EndsAreWhatTsoAllows, IsAllowedAtDepth, IsAllowedByTso, IsAllowedSequentially}
+pub use Rattle.tso_laws.specs.Outcomes.{EndsAreWhatTsoAllows, IsAllowedAtDepth, IsAllowedByTso, IsAllowedSequentially}
 pub use Rattle.tso_model.specs.Condition.{Claim, truth_of}
 pub use Rattle.tso_model.specs.FlatMachine.{chosen, core_of, effect_of, registers_in}
 pub use Rattle.trace_report.specs.Shown.{ShownStep}

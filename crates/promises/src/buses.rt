@@ -16,11 +16,11 @@ ghost use Rattle.snoop_bus.specs.CacheContents.{TagSets};
 ghost use Rattle.snoop_bus.specs.Rows.{table_of_rows};
 ghost use Rattle.snoop_bus.specs.WholeAccesses.{LoadsInHalves, WritesInHalves};
 ghost use Rattle.snoop_bus.specs.declared.access.Access.{Access};
-ghost use Rattle.split_laws.specs.Between.{ArePaired, IsApart};
-ghost use Rattle.split_laws.specs.BusChoices.{IsPossibleOn};
-ghost use Rattle.split_laws.specs.BusRuns.{IsFlatRun, made_for_bus, wait_for_bus, waiting};
-ghost use Rattle.split_laws.specs.BusSoFar.{SoFarOn};
-ghost use Rattle.split_laws.specs.Holders.{HolderFits};
+ghost use Rattle.tso_laws.specs.Between.{ArePaired, IsApart};
+ghost use Rattle.tso_laws.specs.BusChoices.{IsPossibleOn};
+ghost use Rattle.tso_laws.specs.BusRuns.{IsFlatRun, made_for_bus, wait_for_bus, waiting};
+ghost use Rattle.tso_laws.specs.BusSoFar.{SoFarOn};
+ghost use Rattle.tso_laws.specs.Holders.{HolderFits};
 ghost use Rattle.tso_laws.specs.Choices.{IsPossible};
 ghost use Rattle.tso_model.specs.EitherBus.{BusRun, BusState, HitsFit, choices_in, run_on, unheld};
 ghost use Rattle.tso_model.specs.FlatMachine.{chosen, start};
@@ -34,7 +34,7 @@ ghost use Rattle.tso_model.specs.declared.choice.Bus as kind;
 
 use machine_core::bus_laws::{accesses_are_what_is_counted, hits_are_told_beforehand};
 use snoop_bus::whole_accesses::halves_leave_what_whole_accesses_do;
-use split_laws::{atomic_runs_are_flat_runs, what_holds_so_far_on_either_bus};
+use tso_laws::{atomic_runs_are_flat_runs, what_holds_so_far_on_either_bus};
 
 /// A load and a write access are hits exactly where `would_hit` says so, whole and in halves.
 pub fn hits_are_those_that_are_told()

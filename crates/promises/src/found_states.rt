@@ -3,13 +3,13 @@
 ghost use Rattle.std.specs.Prelude.{◌<◌, ◌↔◌, ◌≡◌, Bool, List, Some, length, slice_get, ℕ};
 ghost use Rattle.explorer.specs.FinalStates.{AreWhatSequentialConsistencyAllows, AreWhatTsoAllows, HasMoreStates, Have, IsReachable};
 ghost use Rattle.explorer.specs.declared.final_states.FinalState.{FinalState};
-ghost use Rattle.outcome_laws.specs.Outcomes.{IsAllowedAtDepth, IsAllowedByTso, IsAllowedSequentially, IsEnd};
+ghost use Rattle.tso_laws.specs.Outcomes.{IsAllowedAtDepth, IsAllowedByTso, IsAllowedSequentially, IsEnd};
 ghost use Rattle.tso_laws.specs.Choices.{state_after};
 ghost use Rattle.tso_model.specs.FlatMachine.{State, start};
 ghost use Rattle.tso_model.specs.Litmus.{IsTest, Litmus};
 ghost use Rattle.tso_model.specs.Runs.{CoresExist};
 
-use outcome_laws::ends_are_what_tso_allows;
+use tso_laws::ends_are_what_tso_allows;
 
 /// Each state that was found is allowed, and each that is allowed was found, but for registers that nobody looks at.
 pub fn what_was_found_is_allowed()

@@ -16,7 +16,7 @@ ghost use Rattle.litmus_reader.specs.Spelling.{IsRefused as IsRefusedTest, Spell
 ghost use Rattle.litmus_reader.specs.declared.fault.TextFault.{TextFault};
 ghost use Rattle.multiprocessor.specs.Configuration.{Configuration};
 ghost use Rattle.order_builder.specs.Spelling.{SpellsOrder};
-ghost use Rattle.outcome_laws.specs.Outcomes.{IsSequentiallyConsistent};
+ghost use Rattle.tso_laws.specs.Outcomes.{IsSequentiallyConsistent};
 ghost use Rattle.outcome_report.specs.Printed.{outcomes_in};
 ghost use Rattle.protocol_tables.specs.Names.{protocol_name};
 ghost use Rattle.protocol_tables.specs.PrintedTable.{printed_table};

@@ -3,7 +3,7 @@
 
 ghost use Rattle.std.specs.List.{list_any};
 ghost use Rattle.std.specs.Prelude.{◌<◌, ◌≡◌, [], List, None, Some, false, length, slice_index, slice_index_or, true, ℕ};
-ghost use Rattle.outcome_laws.specs.Outcomes.{IsAllowedByTso, IsAllowedSequentially, IsEnd};
+ghost use Rattle.tso_laws.specs.Outcomes.{IsAllowedByTso, IsAllowedSequentially, IsEnd};
 ghost use Rattle.refutation_laws.specs.Agreement.{Agrees};
 ghost use Rattle.refutation_laws.specs.Edges.{is_edge, relates};
 ghost use Rattle.refutation_laws.specs.Known.{Known, bare};

@@ -4,7 +4,7 @@
 ghost use Rattle.std.specs.Prelude.{◌≡◌, ◌<◌, ◌≤◌, ℕ, All, Bool, true, false, IfOk, List, length, Some, None};
 ghost use Rattle.tso_model.specs.Condition.{Condition};
 ghost use Rattle.basic_laws.specs.Types.{Atomic, Reg};
-ghost use Rattle.outcome_laws.specs.Outcomes.{IsAllowedAtDepth};
+ghost use Rattle.tso_laws.specs.Outcomes.{IsAllowedAtDepth};
 ghost use Rattle.explorer.specs.FinalStates.{AreDistinct, AreReached, AreWhat, HaveEveryEnd, HasMoreStates};
 ghost use Rattle.explorer.specs.declared.search.Extent.{Extent};
 ghost use Rattle.protocol_tables.specs.declared.kind.ProtocolKind.{ProtocolKind};
@@ -24,13 +24,13 @@ ghost use Rattle.tso_cli.specs.OneSearch.{AreOneSearch};
 ghost use Rattle.promises.specs.Searched.{LinesAreRunAgain};
 
 use explorer::{Exploration, ExploreFault, Met, Watcher, explore, explore_watched};
-use outcome_laws::ends_are_what_tso_allows;
 use outcome_report::hidden_registers;
 use shown_values::{Show, names_shown};
 use std::alloc::Global;
 use tso_cli::answers::answers_meet_the_headline;
 use tso_cli::headline_laws::headlines_leave_one_text;
 use tso_cli::round_trips::searches_reach_their_states;
+use tso_laws::ends_are_what_tso_allows;
 use tso_model::{NoMemory, Test};
 use tso_report::named::Named;
 

@@ -5,9 +5,9 @@ ghost use Rattle.std.specs.Prelude.{◌≡◌, ◌↔◌, ℕ, Bool, IfErr, IfOk
 ghost use Rattle.tso_model.specs.Condition.{Condition, truth_of};
 ghost use Rattle.tso_model.specs.Litmus.{Litmus, IsTest};
 ghost use Rattle.basic_laws.specs.Types.{Atomic, Choice};
-ghost use Rattle.outcome_laws.specs.Outcomes.{IsAllowedByTso, IsAllowedSequentially};
+ghost use Rattle.tso_laws.specs.Outcomes.{IsAllowedByTso, IsAllowedSequentially};
 ghost use Rattle.tso_model.specs.FlatMachine.{State};
-ghost use Rattle.eager_laws.specs.Dead as dead;
+ghost use Rattle.tso_laws.specs.Dead as dead;
 ghost use Rattle.explorer.specs.Settled.{LeadsToForgotten, LeadsBy};
 ghost use Rattle.explorer.specs.FinalStates.{AreReached, HaveEveryEnd, HasMoreStates, AreDistinct, AreWhatTsoAllows, AreWhatSequentialConsistencyAllows, AreAmong, Have};
 ghost use Rattle.outcome_report.specs.Hidden.{AreNotShown};
@@ -28,12 +28,12 @@ ghost use Rattle.tso_cli.specs.declared.answer.Status.{Status};
 ghost use Rattle.shown_values.specs.Shown.{names_shown};
 ghost use Rattle.shown_values.specs.declared.show.Show.{Show};
 
-use eager_laws::dead_registers_change_nothing;
 use explorer::{Exploration, ExploreFault, explore};
 use outcome_report::alike_outcomes::{outcomes_are_one_but_for_choices, truth_is_shown};
 use std::alloc::Global;
 use tso_cli::answers::inputs_have_one_answer;
 use tso_cli::round_trips::searches_reach_their_states;
+use tso_laws::dead_registers_change_nothing;
 use tso_model::Test;
 
 /// Each state that a search finds is reached, and none that runs end in is missed; or the machine can reach more than may be kept.

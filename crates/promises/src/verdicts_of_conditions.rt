@@ -9,7 +9,7 @@ ghost use Rattle.tso_cli.specs.Dividing.{parts_of};
 ghost use Rattle.tso_cli.specs.declared.answer.Status.{Status};
 ghost use Rattle.tso_cli.specs.declared.answer.Status.TheVariants.{Good, NotAsClaimed};
 ghost use Rattle.litmus_reader.specs.Spelling.{SpellsTest};
-ghost use Rattle.outcome_laws.specs.Outcomes.{IsSequentiallyConsistent};
+ghost use Rattle.tso_laws.specs.Outcomes.{IsSequentiallyConsistent};
 ghost use Rattle.outcome_report.specs.Outcomes.{Outcome, printed_numbers, shown_values};
 ghost use Rattle.outcome_report.specs.OutcomesJson.{holds_in};
 ghost use Rattle.outcome_report.specs.Verdict.{verdict_word};

@@ -6,7 +6,7 @@ ghost use Rattle.command_line.specs.Search.{Search};
 ghost use Rattle.outcome_report.specs.Laws.{OutcomesAreAlike};
 ghost use Rattle.outcome_report.specs.Outcomes.{Outcome};
 ghost use Rattle.outcome_report.specs.Printed.{outcomes_in, unfinished_search_in};
-ghost use Rattle.outcome_laws.specs.Outcomes.{IsSequentiallyConsistent};
+ghost use Rattle.tso_laws.specs.Outcomes.{IsSequentiallyConsistent};
 ghost use Rattle.printed_laws.specs.Observed.{IsSoEverywhere, IsSoSomewhere, WordMeans, truth_after, truth_after_run};
 ghost use Rattle.printed_laws.specs.Outcomes.{OutcomesFit, ShowTheSame};
 ghost use Rattle.scheduler.specs.Printed.{printed_choices};

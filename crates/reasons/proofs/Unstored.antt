@@ -18,7 +18,7 @@ use Rattle.tso_laws.proofs.OrderSteps.{AllTake, takes-append, commits-append}
 use Rattle.basic_laws.proofs.Cores.{done-at, length-starts}
 use Rattle.tso_laws.proofs.Draining.{acts-when}
 use Rattle.tso_laws.proofs.Work.{done-length}
-use Rattle.outcome_laws.proofs.Behind.{Moves, moves-more, moves-place, moves-made, set-same, with_core}
+use Rattle.tso_laws.proofs.Behind.{Moves, moves-more, moves-place, moves-made, set-same, with_core}
 use Rattle.reasons.proofs.StepsAlong.{steps_from, filter-from, steps-last}
 use Rattle.reasons.proofs.UsingAll.{uses-all, cores-exist}
 

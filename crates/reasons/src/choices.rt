@@ -5,14 +5,16 @@ ghost use Rattle.std.specs.Prelude.{◌≡◌, IfOk};
 ghost use Rattle.tso_model.specs.Limits.{most_depth};
 ghost use Rattle.tso_model.specs.Axioms.{IsTsoExecution};
 ghost use Rattle.tso_laws.specs.Along.{choices_along, LeadTo};
-ghost use Rattle.outcome_laws.specs.Outcomes.{IsSequentiallyConsistent};
+ghost use Rattle.tso_laws.specs.Outcomes.{IsSequentiallyConsistent};
 ghost use Rattle.refutation_laws.specs.Models.{IsExecutionOf, depth_of};
 
-use outcome_laws::unbuffered_runs_reach_exactly_the_sequentially_consistent;
 use refutation_laws::Model;
 use scheduler::{WitnessFault, witness};
 use std::alloc::Global;
-use tso_laws::{most_stores_are_depth_enough, runs_stop_where_they_end, stalls_change_nothing};
+use tso_laws::{
+    most_stores_are_depth_enough, runs_stop_where_they_end, stalls_change_nothing,
+    unbuffered_runs_reach_exactly_the_sequentially_consistent,
+};
 use tso_model::limits::MAX_DEPTH;
 use tso_model::{Choice, Execution, NoMemory, Test};
 

@@ -59,7 +59,7 @@ pub use Rattle.tso_model.specs.Limits.{most_depth}
 pub use Rattle.tso_model.specs.Runs.{run, Run}
 pub use Rattle.tso_model.specs.FlatMachine.{registers_in}
 pub use Rattle.relational_model.specs.CandidatesOfRuns.{IsCandidateOfRun}
-pub use Rattle.outcome_laws.specs.Outcomes.{IsEnd}
+pub use Rattle.tso_laws.specs.Outcomes.{IsEnd}
 pub use Rattle.tso_model.specs.Examples.{sb, n6}
 pub use Rattle.relational_model.specs.WorkedCandidates.{sb_candidate, n6_candidate}
 pub use Rattle.refutation_laws.specs.Worked.{both_zero, own_last}

@@ -10,7 +10,7 @@ use Rattle.tso_model.specs.FlatMachine.{registers_in}
 use Rattle.tso_model.specs.Runs.{run, CoresExist}
 use Rattle.basic_laws.specs.Types.{Choice, Entry}
 use Rattle.tso_laws.specs.EndedRuns.{End}
-use Rattle.outcome_laws.specs.Outcomes.{IsAllowedByTso, IsSequentiallyConsistent, IsAllowedSequentially}
+use Rattle.tso_laws.specs.Outcomes.{IsAllowedByTso, IsSequentiallyConsistent, IsAllowedSequentially}
 use Rattle.relational_model.specs.Candidates.{Candidate, registers_left, words_left}
 use Rattle.relational_model.specs.Model.{IsAllowed}
 use Rattle.relational_model.specs.SequentialModel.{IsSequential}

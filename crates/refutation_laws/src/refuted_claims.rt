@@ -12,7 +12,7 @@ ghost use Rattle.tso_model.specs.Runs.{run};
 ghost use Rattle.tso_model.specs.FlatMachine.{registers_in};
 ghost use Rattle.basic_laws.specs.Types.{Reg, Choice, Exists, NotExists, Forall, Entry};
 ghost use Rattle.tso_laws.specs.EndedRuns.{End};
-ghost use Rattle.outcome_laws.specs.Outcomes.{IsEnd};
+ghost use Rattle.tso_laws.specs.Outcomes.{IsEnd};
 ghost use Rattle.relational_model.specs.Events.{IsIn};
 ghost use Rattle.relational_model.specs.Candidates.{Candidate, IsCandidate, events, registers_left, words_left};
 ghost use Rattle.refutation_laws.specs.Known.{Known, bare};

@@ -7,7 +7,7 @@ use Rattle.tso_model.specs.ProgramEntries.{made}
 use Rattle.tso_model.specs.Axioms.{counting, IsTsoExecution}
 use Rattle.tso_model.specs.FinalState.{final_words, final_registers}
 use Rattle.tso_model.specs.declared.execution.Entry.{Entry}
-use Rattle.outcome_laws.specs.Outcomes.{IsSequentiallyConsistent}
+use Rattle.tso_laws.specs.Outcomes.{IsSequentiallyConsistent}
 use Rattle.relational_model.specs.Candidates.{Candidate, events, words_left, registers_left}
 
 abbrev pub last_in : List Entry → Option Entry

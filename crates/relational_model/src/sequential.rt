@@ -7,7 +7,7 @@ ghost use Rattle.tso_model.specs.Runs.{run, CoresExist};
 ghost use Rattle.tso_model.specs.Examples.{sb, n6};
 ghost use Rattle.basic_laws.specs.Types.{Entry, Choice};
 ghost use Rattle.tso_laws.specs.EndedRuns.{End};
-ghost use Rattle.outcome_laws.specs.Outcomes.{IsSequentiallyConsistent};
+ghost use Rattle.tso_laws.specs.Outcomes.{IsSequentiallyConsistent};
 ghost use Rattle.relational_model.specs.Candidates.{Candidate};
 ghost use Rattle.relational_model.specs.Model.{IsAllowed};
 ghost use Rattle.relational_model.specs.SequentialModel.{IsSequential};
@@ -15,9 +15,9 @@ ghost use Rattle.relational_model.specs.CandidatesOfOrders.{IsCandidateOf, IsOfA
 ghost use Rattle.relational_model.specs.CandidatesOfRuns.{IsCandidateOfRun};
 ghost use Rattle.relational_model.specs.WorkedCandidates.{sb_candidate, n6_candidate};
 
-use outcome_laws::unbuffered_runs_reach_exactly_the_sequentially_consistent;
 use tso_laws::{
-    ended_runs_are_executions, no_buffer_no_reordering, whole_orders_have_each_entry_once,
+    ended_runs_are_executions, no_buffer_no_reordering,
+    unbuffered_runs_reach_exactly_the_sequentially_consistent, whole_orders_have_each_entry_once,
 };
 
 /// The candidates that sequential consistency allows are exactly those of the sequentially consistent

@@ -3,7 +3,7 @@ use Rattle.simulator.proofs.Vocabulary.{◌≡◌, ℕ, zero, suc, arith, true, 
 use Rattle.tso_model.specs.FinalState.{final_words, final_registers}
 use Rattle.tso_laws.specs.EndedRuns.{registers_in}
 use Rattle.tso_laws.specs.Words.{HoldsWords}
-use Rattle.split_laws.specs.BusLaws.{AtomicRunsAreFlatRuns}
+use Rattle.tso_laws.specs.BusLaws.{AtomicRunsAreFlatRuns}
 use Rattle.multiprocessor.specs.Answered.{answered, answered_from}
 
 -- ---- the answers leave the choices as they are

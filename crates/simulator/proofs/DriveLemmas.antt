@@ -1,9 +1,9 @@
 -- A machine that is driven through choices: how far it has come, and where it stops.
 use Rattle.simulator.proofs.Vocabulary.{◌≡◌, ◌⊎◌, inl, inr, ◌+◌, ℕ, true, false, List, [], ◌∷◌, ◌++◌, length, append-nil, append_assoc, refl, sym, ap, subst, ◌∙◌, arith, Litmus, has_ended, stall_count, Holder, Free, Attempt, BusState, BusRun, effect_on, after_on, run_on, then_on, resting_on, HitFits, HitsFit, Bus, Choice, Entry, EndOn, left_by, ChangesNothingOn, StopsAtTheEndOn, Running, attempt_on, machine_effect, machine_after, AnswerFits, Statistics, statistics_from, answers_of, bus_run_of, HaveFittingAnswers, Drives}
 use Rattle.basic_laws.specs.Types.{Outcome, Committed, Buffered, Moved, Asked, Stalled, Stall}
-use Rattle.split_laws.specs.BusLaws.{WhatHoldsSoFarOnEitherBus}
-use Rattle.split_laws.specs.inner.BusLaws.{AttemptsLeadFromStateToState, RunsOnEitherBusStopWhereTheyEnd, StallsOnEitherBusChangeNothing}
-use Rattle.split_laws.specs.BusChoices.{IsPossibleOn}
+use Rattle.tso_laws.specs.BusLaws.{WhatHoldsSoFarOnEitherBus}
+use Rattle.tso_laws.specs.inner.BusLaws.{AttemptsLeadFromStateToState, RunsOnEitherBusStopWhereTheyEnd, StallsOnEitherBusChangeNothing}
+use Rattle.tso_laws.specs.BusChoices.{IsPossibleOn}
 use Rattle.simulator.specs.inner.Observed.{Watched, next}
 
 -- what the laws of either bus say of states and of the end

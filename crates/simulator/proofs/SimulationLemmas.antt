@@ -7,8 +7,8 @@ use Rattle.basic_laws.specs.Types.{Kind, R, W, F, LR, LW}
 use Rattle.tso_laws.specs.Counting.{instructions, stores_of_all}
 use Rattle.tso_laws.specs.Entries.{FitsTest}
 use Rattle.tso_laws.specs.Rounds.{CanBeCutIntoRounds}
-use Rattle.split_laws.specs.BusLaws.{AtomicRunsAreFlatRuns}
-use Rattle.split_laws.specs.inner.BusLaws.{RunsOnEitherBusStopWhereTheyEnd}
+use Rattle.tso_laws.specs.BusLaws.{AtomicRunsAreFlatRuns}
+use Rattle.tso_laws.specs.inner.BusLaws.{RunsOnEitherBusStopWhereTheyEnd}
 use Rattle.order_builder.specs.PrintedOrder.{HasLocation, IsLocationFor}
 use Rattle.machine_core.specs.inner.Running.{is_ended}
 use Rattle.simulator.proofs.BusLemmas.{attempts_in, bus_run, choices-in, length-in, run-is, atomic-run}

@@ -10,8 +10,8 @@ pub use Rattle.tso_model.specs.EitherBus.{BusState, run_on, choices_in, BusRun, 
 pub use Rattle.tso_model.specs.Together.{put_together, together}
 pub use Rattle.basic_laws.specs.Types.{Bus, Atomic, Split, Choice, Entry}
 pub use Rattle.tso_laws.specs.EndedRuns.{End, IsExecution}
-pub use Rattle.split_laws.specs.BusRuns.{EndOn, waiting, IsFlatRun, left_by}
-pub use Rattle.split_laws.specs.inner.BusRuns.{StopsAtTheEndOn, ChangesNothingOn}
+pub use Rattle.tso_laws.specs.BusRuns.{EndOn, waiting, IsFlatRun, left_by}
+pub use Rattle.tso_laws.specs.inner.BusRuns.{StopsAtTheEndOn, ChangesNothingOn}
 pub use Rattle.protocol_tables.specs.Tables.{Table, table_of}
 pub use Rattle.multiprocessor.specs.declared.counts.Counts.{Counts}
 pub use Rattle.multiprocessor.specs.Configuration.{Configuration}

@@ -12,11 +12,10 @@ ghost use Rattle.multiprocessor.specs.Configuration.{Configuration};
 ghost use Rattle.simulator.specs.Runs.{run_by, AnswersFitBy};
 ghost use Rattle.simulator.specs.inner.Runs.{EndsBy};
 
-use split_laws::{
-    atomic_runs_are_flat_runs, no_buffer_no_reordering_on_either_bus,
-    runs_on_either_bus_are_flat_runs, runs_on_either_bus_stop_where_they_end,
+use tso_laws::{
+    atomic_runs_are_flat_runs, ended_runs_are_executions, no_buffer_no_reordering_on_either_bus,
+    runs_on_either_bus_are_flat_runs, runs_on_either_bus_stop_where_they_end, values_are_words,
 };
-use tso_laws::{ended_runs_are_executions, values_are_words};
 
 /// What an ended run on either bus leaves: its order is a TSO execution of the test, its registers and
 /// memory are the final state of that order, and all values in them are words. At depth 0, where no

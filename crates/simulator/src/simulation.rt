@@ -9,7 +9,7 @@ ghost use Rattle.simulator.specs.Runs.{run_by, run_under, counts_by, counts_unde
 ghost use Rattle.simulator.specs.Simulation.{IsEndingOf, FitsEnding, HasCounts, IsCounted, HasAllOrder, HasRounds, HasEnded, verdict};
 ghost use Rattle.simulator.specs.inner.Observed.{Watched, IsWatched};
 ghost use Rattle.simulator.specs.inner.Simulation.{Drives, IsEndingLeftBy};
-ghost use Rattle.split_laws.specs.BusChoices.{IsPossibleOn};
+ghost use Rattle.tso_laws.specs.BusChoices.{IsPossibleOn};
 ghost use Rattle.tso_laws.specs.Counting.{instructions, longest};
 
 use crate::ended_runs::ended_runs_of_machines_are_executions;
@@ -17,14 +17,14 @@ use crate::observing::Observer;
 use machine_core::{Bus, Choice, Config, Machine, Outcome};
 use protocol_tables::{Mesi, Moesi, Mosi, Msi, Protocol, ProtocolKind};
 use scheduler::{Choices, Listed, Stalls};
-use split_laws::{
-    atomic_runs_are_flat_runs, attempts_lead_from_state_to_state, fair_rounds_end_on_either_bus,
-    runs_on_either_bus_stop_where_they_end, stalls_on_either_bus_change_nothing,
-    what_holds_so_far_on_either_bus,
-};
 use std::alloc::Global;
 use thiserror::Error;
-use tso_laws::{fair_rounds_end, runs_are_counted, whole_orders_have_each_entry_once};
+use tso_laws::{
+    atomic_runs_are_flat_runs, attempts_lead_from_state_to_state, fair_rounds_end,
+    fair_rounds_end_on_either_bus, runs_are_counted, runs_on_either_bus_stop_where_they_end,
+    stalls_on_either_bus_change_nothing, what_holds_so_far_on_either_bus,
+    whole_orders_have_each_entry_once,
+};
 use tso_model::{NoMemory, Test, cond_holds};
 use tso_report::Run;
 

@@ -17,10 +17,10 @@ pub use Rattle.basic_laws.proofs.WithPending.{drain_with}
 pub use Rattle.tso_model.specs.SplitMachine.{Holder, Free, HeldBy, HeldBetween, Attempt, same_choice, needs_bus, acts, asks, begins, completes, as_read, after_first, writes_last, split_effect, load_part, BusEffect}
 pub use Rattle.tso_model.specs.EitherBus.{BusState, effect_on, BusRun, unheld, then_on, resting_on, run_on, run_on_from, choices_in, after_on}
 pub use Rattle.tso_model.specs.declared.action.Action.TheVariants.{Store, Load, Move, Fence, Lock}
-pub use Rattle.split_laws.proofs.Following.{needs-some}
-pub use Rattle.split_laws.proofs.Stopping.{ended-free}
-pub use Rattle.split_laws.proofs.Ways.{IsOther, if-by, begins-by, completes-by, split-by, effect-by}
-pub use Rattle.split_laws.proofs.Steps.{drain-no-lock, IsStore}
+pub use Rattle.tso_laws.proofs.Following.{needs-some}
+pub use Rattle.tso_laws.proofs.BusStopping.{ended-free}
+pub use Rattle.tso_laws.proofs.Ways.{IsOther, if-by, begins-by, completes-by, split-by, effect-by}
+pub use Rattle.tso_laws.proofs.Steps.{drain-no-lock, IsStore}
 pub use Rattle.trace_report.specs.TraceLaws.{committed_at, committed_in, stalls_in, TellsRun, run_traced, is_of, laid_in, with_changes, ChangesOne, ChangesLeadFromStatesToStates, count_of_accesses, is_kind, is_access_of_kind, tells_access, tells_forward, one_if, steps_that, KeepsNoCopyInI, is_sender, tells_flush, tells_write_back, ProtocolsKeepNoCopyInI, AccessesAreTold}
 pub use Rattle.trace_report.specs.inner.Steps.{waited_before}
 pub use Rattle.std.specs.Int.{div_ceil}
@@ -30,7 +30,7 @@ pub use Rattle.std.proofs.lemmas.List.Elements.{All-nil, All-cons, All-head, All
 pub use Rattle.tso_model.specs.Thread.{entry, fence, value_in, value_of, updated}
 pub use Rattle.std.specs.Prelude.{filter, Ok}
 pub use Rattle.order_builder.specs.PrintedOrder.{HasLocation, IsLocationFor}
-pub use Rattle.split_laws.proofs.Cores.{core-cases, quiet-same}
+pub use Rattle.tso_laws.proofs.Cores.{core-cases, quiet-same}
 pub use Rattle.basic_laws.proofs.Cores.{starts-idle, length-starts}
 pub use Rattle.trace_report.specs.Known.{IsAt, IsLine, AreStoresKnown, StepNamesExist}
 pub use Rattle.std.proofs.lemmas.Bool.Decides.{nat_tests, eqb_tells}
@@ -69,8 +69,8 @@ pub use Rattle.protocol_tables.specs.declared.requests.Request.TheVariants.{GetS
 pub use Rattle.protocol_tables.specs.declared.requests.Transient.{Transient}
 pub use Rattle.snoop_bus.specs.Rows.{table_of_rows, rows_of}
 pub use Rattle.snoop_bus.specs.CacheContents.{TagSets, tags_at, tag_in, at_line, sets_of, dirty_in, writes_back, filled_by, used_by, at_others, is_held, requested, at_core}
-pub use Rattle.split_laws.proofs.Waiting.{AllStores, access-kept, choice-stores, start-stores}
-pub use Rattle.split_laws.proofs.Effects.{HolderWaits, Live, LiveIn, live-after, live-start}
+pub use Rattle.tso_laws.proofs.BusWaiting.{AllStores, access-kept, choice-stores, start-stores}
+pub use Rattle.tso_laws.proofs.Effects.{HolderWaits, Live, LiveIn, live-after, live-start}
 pub use Rattle.protocol_tables.specs.declared.state.State.TheVariants.{I, S, E, O, M}
 pub use Rattle.cache_set.specs.Tags.{TagSet, tag_of, used, filled, in_next, snooped_in, snooped, leaving}
 pub use Rattle.machine_core.specs.Uses.{IsUseFor}

@@ -6,7 +6,7 @@ ghost use Rattle.trace_report.specs.TraceLaws.{TracesTellTheirRuns, ChangesLeadF
 ghost use Rattle.trace_report.specs.TraceLaws.{ProtocolsKeepNoCopyInI};
 ghost use Rattle.trace_report.specs.StepLaws.{StepsAreTold};
 
-use split_laws::atomic_runs_are_flat_runs;
+use tso_laws::atomic_runs_are_flat_runs;
 
 /// The entries that the steps of a trace have committed, each load part of a locked instruction put directly before
 /// its store part, are the run's order; the steps are as many as the choices that the run used, and those that

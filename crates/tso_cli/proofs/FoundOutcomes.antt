@@ -1,7 +1,7 @@
 -- What a search answers, from what it says of the ends of runs.
 use Rattle.tso_cli.proofs.Vocabulary.{◌≡◌, ◌∙◌, ℕ, zero, suc, Bool, List, [], ◌∷◌, Some, map, All, Contains, slice_get, refl, sym, ap, subst, arith, AllByRecursion, slice_get_within, get_or_from_slice_get, Litmus, AreReached, HaveEveryEnd, FinalState, names_shown, values_at, PrintsOutcomes, status_of_verdict, IsOutcomesAnswer, found, is_claimed_of, Status}
 use Rattle.std.proofs.lemmas.List.Elements.{All-weaker, All-contains, All-from_recursion}
-use Rattle.outcome_laws.specs.Outcomes.{IsEnd, LeadToEnd}
+use Rattle.tso_laws.specs.Outcomes.{IsEnd, LeadToEnd}
 use Rattle.tso_report.specs.declared.named.Named.{Named}
 use Rattle.outcome_report.specs.Outcomes.{Outcome, outcome_of, shown_values}
 use Rattle.outcome_report.specs.Hidden.{AreNotShown}

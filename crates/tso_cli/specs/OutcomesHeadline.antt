@@ -4,7 +4,7 @@ use Rattle.std.specs.Prelude.{ℕ, ◌≡◌, ◌↔◌, Bool, List, length, map
 use Rattle.tso_model.specs.Limits.{most_depth}
 use Rattle.tso_cli.specs.Vocabulary.{Entry, final_registers, final_words, HasMoreStates, IsTsoExecution, Litmus, Named, names_shown, Outcome, outcomes_in, printed_choices, Search, shown_values, SpellsChoices, unfinished_search_in, values_at}
 use Rattle.tso_cli.specs.Outcomes.{AreAllOutcomes}
-use Rattle.outcome_laws.specs.Outcomes.{IsSequentiallyConsistent}
+use Rattle.tso_laws.specs.Outcomes.{IsSequentiallyConsistent}
 
 -- the values that the final state of an order has at these names
 abbrev pub shown_after : Litmus → List Named → List Entry → List ℕ

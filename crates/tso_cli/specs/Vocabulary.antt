@@ -7,7 +7,7 @@ pub use Rattle.tso_model.specs.Runs.{run, Run}
 pub use Rattle.tso_model.specs.SequentialConsistency.{KeepsAllOrder}
 pub use Rattle.basic_laws.specs.Types.{Atomic, Split, Choice, Entry}
 pub use Rattle.tso_laws.specs.Along.{choices_along, LeadTo}
-pub use Rattle.outcome_laws.specs.Outcomes.{IsEnd, LeadToEnd}
+pub use Rattle.tso_laws.specs.Outcomes.{IsEnd, LeadToEnd}
 pub use Rattle.refutation_laws.specs.declared.model.Model.{Model}
 pub use Rattle.reasons.specs.Reasons.{HasMoreCases, most_cases}
 pub use Rattle.litmus_reader.specs.Spelling.{SpellsTest}

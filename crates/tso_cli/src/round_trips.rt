@@ -33,16 +33,16 @@ ghost use Rattle.command_line.specs.declared.settings.Settings.{Settings};
 
 use crate::answers::texts_are_read_one_way;
 use axiom_checker::first_breaches::first_breach_is_real;
-use outcome_laws::{choices_to_an_end_are_counted, ends_are_what_tso_allows};
 use refutation_laws::{
     no_run_makes_a_refuted_claim_true, refuted_claims_are_false, refuted_questions_are_answered,
 };
 use scheduler::printed_choices_are_spelled;
 use simulator::ended_runs_of_machines_are_executions;
-use split_laws::{atomic_runs_are_flat_runs, runs_on_either_bus_stop_where_they_end};
 use tso_laws::{
+    atomic_runs_are_flat_runs, choices_to_an_end_are_counted, ends_are_what_tso_allows,
     every_execution_is_reached, most_stores_are_depth_enough, runs_are_counted,
-    smaller_depths_never_reach, whole_orders_have_each_entry_once,
+    runs_on_either_bus_stop_where_they_end, smaller_depths_never_reach,
+    whole_orders_have_each_entry_once,
 };
 use tso_report::report_texts::{report_spells_its_order, reports_are_short};
 

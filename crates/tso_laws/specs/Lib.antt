@@ -10,6 +10,19 @@ pub mod Reached
 pub mod Words
 pub mod Laws
 pub mod WorkedRuns
+pub mod BusChoices
+pub mod Holders
+pub mod Between
+pub mod BusSoFar
+pub mod BusRuns
+pub mod BusLaws
+pub mod WorkedSplitRuns
+pub mod Eager
+pub mod Stubborn
+pub mod Dead
+pub mod Exchanged
+pub mod Closed
+pub mod Outcomes
 pub mod inner
 pub use Rattle.tso_model.specs.Litmus
 pub use Rattle.tso_model.specs.ProgramEntries
@@ -20,3 +33,7 @@ pub use Rattle.tso_model.specs.SequentialConsistency
 pub use Rattle.tso_model.specs.FlatMachine
 pub use Rattle.tso_model.specs.Runs
 pub use Rattle.tso_model.specs.Examples
+pub use Rattle.tso_model.specs.MemoryAccess
+pub use Rattle.tso_model.specs.SplitMachine
+pub use Rattle.tso_model.specs.EitherBus
+pub use Rattle.tso_model.specs.Together

@@ -4,8 +4,8 @@ use Rattle.std.specs.Prelude.{ℕ, ◌≡◌, ◌<◌, true, Bool, List, Some, l
 use Rattle.tso_model.specs.Litmus.{Litmus}
 use Rattle.tso_model.specs.FlatMachine.{State, start, registers_in}
 use Rattle.tso_model.specs.Runs.{has_ended}
-use Rattle.eager_laws.specs.Closed.{ArePartlyClosed}
-use Rattle.eager_laws.specs.Dead.{forgotten}
+use Rattle.tso_laws.specs.Closed.{ArePartlyClosed}
+use Rattle.tso_laws.specs.Dead.{forgotten}
 use Rattle.explorer.specs.inner.Packed.{state_of_packed}
 use Rattle.explorer.specs.Settled.{LeadsBy}
 use Rattle.explorer.specs.inner.Settled.{Grows}

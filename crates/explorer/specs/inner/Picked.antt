@@ -4,7 +4,7 @@ use Rattle.tso_model.specs.Actions.{action_of}
 use Rattle.tso_model.specs.Litmus.{Litmus}
 use Rattle.tso_model.specs.FlatMachine.{State, program_of, core_of}
 use Rattle.basic_laws.specs.Types.{Action, Instr}
-use Rattle.eager_laws.specs.Stubborn.{ChoiceSet, has_step, has_drain, IsApartStep, IsApartDrain}
+use Rattle.tso_laws.specs.Stubborn.{ChoiceSet, has_step, has_drain, IsApartStep, IsApartDrain}
 use Rattle.explorer.specs.declared.stubborn.Picked.{Picked}
 
 abbrev pub set_of : Picked → ChoiceSet

@@ -4,8 +4,8 @@ use Rattle.std.specs.declared.vec.Vec.{Vec}
 use Rattle.std.specs.declared.alloc.Global.{Global}
 use Rattle.tso_model.specs.FlatMachine.{program_of}
 use Rattle.tso_model.specs.declared.instruction.Instr.{Instr}
-use Rattle.eager_laws.specs.Dead.{dead_at, hidden_of}
-use Rattle.eager_laws.specs.Exchanged.{AreAllAlike}
+use Rattle.tso_laws.specs.Dead.{dead_at, hidden_of}
+use Rattle.tso_laws.specs.Exchanged.{AreAllAlike}
 use Rattle.explorer.specs.declared.plan.Plan.{Plan}
 
 -- which registers of a core are dead, by how many of its instructions are still to come

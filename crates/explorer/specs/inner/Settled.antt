@@ -4,10 +4,10 @@ use Rattle.std.specs.Prelude.{ℕ, ◌≡◌, ◌≤◌, ◌++◌, Bool, true, L
 use Rattle.tso_model.specs.Litmus.{Litmus}
 use Rattle.tso_model.specs.FlatMachine.{State, start, after_choice, step, drain}
 use Rattle.tso_model.specs.declared.choice.Choice.{Choice}
-use Rattle.eager_laws.specs.Closed.{IsCovered, LeadsEagerly}
-use Rattle.eager_laws.specs.Stubborn.{ChoiceSet, has_step, has_drain}
-use Rattle.eager_laws.specs.Dead.{forgotten}
-use Rattle.eager_laws.specs.Exchanged.{exchanged_by, AreOf, AreAllAlike}
+use Rattle.tso_laws.specs.Closed.{IsCovered, LeadsEagerly}
+use Rattle.tso_laws.specs.Stubborn.{ChoiceSet, has_step, has_drain}
+use Rattle.tso_laws.specs.Dead.{forgotten}
+use Rattle.tso_laws.specs.Exchanged.{exchanged_by, AreOf, AreAllAlike}
 use Rattle.flat_machine.specs.State.{state_of_snapshot}
 use Rattle.explorer.specs.inner.Packed.{state_of_packed, IsPacked}
 use Rattle.flat_machine.specs.declared.snapshot.Snapshot.{Snapshot}

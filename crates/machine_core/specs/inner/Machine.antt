@@ -2,7 +2,7 @@
 -- every machine.
 use Rattle.std.specs.Prelude.{Bool}
 use Rattle.machine_core.specs.Vocabulary.{Litmus}
-use Rattle.split_laws.specs.BusChoices.{IsPossibleOn}
+use Rattle.tso_laws.specs.BusChoices.{IsPossibleOn}
 use Rattle.multiprocessor.specs.declared.hardware.Hardware.{Hardware}
 use Rattle.machine_core.specs.Running.{Running}
 use Rattle.multiprocessor.specs.Keeping.{HardwareFitsTest, IsHeldForAccess, state_in}

@@ -7,7 +7,7 @@ use Rattle.tso_model.specs.Together.{put_together}
 use Rattle.tso_model.specs.EitherBus.{BusRun, run_on_from, HitsFit}
 use Rattle.tso_model.specs.SplitMachine.{Attempt}
 use Rattle.tso_model.specs.declared.choice.Choice.{Choice}
-use Rattle.split_laws.specs.BusRuns.{left_by}
+use Rattle.tso_laws.specs.BusRuns.{left_by}
 use Rattle.multiprocessor.specs.Statistics.{statistics_from}
 use Rattle.multiprocessor.specs.Answered.{answered_from}
 use Rattle.machine_core.specs.Running.{Running}

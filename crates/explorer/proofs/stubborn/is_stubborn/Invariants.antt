@@ -1,6 +1,6 @@
 use Rattle.explorer.proofs.Vocabulary.{◌≡◌, true, state_of_snapshot, set_of, ArePicksApart}
 use Rattle.tso_model.specs.declared.choice.Choice.{Choice}
-use Rattle.eager_laws.specs.Stubborn.{has_choice}
+use Rattle.tso_laws.specs.Stubborn.{has_choice}
 use Rattle.explorer.proofs.stubborn.is_stubborn.Given as goal
 
 abbrev pub invariant-loop-core : goal.invariant-loop-core

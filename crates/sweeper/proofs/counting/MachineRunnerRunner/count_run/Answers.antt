@@ -1,6 +1,6 @@
 use Rattle.sweeper.proofs.Vocabulary.{ℕ, List, length, ap, sym, subst, ◌∙◌, refl, Litmus, Running, table_in, configuration_of, RunCounts, with_state_counted, with_verdict, values_in, machine_run, verdict, with_one_run, RunLaws, from-new, unfinished-is}
 use Rattle.tso_model.specs.Runs.{CoresExist}
-use Rattle.split_laws.specs.BusChoices.{IsPossibleOn}
+use Rattle.tso_laws.specs.BusChoices.{IsPossibleOn}
 use Rattle.sweeper.proofs.SweptRuns.{goes-back, as-before, counted-ended, counted-unfinished}
 use Rattle.sweeper.proofs.StallsAgain.{none-noted}
 use Rattle.sweeper.proofs.counting.MachineRunnerRunner.count_run.Goals as goal

@@ -1,5 +1,0 @@
-use Rattle.split_laws.proofs.Ending.{is-flat}
-use Rattle.split_laws.proofs.bus_runs.runs_on_either_bus_are_flat_runs.Goals as goal
-
-pub returns : goal.returns
-returns c = is-flat

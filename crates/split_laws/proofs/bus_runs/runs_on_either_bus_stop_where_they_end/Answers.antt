@@ -1,5 +1,0 @@
-use Rattle.split_laws.proofs.Stopping.{stops-at-end, end-nothing, end-free}
-use Rattle.split_laws.proofs.bus_runs.runs_on_either_bus_stop_where_they_end.Goals as goal
-
-pub returns : goal.returns
-returns c = record { stops = stops-at-end; nothing_more = end-nothing; free = end-free }

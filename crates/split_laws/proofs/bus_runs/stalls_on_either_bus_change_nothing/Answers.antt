@@ -1,5 +1,0 @@
-use Rattle.split_laws.proofs.Stopping.{possible-stall}
-use Rattle.split_laws.proofs.bus_runs.stalls_on_either_bus_change_nothing.Goals as goal
-
-pub returns : goal.returns
-returns c = possible-stall

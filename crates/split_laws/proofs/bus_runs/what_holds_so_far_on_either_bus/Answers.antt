@@ -1,5 +1,0 @@
-use Rattle.split_laws.proofs.Stopping.{possible-so-far, possible-free}
-use Rattle.split_laws.proofs.bus_runs.what_holds_so_far_on_either_bus.Goals as goal
-
-pub returns : goal.returns
-returns c = record { so_far = possible-so-far; free = possible-free }
