@@ -18,7 +18,7 @@ from judging import TOP
 
 MANY = 6
 EXAMPLES = re.compile(r"^worked_examples\.|\.(?:inner\.)?(?:Worked\w*|Examples)$")
-TESTS = ("promises", "tso_tests", "worked_examples")
+TESTS = ("tso_tests", "worked_examples")
 
 # What stays, and why.
 STAY = {

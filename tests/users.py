@@ -14,7 +14,7 @@ What is looked at are the fields of the records that a promise of README.md, doc
   is: it has to stand, and to call what the clause is of. What a check leaves of its modules names it (tests/checked_modules.py).
 
 Not asked for are a field that a later field of its record speaks of (that one is asked for), and the clauses of worked examples and of
-`promises`, which are users themselves.
+`promises`, which are users themselves (but for its laws, in files `laws_of_..`).
 """
 import os
 import re
@@ -29,7 +29,8 @@ import statements
 from judging import TOP
 
 SILENT = os.path.join(TOP, "tests", "data", "silent_users.list")
-USERS_THEMSELVES = ("promises", "worked_examples")
+# Users are themselves the worked examples, and the functions of `promises` that are no laws, with the definitions that they alone use.
+USERS_THEMSELVES = re.compile(r"worked_examples/|promises/(?:src/(?!laws_of_)|specs/(?:Locked|Searched|inner))")
 
 # Nothing in Rattle calls the page's exports: the edits of tests/data/edits/page_exports, which the prover has to refuse, hold them.
 HELD_BY_EDITS = "page_exports"
@@ -75,7 +76,7 @@ def speaks_of(types, name):
 def fields():
     found = []
     for module, record in sorted(believed.all_believed() & set(proof_texts.records())):
-        if module.split(".")[0] in USERS_THEMSELVES:
+        if USERS_THEMSELVES.match(module.replace(".", "/")):
             continue
         types = proof_texts.records()[module, record][1]
         names = list(types)
@@ -128,7 +129,7 @@ def functions():
 def clauses():
     words, types = named_in_pages()
     return [Clause(path, kind, name, label, says) for path, kind, name, said, _ in functions() for label, says in said.items()
-            if (name in words or kind in types) and path.split("/")[0] not in USERS_THEMSELVES and not WORKED.match(name)]
+            if (name in words or kind in types) and not USERS_THEMSELVES.match(path) and not WORKED.match(name)]
 
 
 # ---- users

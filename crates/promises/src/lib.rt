@@ -1,6 +1,10 @@
 //! Users of public promises on which no other crate rests. Each function makes such a call, is proved by what the call ensures,
 //! and says it of this use, with limits as plain numbers. So a promise that says less than it did, or a limit that is changed
 //! together with its constant, is refused here.
+//!
+//! Beside them stand the laws on printed texts, in the modules `laws_of_..`: what is printed tells what it shows. Nothing there
+//! computes: each public function has no code of its own, and its contract is a law on the definitions of what `run`, `sweep`,
+//! `outcomes`, `trace` and `why` print.
 #![tactic(auto)]
 
 pub mod abstract_machines;
@@ -15,6 +19,10 @@ pub mod found_reasons;
 pub mod found_states;
 pub mod headlines;
 pub mod judging;
+pub mod laws_of_outcomes;
+pub mod laws_of_reasons;
+pub mod laws_of_runs;
+pub mod laws_of_traces;
 pub mod limits;
 pub mod machines;
 pub mod machines_alike;
@@ -49,3 +57,22 @@ pub mod traced_machines;
 pub mod traces_told;
 pub mod verdicts_of_conditions;
 pub mod words_of_outcomes;
+
+pub use laws_of_outcomes::{
+    both_commands_print_one_verdict, outcomes_tell_their_states, outcomes_tell_their_tests,
+    printed_states_fit_their_test, statuses_tell_the_verdict, true_names_the_true_states,
+    verdicts_mean_what_they_say, words_mean_what_they_say,
+};
+pub use laws_of_reasons::{
+    printed_trees_refute, reasons_tell_their_steps, reasons_tell_their_tests,
+    steps_of_reasons_fit_their_test, values_of_reasons_tell_their_steps,
+    worked_trees_are_read_back,
+};
+pub use laws_of_runs::{
+    printed_runs_are_told, reports_tell_their_machines, reports_tell_their_runs,
+    sweeps_tell_their_counts, sweeps_tell_their_machines, unfinished_runs_are_told,
+};
+pub use laws_of_traces::{
+    printed_traces_are_told, printed_traces_tell_their_machines, traced_steps_fit_their_test,
+    traces_tell_their_steps, values_of_machines_tell_them,
+};

@@ -12,7 +12,7 @@ ghost use Rattle.tso_model.specs.Litmus.{IsTest, Litmus};
 ghost use Rattle.tso_model.specs.declared.choice.Choice.{Choice};
 ghost use Rattle.tso_report.specs.Shown.{ShownRun};
 
-use printed_laws::{printed_runs_are_told, reports_tell_their_machines};
+use crate::{printed_runs_are_told, reports_tell_their_machines};
 
 /// Runs of which the same is printed ended both, and the same is shown of them, or neither did.
 pub fn two_runs_are_told_apart()

@@ -1,8 +1,8 @@
 //! What the printed lines of a refutation tell of each step, part by part.
 
 ghost use Rattle.std.specs.Prelude.{◌≡◌, ◌<◌, ℕ, All, List, map, true};
-ghost use Rattle.printed_laws.specs.ReadBack.{tree_of};
-ghost use Rattle.printed_laws.specs.Reasons.{ReasonStepFits, depth_in, told_by_value, told_edge, told_event, told_reason_step};
+ghost use Rattle.promises.specs.ReadBack.{tree_of};
+ghost use Rattle.promises.specs.Reasons.{ReasonStepFits, depth_in, told_by_value, told_edge, told_event, told_reason_step};
 ghost use Rattle.reason_report.specs.ReasonJson.{never_json, never_json_line};
 ghost use Rattle.reason_report.specs.ReasonText.{never_lines, never_text};
 ghost use Rattle.reason_report.specs.Steps.{ReasonStep, leaves_in, steps_of};
@@ -13,7 +13,7 @@ ghost use Rattle.refutation_laws.specs.declared.model.Model.{Model};
 ghost use Rattle.tso_model.specs.Condition.{Claim};
 ghost use Rattle.tso_model.specs.Litmus.{IsTest, Litmus};
 
-use printed_laws::{
+use crate::{
     printed_trees_refute, reasons_tell_their_steps, reasons_tell_their_tests,
     steps_of_reasons_fit_their_test, values_of_reasons_tell_their_steps,
 };

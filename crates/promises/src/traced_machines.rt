@@ -5,8 +5,8 @@ ghost use Rattle.std.specs.Option.{option_map};
 ghost use Rattle.multiprocessor.specs.Configuration.{Configuration};
 ghost use Rattle.machine_core.specs.Looking.{bus_holder_of};
 ghost use Rattle.machine_core.specs.Running.{Running};
-ghost use Rattle.printed_laws.specs.TracedMachines.{AreWordsOf, ShowTheSameMachine, copies_shown, holder_shown, machine_under};
-ghost use Rattle.printed_laws.specs.Traces.{bare_store};
+ghost use Rattle.promises.specs.TracedMachines.{AreWordsOf, ShowTheSameMachine, copies_shown, holder_shown, machine_under};
+ghost use Rattle.promises.specs.Traces.{bare_store};
 ghost use Rattle.protocol_tables.specs.declared.kind.ProtocolKind.{ProtocolKind};
 ghost use Rattle.serde_json.specs.Written.{compact_text};
 ghost use Rattle.trace_json.specs.MachineJson.{machine_json};
@@ -16,7 +16,7 @@ ghost use Rattle.tso_model.specs.Runs.{CoresExist};
 ghost use Rattle.tso_model.specs.Thread.{value_in};
 ghost use Rattle.basic_laws.specs.Types.{Choice, Reg};
 
-use printed_laws::values_of_machines_tell_them;
+use crate::values_of_machines_tell_them;
 
 /// Values of machines that are the same are those of machines that show the same.
 pub fn machines_are_told_apart()

@@ -4,9 +4,9 @@ ghost use Rattle.std.specs.Prelude.{◌≡◌, ◌≤◌, ◌++◌, All, IfSome,
 ghost use Rattle.std.specs.Option.{option_map};
 ghost use Rattle.tso_cli.specs.Trace.{traced_in};
 ghost use Rattle.multiprocessor.specs.Configuration.{Configuration, IsConfigurationWithinLimits};
-ghost use Rattle.printed_laws.specs.OfRuns.{RunsLeaveTheSame};
-ghost use Rattle.printed_laws.specs.Telling.{NameTheSame};
-ghost use Rattle.printed_laws.specs.Traces.{IsReadable, IsTraceable, SourceFits, TraceStepFits, bare_store, told_by_line, told_by_object};
+ghost use Rattle.promises.specs.OfRuns.{RunsLeaveTheSame};
+ghost use Rattle.promises.specs.Telling.{NameTheSame};
+ghost use Rattle.promises.specs.Traces.{IsReadable, IsTraceable, SourceFits, TraceStepFits, bare_store, told_by_line, told_by_object};
 ghost use Rattle.protocol_tables.specs.declared.kind.ProtocolKind.{ProtocolKind};
 ghost use Rattle.serde_json.specs.Data.{Data};
 ghost use Rattle.serde_json.specs.Written.{compact_text, outline};
@@ -21,7 +21,7 @@ ghost use Rattle.tso_model.specs.Litmus.{IsTest, Litmus};
 ghost use Rattle.tso_model.specs.Runs.{CoresExist};
 ghost use Rattle.basic_laws.specs.Types.{Choice, Entry};
 
-use printed_laws::{
+use crate::{
     printed_traces_are_told, printed_traces_tell_their_machines, traced_steps_fit_their_test,
     traces_tell_their_steps,
 };

@@ -13,9 +13,9 @@ ghost use Rattle.tso_laws.specs.Outcomes.{IsSequentiallyConsistent};
 ghost use Rattle.outcome_report.specs.Outcomes.{Outcome, printed_numbers, shown_values};
 ghost use Rattle.outcome_report.specs.OutcomesJson.{holds_in};
 ghost use Rattle.outcome_report.specs.Verdict.{verdict_word};
-ghost use Rattle.printed_laws.specs.Observed.{truth_after};
-ghost use Rattle.printed_laws.specs.Verdicts.{IsAsClaimed, IsNotAsClaimed, NamesTrueStates, NumbersOfTrueStates};
-ghost use Rattle.printed_laws.specs.Verdicts.{EndsInNumbers, EndsInVerdict, EndsInVerdictMember, PrintsVerdict, StatusTells, VerdictMeans, VerdictsAgree};
+ghost use Rattle.promises.specs.Observed.{truth_after};
+ghost use Rattle.promises.specs.Verdicts.{IsAsClaimed, IsNotAsClaimed, NamesTrueStates, NumbersOfTrueStates};
+ghost use Rattle.promises.specs.Verdicts.{EndsInNumbers, EndsInVerdict, EndsInVerdictMember, PrintsVerdict, StatusTells, VerdictMeans, VerdictsAgree};
 ghost use Rattle.shown_values.specs.Shown.{names_shown, values_at};
 ghost use Rattle.tso_cli.specs.OutcomesHeadline.{PrintsAllOutcomes};
 ghost use Rattle.tso_model.specs.Axioms.{IsTsoExecution};
@@ -25,7 +25,7 @@ ghost use Rattle.basic_laws.specs.Types.{Exists, Forall, NotExists, Entry};
 ghost use Rattle.tso_report.specs.Report.{line};
 ghost use Rattle.tso_report.specs.declared.named.Named.{Named};
 
-use printed_laws::{
+use crate::{
     both_commands_print_one_verdict, statuses_tell_the_verdict, true_names_the_true_states,
     verdicts_mean_what_they_say,
 };

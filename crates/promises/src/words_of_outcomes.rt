@@ -7,8 +7,8 @@ ghost use Rattle.outcome_report.specs.Laws.{OutcomesAreAlike};
 ghost use Rattle.outcome_report.specs.Outcomes.{Outcome};
 ghost use Rattle.outcome_report.specs.Printed.{outcomes_in, unfinished_search_in};
 ghost use Rattle.tso_laws.specs.Outcomes.{IsSequentiallyConsistent};
-ghost use Rattle.printed_laws.specs.Observed.{IsSoEverywhere, IsSoSomewhere, WordMeans, truth_after, truth_after_run};
-ghost use Rattle.printed_laws.specs.Outcomes.{OutcomesFit, ShowTheSame};
+ghost use Rattle.promises.specs.Observed.{IsSoEverywhere, IsSoSomewhere, WordMeans, truth_after, truth_after_run};
+ghost use Rattle.promises.specs.Outcomes.{OutcomesFit, ShowTheSame};
 ghost use Rattle.scheduler.specs.Printed.{printed_choices};
 ghost use Rattle.shown_values.specs.Shown.{names_shown};
 ghost use Rattle.tso_cli.specs.OneSearch.{ShowOneSearch, ShowsNoState, without_choices};
@@ -20,9 +20,7 @@ ghost use Rattle.tso_model.specs.Runs.{CoresExist, run};
 ghost use Rattle.basic_laws.specs.Types.{Choice, Entry};
 ghost use Rattle.tso_report.specs.declared.named.Named.{Named};
 
-use printed_laws::{
-    outcomes_tell_their_states, outcomes_tell_their_tests, words_mean_what_they_say,
-};
+use crate::{outcomes_tell_their_states, outcomes_tell_their_tests, words_mean_what_they_say};
 use shown_values::Show;
 
 /// `Never` is so nowhere, `Always` everywhere, and `Sometimes` here and not there.

@@ -1,6 +1,6 @@
 use Rattle.promises.proofs.Vocabulary.{All, sym, subst}
 use Rattle.trace_report.specs.Steps.{trace_under}
-use Rattle.printed_laws.specs.Traces.{TraceStepFits}
+use Rattle.promises.specs.Traces.{TraceStepFits}
 use Rattle.promises.proofs.traces_told.traces_are_told_apart.Goals as goal
 
 pub returns-clause-fit : goal.returns-clause-fit

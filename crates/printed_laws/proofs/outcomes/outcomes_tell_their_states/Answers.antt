@@ -1,9 +1,0 @@
-use Rattle.printed_laws.proofs.OutcomeLines.{lines-tell}
-use Rattle.printed_laws.proofs.OutcomeObjects.{objects-tell}
-use Rattle.printed_laws.proofs.outcomes.outcomes_tell_their_states.Goals as goal
-
-pub returns-clause-lines : goal.returns-clause-lines
-returns-clause-lines c = lines-tell
-
-pub returns-clause-json : goal.returns-clause-json
-returns-clause-json c = objects-tell

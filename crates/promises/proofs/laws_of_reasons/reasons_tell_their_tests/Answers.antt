@@ -1,0 +1,5 @@
+use Rattle.promises.proofs.ReasonLines.{lines-name}
+use Rattle.promises.proofs.laws_of_reasons.reasons_tell_their_tests.Goals as goal
+
+pub returns : goal.returns
+returns c = lines-name
