@@ -5,3 +5,9 @@ pub mod WayContents
 pub mod WayLists
 pub mod WholeCache
 pub mod PutLines
+pub mod Numbers
+pub mod TagLemmas
+pub mod CacheTags
+pub mod FindLemmas
+pub mod SettleTags
+pub mod SettleSteps

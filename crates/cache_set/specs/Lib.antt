@@ -4,4 +4,6 @@ pub mod Geometry
 pub mod Lines
 pub mod Tags
 pub mod Copies
+pub mod Requests
+pub mod CacheTags
 pub mod inner

@@ -3,13 +3,16 @@
 //! the caller's to say: `touch` and `fill` bring a line to the front, and nothing else moves one.
 //!
 //! Over it stand the whole cache of one core (`cache`), whose sets they are, and what tells where a word stands: the shape
-//! of a cache (`shape`), and memory as lines (`lines`). None of them knows a protocol.
+//! of a cache (`shape`), and memory as lines (`lines`). What goes by a protocol's table, and keeps all words where they are
+//! seen, is here too: the walk over all caches for a line (`finding`), and dirty copies that go to memory (`cleaning`).
 #![tactic(auto)]
 
 ghost use Rattle.std.specs.Prelude.{◌≡◌, ◌≢◌, ◌<◌, ◌≤◌, ℕ, [], Some, None, IsSome, IfSome, IsOk, IfOk, OnErr, option_map, option_copied, slice_get};
 ghost use Rattle.cache_set.specs.Limits.{most_ways, most_words};
 
 pub mod cache;
+pub mod cleaning;
+pub mod finding;
 mod hashing;
 pub mod lines;
 pub mod shape;

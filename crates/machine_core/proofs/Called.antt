@@ -4,7 +4,7 @@ use Rattle.tso_model.specs.declared.instruction.Core.{Core}
 use Rattle.protocol_tables.specs.Transients.{transient_of}
 use Rattle.protocol_tables.specs.declared.requests.Transient.{Transient}
 use Rattle.protocol_tables.specs.declared.requests.Transient.TheVariants.{IsD, ImD, SmD}
-use Rattle.snoop_bus.specs.Requests.{snoop_column}
+use Rattle.cache_set.specs.Requests.{snoop_column}
 use Rattle.snoop_bus.specs.Held.{counted_copies_of, counted_in, transaction_in, holder_in, holder}
 use Rattle.snoop_bus.specs.inner.Bus.{IsBus}
 use Rattle.snoop_bus.specs.inner.Held.{IsHeld, IsPlaced, Awaits, AskedOf}

@@ -1,9 +1,9 @@
 -- A call of a bus changes a line of memory only where no copy of it that counts is dirty then.
 use Rattle.machine_core.proofs.Vocabulary.{◌≡◌, ◌≢◌, ◌∙◌, ℕ, zero, suc, true, false, List, ◌∷◌, length, take, Some, None, option_map, nat_eq, inl, inr, refl, sym, ap, subst, lt-or, is_dirty, Table, State, I, Snoop, Line, Victim, Words, line_in, state_of_copy, may_share, lookup, eq-eqb, tag_of, leaving, filled, TagSets, tags_at, tag_in, at_line, sets_of, is_held, requested, filled_by, Sets, copy_at, cache_of, set_at, tags_of, AllCoherent, written_back, flushed, sent_words, victim_at, tag_at, or_invalid, tag_at-copy, Bool, request_for, to_fill, asked_memory}
 use Rattle.machine_core.proofs.Changed.{set-at, core-at}
-use Rattle.snoop_bus.specs.Requests.{snoop_column}
-use Rattle.snoop_bus.proofs.CacheTags.{tags_at-tags, sets_of-tags}
-use Rattle.snoop_bus.proofs.TagLemmas.{victim_tag, leaving-tags}
+use Rattle.cache_set.specs.Requests.{snoop_column}
+use Rattle.cache_set.proofs.CacheTags.{tags_at-tags, sets_of-tags}
+use Rattle.cache_set.proofs.TagLemmas.{victim_tag, leaving-tags}
 use Rattle.machine_core.proofs.Victims.{AllNeat, no_set, own-kept, sets-leave, all-requested}
 use Rattle.machine_core.proofs.Snooped.{requested-beside, own-alone}
 use Rattle.machine_core.proofs.Unowned.{SettlesMemory, IsDirtyAt, never, not_absent, victim-unowned, victim-other, sent-unowned, back-stale, sent-stale, sender-of, state-of}

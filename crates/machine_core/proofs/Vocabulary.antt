@@ -30,12 +30,14 @@ pub use Rattle.snoop_bus.specs.Asks.{awaited_in, Awaited, completed, completed_i
 unfoldable pub use Rattle.snoop_bus.specs.Asks.{awaiting}
 pub use Rattle.protocol_tables.specs.Tables.{Table, table_of, is_written_back, filled_by_sharing, get_s_flushing, get_s_owning}
 pub use Rattle.snoop_bus.specs.Rows.{table_of_rows, rows_of}
-pub use Rattle.snoop_bus.specs.CacheContents.{TagSets, tags_at, Accessed, tag_in, at_line, sets_of, at_core, at_others, requested, used_by, filled_by, is_held}
+pub use Rattle.snoop_bus.specs.CacheContents.{Accessed}
+pub use Rattle.cache_set.specs.CacheTags.{TagSets, tags_at, tag_in, at_line, sets_of, at_core, at_others, requested, used_by, filled_by, is_held}
 pub use Rattle.multiprocessor.specs.Statistics.{no_counts, Statistics, no_statistics, statistics_with, statistics_after}
 pub use Rattle.multiprocessor.specs.inner.Keeping.{statistics_in}
 pub use Rattle.snoop_bus.specs.inner.Accesses.{StandsAlone}
 pub use Rattle.tso_laws.specs.BusChoices.{IsPossibleOn}
 pub use Rattle.tso_laws.specs.Between.{IsAnswered, ArePaired}
+pub use Rattle.cache_set.specs.CacheTags.{TagSets, sends_in, flusher_from, tags_at}
 pub use Rattle.machine_core.specs.Running.{Running, machine_after, AnswerFits, restarted, machine_effect, machine_use}
 pub use Rattle.std.specs.Result.{is_err}
 pub use Rattle.machine_core.specs.inner.Running.{HasFailed, is_ended}

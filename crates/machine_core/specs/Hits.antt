@@ -6,7 +6,8 @@ use Rattle.protocol_tables.specs.declared.requests.Request.TheVariants.{GetS, Ge
 use Rattle.protocol_tables.specs.Tables.{Table}
 use Rattle.protocol_tables.specs.Laws.{WritesInPlace}
 use Rattle.snoop_bus.specs.declared.access.AccessKind.TheVariants.{Hit}
-use Rattle.snoop_bus.specs.CacheContents.{TagSets, Accessed}
+use Rattle.snoop_bus.specs.CacheContents.{Accessed}
+use Rattle.cache_set.specs.CacheTags.{TagSets}
 use Rattle.snoop_bus.specs.Asks.{hits, tag_at, in_halves}
 use Rattle.snoop_bus.specs.Bus.{BusModel}
 use Rattle.snoop_bus.specs.Accesses.{load_of, write_of, would_hit}

@@ -52,7 +52,7 @@ pub use Rattle.std.proofs.lemmas.List.Elements.{All-set, All-append, All-drop, A
 pub use Rattle.tso_model.specs.Limits.{most_instructions}
 pub use Rattle.protocol_tables.specs.Tables.{Table}
 pub use Rattle.snoop_bus.specs.Rows.{table_of_rows}
-pub use Rattle.snoop_bus.specs.CacheContents.{TagSets, sends_in, flusher_from, tags_at}
+pub use Rattle.cache_set.specs.CacheTags.{TagSets, sends_in, flusher_from, tags_at}
 pub use Rattle.multiprocessor.specs.declared.counts.Counts.{Counts}
 pub use Rattle.multiprocessor.specs.Statistics.{no_counts, with_access, with_write_back, with_forward, with_flush, counts_at_core, flush_counted, with_use_counted, Statistics, no_statistics}
 pub use Rattle.multiprocessor.specs.inner.Keeping.{HasIssuedItsStores, IsAmong, IsFlusherAmong, done_by, IsSenderAmong, IsTallied, done_in, half_done, most_counted, statistics_in, memory_access_in}

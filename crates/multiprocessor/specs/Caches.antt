@@ -5,7 +5,8 @@ use Rattle.std.specs.Prelude.{ℕ, ◌/◌, Bool, true, false, if◌then◌else�
 use Rattle.std.specs.List.{list_any}
 use Rattle.multiprocessor.specs.Vocabulary.{access_of, after_on, Attempt, awaited_of, BusEffect, BusModel, BusState, chosen, contents_of, core_of, effect_on, Free, Geometry, HeldBetween, HeldBy, Holder, Litmus, Locks, MemoryAccess, NoAccess, Reads, State, table_of_rows, TableColumns, Writes, writes_to}
 use Rattle.basic_laws.specs.Types.{Loc, Entry, Kind, R, W, F, LR, LW, Choice}
-use Rattle.snoop_bus.specs.CacheContents.{TagSets, Accessed}
+use Rattle.snoop_bus.specs.CacheContents.{Accessed}
+use Rattle.cache_set.specs.CacheTags.{TagSets}
 use Rattle.snoop_bus.specs.Asks.{Awaited, AskedAccess, hits, request_for, asking, completed, whole_access}
 use Rattle.multiprocessor.specs.declared.accesses.CacheUse.{CacheUse}
 use Rattle.multiprocessor.specs.declared.accesses.CacheUse.TheVariants.{Unused, Forwarded, Through}

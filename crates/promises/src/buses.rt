@@ -12,7 +12,7 @@ ghost use Rattle.protocol_tables.specs.declared.state.State.TheVariants.{I};
 ghost use Rattle.snoop_bus.specs.Accesses.{LoadsAt, WritesAt, contents_of, load_of, memory_of, would_hit, write_of};
 ghost use Rattle.snoop_bus.specs.Asks.{hits, in_halves, tag_at};
 ghost use Rattle.snoop_bus.specs.Bus.{BusModel, IsCoherent, IsFree, words_of};
-ghost use Rattle.snoop_bus.specs.CacheContents.{TagSets};
+ghost use Rattle.cache_set.specs.CacheTags.{TagSets};
 ghost use Rattle.snoop_bus.specs.Rows.{table_of_rows};
 ghost use Rattle.snoop_bus.specs.WholeAccesses.{LoadsInHalves, WritesInHalves};
 ghost use Rattle.snoop_bus.specs.declared.access.Access.{Access};

@@ -6,7 +6,7 @@ ghost use Rattle.multiprocessor.specs.Configuration.{Configuration};
 ghost use Rattle.machine_core.specs.Running.{Running, machine_after, new_machine, table_in};
 ghost use Rattle.protocol_tables.specs.Tables.{Table};
 ghost use Rattle.snoop_bus.specs.Asks.{tag_at};
-ghost use Rattle.snoop_bus.specs.CacheContents.{sets_of, tags_at};
+ghost use Rattle.cache_set.specs.CacheTags.{sets_of, tags_at};
 ghost use Rattle.cache_set.specs.Tags.{leaving};
 ghost use Rattle.tso_model.specs.FlatMachine.{after_choice, chosen, core_of};
 ghost use Rattle.tso_model.specs.Litmus.{IsTest, Litmus};

@@ -6,7 +6,7 @@ ghost use Rattle.protocol_tables.specs.Tables.{table_of};
 ghost use Rattle.protocol_tables.specs.declared.kind.ProtocolKind.{ProtocolKind};
 ghost use Rattle.protocol_tables.specs.declared.requests.Request.{Request};
 ghost use Rattle.protocol_tables.specs.declared.state.State.{State};
-ghost use Rattle.snoop_bus.specs.Requests.{snoop_column};
+ghost use Rattle.cache_set.specs.Requests.{snoop_column};
 ghost use Rattle.trace_json.specs.OwnWords.{own_words};
 ghost use Rattle.trace_json.specs.Supplied.{found_at, supplies};
 ghost use Rattle.trace_json.specs.SupplyLaws.{NobodySupplies, copy_on};

@@ -1,7 +1,7 @@
 -- Which access it is, by the core's own copy.
 use Rattle.snoop_bus.proofs.Vocabulary.{◌≡◌, ℕ, Bool, sym, Option, option_map, List, refl, ap, ◌∙◌, Table, Line, Victim, tag_of, leaving, TagSets, tags_at, sets_of, writes_back, dirty_in, Sets, set_at, copy_at, cache_of, tags_of, victim_at, Words, next_in_place, whole_access, whole_in, whole_memory, whole_memory_in, State}
-use Rattle.snoop_bus.proofs.TagLemmas.{victim_tag, leaving-tags}
-use Rattle.snoop_bus.proofs.CacheTags.{sets_of-tags, tag_at-tags, tags_at-tags}
+use Rattle.cache_set.proofs.TagLemmas.{victim_tag, leaving-tags}
+use Rattle.cache_set.proofs.CacheTags.{sets_of-tags, tag_at-tags, tags_at-tags}
 
 pub tag_here : (caches : List Sets) (core line : ℕ) → tag_of (tags_at (sets_of (tags_of caches) core) line) line ≡ option_map (λ copy. copy.state) (copy_at caches core line)
 tag_here caches core line = ap (λ (sets : TagSets). tag_of (tags_at sets line) line) (sets_of-tags caches core) ∙ tag_at-tags (cache_of caches core) line

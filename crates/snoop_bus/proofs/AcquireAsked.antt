@@ -1,6 +1,6 @@
 -- What the completion of a write access leaves: the core has the line in M, with the word that was seen.
 use Rattle.snoop_bus.proofs.Vocabulary.{cases_eq, ◌≡◌, ◌≢◌, ◌⊎◌, inl, inr, ℕ, ◌<◌, ◌&&◌, true, false, nat_eq, Option, Some, None, option_map, List, length, refl, sym, ap, ◌∙◌, slice_set, if◌then◌else◌, in_place, M, Transient, IsD, ImD, SmD, Line, copy_with, with_state, with_word, Words, state_of_copy, Sets, copy_at, cache_of, ways_of, current_words, AllCoherent, ChangesCopy, KeepsWords, SetsWord, Transaction, Write, with_counted_copy, AskedOf, Awaits}
-use Rattle.snoop_bus.proofs.Numbers.{differ, itself}
+use Rattle.cache_set.proofs.Numbers.{differ, itself}
 use Rattle.snoop_bus.proofs.CurrentWords.{same-coherent, same-seen}
 use Rattle.snoop_bus.proofs.HeldLemmas.{counting-at, ways-counting}
 use Rattle.snoop_bus.proofs.WriteLemmas.{hit_owned, write_owned}

@@ -1,7 +1,7 @@
 -- An ask keeps every line coherent, if it keeps its own: the others have seen the request, and the copy that the bus keeps
 -- counts as its core's.
 use Rattle.snoop_bus.proofs.Vocabulary.{cases_eq, arith, ◌≡◌, ◌≢◌, ℕ, ◌<◌, ◌≤◌, ◌&&◌, not, nat_eq, if◌then◌else◌, Option, Some, None, List, length, refl, sym, ap, subst, ◌∙◌, inl, inr, State, Snoop, Line, Words, line_in, Coherent, Sets, copy_at, cache_of, ways_of, current_words, AllCoherent, with_counted_copy, copy_left_by, copy_left_if, LeftByOthers, KeepsWords, cases_Bool}
-use Rattle.snoop_bus.proofs.Numbers.{differ, itself}
+use Rattle.cache_set.proofs.Numbers.{differ, itself}
 use Rattle.snoop_bus.proofs.CurrentWords.{seen_is, coherent_along, all_coherent}
 use Rattle.snoop_bus.proofs.NewLemmas.{same_cores}
 use Rattle.snoop_bus.proofs.HeldLemmas.{counting-at, ways-counting, same_sets}

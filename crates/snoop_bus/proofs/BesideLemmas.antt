@@ -1,6 +1,6 @@
 -- Hits beside an action that holds the bus: what counts then, and that the action still finds what it left.
 use Rattle.snoop_bus.proofs.Vocabulary.{cases_eq, ◌≡◌, ◌≢◌, ◌⊎◌, inl, inr, ℕ, ◌&&◌, nat_eq, Option, Some, None, IfSome, List, length, refl, sym, ap, ◌∙◌, if◌then◌else◌, in_place, S, M, Transient, IsD, ImD, SmD, Line, Words, state_of_copy, Sets, copy_at, ways_of, ChangesCopy, HeldBus, Stage, Load, Write, Locked, Transaction, counted_in, counted_copies_of, IsHeld, Awaits, AskedOf}
-use Rattle.snoop_bus.proofs.Numbers.{differ, itself}
+use Rattle.cache_set.proofs.Numbers.{differ, itself}
 use Rattle.snoop_bus.proofs.NewLemmas.{same_cores}
 use Rattle.snoop_bus.proofs.HeldLemmas.{counting-at, ways-counting, same_sets}
 

@@ -1,7 +1,7 @@
 -- Memory, the lines and states, and the words after a whole access, and after its two halves.
 use Rattle.snoop_bus.proofs.Vocabulary.{◌≡◌, ◌≢◌, inl, inr, ℕ, Bool, true, false, List, length, slice_get, slice_set, Option, Some, None, option_map, refl, sym, ap, ◌∙◌, subst, WritesInPlace, I, Line, Core, Loc, Access, Words, table_of_rows, Accessed, Sets, copy_at, tags_of, counted_copies_of, BusModel, IsFree, IsCoherent, AllCoherent, words_of, tag_at, completed, contents_of, line_of_location, load_of, write_of, would_hit, ask_of, completion_of, LoadsAt, WritesAt}
 use Rattle.snoop_bus.specs.WholeAccesses.{InHalves, LoadsInHalves, WritesInHalves, AccessesLeaveTheSame, LoadsAgree}
-use Rattle.snoop_bus.proofs.Numbers.{inside}
+use Rattle.cache_set.proofs.Numbers.{inside}
 use Rattle.snoop_bus.proofs.AccessLemmas.{tag_here}
 use Rattle.snoop_bus.proofs.HolderLemmas.{free-held}
 use Rattle.snoop_bus.proofs.WholeAccess.{load_halves, write_halves, load-memory, write-memory}

@@ -1,6 +1,6 @@
 -- What a completion answers and leaves: the copy that the bus kept is the core's own, and another may have left.
 use Rattle.snoop_bus.proofs.Vocabulary.{cases_eq, arith, ◌≡◌, ◌≢◌, ◌⊎◌, inl, inr, ℕ, ◌<◌, ◌≤◌, cond, true, false, nat_eq, Option, Some, None, IfSome, List, length, map, refl, sym, ap, subst, ◌∙◌, slice_set, if◌then◌else◌, WritesBackDirty, Table, I, Line, Victim, after_fill, Words, line_in, Coherent, Sets, copy_in, copy_at, cache_of, current_words, AllCoherent, KeepsWords, written_back, with_counted_copy}
-use Rattle.snoop_bus.proofs.Numbers.{differ, itself, inside}
+use Rattle.cache_set.proofs.Numbers.{differ, itself, inside}
 use Rattle.snoop_bus.proofs.Coherence.{drop-coherent}
 use Rattle.snoop_bus.proofs.CurrentWords.{copy_at-set, seen_is, coherent_along, all_coherent}
 use Rattle.snoop_bus.proofs.UseLemmas.{ways-set_cache}

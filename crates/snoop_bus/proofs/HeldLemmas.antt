@@ -1,6 +1,6 @@
 -- The copies that count while the bus is held.
 use Rattle.snoop_bus.proofs.Vocabulary.{cases_eq, get_or-set_same, get_or-set_other, length-set, length-map, get_or-map, map-set_same, arith, ◌≡◌, ◌≢◌, ◌⊎◌, inl, inr, ℕ, ◌<◌, ◌%◌, false, ◌&&◌, nat_eq, Some, List, [], length, map, refl, sym, ap, ◌∙◌, slice_index_or, if◌then◌else◌, Line, Contents, contents, copy_of, Sets, set_at, in_set, copy_in, copy_at, cache_of, ways_of, with_copy, with_counted_copy}
-use Rattle.snoop_bus.proofs.Numbers.{differ, itself}
+use Rattle.cache_set.proofs.Numbers.{differ, itself}
 use Rattle.snoop_bus.proofs.CurrentWords.{copy_at-set}
 use Rattle.snoop_bus.proofs.UseLemmas.{ways-set_cache}
 

@@ -1,7 +1,7 @@
 -- What a hit answers and leaves.
 use Rattle.snoop_bus.proofs.Vocabulary.{cases_eq, ◌≡◌, ◌≢◌, ◌⊎◌, inl, inr, ℕ, ◌<◌, true, false, nat_eq, Option, Some, None, IfSome, option_map, List, length, map, refl, sym, ap, ◌∙◌, slice_set, slice_index, if◌then◌else◌, WritesInPlace, in_place, Table, State, M, Line, to_front, with_state, Hit, Access, Accessed, used_by, Words, state_of_copy, Sets, in_set, copy_in, copy_at, cache_of, tags_of, ways_of, current_words, AllCoherent, ChangesCopy, Loads, Acquires, HeldBus, counted_copies_of, IsHeld, Bool, next_in_place, whole_access, whole_in, whole_memory_in, IsMadeWhole, KeepsBeside}
 use Rattle.snoop_bus.proofs.BesideLemmas.{own_word, held-same, held-placed, counted-same, counted-changes, placed-counts, ways-counted}
-use Rattle.snoop_bus.proofs.Numbers.{differ, itself}
+use Rattle.cache_set.proofs.Numbers.{differ, itself}
 use Rattle.snoop_bus.proofs.CurrentWords.{same_copies, same-coherent, same-seen}
 use Rattle.snoop_bus.proofs.UseLemmas.{tags-touched, ways-set_cache}
 use Rattle.snoop_bus.proofs.AccessLemmas.{whole-here, memory-here}

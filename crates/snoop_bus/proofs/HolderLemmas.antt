@@ -1,7 +1,7 @@
 -- What the action that holds the bus tells of all copies of its line.
 use Rattle.snoop_bus.proofs.Vocabulary.{◌≡◌, ◌≢◌, ℕ, ◌<◌, ◌/◌, Bool, true, false, Option, Some, None, IfSome, option_map, List, length, refl, sym, ap, ◌∙◌, Core, Loc, in_place, Table, M, Line, Geometry, Words, Coherent, state_of_copy, Sets, copy_at, cache_of, tags_of, AllCoherent, bus_with, StandsAlone, HeldBus, Stage, Load, Write, Locked, Transaction, with_counted_copy, counted_copies_of, holder, holder_in, IsHeld, IsPlaced, Awaits, held_by, hits, is_some, next_in_place}
 use Rattle.snoop_bus.specs.declared.holding.BusAction.{BusAction}
-use Rattle.snoop_bus.proofs.Numbers.{differ, itself}
+use Rattle.cache_set.proofs.Numbers.{differ, itself}
 use Rattle.snoop_bus.proofs.Coherence.{alone}
 use Rattle.snoop_bus.proofs.AccessLemmas.{tag_here}
 use Rattle.snoop_bus.proofs.HeldLemmas.{counting-at}

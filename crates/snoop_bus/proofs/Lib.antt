@@ -1,14 +1,11 @@
 pub mod Vocabulary
-pub mod Numbers
 pub mod RowLemmas
 pub mod Coherence
 pub mod CurrentWords
 pub mod StateLemmas
-pub mod TagLemmas
 pub mod CacheTags
 pub mod UseLemmas
 pub mod SnoopLemmas
-pub mod FindLemmas
 pub mod AccessLemmas
 pub mod MemoryLemmas
 pub mod FillCalls
@@ -22,8 +19,6 @@ pub mod AcquireCalls
 pub mod HitLemmas
 pub mod WordWritten
 pub mod SettleLemmas
-pub mod SettleTags
-pub mod SettleSteps
 pub mod SettleAll
 pub mod HeldLemmas
 pub mod Asked

@@ -1,6 +1,6 @@
 -- Each line has its words of the list of words, and 0 at every other offset: what keeps that.
 use Rattle.snoop_bus.proofs.Vocabulary.{nat_tests, arith, ◌≡◌, ◌≢◌, ◌⊎◌, inl, inr, ℕ, ◌<◌, ◌≤◌, nat_eq, true, false, refl, sym, ap, ◌∙◌, List, length, slice_set, if◌then◌else◌, ◌%◌, slice_index_or, nat_lt, ◌+◌, ◌*◌, ◌/◌, slice_index, cases_eq, cases_lt, Words, words_in_lines, offset_of, line_of_words, get_or-set_same, get_or-set_other, ext_get_or, length-set, length-map-range_with_len, get_or-map-range_with_len, div-add-mod', div-mul-add, mod-mul-add, mod_below, most_words}
-use Rattle.snoop_bus.proofs.Numbers.{differ, itself}
+use Rattle.cache_set.proofs.Numbers.{differ, itself}
 use Rattle.snoop_bus.proofs.WordLemmas.{length-words, words-same, words-set}
 
 -- where each line is as it was

@@ -2,7 +2,7 @@
 use Rattle.snoop_bus.proofs.Vocabulary.{eqb_tells, nat_tests, get_or_default, cases_eq, cases_lt, arith, nat_lt, ◌≡◌, ◌≢◌, inl, inr, ℕ, ◌<◌, ◌%◌, nat_eq, Bool, true, ◌&&◌, if◌then◌else◌, Option, Some, None, IfSome, unwrap_or, option_map, map, slice_get, List, [], length, slice_index_or, false, subst, refl, sym, ap, ◌∙◌, option_or, slice_get-map, get_or-map, is_dirty, or_invalid, state_of_copy, ranked_in, IsClean, with_words, Line, Contents, contents, copy_of, with_state, State, S, O, Transient, IsD, ImD, SmD, Geometry, Words, line_in, line_of_words, Sets, copy_at, cache_of, tags_in, tags_of, AtHome, counted_copies_of, with_counted_copy, IsHeld, Awaits, AskedOf, kept_by, kept_words, AllCoherent, current_words, words_among, program_words, IsBus, HeldBus, Stage, Load, Write, Locked, Transaction}
 use Rattle.snoop_bus.specs.declared.looking.CachedLine.{CachedLine}
 use Rattle.snoop_bus.proofs.AccessLemmas.{tag_here}
-use Rattle.snoop_bus.proofs.Numbers.{differ, itself}
+use Rattle.cache_set.proofs.Numbers.{differ, itself}
 use Rattle.snoop_bus.proofs.CurrentWords.{seen_is, coherent_along}
 use Rattle.snoop_bus.proofs.HeldLemmas.{counting-at}
 

@@ -12,11 +12,14 @@ pub use Rattle.protocol_tables.specs.declared.state.Snoop.{Snoop}
 pub use Rattle.cache_set.specs.declared.Line.{Line}
 pub use Rattle.cache_set.specs.Lines.{Words, line_in, word_in_lines, words_in_lines, offset_of, line_of_words, lines_of_words}
 pub use Rattle.snoop_bus.specs.Coherent.{state_of_copy, may_share, Coherent}
-pub use Rattle.snoop_bus.specs.inner.Requests.{copy_if, copy_left_by, with_next_state, after_request, after_request_in, SeenBelow, after_request_if, SeenAt, LeftAt, LeftBelow, LeftByOthers, supplied_of, Supplied, ChangesCopy, clean_copy, words_if_dirty, cleaned_at, cleaned_below, clean_tag_at, clean_tag_below, copy_left_if}
+pub use Rattle.snoop_bus.specs.inner.Requests.{copy_if, copy_left_by, with_next_state, after_request, after_request_in, SeenBelow, after_request_if, SeenAt, LeftAt, LeftBelow, LeftByOthers, ChangesCopy, copy_left_if}
+pub use Rattle.cache_set.specs.inner.Supplying.{supplied_of, Supplied}
+pub use Rattle.cache_set.specs.inner.Cleaning.{clean_copy, words_if_dirty, cleaned_at, cleaned_below, clean_tag_at, clean_tag_below}
 pub use Rattle.std.proofs.lemmas.List.{get_or-set_same, get_or-set_other, take-map, map-set, set-get_or, length-map, ext_get_or, set-set, length-set, get_or_past, drop_more, get_or_default, with_items_is, replicate_more, take_all, drop_all, append-nil}
 pub use Rattle.cache_set.specs.Copies.{Sets, copy_in, copy_at, cache_of, tags_of, tags_in, set_at, in_set}
 pub use Rattle.snoop_bus.specs.Bus.{current_words, words_among, AllCoherent, empty_caches, bus_with, BusModel, words_of, holder_of, program_words, IsSameMachine, IsFree, IsCoherent, cores_of}
-pub use Rattle.snoop_bus.specs.CacheContents.{TagSets, tag_in, tags_at, at_line, sets_of, at_others, requested, is_held, used_by, filled_by, flusher_from, sends_in, accessed, writes_back, dirty_in, Accessed, at_core}
+pub use Rattle.snoop_bus.specs.CacheContents.{accessed, Accessed}
+pub use Rattle.cache_set.specs.CacheTags.{TagSets, tag_in, tags_at, at_line, sets_of, at_others, requested, is_held, used_by, filled_by, flusher_from, sends_in, writes_back, dirty_in, at_core}
 pub use Rattle.snoop_bus.specs.Asks.{tag_at, asked_memory, hits, request_for, asked_for, asked_caches, or_invalid, awaited_in, completed_memory, completed_memory_in, asking, completed, in_halves, next_in_place, awaited_as, whole_access, whole_in, whole_memory, whole_memory_in}
 unfoldable pub use Rattle.snoop_bus.specs.Asks.{awaiting}
 pub use Rattle.std.specs.Map.{remove_entry, lookup}
@@ -50,7 +53,7 @@ pub use Rattle.snoop_bus.specs.Held.{counted_copies_of, with_copy, with_counted_
 pub use Rattle.snoop_bus.specs.inner.Held.{IsHeld, IsPlaced, Awaits, held_by, AskedOf, kept_by, kept_words}
 pub use Rattle.snoop_bus.specs.inner.Accessing.{KeepsWords, SetsWord, Updates, IsReady, Acquires, Loads, Writes, IsMadeWhole, KeepsBeside}
 pub use Rattle.snoop_bus.specs.declared.access.Access.{Access}
-pub use Rattle.snoop_bus.specs.inner.Tags.{clean, cleaned}
+pub use Rattle.cache_set.specs.inner.Tags.{clean, cleaned}
 pub use Rattle.protocol_tables.specs.declared.requests.Transient.TheVariants.{IsD, ImD, SmD}
 pub use Rattle.snoop_bus.specs.inner.Asks.{transaction_of, transaction_at}
 unfoldable pub use Rattle.snoop_bus.specs.inner.Asks.{transacting}
@@ -64,4 +67,4 @@ pub use Rattle.snoop_bus.specs.Accesses.{IsCurrentWord, CompletesAt, new_bus, Lo
 pub use Rattle.snoop_bus.specs.inner.Completing.{words_due, Completes, completion_at}
 pub use Rattle.std.proofs.lemmas.Grind.{div_ceil_times}
 pub use Rattle.std.proofs.lemmas.List.Edits.{map_over_more}
-pub use Rattle.snoop_bus.specs.Requests.{snoop_column}
+pub use Rattle.cache_set.specs.Requests.{snoop_column}

@@ -1,6 +1,6 @@
 -- A write access, from what each of its steps gives.
 use Rattle.snoop_bus.proofs.Vocabulary.{◌≡◌, ◌≢◌, ℕ, ◌<◌, false, nat_eq, Option, Some, None, option_map, List, length, slice_set, refl, ap, ◌∙◌, in_place, GivesUp, State, I, M, Snoop, Line, copy_with, with_state, with_word, Words, line_in, Coherent, Sets, copy_at, current_words, AllCoherent, copy_if, copy_left_by, ChangesCopy, cases_Bool, inl, inr}
-use Rattle.snoop_bus.proofs.Numbers.{differ, itself}
+use Rattle.cache_set.proofs.Numbers.{differ, itself}
 use Rattle.snoop_bus.proofs.Coherence.{alone}
 use Rattle.snoop_bus.proofs.OwnLemmas.{Owned}
 

@@ -7,7 +7,8 @@ use Rattle.snoop_bus.specs.declared.access.Access.{Access}
 use Rattle.cache_set.specs.Geometry.{Geometry}
 use Rattle.snoop_bus.specs.Rows.{table_of_rows}
 use Rattle.cache_set.specs.Lines.{Words, lines_of_words, line_of_words}
-use Rattle.snoop_bus.specs.CacheContents.{TagSets, Accessed}
+use Rattle.snoop_bus.specs.CacheContents.{Accessed}
+use Rattle.cache_set.specs.CacheTags.{TagSets}
 use Rattle.cache_set.specs.Copies.{cache_of, tags_of}
 use Rattle.snoop_bus.specs.Bus.{BusModel, bus_with, words_of, holder_of, empty_caches}
 use Rattle.snoop_bus.specs.Held.{transaction_in, holder, stage_for}

@@ -7,9 +7,10 @@ use Rattle.protocol_tables.specs.Transients.{transient_of}
 use Rattle.snoop_bus.specs.declared.access.AccessKind.TheVariants.{Hit, Upgrade, Miss}
 use Rattle.snoop_bus.specs.declared.holding.Transaction.{Transaction}
 use Rattle.cache_set.specs.Lines.{Words}
-use Rattle.snoop_bus.specs.CacheContents.{TagSets, tag_in, sets_of, requested, is_held, flusher_from, writes_back, used_by, filled_by, Accessed, accessed}
+use Rattle.snoop_bus.specs.CacheContents.{Accessed, accessed}
+use Rattle.cache_set.specs.CacheTags.{TagSets, tag_in, sets_of, requested, is_held, flusher_from, writes_back, used_by, filled_by}
 use Rattle.cache_set.specs.Copies.{Sets, tags_of}
-use Rattle.snoop_bus.specs.Requests.{snoop_column}
+use Rattle.cache_set.specs.Requests.{snoop_column}
 use Rattle.snoop_bus.specs.MemoryAfter.{written_back, flushed, sent_words, victim_at}
 
 -- the state of a core's line, if it has it

@@ -5,7 +5,6 @@ pub mod Coherent
 pub mod Held
 pub mod Bus
 pub mod MemoryAfter
-pub mod Requests
 pub mod Asks
 pub mod Accesses
 pub mod WholeAccesses

@@ -5,7 +5,5 @@ pub mod Asks
 pub mod Bus
 pub mod CacheContents
 pub mod Completing
-pub mod Finding
 pub mod Held
 pub mod Requests
-pub mod Tags

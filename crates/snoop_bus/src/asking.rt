@@ -6,7 +6,7 @@ ghost use Rattle.snoop_bus.specs.Asks.{request_for, asked_caches, asked_memory};
 ghost use Rattle.snoop_bus.specs.inner.Asks.{transacting_at, transaction_at, held_after_ask};
 ghost use Rattle.snoop_bus.specs.Held.{with_counted_copy, counted_in, counted_copies_of};
 ghost use Rattle.snoop_bus.specs.inner.Held.{Awaits, IsHeld};
-ghost use Rattle.snoop_bus.specs.CacheContents.{requested};
+ghost use Rattle.cache_set.specs.CacheTags.{requested};
 ghost use Rattle.cache_set.specs.Copies.{cache_of, copy_at, tags_of};
 ghost use Rattle.cache_set.specs.inner.Copies.{ways_of};
 ghost use Rattle.snoop_bus.specs.inner.Accessing.{IsReady, KeepsWords};
@@ -18,6 +18,7 @@ use crate::hierarchy::Hierarchy;
 use crate::holding::{HeldBus, Stage, Transaction, held_at};
 use cache_set::Line;
 use cache_set::cache::know_sets;
+use cache_set::finding::find;
 use protocol_tables::{Protocol, Request, State, Transient, transient};
 use tso_model::{Core, Loc};
 
@@ -75,7 +76,7 @@ impl Hierarchy {
         ensures cache { cache_of self.new.caches.items core ≡ cache_of self.old.caches.items core }
         ensures ways { ways_of self.new.caches.items ≡ ways_of self.old.caches.items }
     {
-        let found = self.find(protocol, Request::GetS, line);
+        let found = find(&self.caches, protocol, Request::GetS, line);
         let words = found.words.unwrap_or(self.memory[usize::from(line)]);
         let state = protocol.filled(found.shared);
         self.snoop_others(protocol, Request::GetS, core, line, &found.states);
@@ -111,7 +112,7 @@ impl Hierarchy {
             Some(copy) => copy.state,
         };
         let transient = transient(state, Request::GetM)?;
-        let found = self.find(protocol, Request::GetM, line);
+        let found = find(&self.caches, protocol, Request::GetM, line);
         let words = found.words.unwrap_or(self.memory[usize::from(line)]);
         self.snoop_others(protocol, Request::GetM, core, line, &found.states);
         let copy = Line {

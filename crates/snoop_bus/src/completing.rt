@@ -5,7 +5,7 @@ ghost use Rattle.cache_set.specs.Limits.{most_words};
 ghost use Rattle.cache_set.specs.inner.Copy.{copy_with};
 ghost use Rattle.snoop_bus.specs.declared.holding.Stage.TheVariants.{Load, Write};
 ghost use Rattle.protocol_tables.specs.declared.state.State.TheVariants.{M};
-ghost use Rattle.snoop_bus.specs.CacheContents.{writes_back, filled_by};
+ghost use Rattle.cache_set.specs.CacheTags.{writes_back, filled_by};
 ghost use Rattle.snoop_bus.specs.MemoryAfter.{written_back, victim_at};
 ghost use Rattle.snoop_bus.specs.inner.Completing.{IsAwaited, Completes, words_due};
 ghost use Rattle.snoop_bus.specs.Held.{with_counted_copy, counted_in};

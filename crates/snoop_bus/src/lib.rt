@@ -12,7 +12,6 @@ mod asking;
 pub mod bus;
 mod cleaning;
 mod completing;
-mod finding;
 mod hierarchy;
 pub mod holding;
 mod loading;

@@ -3,29 +3,20 @@
 ghost use Rattle.std.specs.Prelude.{◌≡◌, ◌≢◌, ◌<◌, ◌≤◌, ℕ, None, IfSome, length};
 ghost use Rattle.std.specs.Prelude.{slice_set, slice_index_or, is_some, option_map, if◌then◌else◌};
 ghost use Rattle.tso_model.specs.Limits.{most_cores};
-ghost use Rattle.snoop_bus.specs.CacheContents.{requested, dirty_in};
+ghost use Rattle.cache_set.specs.CacheTags.{requested, dirty_in};
 ghost use Rattle.cache_set.specs.Copies.{tags_of, cache_of};
 ghost use Rattle.cache_set.specs.inner.Copies.{ways_of, ways_in, copy_state_in, state_at, OnlyAt};
-ghost use Rattle.snoop_bus.specs.Requests.{snoop_column};
+ghost use Rattle.cache_set.specs.Requests.{snoop_column};
 ghost use Rattle.snoop_bus.specs.inner.Requests.{after_request, copy_left_by, LeftByOthers};
 ghost use Rattle.snoop_bus.specs.MemoryAfter.{written_back};
 
 use crate::bus::MAX_CORES;
 use crate::hierarchy::Hierarchy;
 use cache_set::cache::Cache;
+use cache_set::finding::answer;
 use cache_set::{MAX_WORDS, Victim};
-use protocol_tables::{Protocol, Request, Snoop, State};
+use protocol_tables::{Protocol, Request, State};
 use tso_model::Core;
-
-/// What a copy in this state does when another core's request for its line is seen.
-pub fn answer<P: Protocol>(protocol: &P, request: Request, state: State) -> Snoop
-    ensures { result ≡ snoop_column (P.table protocol.now) request state }
-{
-    match request {
-        Request::GetS => protocol.on_get_s(state),
-        Request::GetM => protocol.on_get_m(state),
-    }
-}
 
 /// A cache, whose copy of the line is in this state, sees another core's request for the line.
 fn snoop_one<P: Protocol>(

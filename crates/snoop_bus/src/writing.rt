@@ -4,7 +4,7 @@
 ghost use Rattle.std.specs.Prelude.{◌≡◌, ◌≢◌, ◌<◌, Some, IsSome, length, option_map};
 ghost use Rattle.cache_set.specs.Limits.{most_words};
 ghost use Rattle.cache_set.specs.inner.Copy.{with_state, with_word};
-ghost use Rattle.snoop_bus.specs.CacheContents.{used_by};
+ghost use Rattle.cache_set.specs.CacheTags.{used_by};
 ghost use Rattle.cache_set.specs.Copies.{copy_at, tags_of};
 ghost use Rattle.cache_set.specs.inner.Copies.{ways_of};
 ghost use Rattle.snoop_bus.specs.inner.Requests.{ChangesCopy};

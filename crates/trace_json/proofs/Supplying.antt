@@ -11,7 +11,7 @@ use Rattle.protocol_tables.specs.declared.requests.Transient.{Transient}
 use Rattle.protocol_tables.specs.declared.state.State as protocol
 use Rattle.protocol_tables.specs.declared.state.State.TheVariants.{I, S, E, O, M}
 use Rattle.snoop_bus.specs.Asks.{Awaited}
-use Rattle.snoop_bus.specs.Requests.{snoop_column}
+use Rattle.cache_set.specs.Requests.{snoop_column}
 use Rattle.trace_json.specs.declared.supplied.Source.TheVariants.{Cache, Other, Bus, Memory}
 
 -- ---- one core after the other

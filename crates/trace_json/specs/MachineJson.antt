@@ -4,7 +4,7 @@ use Rattle.std.specs.Prelude.{ℕ, zero, suc, ◌+◌, ◌*◌, ◌/◌, List, [
 use Rattle.trace_json.specs.Vocabulary.{array, bus_holder_of, BusHolder, chosen, core_of, count, Data, items_of, line_name, line_state, Litmus, member, memory_value, names_in_line, no_members, null, object, printed_choice, registers_value, Running, state_name, store_text, string, transient_name}
 use Rattle.protocol_tables.specs.declared.requests.Transient.{Transient}
 use Rattle.cache_set.specs.Tags.{tag_set}
-use Rattle.snoop_bus.specs.CacheContents.{sets_of}
+use Rattle.cache_set.specs.CacheTags.{sets_of}
 use Rattle.snoop_bus.specs.declared.looking.CachedLine.{CachedLine}
 use Rattle.snoop_bus.specs.Accesses.{with_words}
 use Rattle.trace_json.specs.Values.{array_of_numbers, text_or_null, array_of_texts}

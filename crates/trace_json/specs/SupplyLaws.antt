@@ -4,7 +4,7 @@ use Rattle.std.specs.Prelude.{ℕ, ◌≡◌, ◌≢◌, ◌<◌, ◌/◌, true,
 use Rattle.tso_model.specs.declared.instruction.Core.{Core}
 use Rattle.trace_json.specs.Vocabulary.{ProtocolKind, Running, State, table_of, tag_at}
 use Rattle.protocol_tables.specs.declared.requests.Request.{Request}
-use Rattle.snoop_bus.specs.Requests.{snoop_column}
+use Rattle.cache_set.specs.Requests.{snoop_column}
 use Rattle.trace_json.specs.OwnWords.{own_words}
 use Rattle.trace_json.specs.Supplied.{supplies, found_at}
 use Rattle.trace_json.specs.declared.supplied.Source.TheVariants.{Cache, Other, Bus, Memory}

@@ -68,7 +68,7 @@ pub use Rattle.protocol_tables.specs.declared.requests.Request.{Request}
 pub use Rattle.protocol_tables.specs.declared.requests.Request.TheVariants.{GetS, GetM}
 pub use Rattle.protocol_tables.specs.declared.requests.Transient.{Transient}
 pub use Rattle.snoop_bus.specs.Rows.{table_of_rows, rows_of}
-pub use Rattle.snoop_bus.specs.CacheContents.{TagSets, tags_at, tag_in, at_line, sets_of, dirty_in, writes_back, filled_by, used_by, at_others, is_held, requested, at_core}
+pub use Rattle.cache_set.specs.CacheTags.{TagSets, tags_at, tag_in, at_line, sets_of, dirty_in, writes_back, filled_by, used_by, at_others, is_held, requested, at_core}
 pub use Rattle.tso_laws.proofs.BusWaiting.{AllStores, access-kept, choice-stores, start-stores}
 pub use Rattle.tso_laws.proofs.Effects.{HolderWaits, Live, LiveIn, live-after, live-start}
 pub use Rattle.protocol_tables.specs.declared.state.State.TheVariants.{I, S, E, O, M}
@@ -76,7 +76,7 @@ pub use Rattle.cache_set.specs.Tags.{TagSet, tag_of, used, filled, in_next, snoo
 pub use Rattle.machine_core.specs.Uses.{IsUseFor}
 pub use Rattle.machine_core.proofs.Victims.{no_set, AllNeat, found-valid, all-requested, all-used, all-filled, absent-remove, own-kept, IsNeat, none-neat, no-sets, sets-leave}
 pub use Rattle.machine_core.proofs.Counted.{choice-use}
-pub use Rattle.snoop_bus.specs.Requests.{snoop_column}
+pub use Rattle.cache_set.specs.Requests.{snoop_column}
 pub use Rattle.cache_set.specs.Copies.{tags_in}
 pub use Rattle.trace_report.specs.StepLaws.{WriteBacksAreTold, after_choices, with_moved, pending_told, CoresAreTold, IsWordOfStall, done, full, lock, empty, IsHeldByOther, IsWordOfStallOn, flat, bus, StallsAreTold, with_seen, OthersSeeTheRequest}
 pub use Rattle.multiprocessor.specs.inner.Keeping.{IsAmong, IsFlusherAmong, IsSenderAmong, memory_access_in}

@@ -14,8 +14,8 @@ use Rattle.protocol_tables.specs.Tables.{Table}
 use Rattle.protocol_tables.specs.declared.state.State as protocol
 use Rattle.snoop_bus.specs.Asks.{tag_at}
 use Rattle.cache_set.specs.Tags.{leaving, snooped}
-use Rattle.snoop_bus.specs.CacheContents.{TagSets, tags_at, at_line, sets_of}
-use Rattle.snoop_bus.specs.Requests.{snoop_column}
+use Rattle.cache_set.specs.CacheTags.{TagSets, tags_at, at_line, sets_of}
+use Rattle.cache_set.specs.Requests.{snoop_column}
 use Rattle.multiprocessor.specs.Configuration.{Configuration}
 use Rattle.multiprocessor.specs.Caches.{at_access}
 use Rattle.machine_core.specs.Running.{Running, new_machine, machine_after, attempt_on, table_in}

@@ -16,7 +16,7 @@ use Rattle.protocol_tables.specs.declared.state.State.{State}
 use Rattle.protocol_tables.specs.declared.requests.Transient.{Transient}
 use Rattle.protocol_tables.specs.declared.requests.Transient.TheVariants.{IsD, ImD, SmD}
 use Rattle.cache_set.specs.Tags.{tag_set}
-use Rattle.snoop_bus.specs.CacheContents.{sets_of}
+use Rattle.cache_set.specs.CacheTags.{sets_of}
 use Rattle.snoop_bus.specs.Asks.{Awaited, tag_at, or_invalid, request_for}
 use Rattle.snoop_bus.specs.declared.access.AccessKind.{AccessKind}
 use Rattle.snoop_bus.specs.declared.access.AccessKind.TheVariants.{Hit, Upgrade, Miss}

@@ -9,6 +9,7 @@ pub use Rattle.basic_laws.specs.Types.{Entry, LR, LW, R, W, Core}
 pub use Rattle.protocol_tables.specs.Tables.{msi, Table}
 pub use Rattle.protocol_tables.specs.declared.state.State.{State}
 pub use Rattle.protocol_tables.specs.declared.state.State.TheVariants.{E, I, M, O, S}
-pub use Rattle.snoop_bus.specs.CacheContents.{Accessed, TagSets}
+pub use Rattle.snoop_bus.specs.CacheContents.{Accessed}
+pub use Rattle.cache_set.specs.CacheTags.{TagSets}
 pub use Rattle.cache_set.specs.Geometry.{Geometry, geometry}
 pub use Rattle.cache_set.specs.Tags.{TagSet}

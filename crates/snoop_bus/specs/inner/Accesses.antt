@@ -10,7 +10,7 @@ use Rattle.snoop_bus.specs.declared.holding.Stage.TheVariants.{Load, Locked}
 use Rattle.snoop_bus.specs.declared.looking.CachedLine.{CachedLine}
 use Rattle.cache_set.specs.Lines.{line_in, words_in_lines}
 use Rattle.cache_set.specs.Tags.{tag_set}
-use Rattle.snoop_bus.specs.CacheContents.{TagSets, sets_of}
+use Rattle.cache_set.specs.CacheTags.{TagSets, sets_of}
 use Rattle.snoop_bus.specs.inner.CacheContents.{settled}
 use Rattle.cache_set.specs.Copies.{cache_of}
 use Rattle.snoop_bus.specs.Bus.{BusModel, words_of, IsFree}

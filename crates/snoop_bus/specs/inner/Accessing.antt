@@ -6,7 +6,7 @@ use Rattle.snoop_bus.specs.declared.access.Updated.{Updated}
 use Rattle.snoop_bus.specs.declared.hierarchy.Hierarchy.{Hierarchy}
 use Rattle.snoop_bus.specs.declared.holding.HeldBus.{HeldBus}
 use Rattle.cache_set.specs.Lines.{Words}
-use Rattle.snoop_bus.specs.CacheContents.{TagSets}
+use Rattle.cache_set.specs.CacheTags.{TagSets}
 use Rattle.cache_set.specs.Copies.{Sets, copy_at, tags_of}
 use Rattle.cache_set.specs.inner.Copies.{ways_of}
 use Rattle.snoop_bus.specs.Held.{counted_copies_of}

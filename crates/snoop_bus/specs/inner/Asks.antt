@@ -5,7 +5,7 @@ use Rattle.snoop_bus.specs.Vocabulary.{copy_with, Core, Loc, Request, Table, Tra
 use Rattle.snoop_bus.specs.declared.holding.Transaction.{Transaction}
 use Rattle.snoop_bus.specs.declared.holding.HeldBus.{HeldBus}
 use Rattle.cache_set.specs.Lines.{Words}
-use Rattle.snoop_bus.specs.CacheContents.{TagSets}
+use Rattle.cache_set.specs.CacheTags.{TagSets}
 use Rattle.cache_set.specs.Copies.{Sets, tags_of}
 use Rattle.snoop_bus.specs.Held.{stage_for}
 use Rattle.snoop_bus.specs.inner.Held.{held_by}

@@ -1,10 +1,9 @@
 -- What a request leaves in each cache that sees it: after GetM no other cache has the line, after GetS none may write it in
 -- place. (Primer, chapters 6 and 7.)
-use Rattle.std.specs.Prelude.{◌≡◌, ◌<◌, ◌⊎◌, ℕ, Bool, not, ◌&&◌, nat_eq, nat_lt, if◌then◌else◌, List, length, map, Option, Some, None, unwrap_or}
-use Rattle.snoop_bus.specs.Vocabulary.{Contents, copy_with, E, I, is_dirty, Line, M, O, S, Snoop, State, with_changed, with_state, without}
-use Rattle.cache_set.specs.Lines.{Words, line_in}
-use Rattle.cache_set.specs.Tags.{TagSet, tag_set}
-use Rattle.snoop_bus.specs.inner.Tags.{clean}
+use Rattle.std.specs.Prelude.{◌≡◌, ℕ, Bool, not, ◌&&◌, nat_eq, nat_lt, if◌then◌else◌, List, Option, Some, None}
+use Rattle.snoop_bus.specs.Vocabulary.{Contents, copy_with, E, I, Line, M, O, S, Snoop, State, with_changed, with_state}
+use Rattle.snoop_bus.specs.Vocabulary.{without}
+use Rattle.cache_set.specs.Lines.{Words}
 use Rattle.cache_set.specs.Copies.{Sets, in_set, copy_in, copy_at, cache_of}
 
 -- a set once its copy of a line went to this state: in I it leaves
@@ -70,45 +69,3 @@ LeftByOthers on_request core line old new =
 abbrev pub ChangesCopy : ℕ → ℕ → Option Line → List Sets → List Sets → Type 0
 ChangesCopy core line copy old new =
     (i k : ℕ) → copy_at new i k ≡ (if nat_eq i core && nat_eq k line then copy else copy_at old i k)
-
--- the copy once its words are in memory too
-abbrev pub clean_copy : Line → Line
-clean_copy copy = copy_with (clean copy.state) copy.words
-
--- the words that memory gets of a copy: its own where it is dirty, and none of any other
-abbrev pub words_if_dirty : Option Line → Words → Words
-words_if_dirty None memory = memory
-words_if_dirty (Some copy) memory = (if is_dirty copy.state then copy.words else memory)
-
--- memory once a core's copy of one line has gone there, if it is dirty
-abbrev pub DirtyWrittenAt : ℕ → Sets → List Words → List Words → Type 0
-DirtyWrittenAt line sets old new =
-    (k : ℕ) → line_in new k ≡ (if nat_eq k line then words_if_dirty (copy_in sets k) (line_in old k) else line_in old k)
-
--- a line and its state once the line with this number was settled, and once all below it were
-abbrev pub clean_tag_at : ℕ → ℕ × State → ℕ × State
-clean_tag_at line t = if nat_eq line t.0 then (t.0, clean t.1) else t
-
-abbrev pub clean_tag_below : ℕ → ℕ × State → ℕ × State
-clean_tag_below line t = if nat_lt t.0 line then (t.0, clean t.1) else t
-
-abbrev pub cleaned_at : ℕ → TagSet → TagSet
-cleaned_at line s = tag_set (map (clean_tag_at line) s.tags) s.ways
-
-abbrev pub cleaned_below : ℕ → TagSet → TagSet
-cleaned_below line s = tag_set (map (clean_tag_below line) s.tags) s.ways
-
--- the words of a copy that supplies them
-abbrev pub supplied_of : (State → Snoop) → Option Line → Option Words
-supplied_of on_request None = None
-supplied_of on_request (Some copy) = (if (on_request copy.state).supplies then Some copy.words else None)
-
--- the words of a line: those of a copy that supplies them, or memory's where none does
-abbrev pub Supplied : (State → Snoop) → List Sets → ℕ → Words → Words → Type 0
-Supplied on_request caches line memory words =
-    ((words ≡ memory) × ((i : ℕ) → i < length caches → supplied_of on_request (copy_at caches i line) ≡ None))
-    ⊎ ((i : ℕ) × (supplied_of on_request (copy_at caches i line) ≡ Some words))
-
--- these words were found, if a copy supplies any: a line's words are these, or memory's where there are none
-abbrev pub HasSupplied : (State → Snoop) → List Sets → ℕ → Option Words → Type 0
-HasSupplied on_request caches line found = (memory : Words) → Supplied on_request caches line memory (unwrap_or found memory)

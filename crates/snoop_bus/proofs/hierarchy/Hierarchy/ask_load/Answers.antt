@@ -15,11 +15,11 @@ returns-clause-transaction g c =
       some_set = c.requires.some_set;
       within = c.requires.ready.line_in;
       absent = c.requires.absent;
-      words = rw (c.unwrap_or-words.ensures, line) (c.find-found.ensures.words (line_in c.args.self.now.memory.items c.args.line));
-      state = rw c.find-found.ensures.shared at c.filled-state.ensures;
+      words = rw (c.unwrap_or-words.ensures, line) (rw c.deref.ensures.value at (c.find-found.ensures.words (line_in c.args.self.now.memory.items c.args.line)));
+      state = rw (c.find-found.ensures.shared, c.deref.ensures.value) at c.filled-state.ensures;
       left = c.snoop_others.ensures.copies;
       ways = c.snoop_others.ensures.ways;
-      flusher = c.find-found.ensures.flushed;
+      flusher = rw c.deref.ensures.value at c.find-found.ensures.flushed;
       memory = rw c.snoop_others.ensures.memory at c.flush.ensures.memory;
     })
 
@@ -36,11 +36,11 @@ returns-clause-memory g c =
       some_set = c.requires.some_set;
       within = c.requires.ready.line_in;
       absent = c.requires.absent;
-      words = rw (c.unwrap_or-words.ensures, line) (c.find-found.ensures.words (line_in c.args.self.now.memory.items c.args.line));
-      state = rw c.find-found.ensures.shared at c.filled-state.ensures;
+      words = rw (c.unwrap_or-words.ensures, line) (rw c.deref.ensures.value at (c.find-found.ensures.words (line_in c.args.self.now.memory.items c.args.line)));
+      state = rw (c.find-found.ensures.shared, c.deref.ensures.value) at c.filled-state.ensures;
       left = c.snoop_others.ensures.copies;
       ways = c.snoop_others.ensures.ways;
-      flusher = c.find-found.ensures.flushed;
+      flusher = rw c.deref.ensures.value at c.find-found.ensures.flushed;
       memory = rw c.snoop_others.ensures.memory at c.flush.ensures.memory;
     })
 
@@ -58,10 +58,10 @@ returns-clause-words g c =
       some_set = c.requires.some_set;
       within = c.requires.ready.line_in;
       absent = c.requires.absent;
-      words = rw (c.unwrap_or-words.ensures, line) (c.find-found.ensures.words (line_in c.args.self.now.memory.items c.args.line));
-      state = rw c.find-found.ensures.shared at c.filled-state.ensures;
+      words = rw (c.unwrap_or-words.ensures, line) (rw c.deref.ensures.value at (c.find-found.ensures.words (line_in c.args.self.now.memory.items c.args.line)));
+      state = rw (c.find-found.ensures.shared, c.deref.ensures.value) at c.filled-state.ensures;
       left = c.snoop_others.ensures.copies;
       ways = c.snoop_others.ensures.ways;
-      flusher = c.find-found.ensures.flushed;
+      flusher = rw c.deref.ensures.value at c.find-found.ensures.flushed;
       memory = rw c.snoop_others.ensures.memory at c.flush.ensures.memory;
     }))

@@ -21,7 +21,7 @@ returns-clause-transaction g c =
     let line = (rw c.from.ensures at c.index-2.ensures) ∙ get_or_default c.args.self.now.memory.items c.args.line c.index-2.result.now [] c.requires.ready.line_in in
     let words : c.unwrap_or-words.result ≡ current_words c.args.self.now.caches.items c.args.self.now.memory.items c.args.line =
     found_words t.on_get_m (g.met.P.Protocol.supplies_to_writers p) c.args.self.now.caches.items c.args.line (line_in c.args.self.now.memory.items c.args.line) c.unwrap_or-words.result (current_words c.args.self.now.caches.items c.args.self.now.memory.items c.args.line)
-    (rw (c.unwrap_or-words.ensures, line) (c.find-found.ensures.words (line_in c.args.self.now.memory.items c.args.line))) (c.requires.ready.coherent.each c.args.line c.requires.ready.line_in) in
+    (rw (c.unwrap_or-words.ensures, line) (rw c.deref.ensures.value at (c.find-found.ensures.words (line_in c.args.self.now.memory.items c.args.line)))) (c.requires.ready.coherent.each c.args.line c.requires.ready.line_in) in
     ap (λ (x : Transaction). Some x) (write_ask-transaction t (g.met.P.Protocol.gives_up p) c.args.self.now.caches.items c.snoop_others.new.self.caches.items c.args.self.now.memory.items c.args.core c.args.line c.unwrap_or-words.result
     (record {
       coherent = c.requires.ready.coherent;
@@ -61,7 +61,7 @@ returns-clause-awaits g c =
     let line = (rw c.from.ensures at c.index-2.ensures) ∙ get_or_default c.args.self.now.memory.items c.args.line c.index-2.result.now [] c.requires.ready.line_in in
     let words : c.unwrap_or-words.result ≡ current_words c.args.self.now.caches.items c.args.self.now.memory.items c.args.line =
     found_words t.on_get_m (g.met.P.Protocol.supplies_to_writers p) c.args.self.now.caches.items c.args.line (line_in c.args.self.now.memory.items c.args.line) c.unwrap_or-words.result (current_words c.args.self.now.caches.items c.args.self.now.memory.items c.args.line)
-    (rw (c.unwrap_or-words.ensures, line) (c.find-found.ensures.words (line_in c.args.self.now.memory.items c.args.line))) (c.requires.ready.coherent.each c.args.line c.requires.ready.line_in) in
+    (rw (c.unwrap_or-words.ensures, line) (rw c.deref.ensures.value at (c.find-found.ensures.words (line_in c.args.self.now.memory.items c.args.line)))) (c.requires.ready.coherent.each c.args.line c.requires.ready.line_in) in
     let here = c.index.ensures ∙ get_or_default c.args.self.now.caches.items c.args.core c.index.result.now [] c.requires.ready.core_in in
     rw (ap (λ (sets : Sets). copy_in sets c.args.line) c.snoop_others.ensures.own)
     (write_ask-awaits own c.in_ok-transient.transient c.unwrap_or-words.result (ap (λ s. transient_of s GetM) (sym state_is) ∙ sym c.transient.ensures ∙ c.in_ok-transient.was) (rw here at c.look.ensures.not_invalid)
@@ -74,7 +74,7 @@ returns-clause-words g c =
     let line = (rw c.from.ensures at c.index-2.ensures) ∙ get_or_default c.args.self.now.memory.items c.args.line c.index-2.result.now [] c.requires.ready.line_in in
     let words : c.unwrap_or-words.result ≡ current_words c.args.self.now.caches.items c.args.self.now.memory.items c.args.line =
     found_words t.on_get_m (g.met.P.Protocol.supplies_to_writers p) c.args.self.now.caches.items c.args.line (line_in c.args.self.now.memory.items c.args.line) c.unwrap_or-words.result (current_words c.args.self.now.caches.items c.args.self.now.memory.items c.args.line)
-    (rw (c.unwrap_or-words.ensures, line) (c.find-found.ensures.words (line_in c.args.self.now.memory.items c.args.line))) (c.requires.ready.coherent.each c.args.line c.requires.ready.line_in) in
+    (rw (c.unwrap_or-words.ensures, line) (rw c.deref.ensures.value at (c.find-found.ensures.words (line_in c.args.self.now.memory.items c.args.line)))) (c.requires.ready.coherent.each c.args.line c.requires.ready.line_in) in
     write_ask-words t (g.met.P.Protocol.gives_up p) c.args.self.now.caches.items c.snoop_others.new.self.caches.items c.args.self.now.memory.items c.args.core c.args.line c.unwrap_or-words.result
     (record {
       coherent = c.requires.ready.coherent;

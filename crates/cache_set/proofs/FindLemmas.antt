@@ -1,8 +1,8 @@
 -- One more cache is looked at for a line that a core asks for.
-use Rattle.snoop_bus.proofs.Vocabulary.{eqb_tells, nat_tests, get_or-set_same, get_or-set_other, get_or_past, length-set, length-map, drop-cons, drop-length, arith, ◌≡◌, ◌≢◌, ◌⊎◌, inl, inr, ℕ, zero, suc, ◌+◌, ◌<◌, ◌≤◌, nat_eq, nat_lt, Bool, true, false, ◌||◌, Option, Some, None, IsSome, is_some, option_map, unwrap_or, List, [], length, map, drop, slice_set, slice_index_or, replicate, refl, sym, ap, ◌∙◌, if◌then◌else◌, add-one, option_or, list_any, Core, State, Snoop, Line, most_cores, Words, flusher_from, Sets, copy_in, copy_at, tags_in, tags_of, supplied_of, Supplied}
-use Rattle.snoop_bus.specs.declared.finding.Found.{Found}
-use Rattle.snoop_bus.specs.inner.Finding.{nothing_found, noting}
-use Rattle.snoop_bus.proofs.SnoopLemmas.{flusher-at}
+use Rattle.cache_set.proofs.Vocabulary.{arith, ◌≡◌, ◌≢◌, ◌≤◌, ℕ, zero, suc, Bool, true, false, List, [], length, map, Option, Some, None, option_map, nat_eq, if◌then◌else◌, inl, inr, refl, sym, ap, ◌∙◌, ◌<◌, IsSome, ◌⊎◌, ◌+◌, add-one, slice_set, slice_index_or, replicate, drop, nat_lt, ◌||◌, is_some, unwrap_or, eqb_tells, nat_tests, Line, length-map, get_or-set_same, get_or-set_other, length-set, get_or_past, option_or, Sets, tags_in, copy_in, copy_at, tags_of, drop-cons, drop-length, list_any, Words, State, Snoop, flusher_from, supplied_of, Supplied, Core, most_cores}
+use Rattle.cache_set.specs.declared.finding.Found.{Found}
+use Rattle.cache_set.specs.inner.Finding.{nothing_found, noting}
+use Rattle.cache_set.proofs.CacheTags.{flusher-at}
 
 abbrev pub state_in : Option Line → Option State
 state_in o = option_map (λ copy. copy.state) o

@@ -1,8 +1,7 @@
-use Rattle.snoop_bus.proofs.Vocabulary.{◌≡◌, Some, None, true, false, refl, sym, ap, ◌∙◌, is_dirty, S, copy_with, copy_in, line_in, words_if_dirty}
-use Rattle.snoop_bus.proofs.SettleLemmas.{clean_dirty, clean_same}
-use Rattle.snoop_bus.proofs.SettleSteps.{changed, unchanged, written}
-use Rattle.snoop_bus.proofs.SettleTags.{line_absent, line_clean, line_dirty}
-use Rattle.snoop_bus.proofs.cleaning.settle_line.Goals as goal
+use Rattle.cache_set.proofs.Vocabulary.{◌≡◌, true, false, Some, None, refl, sym, ap, ◌∙◌, S, copy_with, copy_in, line_in, is_dirty, words_if_dirty}
+use Rattle.cache_set.proofs.SettleSteps.{changed, unchanged, written}
+use Rattle.cache_set.proofs.SettleTags.{clean_dirty, clean_same, line_absent, line_clean, line_dirty}
+use Rattle.cache_set.proofs.cleaning.settle_line.Goals as goal
 
 pub returns : goal.returns
 returns g c =

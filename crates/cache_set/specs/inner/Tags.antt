@@ -1,6 +1,7 @@
 -- The tags of a set once no line is dirty: M and O are S, and the order of last use is as it was.
 use Rattle.std.specs.Prelude.{map}
-use Rattle.snoop_bus.specs.Vocabulary.{E, I, M, O, S, State}
+use Rattle.protocol_tables.specs.declared.state.State.{State}
+use Rattle.protocol_tables.specs.declared.state.State.TheVariants.{E, I, M, O, S}
 use Rattle.cache_set.specs.Tags.{TagSet, tag_set}
 
 -- the dirty states become S once memory has their words

@@ -2,8 +2,10 @@
 -- words are taken, which is as good as any, since all copies are equal.
 use Rattle.std.specs.Prelude.{ℕ, true, false, replicate, slice_set, Some, None, if◌then◌else◌}
 use Rattle.std.specs.Option.{option_or}
-use Rattle.snoop_bus.specs.Vocabulary.{Line, most_cores, Snoop}
-use Rattle.snoop_bus.specs.declared.finding.Found.{Found}
+use Rattle.tso_model.specs.Limits.{most_cores}
+use Rattle.protocol_tables.specs.declared.state.Snoop.{Snoop}
+use Rattle.cache_set.specs.declared.Line.{Line}
+use Rattle.cache_set.specs.declared.finding.Found.{Found}
 
 -- before the walk
 abbrev pub nothing_found : Found

@@ -1,5 +1,5 @@
-use Rattle.snoop_bus.proofs.Vocabulary.{◌≡◌, ℕ, map, option_map, nat_lt, if◌then◌else◌, line_in, copy_in, tags_in, clean_copy, cleaned_below, words_if_dirty}
-use Rattle.snoop_bus.proofs.cleaning.settle_cache.Given as goal
+use Rattle.cache_set.proofs.Vocabulary.{◌≡◌, ℕ, map, option_map, if◌then◌else◌, nat_lt, tags_in, copy_in, line_in, cleaned_below, clean_copy, words_if_dirty}
+use Rattle.cache_set.proofs.cleaning.settle_cache.Given as goal
 
 abbrev pub invariant-loop-line : goal.invariant-loop-line
 invariant-loop-line g l = record {

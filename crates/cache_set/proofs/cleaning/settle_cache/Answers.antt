@@ -1,7 +1,7 @@
-use Rattle.snoop_bus.proofs.Vocabulary.{rules, arith, ◌≡◌, ℕ, length, map, sym, ap, ◌∙◌, List, TagSet, tags_in, cleaned_at, cleaned_below}
-use Rattle.snoop_bus.proofs.SettleTags.{below_none, below_more, below_all}
-use Rattle.snoop_bus.proofs.SettleSteps.{copies_none, copies_more, memory_none, memory_more}
-use Rattle.snoop_bus.proofs.cleaning.settle_cache.Goals as goal
+use Rattle.cache_set.proofs.Vocabulary.{arith, ◌≡◌, ℕ, List, length, map, sym, ap, ◌∙◌, rules, tags_in, TagSet, cleaned_at, cleaned_below}
+use Rattle.cache_set.proofs.SettleTags.{below_none, below_more, below_all}
+use Rattle.cache_set.proofs.SettleSteps.{copies_none, copies_more, memory_none, memory_more}
+use Rattle.cache_set.proofs.cleaning.settle_cache.Goals as goal
 
 pub loop-line-init : goal.loop-line-init
 loop-line-init g c = record {
