@@ -1,31 +1,20 @@
 //! The judgement of an order: first whether it has each entry once, then the axioms, which mean nothing where it hasn't.
 //! (Primer, chapter 4; x86-TSO, section 3.)
-ghost use Rattle.std.specs.Prelude.{◌≡◌, ◌≢◌, ◌+◌, ◌*◌, ◌<◌, ◌≤◌, ℕ, List, None, length, OnOk, IfErr, IfOk, IsOkUnless, IfSome, IsNone};
-ghost use Rattle.tso_model.specs.Litmus.{Litmus, IsTest};
-ghost use Rattle.tso_model.specs.Axioms.{IsTsoExecution};
-ghost use Rattle.tso_model.specs.ProgramEntries as program_entries;
-ghost use Rattle.order_breaches.specs.FirstBreach.{IsFirstBreach, IsJudged};
-ghost use Rattle.order_breaches.specs.inner.Matched.{IsMatched};
-ghost use Rattle.order_breaches.specs.inner.Programs.{made_reading, kept_in};
-ghost use Rattle.order_breaches.specs.inner.Slots.{IsIndex};
+ghost use Rattle.std.specs.Prelude.{◌≡◌, ◌+◌, ◌*◌, ◌<◌, ◌≤◌, length, IfOk};
+ghost use Rattle.order_breaches.specs.FirstBreach.{IsJudged};
 ghost use Rattle.order_breaches.specs.inner.FirstBreach.{TellsFirstBreach};
+ghost use Rattle.order_breaches.specs.inner.Laid.{IsLaidOut};
 
 use crate::passing::pass;
 use order_breaches::Breach;
-use order_breaches::arrivals::{first_missing, first_stray};
 use order_breaches::entry_breaches::Programs;
-use order_breaches::index::index_of;
+use order_breaches::layout::{Layout, lay_out};
 use order_breaches::met::first_met;
-use order_breaches::programs::{made_entries, reads_in_order};
-use order_breaches::sources::own_writes;
 use std::alloc::Global;
 use std::marker::Brand;
 use std::sync::ledger::{Blank, Ledger};
-use tso_model::limits::{MAX_CORES, MAX_INSTRUCTIONS};
-use tso_model::{Entry, Execution, NoMemory, Test, Watched};
-
-/// Maximum number of reads of a test: each instruction may be one.
-const MAX_READS: usize = MAX_CORES * MAX_INSTRUCTIONS;
+use tso_model::limits::MAX_CORES;
+use tso_model::{Execution, NoMemory, Test, Watched};
 
 /// Whether the order is a TSO execution of the test: it holds each memory action of the programs
 /// exactly once, with the values that the programs give, keeps program order but for a plain store
@@ -68,79 +57,29 @@ pub fn check_counted<L: Ledger>(
     ensures same { order.new.order ≡ order.old.order }
     ensures looks { order.new.looks ≤ order.old.looks + 3 * length order.old.order }
 {
-    match first_breach(alloc, test, order)? {
+    let layout = lay_out(alloc, test, order)?;
+    match breach_of_all(alloc, test, &layout, order)? {
         Some(breach) => Err(breach),
         None => Ok(()),
     }
-}
-
-/// The first breach of the order. Errors: out of memory only.
-fn first_breach<L: Ledger>(
-    alloc: Global,
-    test: &Test,
-    order: &mut Watched<'_, L>,
-) -> Result<Option<Breach>, NoMemory>
-    ensures breach { IfOk result (TellsFirstBreach test.now order.old.order) }
-    ensures same { order.new.order ≡ order.old.order }
-    ensures looks { order.new.looks ≤ order.old.looks + 3 * length order.old.order }
-{
-    test.know_limits();
-    let shape = made_entries(alloc, test, &[0; MAX_READS])?;
-    let slots = index_of(alloc, test.cores(), &shape)?;
-    let mut came = vec![in alloc; None; shape.len()]?;
-    breach_by_shape(alloc, test, &shape, &slots, &mut came, order)
-}
-
-/// The first breach of the order, given the shape of what the programs make.
-fn breach_by_shape<L: Ledger>(
-    alloc: Global,
-    test: &Test,
-    shape: &[Entry],
-    slots: &[Option<usize>],
-    came: &mut [Option<u32>],
-    order: &mut Watched<'_, L>,
-) -> Result<Option<Breach>, NoMemory>
-    requires test { IsTest test.now }
-    requires shape { (reads : List ℕ) × (shape.now ≡ made_reading 0 test.now.programs test.now.registers reads) }
-    requires index { IsIndex shape.now slots.now }
-    requires size { length came.old ≡ length shape.now }
-    requires fresh { (i : ℕ) → kept_in came.old i ≡ None }
-    ensures breach { IfOk result (TellsFirstBreach test.now order.old.order) }
-    ensures same { order.new.order ≡ order.old.order }
-    ensures looks { order.new.looks ≤ order.old.looks + 3 * length order.old.order }
-{
-    if let Some(stray) = first_stray(shape, slots, came, order) {
-        return Ok(Some(stray));
-    }
-    if let Some(e) = first_missing(shape, came) {
-        return Ok(Some(Breach::Missing(e.core, e.place, e.kind, e.loc)));
-    }
-    let reads = reads_in_order(alloc, shape, came)?;
-    let made = made_entries(alloc, test, &reads)?;
-    breach_of_all(alloc, test, &made, slots, order)
 }
 
 /// The first breach of an order that has each action of the programs once.
 fn breach_of_all<L: Ledger>(
     alloc: Global,
     test: &Test,
-    made: &[Entry],
-    slots: &[Option<usize>],
+    layout: &Layout,
     order: &mut Watched<'_, L>,
 ) -> Result<Option<Breach>, NoMemory>
-    requires made { made.now ≡ program_entries.made test.now order.old.order }
-    requires index { IsIndex made.now slots.now }
-    requires matched { IsMatched test.now order.old.order }
-    requires test { IsTest test.now }
+    requires { IsLaidOut test.now order.old.order layout.now }
     ensures breach { IfOk result (TellsFirstBreach test.now order.old.order) }
     ensures same { order.new.order ≡ order.old.order }
     ensures looks { order.new.looks ≤ order.old.looks + 2 * length order.old.order }
 {
-    let sources = own_writes(alloc, test.locations(), made)?;
     let programs = Programs {
-        made,
-        slots,
-        sources: &sources,
+        made: &layout.made,
+        slots: &layout.slots,
+        sources: &layout.sources,
     };
     let mut reached = [0u32; MAX_CORES];
     let mut settled = [0u32; MAX_CORES];

@@ -1,5 +1,5 @@
 -- A first breach is real, and an order has at most one.
-use Rattle.order_breaches.proofs.Vocabulary.{◌≡◌, ◌<◌, ℕ, ◌+◌, suc, zero, List, Some, slice_get, arith, ap, sym, ◌∙◌, inl, inr, subst, cases_order, Litmus, entry, made, IsWhole, KeepsProgramOrder, IsAdjacent, HasReadValues, IsTsoExecution, Entry, IsFirst, IsNowhere, IsExtra, IsStray, IsMissing, IsWrongWrite, written_value, Overtakes, IsLate, IsSeparated, IsWrongRead, due_at, IsFirstBreach, Breach, Extra, Twice, Missing, WrongValue, ProgramOrder, NotAdjacent, ReadValue, NoMemory}
+use Rattle.order_breaches.proofs.Vocabulary.{◌≡◌, ◌≢◌, refl, ◌<◌, ℕ, ◌+◌, suc, zero, List, Some, slice_get, arith, ap, sym, ◌∙◌, inl, inr, subst, cases_order, Litmus, entry, made, IsWhole, KeepsProgramOrder, IsAdjacent, HasReadValues, IsTsoExecution, Entry, IsFirst, IsNowhere, IsExtra, IsStray, IsMissing, IsWrongWrite, written_value, Overtakes, IsLate, IsSeparated, IsWrongRead, due_at, IsFirstBreach, Breach, Extra, Twice, Missing, WrongValue, ProgramOrder, NotAdjacent, ReadValue, NoMemory}
 use Rattle.order_breaches.proofs.Whole.{whole-clean}
 use Rattle.order_breaches.proofs.Keeps.{none-late, none-separated, none-wrong}
 
@@ -115,3 +115,15 @@ one-breach t order b c f g = elim (cases_order (level b) (level c)) [
     | inr l ↦ absurd (occurs t order c g (none-lower t order b f (level c) l))
   ]
 ]
+
+-- who is told of a breach, unless memory ran out, has no execution
+pub no-memory-else : (t : Litmus) (order : List Entry) (b : Breach) → (b ≢ NoMemory → IsFirstBreach t order b) → IsTsoExecution t order → b ≡ NoMemory
+no-memory-else t order NoMemory first holds = refl
+no-memory-else t order (Extra x) first holds = absurd (breach-is-real t order (Extra x) (first (λ e. let z : ⊥ = cc in z)) holds)
+no-memory-else t order (Twice x) first holds = absurd (breach-is-real t order (Twice x) (first (λ e. let z : ⊥ = cc in z)) holds)
+no-memory-else t order (Missing core place kind loc) first holds =
+    absurd (breach-is-real t order (Missing core place kind loc) (first (λ e. let z : ⊥ = cc in z)) holds)
+no-memory-else t order (WrongValue x due) first holds = absurd (breach-is-real t order (WrongValue x due) (first (λ e. let z : ⊥ = cc in z)) holds)
+no-memory-else t order (ProgramOrder a b) first holds = absurd (breach-is-real t order (ProgramOrder a b) (first (λ e. let z : ⊥ = cc in z)) holds)
+no-memory-else t order (NotAdjacent x) first holds = absurd (breach-is-real t order (NotAdjacent x) (first (λ e. let z : ⊥ = cc in z)) holds)
+no-memory-else t order (ReadValue x due) first holds = absurd (breach-is-real t order (ReadValue x due) (first (λ e. let z : ⊥ = cc in z)) holds)

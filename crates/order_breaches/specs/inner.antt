@@ -1,5 +1,6 @@
 -- Words of contracts inside the project.
 pub mod FirstBreach
+pub mod Laid
 pub mod Matched
 pub mod Passing
 pub mod Programs

@@ -12,6 +12,7 @@ pub mod entries;
 pub mod entry_breaches;
 pub mod first_breaches;
 pub mod index;
+pub mod layout;
 pub mod met;
 pub mod programs;
 pub mod progress;
