@@ -4,7 +4,7 @@ use Rattle.machine_core.proofs.Changed.{set-at, core-at}
 use Rattle.cache_set.specs.Requests.{snoop_column}
 use Rattle.cache_set.proofs.CacheTags.{tags_at-tags, sets_of-tags}
 use Rattle.cache_set.proofs.TagLemmas.{victim_tag, leaving-tags}
-use Rattle.machine_core.proofs.Victims.{AllNeat, no_set, own-kept, sets-leave, all-requested}
+use Rattle.machine_core.proofs.Victims.{AllNeat, own-kept, sets-leave, all-requested}
 use Rattle.machine_core.proofs.Snooped.{requested-beside, own-alone}
 use Rattle.machine_core.proofs.Unowned.{SettlesMemory, IsDirtyAt, never, not_absent, victim-unowned, victim-other, sent-unowned, back-stale, sent-stale, sender-of, state-of}
 
