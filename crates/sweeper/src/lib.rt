@@ -1,10 +1,6 @@
-//! The runs of a sweep, each under the choices of a seed of its own, and what is counted of them: of a run no more is kept than
-//! the values of its final state.
+//! A sweep: the runs of many seeds, and their tally.
 #![tactic(auto)]
 
 pub mod counting;
-mod flat_sweep;
-mod runner;
-mod stalling;
 
 pub use counting::{Swept, sweep};

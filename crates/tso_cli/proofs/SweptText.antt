@@ -2,7 +2,7 @@
 use Rattle.tso_cli.proofs.Vocabulary.{◌≡◌, ◌∙◌, ℕ, List, ◌++◌, ap, Litmus, ProtocolKind, Configuration, head, RunCounts, tally_text}
 use Rattle.scheduler.specs.Plan.{Plan}
 use Rattle.tso_cli.specs.Sweep.{sweep_lines}
-use Rattle.sweeper.specs.Counting.{sweep_counts}
+use Rattle.sweep_runs.specs.Counting.{sweep_counts}
 
 -- the text that is put together is that of the sweep
 pub lines-of : (t u : Litmus) (kind : ProtocolKind) (c : Configuration) (plan : Plan) (counts : RunCounts) (out first told : List ℕ) (from count : ℕ)

@@ -19,11 +19,11 @@ pub use Rattle.scheduler.specs.Plan.{Plan}
 pub use Rattle.simulator.specs.Runs.{run_under, AnswersFit, counts_under, run_by, AnswersFitBy}
 pub use Rattle.simulator.specs.Simulation.{verdict, IsEndingOf, drains, shown_of, HasCounts}
 pub use Rattle.tso_cli.specs.Sweep.{IsSweepAnswer, sweep_status, sweep_lines}
-pub use Rattle.sweeper.specs.Counting.{choices_of, seeded_run, with_one_run, counts_from, sweep_counts}
+pub use Rattle.sweep_runs.specs.Counting.{choices_of, seeded_run, with_one_run, counts_from, sweep_counts}
 pub use Rattle.tso_cli.specs.SweepHeadline.{final_values, has_values, has_truth, seeds_from, HasPart, PrintsSweep, HeadlineOfSweeps, seeded_order, seeds_with}
 pub use Rattle.tso_cli.specs.declared.answer.Status.{Status}
-pub use Rattle.sweeper.proofs.StateLemmas.{States, Ascend, EachGiven, count-with, ascend-none, each-counted, counted-there, all-map, same-values, sum-with}
-pub use Rattle.sweeper.proofs.RunsCounted.{values-left, one, states-judged, unfinished-judged, held-judged, failed-judged, ascend-run, given-run, runs-with}
+pub use Rattle.sweep_runs.proofs.StateLemmas.{States, Ascend, EachGiven, count-with, ascend-none, each-counted, counted-there, all-map, same-values, sum-with}
+pub use Rattle.sweep_runs.proofs.RunsCounted.{values-left, one, states-judged, unfinished-judged, held-judged, failed-judged, ascend-run, given-run, runs-with}
 pub use Rattle.scheduler.specs.Refusals.{IsDecidedAsChoices, IsRefusedAsChoices}
 pub use Rattle.scheduler.specs.declared.fault.ChoiceFault.TheVariants.{TooMany}
 pub use Rattle.tso_cli.specs.Dividing.{parts_of, joined_parts, after_feed, after_end, after_divider, parts_at, with_byte, parts_from, HasNoDivider, EndsInFeed, Parts}

@@ -5,7 +5,7 @@ use Rattle.tso_report.specs.Tally.{RunCounts, tally_text}
 use Rattle.scheduler.specs.Plan.{Plan}
 use Rattle.tso_cli.specs.declared.answer.Status.{Status}
 use Rattle.tso_cli.specs.declared.answer.Status.TheVariants.{Good, Unended}
-use Rattle.sweeper.specs.Counting.{SweepAnswersFit, sweep_counts}
+use Rattle.sweep_runs.specs.Counting.{SweepAnswersFit, sweep_counts}
 
 -- the lines of a sweep in which this was counted
 abbrev pub sweep_lines : Litmus → ProtocolKind → Configuration → Plan → RunCounts → List ℕ

@@ -53,4 +53,4 @@ pub use Rattle.simulator.specs.Runs.{AnswersFit, counts_under, run_under}
 pub use Rattle.simulator.specs.Simulation.{IsEndingOf, shown_of, verdict}
 pub use Rattle.simulator.specs.declared.simulation.Ending.{Ending}
 pub use Rattle.simulator.specs.declared.simulation.Ending.TheVariants.{Ended, Unfinished}
-pub use Rattle.sweeper.specs.Counting.{choices_of, sweep_counts, SweepAnswersFit}
+pub use Rattle.sweep_runs.specs.Counting.{choices_of, sweep_counts, SweepAnswersFit}

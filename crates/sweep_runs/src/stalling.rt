@@ -1,0 +1,103 @@
+//! Which choices of a run stalled since its machine last changed. Most choices of a run on a split bus stall, since another core
+//! holds the bus, and a stall changes nothing: until another choice is made it stalls again. So a sweep needn't ask the machine again.
+
+ghost use Rattle.std.specs.Prelude.{◌≡◌, None};
+ghost use Rattle.sweep_runs.specs.inner.Stalling.{place_of_choice, reason_at, noted_at, AllStall};
+
+use machine_core::Machine;
+use protocol_tables::Protocol;
+use simulator::Observer;
+use tso_model::limits::MAX_CORES;
+use tso_model::{Choice, NoMemory, Outcome, Stall};
+
+/// How many choices there are at each moment: a step and a drain of each core.
+const CHOICES: usize = 2 * MAX_CORES;
+
+/// Why choices stalled since the machine last changed, each at its [place](place_of_choice).
+#[derive(Drop)]
+pub(crate) struct Stalling {
+    reasons: [Option<Stall>; CHOICES],
+}
+
+impl Stalling {
+    /// No choice stalled.
+    pub(crate) fn nothing() -> Self
+        ensures { (choice : Choice) → reason_at choice result ≡ None }
+    {
+        Stalling {
+            reasons: [None; CHOICES],
+        }
+    }
+
+    /// Why this choice stalled, if it did.
+    #[inline(always)]
+    fn reason(&self, choice: Choice) -> Option<Stall>
+        ensures { result ≡ reason_at choice self.now }
+    {
+        match self.reasons.get(place_of_choice(choice)) {
+            None => None,
+            Some(reason) => *reason,
+        }
+    }
+
+    /// This choice stalled for this reason.
+    #[inline(always)]
+    fn note(&mut self, choice: Choice, reason: Stall)
+        ensures { self.new ≡ noted_at choice reason self.old }
+    {
+        let place = place_of_choice(choice);
+        if place < CHOICES {
+            self.reasons[place] = Some(reason);
+        }
+    }
+}
+
+/// The place of a choice: twice its core, and 1 more for a drain.
+fn place_of_choice(choice: Choice) -> usize
+    ensures { result ≡ place_of_choice choice }
+{
+    match choice {
+        Choice::Step(core) => 2 * usize::from(core.0),
+        Choice::Drain(core) => 2 * usize::from(core.0) + 1,
+    }
+}
+
+impl Observer for Stalling {
+    ghost begins = { λ o m. AllStall o m };
+
+    ghost opens = { λ _ _ _. Unit {0} };
+
+    ghost watches = { λ o m. AllStall o m };
+
+    ghost makes = { λ _ _ _ _ _. Unit {0} };
+
+    ghost ends = { λ _ _ _. Unit {0} };
+
+    fn begin<P: Protocol>(&mut self, _machine: &Machine<'_, P>) -> Result<(), NoMemory> {
+        Ok(())
+    }
+
+    #[inline(always)]
+    fn choose<P: Protocol>(
+        &mut self,
+        machine: &mut Machine<'_, P>,
+        _number: usize,
+        choice: Choice,
+    ) -> Result<Outcome, NoMemory> {
+        if let Some(reason) = self.reason(choice) {
+            return Ok(Outcome::Stalled(reason));
+        }
+        let outcome = machine.choose(choice)?;
+        match outcome {
+            Outcome::Stalled(reason) => self.note(choice, reason),
+            Outcome::Committed | Outcome::Buffered | Outcome::Moved | Outcome::Asked => {
+                *self = Stalling::nothing();
+            }
+        }
+        Ok(outcome)
+    }
+
+    fn end<P: Protocol>(&mut self, _machine: &Machine<'_, P>) -> Result<(), NoMemory> {
+        Ok(())
+    }
+}
