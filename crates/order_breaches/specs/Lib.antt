@@ -3,10 +3,3 @@ pub mod Entries
 pub mod FirstBreach
 pub mod AxiomBreaches
 pub mod inner
-pub use Rattle.tso_model.specs.Litmus
-pub use Rattle.tso_model.specs.ProgramEntries
-pub use Rattle.tso_model.specs.Axioms
-pub use Rattle.tso_model.specs.Standing
-pub use Rattle.tso_model.specs.ProgramOrder
-pub use Rattle.tso_model.specs.SequentialConsistency
-pub use Rattle.tso_model.specs.inner.Watched
