@@ -15,11 +15,11 @@ use machine_core::{Bus, Config, Machine};
 use protocol_tables::{Mesi, Moesi, Mosi, Msi, Protocol, ProtocolKind};
 use scheduler::{Choices, SweepPlan};
 use simulator::drive_machine;
+use std::alloc::Global;
 use tso_laws::{
     atomic_runs_are_flat_runs, attempts_lead_from_state_to_state,
     runs_on_either_bus_stop_where_they_end,
 };
-use std::alloc::Global;
 use tso_model::{NoMemory, Test};
 use tso_report::Tally;
 
