@@ -51,7 +51,7 @@ pub use Rattle.json.specs.Print.{escape, print, quoted, IsNumber}
 unfoldable pub use Rattle.json.specs.Print.{escape_byte}
 pub use Rattle.tso_model.specs.Runs.{Run, run, has_ended, CoresExist}
 pub use Rattle.tso_cli.specs.RunTexts.{report_in, unfinished_in}
-pub use Rattle.simulator.specs.Runs.{run_under, counts_under}
+pub use Rattle.machine_runs.specs.Runs.{run_under, counts_under}
 pub use Rattle.promises.specs.OfRuns.{PrintedRunsAreTold}
 pub use Rattle.std.proofs.lemmas.Bool.Decides.{nat_tests}
 pub use Rattle.std.proofs.lemmas.List.Folds.{list_all-append, list_any-append}

@@ -27,7 +27,7 @@ ghost use Rattle.scheduler.specs.Limits.{most_choices};
 ghost use Rattle.scheduler.specs.Printed.{printed_choices};
 ghost use Rattle.shown_values.specs.Shown.{names_shown, values_at};
 ghost use Rattle.shown_values.specs.declared.show.Show.{Show};
-ghost use Rattle.simulator.specs.Runs.{AnswersFit, run_under};
+ghost use Rattle.machine_runs.specs.Runs.{AnswersFit, run_under};
 ghost use Rattle.sweep_runs.specs.Counting.{SweepAnswersFit, sweep_counts};
 ghost use Rattle.tso_cli.specs.Answers.{IsTableAnswer};
 ghost use Rattle.tso_cli.specs.Fitting.{IsStateOf, shown_under};

@@ -6,7 +6,7 @@ ghost use Rattle.tso_cli.specs.RunTexts.{report_in};
 ghost use Rattle.multiprocessor.specs.Configuration.{Configuration, IsConfigurationWithinLimits};
 ghost use Rattle.protocol_tables.specs.declared.kind.ProtocolKind.{ProtocolKind};
 ghost use Rattle.scheduler.specs.Limits.{most_choices};
-ghost use Rattle.simulator.specs.Runs.{AnswersFit, run_under};
+ghost use Rattle.machine_runs.specs.Runs.{AnswersFit, run_under};
 ghost use Rattle.tso_cli.specs.Fitting.{RunFitsTest, shown_under};
 ghost use Rattle.tso_model.specs.Litmus.{IsTest, Litmus};
 ghost use Rattle.tso_model.specs.declared.choice.Choice.{Choice};

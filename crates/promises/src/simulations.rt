@@ -3,8 +3,8 @@
 ghost use Rattle.std.specs.Prelude.{◌≡◌, ◌*◌, IfOk, OnOk, length};
 ghost use Rattle.tso_model.specs.Runs.{CoresExist};
 ghost use Rattle.tso_laws.specs.Counting.{instructions, longest};
-ghost use Rattle.simulator.specs.Runs.{AnswersFit, counts_under, run_under};
-ghost use Rattle.simulator.specs.Simulation.{FitsEnding, HasAllOrder, HasCounts, HasEnded, HasRounds, IsCounted, IsEndingOf};
+ghost use Rattle.machine_runs.specs.Runs.{AnswersFit, counts_under, run_under};
+ghost use Rattle.machine_runs.specs.Simulation.{FitsEnding, HasAllOrder, HasCounts, HasEnded, HasRounds, IsCounted, IsEndingOf};
 
 use machine_core::{Bus, Choice, Config};
 use protocol_tables::ProtocolKind;

@@ -10,7 +10,7 @@ ghost use Rattle.promises.specs.Traces.{IsReadable, IsTraceable, SourceFits, Tra
 ghost use Rattle.protocol_tables.specs.declared.kind.ProtocolKind.{ProtocolKind};
 ghost use Rattle.serde_json.specs.Data.{Data};
 ghost use Rattle.serde_json.specs.Written.{compact_text, outline};
-ghost use Rattle.simulator.specs.Runs.{AnswersFit, run_under};
+ghost use Rattle.machine_runs.specs.Runs.{AnswersFit, run_under};
 ghost use Rattle.trace_json.specs.StepJson.{step_json};
 ghost use Rattle.trace_json.specs.TraceJson.{trace_json};
 ghost use Rattle.trace_json.specs.declared.supplied.Source.{Source};

@@ -1,14 +1,11 @@
-//! A test's run under a list of choices, on a machine of any protocol and configuration, up to the first moment at which the
-//! test has ended; and that what an ended run leaves is a TSO execution of the test, with its final state.
+//! A test's run under a list of choices, on a machine of any protocol and configuration. What drives the machine stands in
+//! `machine_runs`, which this crate lends out.
 #![tactic(auto)]
 
-pub mod ended_runs;
-pub mod observing;
 pub mod simulation;
 
-pub use ended_runs::ended_runs_of_machines_are_executions;
-pub use observing::Observer;
-pub use simulation::{
-    Ending, Progress, Setup, SimFault, drive_machine, ending_of, simulate, simulate_noting,
-    simulate_observed, verdict_of,
+pub use machine_runs::{
+    Ending, Observer, Progress, Setup, drive_machine, ended_runs_of_machines_are_executions,
+    ending_of, simulate_observed, verdict_of,
 };
+pub use simulation::{SimFault, simulate, simulate_noting};

@@ -9,8 +9,8 @@ use Rattle.multiprocessor.specs.Caches.{Caches, attempt_of, is_awaited}
 use Rattle.multiprocessor.proofs.EachUse.{used-machine}
 use Rattle.multiprocessor.specs.Statistics.{Statistics, statistics_from, statistics_after}
 use Rattle.machine_core.specs.inner.Running.{is_ended}
-use Rattle.simulator.specs.inner.Simulation.{Drives}
-use Rattle.simulator.proofs.BusLemmas.{bus_run, run-is}
+use Rattle.machine_runs.specs.inner.Simulation.{Drives}
+use Rattle.machine_runs.proofs.BusLemmas.{bus_run, run-is}
 
 -- ---- no choice changes the protocol's table, nor the shape of the caches
 

@@ -9,8 +9,8 @@ use Rattle.protocol_tables.specs.declared.kind.ProtocolKind.{ProtocolKind}
 use Rattle.multiprocessor.specs.Configuration.{Configuration}
 use Rattle.tso_report.specs.Tally.{RunCounts, nothing_counted, with_state_counted, with_verdict, with_unfinished, values_in}
 use Rattle.scheduler.specs.Plan.{Plan}
-use Rattle.simulator.specs.Runs.{run_under, AnswersFit}
-use Rattle.simulator.specs.Simulation.{verdict}
+use Rattle.machine_runs.specs.Runs.{run_under, AnswersFit}
+use Rattle.machine_runs.specs.Simulation.{verdict}
 
 -- the first `count` choices of a seed, those of `seed N M` in a choice text, and the run of a test under them
 abbrev pub choices_of : Litmus → ℕ → ℕ → List Choice

@@ -8,13 +8,13 @@ ghost use Rattle.tso_model.specs.declared.choice.Choice.{Choice};
 ghost use Rattle.protocol_tables.specs.declared.kind.ProtocolKind.{ProtocolKind};
 ghost use Rattle.multiprocessor.specs.Configuration.{Configuration};
 ghost use Rattle.tso_report.specs.Tally.{nothing_counted, runs_in, values_in, with_state_counted, with_verdict};
-ghost use Rattle.simulator.specs.Runs.{run_under, AnswersFit};
-ghost use Rattle.simulator.specs.Simulation.{verdict};
+ghost use Rattle.machine_runs.specs.Runs.{run_under, AnswersFit};
+ghost use Rattle.machine_runs.specs.Simulation.{verdict};
 ghost use Rattle.sweep_runs.specs.Counting.{with_one_run, sweep_counts, SweepAnswersFit};
 ghost use Rattle.sweep_runs.specs.inner.Counting.{CanRunAgain};
 
+use machine_runs::verdict_of;
 use scheduler::{Choices, Seeded, SweepPlan};
-use simulator::verdict_of;
 use tso_model::{NoMemory, Test};
 use tso_report::Tally;
 

@@ -5,8 +5,8 @@ ghost use Rattle.std.specs.Prelude.{◌≡◌, None};
 ghost use Rattle.sweep_runs.specs.inner.Stalling.{place_of_choice, reason_at, noted_at, AllStall};
 
 use machine_core::Machine;
+use machine_runs::Observer;
 use protocol_tables::Protocol;
-use simulator::Observer;
 use tso_model::limits::MAX_CORES;
 use tso_model::{Choice, NoMemory, Outcome, Stall};
 

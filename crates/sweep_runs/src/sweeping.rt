@@ -4,7 +4,7 @@
 ghost use Rattle.std.specs.Prelude.{◌≡◌, ◌==◌, IfOk, OnOk};
 ghost use Rattle.machine_core.specs.Running.{restarted};
 ghost use Rattle.tso_report.specs.Tally.{nothing_counted};
-ghost use Rattle.simulator.specs.inner.Runs.{machine_run, AnswersFitOn};
+ghost use Rattle.machine_runs.specs.inner.Runs.{machine_run, AnswersFitOn};
 ghost use Rattle.sweep_runs.specs.Counting.{sweep_counts, SweepAnswersFit};
 ghost use Rattle.sweep_runs.specs.inner.Counting.{EachKindWith};
 
@@ -12,9 +12,9 @@ use crate::flat_sweep::sweep_flat;
 use crate::runner::{Runner, count_runs, count_state};
 use crate::stalling::Stalling;
 use machine_core::{Bus, Config, Machine};
+use machine_runs::drive_machine;
 use protocol_tables::{Mesi, Moesi, Mosi, Msi, Protocol, ProtocolKind};
 use scheduler::{Choices, SweepPlan};
-use simulator::drive_machine;
 use std::alloc::Global;
 use tso_laws::{
     atomic_runs_are_flat_runs, attempts_lead_from_state_to_state,

@@ -3,8 +3,8 @@ use Rattle.trace_json.proofs.Vocabulary.{◌≡◌, false, map, Option, Some, No
 use Rattle.std.specs.Prelude.{codes}
 use Rattle.tso_report.proofs.NoFloats.{one_more, each, run_has_no_float}
 use Rattle.tso_report.specs.Shown.{shown_run}
-use Rattle.simulator.specs.declared.simulation.Ending.{Ending}
-use Rattle.simulator.specs.declared.simulation.Ending.TheVariants.{Ended, Unfinished}
+use Rattle.machine_runs.specs.declared.driving.Ending.{Ending}
+use Rattle.machine_runs.specs.declared.driving.Ending.TheVariants.{Ended, Unfinished}
 use Rattle.trace_json.specs.TracedRun.{ending_members}
 use Rattle.std.specs.Option.{option_map}
 use Rattle.trace_json.specs.Proposition.{proposition_text, proposition_value}

@@ -4,8 +4,8 @@ use Rattle.tso_model.specs.EitherBus.{run_on}
 use Rattle.tso_model.specs.Together.{together}
 use Rattle.basic_laws.specs.Types.{Bus, Atomic, Split}
 use Rattle.multiprocessor.specs.Answered.{answered}
-use Rattle.simulator.specs.Runs.{run_by, run_under}
-use Rattle.simulator.specs.inner.Observed.{Watched, none_left, over, next, IsWatched}
+use Rattle.machine_runs.specs.Runs.{run_by, run_under}
+use Rattle.machine_runs.specs.inner.Observed.{Watched, none_left, over, next, IsWatched}
 use Rattle.trace_report.specs.Steps.{steps_from, trace_of}
 use Rattle.trace_report.specs.TraceLaws.{TracesTellTheirRuns}
 use Rattle.trace_json.specs.TracedRun.{most_steps}

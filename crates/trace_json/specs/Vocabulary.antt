@@ -23,5 +23,5 @@ pub use Rattle.trace_report.specs.Lines.{access_name, line_name, names_in_line, 
 pub use Rattle.trace_report.specs.Shown.{shown_step, ShownStep}
 pub use Rattle.trace_report.specs.Steps.{line_state, trace_step_of}
 pub use Rattle.trace_report.specs.declared.step.LineState.{LineState}
-pub use Rattle.simulator.specs.declared.simulation.Ending.{Ending}
-pub use Rattle.simulator.specs.declared.simulation.Ending.TheVariants.{Ended, Unfinished}
+pub use Rattle.machine_runs.specs.declared.driving.Ending.{Ending}
+pub use Rattle.machine_runs.specs.declared.driving.Ending.TheVariants.{Ended, Unfinished}

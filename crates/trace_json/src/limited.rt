@@ -6,9 +6,9 @@ ghost use Rattle.trace_json.specs.inner.Limited.{ShowsStep};
 
 use crate::traced_run::MAX_STEPS;
 use machine_core::{Choice, Machine, Outcome};
+use machine_runs::Observer;
 use protocol_tables::Protocol;
 use scheduler::Stalls;
-use simulator::Observer;
 use tso_model::NoMemory;
 
 /// Shows an observer as many choices as a trace as JSON may have steps, and makes the others without it. Which choices

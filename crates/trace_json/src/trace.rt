@@ -4,8 +4,8 @@ ghost use Rattle.std.specs.Prelude.{◌≡◌, ◌≤◌, IfOk, None, OnOk, leng
 ghost use Rattle.serde_json.specs.Data.{array};
 ghost use Rattle.serde_json.specs.View.{items_of, view};
 ghost use Rattle.tso_model.specs.Runs.{CoresExist};
-ghost use Rattle.simulator.specs.Runs.{run_under, counts_under, AnswersFit};
-ghost use Rattle.simulator.specs.Simulation.{IsEndingOf, FitsEnding, HasCounts};
+ghost use Rattle.machine_runs.specs.Runs.{run_under, counts_under, AnswersFit};
+ghost use Rattle.machine_runs.specs.Simulation.{IsEndingOf, FitsEnding, HasCounts};
 ghost use Rattle.trace_json.specs.MachineJson.{machine_json};
 ghost use Rattle.trace_json.specs.TraceJson.{last_step_json, trace_json};
 ghost use Rattle.trace_json.specs.TracedRun.{most_steps};
@@ -16,10 +16,10 @@ ghost use Rattle.trace_json.specs.inner.Observing.{KnowsLast, MakesStep, OpensTr
 use crate::following::{Follower, SourcedStep};
 use crate::limited::Limited;
 use machine_core::{Choice, Machine, Outcome};
+use machine_runs::{Ending, Observer, Setup, simulate_observed};
 use protocol_tables::Protocol;
 use scheduler::Stalls;
 use serde_json::Value;
-use simulator::{Ending, Observer, Setup, simulate_observed};
 use std::alloc::Global;
 use std::mem::replace;
 use trace_report::told_runs::traces_tell_their_runs;

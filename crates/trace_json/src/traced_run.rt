@@ -7,14 +7,14 @@ ghost use Rattle.serde_json.specs.Written.{has_float};
 ghost use Rattle.tso_model.specs.declared.choice.Choice.{Choice};
 ghost use Rattle.scheduler.specs.Grammar.{SpellsChoices};
 ghost use Rattle.scheduler.specs.WordOfChoice.{IsWordOfChoice};
-ghost use Rattle.simulator.specs.Simulation.{FitsEnding};
+ghost use Rattle.machine_runs.specs.Simulation.{FitsEnding};
 ghost use Rattle.trace_json.specs.TracedRun.{most_steps, line_with, ending_members};
 
 use crate::programs::programs_value;
 use crate::proposition::proposition_value;
+use machine_runs::{Ending, Setup};
 use scheduler::word_of_choice;
 use serde_json::{Map, Value};
-use simulator::{Ending, Setup};
 use std::alloc::Global;
 use tso_model::NoMemory;
 use tso_report::json::{run_members, unfinished_members};

@@ -1,7 +1,7 @@
 -- A trace, written line by line as the choices are made.
 use Rattle.tso_cli.proofs.Vocabulary.{◌≡◌, ◌∙◌, ℕ, ◌+◌, List, [], ◌∷◌, ◌++◌, length, refl, sym, ap, arith, append_assoc, append-nil, codes, string_bytes, Litmus, Choice, Table, Configuration, Running, new_machine, machine_after, trace_step_of, steps_from, trace_of, trace_step_line, step_lines, end_line, trace_text, told_step}
 use Rattle.protocol_tables.specs.PrintedTable.{line}
-use Rattle.simulator.specs.inner.Observed.{Watched, none_left, over, next, IsWatched}
+use Rattle.machine_runs.specs.inner.Observed.{Watched, none_left, over, next, IsWatched}
 use Rattle.trace_report.specs.declared.telling.Told.{Told}
 use Rattle.tso_cli.specs.declared.told_run.Teller.{Teller}
 use Rattle.tso_cli.specs.inner.Telling.{Opens, Tells, Closes}

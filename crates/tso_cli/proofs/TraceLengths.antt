@@ -12,8 +12,8 @@ use Rattle.multiprocessor.specs.Answered.{answered}
 use Rattle.multiprocessor.specs.Statistics.{no_statistics}
 use Rattle.trace_json.specs.TracedRun.{most_steps}
 use Rattle.tso_cli.specs.inner.Trace.{used_in, IsMeasured}
-use Rattle.simulator.specs.declared.simulation.Ending.{Ending}
-use Rattle.simulator.proofs.BusLemmas.{length-answered}
+use Rattle.machine_runs.specs.declared.driving.Ending.{Ending}
+use Rattle.machine_runs.proofs.BusLemmas.{length-answered}
 
 -- a run uses no more choices than there are
 used-on : (bus : Bus) (t : Litmus) (d : ℕ) (state : BusState) (xs : List Attempt) → (run_on_from bus t d state xs).run.used ≤ length xs

@@ -16,8 +16,8 @@ pub use Rattle.protocol_tables.specs.declared.kind.ProtocolKind.{ProtocolKind}
 pub use Rattle.multiprocessor.specs.Configuration.{Configuration, IsConfigurationWithinLimits}
 pub use Rattle.tso_report.specs.Tally.{RunCounts, with_state_counted, with_verdict, values_in, count_of_runs, runs_in, counted_state_line, tally_text, counted_state_lines, sweep_line, ended_in, observation, run_counts, looked_at, shown_value}
 pub use Rattle.scheduler.specs.Plan.{Plan}
-pub use Rattle.simulator.specs.Runs.{run_under, AnswersFit, counts_under, run_by, AnswersFitBy}
-pub use Rattle.simulator.specs.Simulation.{verdict, IsEndingOf, drains, shown_of, HasCounts}
+pub use Rattle.machine_runs.specs.Runs.{run_under, AnswersFit, counts_under, run_by, AnswersFitBy}
+pub use Rattle.machine_runs.specs.Simulation.{verdict, IsEndingOf, drains, shown_of, HasCounts}
 pub use Rattle.tso_cli.specs.Sweep.{IsSweepAnswer, sweep_status, sweep_lines}
 pub use Rattle.sweep_runs.specs.Counting.{choices_of, seeded_run, with_one_run, counts_from, sweep_counts}
 pub use Rattle.tso_cli.specs.SweepHeadline.{final_values, has_values, has_truth, seeds_from, HasPart, PrintsSweep, HeadlineOfSweeps, seeded_order, seeds_with}
@@ -45,8 +45,8 @@ pub use Rattle.scheduler.specs.Grammar.{SpellsChoices}
 pub use Rattle.scheduler.specs.Printed.{printed_choices, printed_choice, printed_after}
 pub use Rattle.tso_cli.specs.Judgement.{WitnessesOrder, WitnessesEachOrder, unreached, broken, JudgesOrder, JudgesEachOrder}
 pub use Rattle.command_line.specs.Limits.{IsDepth, IsWithinLimits}
-pub use Rattle.simulator.specs.declared.simulation.Ending.{Ending}
-pub use Rattle.simulator.specs.declared.simulation.Ending.TheVariants.{Ended, Unfinished}
+pub use Rattle.machine_runs.specs.declared.driving.Ending.{Ending}
+pub use Rattle.machine_runs.specs.declared.driving.Ending.TheVariants.{Ended, Unfinished}
 pub use Rattle.tso_cli.specs.declared.answer.Status.TheVariants.{Good, Refused, Unended, Invalid}
 pub use Rattle.std.proofs.lemmas.List.{length-map, drop-drop, nil_from_length}
 pub use Rattle.tso_report.specs.declared.named.Named.{Named}
@@ -81,9 +81,9 @@ pub use Rattle.order_breaches.specs.declared.breach.Breach.{Breach}
 pub use Rattle.tso_io.specs.Limits.{longest_input}
 pub use Rattle.tso_model.specs.Registers.{AreRegisters, IsWord, index_of}
 pub use Rattle.tso_model.specs.ProgramEntries.{made_by, made_from, read_values}
-pub use Rattle.simulator.proofs.BusLemmas.{attempts_in, length-in, run-is, atomic-run}
-pub use Rattle.simulator.proofs.SimulationLemmas.{RunLaws, choices-counted}
-pub use Rattle.simulator.proofs.CountLemmas.{counts-each, counts-few}
+pub use Rattle.machine_runs.proofs.BusLemmas.{attempts_in, length-in, run-is, atomic-run}
+pub use Rattle.machine_runs.proofs.SimulationLemmas.{RunLaws, choices-counted}
+pub use Rattle.machine_runs.proofs.CountLemmas.{counts-each, counts-few}
 pub use Rattle.std.specs.Fmt.{decimal}
 pub use Rattle.trace_report.specs.Lines.{trace_text, trace_step_line, step_lines, end_line}
 pub use Rattle.trace_report.specs.Steps.{trace_under, trace_step_of, steps_from, trace_of}

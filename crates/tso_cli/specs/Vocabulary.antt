@@ -49,8 +49,8 @@ pub use Rattle.command_line.specs.Explanation.{Explanation}
 pub use Rattle.command_line.specs.Search.{Search}
 pub use Rattle.command_line.specs.declared.settings.Settings.{Settings}
 pub use Rattle.tso_io.specs.Limits.{longest_input}
-pub use Rattle.simulator.specs.Runs.{AnswersFit, counts_under, run_under}
-pub use Rattle.simulator.specs.Simulation.{IsEndingOf, shown_of, verdict}
-pub use Rattle.simulator.specs.declared.simulation.Ending.{Ending}
-pub use Rattle.simulator.specs.declared.simulation.Ending.TheVariants.{Ended, Unfinished}
+pub use Rattle.machine_runs.specs.Runs.{AnswersFit, counts_under, run_under}
+pub use Rattle.machine_runs.specs.Simulation.{IsEndingOf, shown_of, verdict}
+pub use Rattle.machine_runs.specs.declared.driving.Ending.{Ending}
+pub use Rattle.machine_runs.specs.declared.driving.Ending.TheVariants.{Ended, Unfinished}
 pub use Rattle.sweep_runs.specs.Counting.{choices_of, sweep_counts, SweepAnswersFit}

@@ -3,16 +3,16 @@
 ghost use Rattle.std.specs.Prelude.{◌≡◌, IfOk, List, length};
 ghost use Rattle.tso_model.specs.declared.choice.Choice.{Choice};
 ghost use Rattle.scheduler.specs.Grammar.{SpellsChoices};
-ghost use Rattle.simulator.specs.Runs.{run_under};
-ghost use Rattle.simulator.specs.Simulation.{IsEndingOf};
+ghost use Rattle.machine_runs.specs.Runs.{run_under};
+ghost use Rattle.machine_runs.specs.Simulation.{IsEndingOf};
 ghost use Rattle.tso_cli.specs.Lines.{choices_refusal};
 ghost use Rattle.tso_cli.specs.inner.Answers.{Says};
 ghost use Rattle.tso_cli.specs.inner.Trace.{used_in, IsMeasured};
 
 use crate::answer::{Answer, Status};
 use hints::Cause;
+use machine_runs::{Ending, Setup};
 use scheduler::ChoiceFault;
-use simulator::{Ending, Setup};
 use std::alloc::Global;
 use trace_json::{MAX_STEPS, word_beyond};
 use tso_model::NoMemory;

@@ -24,20 +24,20 @@ ghost use Rattle.tso_cli.specs.Revisited.{AreRevisited};
 ghost use Rattle.command_line.specs.Explanation.{Explanation};
 ghost use Rattle.command_line.specs.Search.{Search};
 ghost use Rattle.tso_cli.specs.Dividing.{parts_of, joined_parts, IsJoinable};
-ghost use Rattle.simulator.specs.Simulation.{IsEndingOf};
+ghost use Rattle.machine_runs.specs.Simulation.{IsEndingOf};
 ghost use Rattle.tso_cli.specs.Witness.{witness_line, IsWitness, IsEndingAlong, HasEndedWith, ReportsOrder};
-ghost use Rattle.simulator.specs.declared.simulation.Ending.{Ending};
+ghost use Rattle.machine_runs.specs.declared.driving.Ending.{Ending};
 ghost use Rattle.tso_cli.specs.declared.answer.Status.{Status};
 ghost use Rattle.tso_cli.specs.declared.answer.Status.TheVariants.{Good};
 ghost use Rattle.command_line.specs.declared.settings.Settings.{Settings};
 
 use crate::answers::texts_are_read_one_way;
 use axiom_checker::first_breaches::first_breach_is_real;
+use machine_runs::ended_runs_of_machines_are_executions;
 use refutation_laws::{
     no_run_makes_a_refuted_claim_true, refuted_claims_are_false, refuted_questions_are_answered,
 };
 use scheduler::printed_choices_are_spelled;
-use simulator::ended_runs_of_machines_are_executions;
 use tso_laws::{
     atomic_runs_are_flat_runs, choices_to_an_end_are_counted, ends_are_what_tso_allows,
     every_execution_is_reached, most_stores_are_depth_enough, runs_are_counted,

@@ -2,7 +2,7 @@
 //! only that is an execution of the test.
 
 ghost use Rattle.std.specs.Prelude.{◌≡◌, ◌≢◌, IfOk, OnOk, string_bytes};
-ghost use Rattle.simulator.specs.Simulation.{FitsEnding};
+ghost use Rattle.machine_runs.specs.Simulation.{FitsEnding};
 ghost use Rattle.tso_cli.specs.CommandAnswers.{IsRunAnswer};
 ghost use Rattle.tso_cli.specs.inner.Answers.{Says, text_of_ending};
 ghost use Rattle.tso_cli.specs.Lines.{choices_refusal};
@@ -11,9 +11,9 @@ use crate::answer::{Answer, Status};
 use crate::tracing::status_in;
 use hints::Cause;
 use machine_core::Config;
+use machine_runs::{Ending, Setup, simulate_observed};
 use protocol_tables::ProtocolKind;
 use scheduler::{ChoiceFault, Stalls, read_choices, spelled_cores_exist};
-use simulator::{Ending, Setup, simulate_observed};
 use std::alloc::Global;
 use tso_model::{NoMemory, Test};
 use tso_report::{report_json, report_text, unfinished_json};

@@ -5,7 +5,7 @@ ghost use Rattle.std.specs.Prelude.{◌≡◌, ◌++◌, false, IfOk, OnOk, leng
 ghost use Rattle.tso_model.specs.Runs.{CoresExist};
 ghost use Rattle.scheduler.specs.Grammar.{SpellsChoices};
 ghost use Rattle.trace_report.specs.Told.{IsTraced, IsTracedInStates};
-ghost use Rattle.simulator.specs.Simulation.{FitsEnding};
+ghost use Rattle.machine_runs.specs.Simulation.{FitsEnding};
 ghost use Rattle.tso_cli.specs.Trace.{IsTraceAnswer};
 ghost use Rattle.tso_cli.specs.inner.Telling.{Opens, Tells, Closes};
 ghost use Rattle.tso_cli.specs.inner.Trace.{lines_left};
@@ -14,9 +14,9 @@ use crate::answer::Answer;
 use crate::running::cause_of;
 use crate::tracing::status_in;
 use machine_core::{Choice, Config, Machine, Outcome};
+use machine_runs::{Ending, Observer, Setup, simulate_observed};
 use protocol_tables::Protocol;
 use scheduler::Stalls;
-use simulator::{Ending, Observer, Setup, simulate_observed};
 use std::alloc::Global;
 use trace_report::states::PlacedState;
 use trace_report::{

@@ -1,5 +1,5 @@
-use Rattle.simulator.proofs.Vocabulary.{table_of, run_under}
-use Rattle.simulator.proofs.SimulationLemmas.{choices-counted, counted, all-order, ended-on-atomic, ended-on-either}
+use Rattle.machine_runs.proofs.Vocabulary.{table_of, run_under}
+use Rattle.machine_runs.proofs.SimulationLemmas.{choices-counted, counted, all-order, ended-on-atomic, ended-on-either}
 use Rattle.simulator.proofs.simulation.simulate_noting.Goals as goal
 
 pub returns-clause-counting : goal.returns-clause-counting
