@@ -1,5 +1,5 @@
 -- The sets of one core's cache: what a change of one set leaves of the others and of their room, and a cache that is empty.
-use Rattle.cache_set.proofs.Vocabulary.{arith, ◌≡◌, ◌≤◌, ℕ, zero, suc, [], length, map, None, inl, inr, refl, ap, ◌∙◌, ◌<◌, ◌⊎◌, slice_set, ◌%◌, slice_index_or, replicate, get_or_default, Contents, contents, copy_of, Sets, in_set, map-set_same, AtHome}
+use Rattle.cache_set.proofs.Vocabulary.{arith, ◌≡◌, ◌≤◌, ℕ, zero, suc, [], length, map, None, inl, inr, refl, ap, ◌∙◌, ◌<◌, ◌⊎◌, slice_set, ◌%◌, slice_index_or, replicate, length-map, get_or_default, Contents, contents, copy_of, Sets, in_set, get_or-map, map-set_same, AtHome, emptied}
 use Rattle.std.proofs.lemmas.List.{length-replicate}
 
 pub ways-set : (sets : Sets) (i : ℕ) (set new : Contents) → set ≡ slice_index_or sets i set → new.ways ≡ set.ways → map (λ s. s.ways) (slice_set sets i new) ≡ map (λ s. s.ways) sets
@@ -30,3 +30,7 @@ new-home sets n ways some is =
         → copy_of (slice_index_or sets i (contents [] 1)) line ≡ None
     by i line (inl same) = ap (λ s. copy_of (slice_index_or s i (contents [] 1)) line) is ∙ ap (λ s. copy_of s line) same
     by i line (inr same) = ap (λ s. copy_of (slice_index_or s i (contents [] 1)) line) is ∙ ap (λ s. copy_of s line) same
+
+-- and so where every line has left
+pub home-emptied : (sets : Sets) → 0 < length sets → (0 < length (map emptied sets)) × AtHome (map emptied sets)
+home-emptied sets some = ((rw (length-map sets emptied) some), λ i line within other. ap (λ s. copy_of s line) (get_or-map emptied sets i (contents [] 1)))

@@ -1,5 +1,5 @@
 -- What one who looks at a bus finds there.
-use Rattle.snoop_bus.proofs.Vocabulary.{eqb_tells, nat_tests, get_or_default, cases_eq, cases_lt, arith, nat_lt, ◌≡◌, ◌≢◌, inl, inr, ℕ, ◌<◌, ◌%◌, nat_eq, Bool, true, ◌&&◌, if◌then◌else◌, Option, Some, None, IfSome, unwrap_or, option_map, map, slice_get, List, [], length, slice_index_or, false, subst, refl, sym, ap, ◌∙◌, option_or, slice_get-map, get_or-map, is_dirty, or_invalid, state_of_copy, ranked_in, IsClean, with_words, Line, Contents, contents, copy_of, with_state, State, S, O, Transient, IsD, ImD, SmD, Geometry, Words, line_in, line_of_words, Sets, copy_at, cache_of, tags_in, tags_of, AtHome, counted_copies_of, with_counted_copy, IsHeld, Awaits, AskedOf, kept_by, kept_words, AllCoherent, current_words, words_among, program_words, IsBus, HeldBus, Stage, Load, Write, Locked, Transaction}
+use Rattle.snoop_bus.proofs.Vocabulary.{eqb_tells, nat_tests, arith, ◌≡◌, ◌≢◌, inl, inr, ℕ, ◌<◌, ◌≤◌, nat_eq, true, false, Bool, None, refl, Option, Some, sym, ap, ◌∙◌, List, [], length, option_map, map, slice_get, if◌then◌else◌, ◌%◌, slice_index_or, nat_lt, subst, ◌&&◌, unwrap_or, IfSome, State, S, O, cases_eq, cases_lt, is_dirty, Line, Words, line_in, line_of_words, state_of_copy, get_or_past, get_or_default, Sets, copy_at, cache_of, tags_of, tags_in, current_words, words_among, AllCoherent, program_words, or_invalid, slice_get-map, Contents, copy_of, contents, with_state, get_or-map, AtHome, option_or, Geometry, IsBus, HeldBus, counted_copies_of, with_counted_copy, IsHeld, Awaits, AskedOf, kept_by, kept_words, clean, IsD, ImD, SmD, Transient, Transaction, Stage, Load, Write, Locked, ranked_in, IsClean, with_words}
 use Rattle.snoop_bus.specs.declared.looking.CachedLine.{CachedLine}
 use Rattle.snoop_bus.proofs.AccessLemmas.{tag_here}
 use Rattle.cache_set.proofs.Numbers.{differ, itself}
@@ -149,6 +149,17 @@ line_ranked words core set rank seen caches r found same =
     with_seen : (r : Option (ℕ × Line)) → IfSome r (λ x. x.1.words ≡ line_of_words words seen x.0) → option_map as_cached r ≡ option_map (with_words words seen) (option_map (λ (e : ℕ × Line). (e.0, e.1.state)) r)
     with_seen None same = refl
     with_seen (Some x) same = ap (λ ws. Some (record { line = x.0; state = x.1.state; words = ws })) same
+
+-- where there is no such line, since the set has no more, or there is no such core, or no such set
+pub none_ranked : (words core set rank : ℕ) (seen : List ℕ) (caches : List Sets) → slice_get (slice_index_or (cache_of caches core) set (contents [] 1)).copies rank ≡ None
+    → None ≡ option_map (with_words words seen) (ranked_in (tags_of caches) core set rank)
+none_ranked words core set rank seen caches none = line_ranked words core set rank seen caches None (sym none) tt
+
+pub no_core : (caches : List Sets) (core set rank : ℕ) → length caches ≤ core → slice_get (slice_index_or (cache_of caches core) set (contents [] 1)).copies rank ≡ None
+no_core caches core set rank past = ap (λ (sets : Sets). slice_get (slice_index_or sets set (contents [] 1)).copies rank) (get_or_past caches core [] past)
+
+pub no_set : (caches : List Sets) (core set rank : ℕ) → length (cache_of caches core) ≤ set → slice_get (slice_index_or (cache_of caches core) set (contents [] 1)).copies rank ≡ None
+no_set caches core set rank past = ap (λ (s : Contents). slice_get s.copies rank) (get_or_past (cache_of caches core) set (contents [] 1) past)
 
 dirty_here : (o : Option Line) → is_dirty (or_invalid (option_map (λ (copy : Line). copy.state) o)) ≡ false → is_dirty (state_of_copy o) ≡ false
 dirty_here None h = refl
