@@ -1,7 +1,7 @@
 -- Units by what begins them, and by how many negations and brackets may be open in them.
 use Rattle.litmus_reader.proofs.Vocabulary.{◌≡◌, ℕ, zero, suc, ◌-◌, ◌<◌, Bool, true, false, ◌||◌, List, cond, Option, Some, None, Result, Ok, Err, refl, sym, ap, arith, Stop, Piece, TooLarge, Fault, ReadError, Fails, ◌>>=◌, opens_unit, atom_at, unit_by, unit_at, proposition_at, negation_at, fault, remaining_of, there, symbol_at, OpenRound, bracketed, Claimed, length, Bor, Token}
 use Rattle.std.specs.Prelude.{is_some, IfOk}
-use Rattle.litmus_reader.specs.inner.Propositions.{opening_at, as_negation, closed}
+use Rattle.litmus_reader.specs.inner.Propositions.{opening_at, as_negation, closed, opened_at}
 use Rattle.litmus_reader.specs.declared.condition.Opening.{Opening}
 use Rattle.litmus_reader.specs.declared.condition.Opening.TheVariants as openings
 use Rattle.litmus_cells.specs.declared.fault.ReadError.TheVariants as errors
@@ -68,7 +68,7 @@ module _ (stop : Stop) (cores : ℕ) where
   unit_refused zero atoms names ps x none some = ap (last stop cores atoms names ps) (opens_some (negation_at ps) (symbol_at OpenRound ps) x some)
   unit_refused (suc n) atoms names ps x none some = absurd (omega arith)
 
-  pub unit_negated : (opens atoms : ℕ) (names : List (List ℕ)) (ps inside : List Piece) → 0 < opens → Some (openings.Negation, inside) ≡ opening_at ps
+  unit_negated : (opens atoms : ℕ) (names : List (List ℕ)) (ps inside : List Piece) → 0 < opens → Some (openings.Negation, inside) ≡ opening_at ps
       → unit_at stop cores opens atoms names ps ≡ (unit_at stop cores (opens - 1) atoms names inside >>= as_negation)
   unfolding unit_at unit_by
   unit_negated zero atoms names ps inside some is = absurd (omega arith)
@@ -76,13 +76,18 @@ module _ (stop : Stop) (cores : ℕ) where
       let e : suc n - 1 ≡ n = omega arith in
       rw e (by_negation (negation_at ps) (symbol_at OpenRound ps) (λ rest. unit_at stop cores n atoms names rest >>= as_negation) (bracketed stop (unit_at stop cores n) atoms names) (atom_at stop cores atoms names ps) inside is)
 
-  pub unit_bracketed : (opens atoms : ℕ) (names : List (List ℕ)) (ps inside : List Piece) → 0 < opens → Some (openings.Bracket, inside) ≡ opening_at ps
+  unit_bracketed : (opens atoms : ℕ) (names : List (List ℕ)) (ps inside : List Piece) → 0 < opens → Some (openings.Bracket, inside) ≡ opening_at ps
       → unit_at stop cores opens atoms names ps ≡ (proposition_at stop cores (opens - 1) atoms names inside >>= closed stop)
   unfolding unit_at unit_by
   unit_bracketed zero atoms names ps inside some is = absurd (omega arith)
   unit_bracketed (suc n) atoms names ps inside some is =
       let e : suc n - 1 ≡ n = omega arith in
       rw e (by_bracket (negation_at ps) (symbol_at OpenRound ps) (λ rest. unit_at stop cores n atoms names rest >>= as_negation) (bracketed stop (unit_at stop cores n) atoms names) (atom_at stop cores atoms names ps) inside is)
+
+  pub unit_opened : (opening : Opening) (opens atoms : ℕ) (names : List (List ℕ)) (ps inside : List Piece) → 0 < opens → Some (opening, inside) ≡ opening_at ps
+      → unit_at stop cores opens atoms names ps ≡ opened_at opening stop cores (opens - 1) atoms names inside
+  unit_opened openings.Negation opens atoms names ps inside some is = unit_negated opens atoms names ps inside some is
+  unit_opened openings.Bracket opens atoms names ps inside some is = unit_bracketed opens atoms names ps inside some is
 
 -- ---- what fails first fails in all
 

@@ -79,6 +79,7 @@ fn counted<'a, 'b>(
 ///
 /// `BadCondition` at a token that doesn't fit; then, at the atom's first token, `NoSuchCore`,
 /// `BadNumber`, and `TooLarge` for a location or an atom too many.
+#[inline(always)]
 #[tactic(auto, unfolding(crate::specs::Conditions::atom_at, crate::specs::Conditions::truth_at, crate::specs::Conditions::setting_atom))]
 fn atom_at<'a, 'b>(
     stop: Stop,
@@ -170,6 +171,7 @@ enum Joint {
 }
 
 /// A proposition and what was read after it, with this between them, and the tokens after both.
+#[inline(always)]
 fn joined<'a, 'b>(
     alloc: Global,
     joint: Joint,
@@ -200,10 +202,39 @@ struct Surroundings {
     cores: usize,
 }
 
+/// The unit that begins with this opening, in which so many more negations and brackets may be open at once, from the tokens
+/// after the opening on; and the tokens after it.
+#[cycle(condition)]
+fn opened_at<'a, 'b>(
+    alloc: Global,
+    around: Surroundings,
+    opening: Opening,
+    opens: usize,
+    atoms: &mut usize,
+    names: &mut Vec<&'a [u8]>,
+    inside: &'b [Token<'a>],
+) -> Result<(Prop, &'b [Token<'a>]), ReadError>
+    requires { around.cores ≤ most_cores }
+    ensures value { GivesClaim (parts.opened_at opening around.stop around.cores opens) atoms.old names.old.items inside.now result atoms.new names.new.items }
+    ensures shorter { IfOk result (λ x. length x.1.now < length inside.now) }
+{
+    match opening {
+        Opening::Negation => {
+            let read = unit_at(alloc, around, opens, atoms, names, inside);
+            negated(alloc, read)
+        }
+        Opening::Bracket => {
+            let read = proposition_at(alloc, around, opens, atoms, names, inside);
+            closed(around.stop, read)
+        }
+    }
+}
+
 /// The unit at the front, in which so many negations and brackets may be open at once, and the
 /// tokens after it.
 ///
 /// `TooLarge` at a negation or a bracket too many.
+#[inline(never)]
 #[cycle(condition)]
 fn unit_at<'a, 'b>(
     alloc: Global,
@@ -226,19 +257,11 @@ fn unit_at<'a, 'b>(
             remaining: remaining_of(tokens),
         }));
     }
-    match opening {
-        Opening::Negation => {
-            let read = unit_at(alloc, around, opens - 1, atoms, names, inside);
-            negated(alloc, read)
-        }
-        Opening::Bracket => {
-            let read = proposition_at(alloc, around, opens - 1, atoms, names, inside);
-            closed(around.stop, read)
-        }
-    }
+    opened_at(alloc, around, opening, opens - 1, atoms, names, inside)
 }
 
 /// Units joined by `/\`, and the tokens after them.
+#[inline(always)]
 #[cycle(condition)]
 fn conjunction_at<'a, 'b>(
     alloc: Global,

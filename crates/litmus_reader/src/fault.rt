@@ -51,6 +51,7 @@ impl Part {
     }
 
     /// What is there, or the refusal of the token at the front.
+    #[inline(always)]
     pub fn expect<T>(self, tokens: &[Token<'_>], found: Option<T>) -> Result<T, Fault>
         ensures { result ≡ spec.or_unfit self (pieces tokens.now) found }
     {

@@ -80,6 +80,7 @@ fn plain_setting<'a, 'b>(
 /// `c:REG=v`, `[x]=v` or `x=v` at the front, and the tokens after it.
 ///
 /// What doesn't fit is refused as `part` says.
+#[inline(always)]
 #[tactic(auto, unfolding(crate::specs::Settings::setting_at))]
 pub fn setting_at<'a, 'b>(
     part: Part,

@@ -7,8 +7,8 @@ use Rattle.litmus_cells.specs.declared.fault.ReadError.{ReadError}
 use Rattle.litmus_cells.specs.inner.Faults.{Gives}
 use Rattle.litmus_reader.specs.Faults.{or_unfit}
 use Rattle.litmus_reader.specs.Places.{part_of}
-use Rattle.litmus_reader.specs.Conditions.{Claimed, negation_at}
-use Rattle.litmus_reader.specs.inner.Conditions.{claimed, joined_by}
+use Rattle.litmus_reader.specs.Conditions.{Claimed, Proposition, negation_at, unit_at}
+use Rattle.litmus_reader.specs.inner.Conditions.{claimed, joined_by, proposition_at}
 use Rattle.litmus_reader.specs.declared.condition.Joint.{Joint}
 use Rattle.litmus_reader.specs.declared.condition.Opening.{Opening}
 use Rattle.litmus_reader.specs.declared.condition.Opening.TheVariants as openings
@@ -26,6 +26,11 @@ as_negation c = Ok (record c { claim = NotClaim c.claim })
 -- what has been read after a `(`, with its `)`
 abbrev pub closed : Stop → Claimed → Result Claimed Fault
 closed stop c = or_unfit (part_of BadCondition stop) c.rest (symbol_at CloseRound c.rest) >>= λ rest. Ok (record c { rest = rest })
+
+-- a unit that begins with this opening, from what stands after it on, in which so many more negations and brackets may be open
+abbrev pub opened_at : Opening → Stop → ℕ → ℕ → Proposition
+opened_at openings.Negation stop cores opens atoms names ps = unit_at stop cores opens atoms names ps >>= as_negation
+opened_at openings.Bracket stop cores opens atoms names ps = proposition_at stop cores opens atoms names ps >>= closed stop
 
 -- a claim and what has been read after it, with this between them
 abbrev pub joined_to : Joint → Claim → Claimed → Result Claimed Fault

@@ -1,5 +1,5 @@
 use Rattle.litmus_reader.proofs.Vocabulary.{◌∙◌, ◌<◌, length, sym, ap, arith, Err, err_from_is_err_and, length-map, claim_of, And, Or, pieces, texts, claimed, AndClaim, OrClaim, unit_at, conjunction, fault, TooLarge}
-use Rattle.litmus_reader.proofs.Units.{unit_atom, unit_refused, unit_negated, unit_bracketed, shorter_still}
+use Rattle.litmus_reader.proofs.Units.{unit_atom, unit_refused, unit_opened, shorter_still}
 use Rattle.litmus_reader.proofs.Chains.{chain_start, chain_end, chain_joined, chain_stops, chain_never_starts}
 use Rattle.litmus_reader.proofs.condition.+condition.Goals as goal
 
@@ -81,20 +81,25 @@ unit_at-returns-then-opens-eq0-clause-value bound c =
     unit_refused c.args.around.stop c.args.around.cores c.args.opens c.args.atoms.now (texts c.args.names.now.items) (pieces c.args.tokens.now) _ c.if-opens-eq0.true c.in-Some.ensures.value
     ∙ ap (λ n. Err (fault TooLarge n)) (sym c.remaining_of.ensures)
 
-pub unit_at-returns-in-Negation-clause-value : goal.unit_at-returns-in-Negation-clause-value
-unit_at-returns-in-Negation-clause-value bound c =
+pub unit_at-returns-clause-value : goal.unit_at-returns-clause-value
+unit_at-returns-clause-value bound c =
     let some : 0 < c.args.opens = let n = c.if-opens-eq0.false in omega (arith, n) in
-    rw (unit_negated c.args.around.stop c.args.around.cores c.args.opens c.args.atoms.now (texts c.args.names.now.items) (pieces c.args.tokens.now) (pieces c.in-Some.inside.now) some (rw c.in-Negation.is at c.in-Some.ensures.value))
-    (c.negated.ensures.value c.unit_at-read.new.atoms (texts c.unit_at-read.new.names.items) _ c.unit_at-read.ensures.value)
+    rw (unit_opened c.args.around.stop c.args.around.cores c.in-Some.opening c.args.opens c.args.atoms.now (texts c.args.names.now.items) (pieces c.args.tokens.now) (pieces c.in-Some.inside.now) some c.in-Some.ensures.value)
+    c.opened_at.ensures.value
 
-pub unit_at-returns-in-Negation-clause-shorter : goal.unit_at-returns-in-Negation-clause-shorter
-unit_at-returns-in-Negation-clause-shorter bound c = shorter_still _ (length c.in-Some.inside.now) (length c.args.tokens.now) c.in-Some.ensures.shorter (c.negated.ensures.shorter (length c.in-Some.inside.now) c.unit_at-read.ensures.shorter)
+pub unit_at-returns-clause-shorter : goal.unit_at-returns-clause-shorter
+unit_at-returns-clause-shorter bound c = shorter_still _ (length c.in-Some.inside.now) (length c.args.tokens.now) c.in-Some.ensures.shorter c.opened_at.ensures.shorter
 
-pub unit_at-returns-in-Bracket-clause-value : goal.unit_at-returns-in-Bracket-clause-value
-unit_at-returns-in-Bracket-clause-value bound c =
-    let some : 0 < c.args.opens = let n = c.if-opens-eq0.false in omega (arith, n) in
-    rw (unit_bracketed c.args.around.stop c.args.around.cores c.args.opens c.args.atoms.now (texts c.args.names.now.items) (pieces c.args.tokens.now) (pieces c.in-Some.inside.now) some (rw c.in-Bracket.is at c.in-Some.ensures.value))
-    (c.closed.ensures.value c.proposition_at-read.new.atoms (texts c.proposition_at-read.new.names.items) _ c.proposition_at-read.ensures.value)
+pub opened_at-returns-in-Negation-clause-value : goal.opened_at-returns-in-Negation-clause-value
+opened_at-returns-in-Negation-clause-value bound c =
+    rw c.in-Negation.is (c.negated.ensures.value c.unit_at-read.new.atoms (texts c.unit_at-read.new.names.items) _ c.unit_at-read.ensures.value)
 
-pub unit_at-returns-in-Bracket-clause-shorter : goal.unit_at-returns-in-Bracket-clause-shorter
-unit_at-returns-in-Bracket-clause-shorter bound c = shorter_still _ (length c.in-Some.inside.now) (length c.args.tokens.now) c.in-Some.ensures.shorter (c.closed.ensures.shorter (length c.in-Some.inside.now) c.proposition_at-read.ensures.shorter)
+pub opened_at-returns-in-Negation-clause-shorter : goal.opened_at-returns-in-Negation-clause-shorter
+opened_at-returns-in-Negation-clause-shorter bound c = c.negated.ensures.shorter (length c.args.inside.now) c.unit_at-read.ensures.shorter
+
+pub opened_at-returns-in-Bracket-clause-value : goal.opened_at-returns-in-Bracket-clause-value
+opened_at-returns-in-Bracket-clause-value bound c =
+    rw c.in-Bracket.is (c.closed.ensures.value c.proposition_at-read.new.atoms (texts c.proposition_at-read.new.names.items) _ c.proposition_at-read.ensures.value)
+
+pub opened_at-returns-in-Bracket-clause-shorter : goal.opened_at-returns-in-Bracket-clause-shorter
+opened_at-returns-in-Bracket-clause-shorter bound c = c.closed.ensures.shorter (length c.args.inside.now) c.proposition_at-read.ensures.shorter

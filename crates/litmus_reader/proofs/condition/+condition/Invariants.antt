@@ -3,13 +3,16 @@ use Rattle.litmus_reader.proofs.Chains.{ChainAfter}
 use Rattle.litmus_reader.proofs.condition.+condition.Given as goal
 
 abbrev pub decreases-unit_at : goal.decreases-unit_at
-decreases-unit_at l = 3 * l.opens
+decreases-unit_at l = 4 * l.opens
+
+abbrev pub decreases-opened_at : goal.decreases-opened_at
+decreases-opened_at l = 4 * l.opens + 3
 
 abbrev pub decreases-conjunction_at : goal.decreases-conjunction_at
-decreases-conjunction_at l = 3 * l.opens + 1
+decreases-conjunction_at l = 4 * l.opens + 1
 
 abbrev pub decreases-proposition_at : goal.decreases-proposition_at
-decreases-proposition_at l = 3 * l.opens + 2
+decreases-proposition_at l = 4 * l.opens + 2
 
 abbrev pub invariant-conjunction_at-loop-next : goal.invariant-conjunction_at-loop-next
 invariant-conjunction_at-loop-next l = record {
