@@ -55,6 +55,7 @@ fn prop_of<'a>(
 
 /// This atom and the tokens after it, with the atom counted; `TooLarge` at `remaining` for one too
 /// many.
+#[inline(always)]
 fn counted<'a, 'b>(
     remaining: usize,
     atoms: &mut usize,
@@ -79,7 +80,6 @@ fn counted<'a, 'b>(
 ///
 /// `BadCondition` at a token that doesn't fit; then, at the atom's first token, `NoSuchCore`,
 /// `BadNumber`, and `TooLarge` for a location or an atom too many.
-#[inline(always)]
 #[tactic(auto, unfolding(crate::specs::Conditions::atom_at, crate::specs::Conditions::truth_at, crate::specs::Conditions::setting_atom))]
 fn atom_at<'a, 'b>(
     stop: Stop,
@@ -234,7 +234,6 @@ fn opened_at<'a, 'b>(
 /// tokens after it.
 ///
 /// `TooLarge` at a negation or a bracket too many.
-#[inline(never)]
 #[cycle(condition)]
 fn unit_at<'a, 'b>(
     alloc: Global,

@@ -60,7 +60,6 @@ fn end_at(stop: Stop, tokens: &[Token<'_>]) -> Result<(), Fault>
 }
 
 /// What stands after the rows of a text: `locations [..]`, the condition and the end.
-#[inline(never)]
 #[tactic(auto, unfolding(crate::specs::Reading::tail_at))]
 fn tail_at<'a>(
     alloc: Global,

@@ -1,5 +1,5 @@
 -- The token at the front of some bytes, by its first byte.
-use Rattle.std.proofs.Common.{◌≡◌, ℕ, ◌<◌, ◌≤◌, Bool, true, false, List, [], ◌∷◌, length, get_or, take, drop, Option, Some, None, Ok, Err, refl, sym, ◌∙◌, arith}
+use Rattle.std.proofs.Common.{◌≡◌, ℕ, ◌<◌, ◌≤◌, true, false, List, [], ◌∷◌, length, take, drop, Option, Some, None, Ok, Err, refl, sym, ◌∙◌, arith}
 use Rattle.std.specs.List.{prefix_len, slice_get}
 use Rattle.std.specs.Char.{is_ascii_digit}
 use Rattle.std.proofs.lemmas.Bool.{lt-ltb, le-ltb}
@@ -58,10 +58,6 @@ pub symboled : (bytes : List ℕ) (b : ℕ) (found : Option (Symbol × List ℕ)
 symboled bytes b found e d m is = rw is (sym (by_symbol bytes b e d m))
 
 -- a token takes a byte or more
-pub after_run : (p : ℕ → Bool) (bytes back : List ℕ) (b n : ℕ) → Some b ≡ slice_get bytes 0 → (0 < length bytes → p (get_or bytes 0 0) ≡ true → 0 < n) → p b ≡ true
-    → back ≡ drop n bytes → length back < length bytes
-after_run p [] back b n e some first f = absurd cc
-after_run p (x ∷ xs) back b n e some first f =
-    let same : b ≡ x = cc in
-    let one : 0 < n = some (omega arith) (rw (sym same) first) in
-    rw f (omega (arith, length-drop n (x ∷ xs)))
+pub after_run : (bytes back : List ℕ) (b n : ℕ) → Some b ≡ slice_get bytes 0 → 0 < n → back ≡ drop n bytes → length back < length bytes
+after_run [] back b n e some f = absurd cc
+after_run (x ∷ xs) back b n e some f = rw f (omega (arith, some, length-drop n (x ∷ xs)))

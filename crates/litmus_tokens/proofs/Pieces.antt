@@ -1,10 +1,9 @@
 -- All tokens, one after the other.
-use Rattle.std.proofs.Common.{◌≡◌, ℕ, zero, suc, ◌≤◌, ◌<◌, Bool, true, get_or, List, [], ◌∷◌, ◌++◌, length, Ok, Err, refl, sym, ap, ◌∙◌, append_assoc, arith}
+use Rattle.std.proofs.Common.{◌≡◌, ℕ, zero, suc, ◌≤◌, ◌<◌, true, List, [], ◌∷◌, ◌++◌, length, Ok, Err, refl, sym, ap, ◌∙◌, append_assoc, arith}
 use Rattle.std.proofs.lemmas.List.{append-nil}
 use Rattle.litmus_tokens.specs.declared.token.Stop.{Stop}
 use Rattle.litmus_tokens.specs.declared.token.Stop.TheVariants.{End}
 use Rattle.std.proofs.lemmas.Bool.Decides.{nat_tests}
-use Rattle.std.specs.List.{prefix_len}
 use Rattle.litmus_tokens.specs.Gap.{gap_end}
 use Rattle.litmus_tokens.specs.Terms.{term_at}
 use Rattle.tso_model.specs.Names.{begins_name, continues_name}
@@ -25,10 +24,6 @@ nothing_there : (rest : List ℕ) → length rest ≤ 0 → piece_at rest ≡ Er
 unfolding piece_at gap_end term_at
 nothing_there [] le = refl
 nothing_there (b ∷ bs) le = absurd (omega arith)
-
-pub prefix_len_some : (p : ℕ → Bool) (bytes : List ℕ) → 0 < length bytes → p (get_or bytes 0 0) ≡ true → 0 < prefix_len p bytes
-prefix_len_some p [] long first = absurd (omega arith)
-prefix_len_some p (b ∷ bs) long first = rw first (omega arith)
 
 pub begins_in_name : (b : ℕ) → begins_name b ≡ true → continues_name b ≡ true
 begins_in_name b first = grind (arith, nat_tests)

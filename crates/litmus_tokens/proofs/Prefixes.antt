@@ -14,6 +14,11 @@ module _ (p : ℕ → Bool) where
       let step : prefix_len p (drop i xs) ≡ 1 + prefix_len p (drop (i + 1) xs) = rw (add-one, drop-cons xs i d, passes) refl in
       omega (arith, step)
 
+  -- the first item passes
+  pub prefix_begins : (xs : List ℕ) → 0 < length xs → p (get_or xs 0 0) ≡ true → 1 + prefix_len p (drop 1 xs) ≡ prefix_len p xs
+  prefix_begins [] some passes = absurd (omega (arith, some))
+  prefix_begins (x ∷ xs) some passes = rw passes refl
+
   -- the front ends at an item that doesn't pass, or with the list
   pub prefix_is : (xs : List ℕ) (i d : ℕ) → i < length xs → p (get_or xs i d) ≡ false → i + prefix_len p (drop i xs) ≡ prefix_len p xs → i ≡ prefix_len p xs
   prefix_is xs i d lt fails so_far =

@@ -43,13 +43,10 @@ fn after_one(bytes: &[u8]) -> Result<Option<&[u8]>, Stop>
     if is_space(*first) {
         return Ok(Some(after));
     }
-    if *first != b'(' {
-        return Ok(None);
-    }
     let Some((second, inside)) = after.split_first() else {
         return Ok(None);
     };
-    if *second != b'*' {
+    if *first != b'(' || *second != b'*' {
         return Ok(None);
     }
     match after_comment(inside) {

@@ -32,12 +32,15 @@ pub fn limits_are_as_defined()
     ensures { MAX_NAME ≡ longest_name }
 {}
 
+/// How many digits a number has with which the bytes begin.
 fn digits_len(bytes: &[u8]) -> usize
+    requires some { 0 < length bytes.now }
+    requires begins { char.is_ascii_digit (slice_index bytes.now 0) ≡ true }
     ensures value { result ≡ prefix_len char.is_ascii_digit bytes.now }
     ensures within { result ≤ length bytes.now }
-    ensures some { 0 < length bytes.now → char.is_ascii_digit (slice_index bytes.now 0) ≡ true → 0 < result }
+    ensures some { 0 < result }
 {
-    for at in 0..bytes.len() {
+    for at in 1..bytes.len() {
         if !bytes[at].is_ascii_digit() {
             return at;
         }
@@ -64,13 +67,32 @@ fn without_zeros(digits: &[u8]) -> &[u8]
     rest
 }
 
+/// Whether a name can begin with this byte.
+fn begins(byte: u8) -> bool
+    ensures { result ≡ names.begins_name byte }
+{
+    // Most symbols are smaller than any letter, and need no second look.
+    byte >= b'A' && begins_name(byte)
+}
+
+/// Whether a name can go on with this byte.
+fn goes_on(byte: u8) -> bool
+    ensures { result ≡ names.continues_name byte }
+{
+    // Most bytes of a name are letters, and need no second look.
+    byte.is_ascii_alphabetic() || continues_name(byte)
+}
+
+/// How many bytes a name has with which the bytes begin.
 fn name_len(bytes: &[u8]) -> usize
+    requires some { 0 < length bytes.now }
+    requires begins { names.continues_name (slice_index bytes.now 0) ≡ true }
     ensures value { result ≡ prefix_len names.continues_name bytes.now }
     ensures within { result ≤ length bytes.now }
-    ensures some { 0 < length bytes.now → names.continues_name (slice_index bytes.now 0) ≡ true → 0 < result }
+    ensures some { 0 < result }
 {
-    for at in 0..bytes.len() {
-        if !continues_name(bytes[at]) {
+    for at in 1..bytes.len() {
+        if !goes_on(bytes[at]) {
             return at;
         }
     }
@@ -142,7 +164,7 @@ fn lexeme_at(bytes: &[u8]) -> Result<(Lexeme<'_>, &[u8]), Stop>
         let (digits, rest) = bytes.split_at(digits_len(bytes));
         return Ok((Lexeme::Number(without_zeros(digits)), rest));
     }
-    if begins_name(*first) {
+    if begins(*first) {
         let (name, rest) = bytes.split_at(name_len(bytes));
         if name.len() > MAX_NAME {
             return Err(Stop::BadToken(bytes.len()));

@@ -1,8 +1,5 @@
 use Rattle.std.proofs.Common.{◌∙◌, None, Some, sym}
-use Rattle.std.specs.Char.{is_ascii_digit}
-use Rattle.tso_model.specs.Names.{continues_name}
 use Rattle.litmus_tokens.proofs.Lexemes.{ended, numbered, named, too_long, symboled, after_run}
-use Rattle.litmus_tokens.proofs.Pieces.{begins_in_name}
 use Rattle.litmus_tokens.proofs.lexing.lexeme_at.Goals as goal
 
 pub returns-in_default-clause-value : goal.returns-in_default-clause-value
@@ -15,32 +12,30 @@ returns-then-is_ascii_digit-clause-value c =
 
 pub returns-then-name-gt-MAX_NAME-clause-value : goal.returns-then-name-gt-MAX_NAME-clause-value
 returns-then-name-gt-MAX_NAME-clause-value c =
-    too_long c.args.bytes.now c.split_at-then-begins_name.result.0.now c.in-Some.first.now c.name_len.result c.in-Some.ensures.value
-    (sym c.is_ascii_digit.ensures.value ∙ c.if-is_ascii_digit.false) (sym c.begins_name.ensures ∙ c.if-begins_name.true)
-    c.name_len.ensures.value c.split_at-then-begins_name.ensures.front c.if-name-gt-MAX_NAME.true
+    too_long c.args.bytes.now c.split_at-then-begins.result.0.now c.in-Some.first.now c.name_len.result c.in-Some.ensures.value
+    (sym c.is_ascii_digit.ensures.value ∙ c.if-is_ascii_digit.false) (sym c.begins.ensures ∙ c.if-begins.true)
+    c.name_len.ensures.value c.split_at-then-begins.ensures.front c.if-name-gt-MAX_NAME.true
 
-pub returns-then-begins_name-clause-value : goal.returns-then-begins_name-clause-value
-returns-then-begins_name-clause-value c =
-    named c.args.bytes.now c.split_at-then-begins_name.result.0.now c.split_at-then-begins_name.result.1.now c.in-Some.first.now c.name_len.result c.in-Some.ensures.value
-    (sym c.is_ascii_digit.ensures.value ∙ c.if-is_ascii_digit.false) (sym c.begins_name.ensures ∙ c.if-begins_name.true)
-    c.name_len.ensures.value c.split_at-then-begins_name.ensures.front c.split_at-then-begins_name.ensures.back c.if-name-gt-MAX_NAME.false
+pub returns-then-begins-clause-value : goal.returns-then-begins-clause-value
+returns-then-begins-clause-value c =
+    named c.args.bytes.now c.split_at-then-begins.result.0.now c.split_at-then-begins.result.1.now c.in-Some.first.now c.name_len.result c.in-Some.ensures.value
+    (sym c.is_ascii_digit.ensures.value ∙ c.if-is_ascii_digit.false) (sym c.begins.ensures ∙ c.if-begins.true)
+    c.name_len.ensures.value c.split_at-then-begins.ensures.front c.split_at-then-begins.ensures.back c.if-name-gt-MAX_NAME.false
 
 pub returns-in-Some-symbol_of-clause-value : goal.returns-in-Some-symbol_of-clause-value
 returns-in-Some-symbol_of-clause-value c =
     symboled c.args.bytes.now c.in-Some.first.now (Some (c.in-Some-symbol_of.symbol, c.in-Some-symbol_of.rest.now)) c.in-Some.ensures.value
-    (sym c.is_ascii_digit.ensures.value ∙ c.if-is_ascii_digit.false) (sym c.begins_name.ensures ∙ c.if-begins_name.false) c.in-Some-symbol_of.ensures.value
+    (sym c.is_ascii_digit.ensures.value ∙ c.if-is_ascii_digit.false) (sym c.begins.ensures ∙ c.if-begins.false) c.in-Some-symbol_of.ensures.value
 
 pub returns-in-None-clause-value : goal.returns-in-None-clause-value
 returns-in-None-clause-value c =
     symboled c.args.bytes.now c.in-Some.first.now None c.in-Some.ensures.value
-    (sym c.is_ascii_digit.ensures.value ∙ c.if-is_ascii_digit.false) (sym c.begins_name.ensures ∙ c.if-begins_name.false) c.in-None.ensures.value
+    (sym c.is_ascii_digit.ensures.value ∙ c.if-is_ascii_digit.false) (sym c.begins.ensures ∙ c.if-begins.false) c.in-None.ensures.value
 
 pub returns-then-is_ascii_digit-clause-shorter : goal.returns-then-is_ascii_digit-clause-shorter
 returns-then-is_ascii_digit-clause-shorter c =
-    after_run is_ascii_digit c.args.bytes.now c.split_at.result.1.now c.in-Some.first.now c.digits_len.result c.in-Some.ensures.value c.digits_len.ensures.some
-    (sym c.is_ascii_digit.ensures.value ∙ c.if-is_ascii_digit.true) c.split_at.ensures.back
+    after_run c.args.bytes.now c.split_at.result.1.now c.in-Some.first.now c.digits_len.result c.in-Some.ensures.value c.digits_len.ensures.some c.split_at.ensures.back
 
-pub returns-then-begins_name-clause-shorter : goal.returns-then-begins_name-clause-shorter
-returns-then-begins_name-clause-shorter c =
-    after_run continues_name c.args.bytes.now c.split_at-then-begins_name.result.1.now c.in-Some.first.now c.name_len.result c.in-Some.ensures.value c.name_len.ensures.some
-    (begins_in_name c.in-Some.first.now (sym c.begins_name.ensures ∙ c.if-begins_name.true)) c.split_at-then-begins_name.ensures.back
+pub returns-then-begins-clause-shorter : goal.returns-then-begins-clause-shorter
+returns-then-begins-clause-shorter c =
+    after_run c.args.bytes.now c.split_at-then-begins.result.1.now c.in-Some.first.now c.name_len.result c.in-Some.ensures.value c.name_len.ensures.some c.split_at-then-begins.ensures.back

@@ -1,6 +1,5 @@
-use Rattle.std.proofs.Common.{◌≡◌, ℕ, ◌+◌, ◌==◌, ap, sym, ◌∙◌, arith, count_by}
+use Rattle.std.proofs.Common.{ℕ, ◌+◌, ◌==◌, ap, sym, ◌∙◌}
 use Rattle.std.proofs.lemmas.Bool.{eq-eqb, ne_eqb}
-use Rattle.std.proofs.lemmas.List.{take_all}
 use Rattle.std.proofs.lemmas.List.Sums.{count_by_more_yes, count_by_more_no}
 use Rattle.litmus_tokens.proofs.token.line_of.Goals as goal
 use Rattle.litmus_tokens.proofs.token.line_of.Goals.{then-byte-eq10, else-byte-eq10}
