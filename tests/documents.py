@@ -159,7 +159,7 @@ def faults_of_named_files(path):
 def faults_of_names():
     """Each name that the program gives a refusal has a heading among the messages."""
     there = headings(os.path.join(TOP, "docs", "MESSAGES.md"))
-    names = re.findall(r'Why::(\w+) =>', content(os.path.join(TOP, "crates", "litmus_cells", "src", "fault.rt")))
+    names = re.findall(r'Why::(\w+) =>', content(os.path.join(TOP, "crates", "litmus_tokens", "src", "fault.rt")))
     names += ["BadWord", "NoSuchCore", "TooMany", "NoOrder", "BadLine", "BadCount", "C1", "C2", "C3", "C4", "C5"]
     return ["no heading for " + name for name in sorted(set(names)) if name != "NoMemory" and name.lower() not in there]
 

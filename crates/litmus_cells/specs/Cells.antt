@@ -3,15 +3,15 @@ use Rattle.std.specs.Prelude.{ℕ, List, [], ◌∷◌, ◌++◌, count_by, Resu
 use Rattle.basic_laws.specs.Types.{Instr, Loc, StoreImm, StoreReg, Load, SetImm, SetReg, Fence, Xchg, Xadd}
 use Rattle.tso_model.specs.Limits.{most_instructions}
 use Rattle.litmus_tokens.specs.Pieces.{Piece}
-use Rattle.litmus_cells.specs.declared.fault.Why.TheVariants.{BadInstruction, TooLarge}
-use Rattle.litmus_cells.specs.declared.fault.Fault.{Fault}
+use Rattle.litmus_tokens.specs.declared.fault.Why.TheVariants.{BadInstruction, TooLarge}
+use Rattle.litmus_tokens.specs.declared.fault.Fault.{Fault}
 use Rattle.litmus_cells.specs.declared.cell.CoreInstr.{CoreInstr}
-use Rattle.litmus_cells.specs.Faults.{◌>>=◌, or_fault}
-use Rattle.litmus_cells.specs.Locations.{located}
-use Rattle.litmus_cells.specs.Numbers.{word_at}
-use Rattle.litmus_cells.specs.Forms.{spelled_in}
-use Rattle.litmus_cells.specs.Places.{fault}
-use Rattle.litmus_cells.specs.Shapes.{Shape, store_imm, store_reg, load, set_imm, set_reg, fence, xchg, xadd}
+use Rattle.litmus_tokens.specs.Faults.{◌>>=◌, or_fault}
+use Rattle.litmus_tokens.specs.Locations.{located}
+use Rattle.litmus_tokens.specs.Numbers.{word_at}
+use Rattle.litmus_tokens.specs.Forms.{spelled_in}
+use Rattle.litmus_tokens.specs.Places.{fault}
+use Rattle.litmus_tokens.specs.Shapes.{Shape, store_imm, store_reg, load, set_imm, set_reg, fence, xchg, xadd}
 
 -- the instruction of a location, and the names with the location's
 abbrev pub at_location : ℕ → List (List ℕ) → List ℕ → (Loc → Instr) → Result (Instr × List (List ℕ)) Fault

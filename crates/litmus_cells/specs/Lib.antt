@@ -1,12 +1,2 @@
-pub mod Why
-pub mod Places
-pub mod Shapes
-pub mod GrammarNames
-pub mod Locations
 pub mod inner
-pub mod Arguments
 pub mod Cells
-pub mod Faults
-pub mod Forms
-pub mod Names
-pub mod Numbers

@@ -2,16 +2,13 @@
 //! passed over would leave a shorter program, and another test.
 
 ghost use Rattle.std.specs.Prelude.{◌≡◌};
-ghost use Rattle.litmus_cells.specs.inner.Returned.{GivesNamed, GivesCells};
-ghost use Rattle.litmus_cells.specs.Locations.{texts};
-ghost use Rattle.litmus_cells.specs.inner.Forms.{shape_of};
+ghost use Rattle.litmus_tokens.specs.inner.Returned.{GivesNamed};
+ghost use Rattle.litmus_cells.specs.inner.Returned.{GivesCells};
+ghost use Rattle.litmus_tokens.specs.Locations.{texts};
+ghost use Rattle.litmus_tokens.specs.inner.Forms.{shape_of};
 ghost use Rattle.litmus_cells.specs.Cells as spec;
 
-use crate::fault::{Fault, ReadError, Why};
-use crate::form::{Form, Use, form_of};
-use crate::location::located;
-use crate::numbers::word_at;
-use litmus_tokens::Token;
+use litmus_tokens::{Fault, Form, ReadError, Token, Use, Why, form_of, located, word_at};
 use tso_model::Instr;
 use tso_model::limits::MAX_INSTRUCTIONS;
 

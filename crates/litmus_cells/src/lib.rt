@@ -4,16 +4,7 @@
 //! is numbered by first appearance, and last there has to be room for it in its core's program.
 #![tactic(auto)]
 
-mod argument;
 mod cell;
-mod fault;
-mod form;
-mod location;
-mod names;
-mod numbers;
 
 pub use cell::{CoreInstr, read_cell};
-pub use fault::{Fault, ReadError, Why};
-pub use location::located;
-pub use names::{location_at, register_at};
-pub use numbers::word_at;
+pub use litmus_tokens::{Fault, ReadError, Why, located, location_at, register_at, word_at};

@@ -1,9 +1,9 @@
 -- Cells of a row.
 use Rattle.litmus_reader.proofs.Vocabulary.{◌≡◌, ℕ, Option, IfSome, Bor, ◌+◌, ◌-◌, ◌≤◌, ◌<◌, Bool, true, false, not, cond, suc, ltb, inl, inr, List, [], ◌∷◌, length, map, take, drop, Some, None, Result, Ok, Err, refl, sym, ap, ◌∙◌, arith, position, slice_split, position_or_len, onto_first, length-drop, length-map, take_all, ltb-true, slice_split_first, length-slice_split, Bar, Token, Piece, piece_of, pieces, is_symbol, Fault, ReadError, CoreInstr, Fails, cell_in, cells_in, cells_of}
 use Rattle.std.proofs.Common.{count_by}
-use Rattle.litmus_cells.specs.declared.fault.ReadError.TheVariants as errors
+use Rattle.litmus_tokens.specs.declared.fault.ReadError.TheVariants as errors
 use Rattle.litmus_tokens.proofs.Gaps.{chosen}
-use Rattle.litmus_cells.proofs.Maps.{position_none}
+use Rattle.litmus_tokens.proofs.Maps.{position_none}
 use Rattle.litmus_reader.proofs.Maps.{slice_split-map}
 
 abbrev pub Read : Type 0

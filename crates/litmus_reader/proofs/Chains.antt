@@ -1,7 +1,7 @@
 -- Propositions with a symbol between them, one after the other.
 use Rattle.litmus_reader.proofs.Vocabulary.{◌≡◌, ℕ, suc, ◌≤◌, ◌<◌, List, [], ◌∷◌, length, Some, None, Result, Ok, Err, refl, sym, subst, arith, Claim, Symbol, Piece, symbol_at, Fault, ReadError, Fails, ◌>>=◌, Claimed, Proposition, chain, chain_of}
 use Rattle.litmus_reader.proofs.Loops.{After, ends, goes_on}
-use Rattle.litmus_cells.specs.declared.fault.ReadError.TheVariants as errors
+use Rattle.litmus_tokens.specs.declared.fault.ReadError.TheVariants as errors
 use Rattle.litmus_reader.proofs.GrammarTokens.{ok_is}
 
 abbrev pub joined_to : (Claim → Claim → Claim) → Claim → Claimed → Claimed

@@ -2,7 +2,7 @@
 use Rattle.litmus_reader.proofs.Vocabulary.{◌≡◌, ◌≢◌, ℕ, List, Some, Result, Ok, Err, IfErr, MatchResult, refl, sym, ap, ◌∙◌, ◌⊎◌, inl, inr, Litmus, Why, NoMemory, Fault, ReadError, refusal, reading_of, Gives}
 use Rattle.litmus_tokens.specs.Line.{line_of}
 use Rattle.litmus_reader.specs.declared.fault.TextFault.{TextFault}
-use Rattle.litmus_cells.specs.declared.fault.ReadError.TheVariants as errors
+use Rattle.litmus_tokens.specs.declared.fault.ReadError.TheVariants as errors
 use Rattle.litmus_reader.specs.inner.Reading.{refusal_in, refusal_of}
 use Rattle.litmus_reader.specs.Spelling.{SpellsTest, IsRefused, IsDecided}
 use Rattle.litmus_reader.proofs.GrammarTokens.{some_is, ok_is}

@@ -1,6 +1,6 @@
 -- An item more of the initial state, and what is given so far.
 use Rattle.litmus_reader.proofs.Vocabulary.{◌≡◌, ℕ, suc, ◌+◌, ◌≤◌, ◌<◌, ◌^◌, Bool, true, false, cond, ltb, not, List, [], ◌∷◌, ◌++◌, length, map, Ok, Err, refl, sym, ap, subst, ◌∙◌, inl, inr, arith, list_any, list_all, bytes_eq, ltb-false, and_parts, or_parts, not-true, length-append, map-append, list_any-append, list_all-append, Reg, Loc, TwiceInit, located, word_at, Given, given, Initial, initial, gives, judged, given_value, same_place, each_once, names_in, Fits, fault, number_of, location, Setting, of_register, of_location, append-nil, lt-ltb, le-ltb, ◌||◌}
-use Rattle.litmus_cells.proofs.Maps.{list_any_map}
+use Rattle.litmus_tokens.proofs.Maps.{list_any_map}
 use Rattle.litmus_reader.proofs.GrammarNames.{place_below, place_none}
 use Rattle.litmus_reader.proofs.GrammarTokens.{chosen, ok_is, bind_ok}
 use Rattle.litmus_reader.proofs.GrammarPhrases.{names_in-append}

@@ -1,7 +1,7 @@
 -- All items of the initial state, one after the other.
 use Rattle.litmus_reader.proofs.Vocabulary.{◌≡◌, ℕ, suc, ◌<◌, true, false, List, [], ◌∷◌, length, Result, Ok, Err, refl, arith, Stop, OpenCurly, Piece, symbol_at, name_at, number_at, Fault, Part, ReadError, Fails, ◌>>=◌, location_at, plain_setting, setting_at, Initial, initial, item_end, item_in, items_within, items_at, initial_at, in_initial, or_unfit, before_opening, Unclosed, remaining_of, unfit, Bool, cond, Section, section_of, item_ends}
 use Rattle.litmus_reader.proofs.Loops.{After, ends, goes_on}
-use Rattle.litmus_cells.specs.declared.fault.ReadError.TheVariants as errors
+use Rattle.litmus_tokens.specs.declared.fault.ReadError.TheVariants as errors
 use Rattle.litmus_reader.proofs.SectionSteps.{section_shorter}
 
 abbrev pub ReadItems : Type 0

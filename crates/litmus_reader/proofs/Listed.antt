@@ -3,7 +3,7 @@ use Rattle.litmus_reader.proofs.Vocabulary.{◌≡◌, ◌==◌, ◌&&◌, cond,
 use Rattle.std.specs.Cmp.{nat_eq_equiv}
 use Rattle.std.specs.Cmp.Lexicographic.{nat_list_eq_equiv}
 use Rattle.litmus_reader.specs.declared.initial.RegisterWord.{RegisterWord}
-use Rattle.litmus_cells.proofs.Maps.{list_any_map}
+use Rattle.litmus_tokens.proofs.Maps.{list_any_map}
 
 abbrev pub Registers : Type 0
 Registers = Result (List (List ℕ)) Fault

@@ -1,7 +1,7 @@
 -- Where a row ends.
 use Rattle.litmus_reader.proofs.Vocabulary.{◌≡◌, ℕ, true, false, ltb, not, List, length, take, Some, None, Ok, Err, refl, sym, ap, ◌∙◌, inl, inr, position, position_or_len, length-map, take-map, Semicolon, Stop, Token, Piece, piece_of, pieces, is_symbol, Unclosed, row_at, fault, at_stop, remaining_of}
 use Rattle.litmus_tokens.proofs.Gaps.{chosen}
-use Rattle.litmus_cells.proofs.Maps.{prefix_len-map}
+use Rattle.litmus_tokens.proofs.Maps.{prefix_len-map}
 
 at-pieces : (tokens : List Token) → position_or_len (is_symbol Semicolon) (pieces tokens) ≡ position_or_len (λ t. is_symbol Semicolon (piece_of t)) tokens
 at-pieces tokens = prefix_len-map (λ p. not (is_symbol Semicolon p)) piece_of tokens

@@ -1,7 +1,7 @@
 -- All rows, one after the other.
 use Rattle.litmus_reader.proofs.Vocabulary.{◌≡◌, ℕ, suc, ◌≤◌, ◌<◌, true, false, List, [], ◌∷◌, length, Result, Ok, Err, refl, arith, Stop, Piece, Fault, ReadError, CoreInstr, Fails, ◌>>=◌, Given, registers_of, Rows, rows, row_at, row_in, rows_within, rows_at, table, table_at, ends_rows, columns, most_cores, section_of, Section, row_ends, at_stop, fault, Unclosed}
 use Rattle.litmus_reader.proofs.Loops.{After, ends, goes_on}
-use Rattle.litmus_cells.specs.declared.fault.ReadError.TheVariants as errors
+use Rattle.litmus_tokens.specs.declared.fault.ReadError.TheVariants as errors
 use Rattle.litmus_reader.proofs.SectionSteps.{section_shorter}
 
 abbrev left : List CoreInstr × List (List ℕ) × List Piece → ℕ

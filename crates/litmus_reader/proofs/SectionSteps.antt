@@ -1,6 +1,6 @@
 -- Sections of a text, one token after the other.
 use Rattle.litmus_reader.proofs.Vocabulary.{◌≡◌, ℕ, ◌+◌, ◌≤◌, ◌<◌, Bool, true, false, cond, List, [], ◌∷◌, ◌++◌, length, Some, None, Ok, Err, refl, sym, ap, ◌∙◌, append_assoc, append-nil, arith, length-append, list_any, Stop, End, Symbol, Tilde, Term, number, name, symbol, terms, Piece, piece_at, is_symbol_term, is_symbol, symbol_at, name_then, name_at, Why, there, is_one_of, Section, onto_section, section_of, section, IsSection, tokens_in, stop_of, opened, fault, at_stop, remaining_of, bytes_eq, ends_rows_term, ends_rows, is_word, word_after, ◌||◌}
-use Rattle.litmus_cells.specs.declared.fault.Why.TheVariants.{BadToken}
+use Rattle.litmus_tokens.specs.declared.fault.Why.TheVariants.{BadToken}
 use Rattle.litmus_reader.proofs.Lexed.{first_again, none_again}
 use Rattle.litmus_reader.proofs.GrammarTokens.{terms_append}
 

@@ -4,7 +4,7 @@ use Rattle.std.specs.Prelude.{is_some, IfOk}
 use Rattle.litmus_reader.specs.inner.Propositions.{opening_at, as_negation, closed, opened_at}
 use Rattle.litmus_reader.specs.declared.condition.Opening.{Opening}
 use Rattle.litmus_reader.specs.declared.condition.Opening.TheVariants as openings
-use Rattle.litmus_cells.specs.declared.fault.ReadError.TheVariants as errors
+use Rattle.litmus_tokens.specs.declared.fault.ReadError.TheVariants as errors
 
 -- ---- what begins a unit, by what stands after a negation and after a bracket
 

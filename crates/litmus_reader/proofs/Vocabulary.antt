@@ -9,7 +9,7 @@ pub use Rattle.litmus_reader.specs.GrammarText.{name_in, ClosesBrackets, here, f
 unfoldable pub use Rattle.litmus_reader.specs.GrammarText.{first_line, continues_key}
 pub use Rattle.litmus_tokens.specs.Gap.{opens_comment, closes_comment}
 unfoldable pub use Rattle.litmus_tokens.specs.Gap.{gap_end, is_space}
-pub use Rattle.litmus_cells.specs.declared.fault.Fault.{Fault}
+pub use Rattle.litmus_tokens.specs.declared.fault.Fault.{Fault}
 pub use Rattle.litmus_reader.specs.Header.{from_gap, sized}
 unfoldable pub use Rattle.litmus_reader.specs.Header.{header_at}
 unfoldable pub use Rattle.litmus_reader.specs.Information.{information_end, begins_initial, braces_within, braces_at, quotation_end, key_value, key_line_end}
@@ -21,10 +21,10 @@ unfoldable pub use Rattle.litmus_tokens.specs.Pieces.{pieces_of, piece_at, piece
 pub use Rattle.litmus_tokens.specs.Front.{is_symbol_term, name_then, number_then}
 unfoldable pub use Rattle.litmus_tokens.specs.Front.{symbol_at, name_at, number_at, is_symbol}
 pub use Rattle.litmus_reader.specs.declared.fault.Part.{Part}
-pub use Rattle.litmus_cells.specs.declared.fault.ReadError.{ReadError}
-pub use Rattle.litmus_cells.specs.inner.Faults.{Fails, Gives}
-pub use Rattle.litmus_cells.specs.Faults.{◌>>=◌, or_fault, there}
-unfoldable pub use Rattle.litmus_cells.specs.Names.{location_at, register_at}
+pub use Rattle.litmus_tokens.specs.declared.fault.ReadError.{ReadError}
+pub use Rattle.litmus_tokens.specs.inner.Faults.{Fails, Gives}
+pub use Rattle.litmus_tokens.specs.Faults.{◌>>=◌, or_fault, there}
+unfoldable pub use Rattle.litmus_tokens.specs.Names.{location_at, register_at}
 pub use Rattle.litmus_reader.specs.Settings.{core_of}
 unfoldable pub use Rattle.litmus_reader.specs.Settings.{plain_setting, setting_at, value_at, register_setting, square_setting}
 pub use Rattle.litmus_reader.specs.Initial.{Initial, Given, gives, registers_of}
@@ -33,13 +33,13 @@ pub use Rattle.litmus_reader.specs.Places.{unfit, remaining_of, in_initial, at_s
 pub use Rattle.std.specs.Str.{bytes_eq, IsUtf8}
 pub use Rattle.tso_model.specs.Registers.{index_of, IsWord, same_letters, AreRegisters, register_named}
 pub use Rattle.basic_laws.specs.Types.{Reg, Instr, Loc, StoreImm, StoreReg, Load, SetImm, SetReg, Fence, Xchg, Xadd, Quantifier, Exists, NotExists, Forall, Eax, Ebx, Ecx, Edx, Esi, Edi}
-pub use Rattle.litmus_cells.specs.declared.fault.Why.TheVariants.{TwiceInit, TooLarge, Unclosed, NoSuchCore, WrongCells, BadHeaderRow, BadCondition, BadInstruction, BadNumber, NoMemory}
-pub use Rattle.litmus_cells.specs.Numbers.{word_at}
+pub use Rattle.litmus_tokens.specs.declared.fault.Why.TheVariants.{TwiceInit, TooLarge, Unclosed, NoSuchCore, WrongCells, BadHeaderRow, BadCondition, BadInstruction, BadNumber, NoMemory}
+pub use Rattle.litmus_tokens.specs.Numbers.{word_at}
 pub use Rattle.litmus_reader.specs.inner.Initial.{given, initial, given_of, named_by_key, named_by_word, KnowsGiven, with_register, items_at, words_of}
 pub use Rattle.litmus_reader.specs.inner.Sections.{before_opening, tokens_in, stop_of, section, onto_section, is_one_of, item_ends, row_ends, IsSection, opened}
 pub use Rattle.litmus_reader.specs.Sections.{Section}
 unfoldable pub use Rattle.litmus_reader.specs.Sections.{section_of}
-pub use Rattle.litmus_cells.specs.Places.{fault}
+pub use Rattle.litmus_tokens.specs.Places.{fault}
 pub use Rattle.litmus_reader.specs.Written.{of_register, Setting, of_location, Phrase, truth, atom, negation, both, either, WrittenCondition, Written}
 pub use Rattle.tso_model.specs.Limits.{most_cores, most_instructions, most_locations, most_open, longest_name}
 pub use Rattle.litmus_reader.specs.Faults.{or_unfit}
@@ -64,21 +64,21 @@ pub use Rattle.litmus_reader.specs.Conditions.{Claimed, Proposition, one_more, d
 pub use Rattle.litmus_reader.specs.inner.Conditions.{claimed, conditioned, conjunction, proposition_at}
 unfoldable pub use Rattle.litmus_reader.specs.Conditions.{chain, chain_of, opens_unit, atom_at, unit_by, unit_at, claim_in, truth_at, setting_atom, negation_at, quantified, condition_at}
 pub use Rattle.std.proofs.Math.Seq.{take-suc, drop-append_seam}
-pub use Rattle.litmus_cells.specs.Locations.{texts}
-unfoldable pub use Rattle.litmus_cells.specs.Locations.{located}
+pub use Rattle.litmus_tokens.specs.Locations.{texts}
+unfoldable pub use Rattle.litmus_tokens.specs.Locations.{located}
 pub use Rattle.litmus_reader.specs.Reading.{program_of, test_of, refusal}
 unfoldable pub use Rattle.litmus_reader.specs.Reading.{end_at, tail_at, body_of, reading_of}
 pub use Rattle.decimals.specs.Decimals.{decimal_value}
 pub use Rattle.tso_model.specs.Names.{is_location_name, is_among, is_name, is_register_word, is_test_name, is_printable, begins_name, continues_name, last_byte, is_keyword}
-pub use Rattle.litmus_cells.specs.Arguments.{ArgumentTerm, in_memory, in_register, constant, as_constant, memory_at, if_last}
-unfoldable pub use Rattle.litmus_cells.specs.Arguments.{argument_at, two_arguments}
-pub use Rattle.litmus_cells.specs.Forms.{mov_of, xchg_of, xadd_of, no_more, locked_by, by_mnemonic}
-unfoldable pub use Rattle.litmus_cells.specs.Forms.{locked_at, spelled_in}
-pub use Rattle.litmus_cells.specs.Shapes.{Shape, store_imm, store_reg, load, set_imm, set_reg, fence, xchg, xadd}
+pub use Rattle.litmus_tokens.specs.Arguments.{ArgumentTerm, in_memory, in_register, constant, as_constant, memory_at, if_last}
+unfoldable pub use Rattle.litmus_tokens.specs.Arguments.{argument_at, two_arguments}
+pub use Rattle.litmus_tokens.specs.Forms.{mov_of, xchg_of, xadd_of, no_more, locked_by, by_mnemonic}
+unfoldable pub use Rattle.litmus_tokens.specs.Forms.{locked_at, spelled_in}
+pub use Rattle.litmus_tokens.specs.Shapes.{Shape, store_imm, store_reg, load, set_imm, set_reg, fence, xchg, xadd}
 pub use Rattle.std.proofs.lemmas.List.Elements.{All-nil, All-head, All-tail, All-weaker, All-map, All-cons}
 pub use Rattle.tso_model.specs.Litmus.{are_distinct, KnownLocation, ConstantIsWord, IsProgram, Litmus, IsTest}
-pub use Rattle.litmus_cells.specs.GrammarNames.{number_of, location, with_name}
-unfoldable pub use Rattle.litmus_cells.specs.GrammarNames.{numbered}
+pub use Rattle.litmus_tokens.specs.GrammarNames.{number_of, location, with_name}
+unfoldable pub use Rattle.litmus_tokens.specs.GrammarNames.{numbered}
 pub use Rattle.tso_model.specs.Thread.{with_value}
 pub use Rattle.litmus_reader.specs.Keywords.{is_word}
 unfoldable pub use Rattle.litmus_reader.specs.Keywords.{word_after}
@@ -98,6 +98,6 @@ pub use Rattle.litmus_reader.specs.GrammarRows.{IsField, empty, full, AreFields,
 pub use Rattle.std.proofs.lemmas.List.FromFn.{length-map-range_with_len, get_or-map-range_with_len}
 pub use Rattle.litmus_tokens.specs.declared.token.Stop.TheVariants.{End}
 pub use Rattle.litmus_reader.specs.GrammarEnding.{MayAsk, nothing, a_condition, IsEnding, at_once, after_locations, names_asked, condition_of, IsAskedWithin}
-pub use Rattle.litmus_cells.specs.declared.fault.Why.{Why}
+pub use Rattle.litmus_tokens.specs.declared.fault.Why.{Why}
 pub use Rattle.std.proofs.lemmas.Result.{err_from_is_err_and}
 pub use Rattle.litmus_reader.specs.inner.Cells.{cells_after}

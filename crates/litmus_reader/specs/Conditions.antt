@@ -4,7 +4,7 @@ use Rattle.std.specs.Prelude.{ℕ, zero, suc, ◌+◌, Bool, true, false, List, 
 use Rattle.litmus_reader.specs.Vocabulary.{And, AndClaim, BadCondition, Claim, CloseRound, Condition, Exists, Fault, fault, Forall, LocClaim, most_atoms, most_open, NotClaim, NotExists, OpenRound, Or, OrClaim, Piece, Quantifier, RegClaim, Stop, Symbol, symbol_at, there, Tilde, TooLarge, TruthClaim, word_at, ◌>>=◌}
 use Rattle.litmus_reader.specs.Faults.{or_unfit}
 use Rattle.litmus_reader.specs.Keywords.{word_after}
-use Rattle.litmus_cells.specs.Locations.{located}
+use Rattle.litmus_tokens.specs.Locations.{located}
 use Rattle.litmus_reader.specs.Settings.{setting_at, core_of}
 use Rattle.litmus_reader.specs.Places.{remaining_of, part_of}
 use Rattle.litmus_reader.specs.Written.{Setting, of_register, of_location}

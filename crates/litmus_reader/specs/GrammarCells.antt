@@ -3,7 +3,7 @@
 use Rattle.std.specs.Prelude.{◌≡◌, ℕ, List, [], ◌∷◌, ◌++◌, codes, Some, IsTrue}
 use Rattle.litmus_reader.specs.Vocabulary.{CloseSquare, Comma, decimal_value, Dollar, fence, is_location_name, load, OpenSquare, Reg, register_named, same_letters, set_imm, set_reg, Shape, store_imm, store_reg, xadd, xchg}
 use Rattle.litmus_tokens.specs.Terms.{Term, number, name, symbol}
-use Rattle.litmus_cells.specs.Arguments.{ArgumentTerm, in_memory, in_register, constant}
+use Rattle.litmus_tokens.specs.Arguments.{ArgumentTerm, in_memory, in_register, constant}
 
 -- an operand
 pub data IsOperand : List Term → ArgumentTerm → Type 0 where

@@ -5,7 +5,7 @@ use Rattle.std.specs.Str.{bytes_eq}
 use Rattle.litmus_reader.specs.Vocabulary.{BadToken, CloseCurly, Fault, fault, index_of, OpenCurly, Piece, Reg, Semicolon, Stop, symbol_at, there, TwiceInit, Unclosed, with_value, word_at, ◌>>=◌}
 use Rattle.litmus_reader.specs.declared.fault.Part.{Part}
 use Rattle.litmus_reader.specs.Faults.{or_unfit}
-use Rattle.litmus_cells.specs.Locations.{located}
+use Rattle.litmus_tokens.specs.Locations.{located}
 use Rattle.litmus_reader.specs.Settings.{setting_at, core_of}
 use Rattle.litmus_reader.specs.Places.{at_stop, remaining_of, in_initial}
 use Rattle.litmus_reader.specs.Sections.{section_of}

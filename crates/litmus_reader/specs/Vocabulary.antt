@@ -18,12 +18,12 @@ pub use Rattle.litmus_tokens.specs.declared.token.Symbol.{Symbol}
 pub use Rattle.litmus_tokens.specs.declared.token.Symbol.TheVariants.{And, Bar, CloseCurly, CloseRound, CloseSquare, Colon, Comma, Dollar, Equals, OpenCurly, OpenRound, OpenSquare, Or, Semicolon, Tilde}
 pub use Rattle.litmus_tokens.specs.declared.token.Token.{Token}
 pub use Rattle.litmus_tokens.specs.inner.Pieces.{pieces}
-pub use Rattle.litmus_cells.specs.Faults.{or_fault, there, ◌>>=◌}
-pub use Rattle.litmus_cells.specs.GrammarNames.{location, number_of, numbered}
-pub use Rattle.litmus_cells.specs.Numbers.{word_at}
-pub use Rattle.litmus_cells.specs.Places.{fault}
-pub use Rattle.litmus_cells.specs.Shapes.{fence, load, set_imm, set_reg, Shape, store_imm, store_reg, xadd, xchg}
+pub use Rattle.litmus_tokens.specs.Faults.{or_fault, there, ◌>>=◌}
+pub use Rattle.litmus_tokens.specs.GrammarNames.{location, number_of, numbered}
+pub use Rattle.litmus_tokens.specs.Numbers.{word_at}
+pub use Rattle.litmus_tokens.specs.Places.{fault}
+pub use Rattle.litmus_tokens.specs.Shapes.{fence, load, set_imm, set_reg, Shape, store_imm, store_reg, xadd, xchg}
 pub use Rattle.litmus_cells.specs.declared.cell.CoreInstr.{CoreInstr}
-pub use Rattle.litmus_cells.specs.declared.fault.Fault.{Fault}
-pub use Rattle.litmus_cells.specs.declared.fault.Why.{Why}
-pub use Rattle.litmus_cells.specs.declared.fault.Why.TheVariants.{BadCondition, BadHeaderRow, BadInit, BadToken, NoHeader, NoSuchCore, TooLarge, Trailing, TwiceInit, Unclosed, WrongCells}
+pub use Rattle.litmus_tokens.specs.declared.fault.Fault.{Fault}
+pub use Rattle.litmus_tokens.specs.declared.fault.Why.{Why}
+pub use Rattle.litmus_tokens.specs.declared.fault.Why.TheVariants.{BadCondition, BadHeaderRow, BadInit, BadToken, NoHeader, NoSuchCore, TooLarge, Trailing, TwiceInit, Unclosed, WrongCells}

@@ -4,7 +4,7 @@ ghost use Rattle.std.specs.Prelude.{◌≡◌, IfOk, OnOk, All, map, replicate, 
 ghost use Rattle.std.specs.Str.{IsUtf8};
 ghost use Rattle.std.specs.List.{range_with_len};
 ghost use Rattle.tso_model.specs.Names as names;
-ghost use Rattle.litmus_cells.specs.Locations.{texts};
+ghost use Rattle.litmus_tokens.specs.Locations.{texts};
 ghost use Rattle.litmus_reader.specs.inner.Initial as initial;
 ghost use Rattle.litmus_reader.specs.Reading as spec;
 ghost use Rattle.litmus_reader.specs.Returned.{AreParts, asked_of};

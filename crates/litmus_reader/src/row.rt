@@ -6,7 +6,7 @@ ghost use Rattle.tso_model.specs.Limits.{most_cores};
 ghost use Rattle.litmus_tokens.specs.inner.Pieces.{pieces};
 ghost use Rattle.litmus_tokens.specs.inner.Terms.{term_of};
 ghost use Rattle.litmus_tokens.specs.inner.Mapped.{mapped};
-ghost use Rattle.litmus_cells.specs.Locations.{texts};
+ghost use Rattle.litmus_tokens.specs.Locations.{texts};
 ghost use Rattle.litmus_reader.specs.inner.Initial.{given_of};
 ghost use Rattle.litmus_reader.specs.Rows as spec;
 ghost use Rattle.litmus_reader.specs.inner.Sections.{tokens_in, stop_of};

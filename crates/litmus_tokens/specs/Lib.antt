@@ -3,4 +3,14 @@ pub mod Terms
 pub mod Pieces
 pub mod Front
 pub mod Line
+pub mod Why
+pub mod Places
+pub mod Faults
+pub mod Names
+pub mod Numbers
+pub mod Arguments
+pub mod Shapes
+pub mod Forms
+pub mod GrammarNames
+pub mod Locations
 pub mod inner

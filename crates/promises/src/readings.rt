@@ -6,7 +6,7 @@ ghost use Rattle.tso_model.specs.declared.choice.Choice.{Choice as ChoiceMade};
 ghost use Rattle.tso_model.specs.declared.execution.Entry.{Entry};
 ghost use Rattle.litmus_reader.specs.GrammarTest.{FollowsGrammar};
 ghost use Rattle.litmus_reader.specs.Spelling.{SpellsTest, IsFault, IsRefused};
-ghost use Rattle.litmus_cells.specs.declared.fault.Fault.{Fault as FaultFound};
+ghost use Rattle.litmus_tokens.specs.declared.fault.Fault.{Fault as FaultFound};
 ghost use Rattle.litmus_reader.specs.declared.fault.TextFault.{TextFault as TextRefused};
 ghost use Rattle.order_builder.specs.Reading.{entries_of_order, Gives};
 ghost use Rattle.order_builder.specs.Spelling.{SpellsOrder, HasFault};

@@ -3,7 +3,7 @@
 use Rattle.std.specs.Prelude.{ℕ, List, [], ◌++◌, codes}
 use Rattle.std.specs.Fmt.{decimal}
 use Rattle.tso_report.specs.Report.{line}
-use Rattle.litmus_cells.specs.Why.{name_of}
+use Rattle.litmus_tokens.specs.Why.{name_of}
 use Rattle.litmus_reader.specs.declared.fault.TextFault.{TextFault}
 use Rattle.tso_cli.specs.Vocabulary.{ChoiceFault}
 use Rattle.scheduler.specs.declared.fault.ChoiceFault.TheVariants as choices

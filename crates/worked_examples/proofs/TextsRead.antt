@@ -1,19 +1,19 @@
 -- Readings of texts by computation: what unfolds this unfolds all that a reading computes with.
 use Rattle.std.proofs.Common.{◌≡◌, ◌<◌, ◌-◌, ℕ, List, Result, length, refl, arith}
 use Rattle.std.proofs.lemmas.Bool.{lt-ltb}
-use Rattle.litmus_cells.specs.declared.fault.Why.TheVariants.{TooLarge}
+use Rattle.litmus_tokens.specs.declared.fault.Why.TheVariants.{TooLarge}
 use Rattle.worked_examples.specs.RefusedTexts.{told, refused}
 use Rattle.tso_model.specs.Litmus.{Litmus}
-use Rattle.litmus_cells.specs.declared.fault.Fault.{Fault}
+use Rattle.litmus_tokens.specs.declared.fault.Fault.{Fault}
 use Rattle.litmus_tokens.specs.Front.{is_symbol, symbol_at, name_at, number_at}
 use Rattle.litmus_tokens.specs.Gap.{is_space, gap_end}
 use Rattle.litmus_tokens.specs.Pieces.{piece_at, pieces_within, pieces_of}
 use Rattle.litmus_tokens.specs.Terms.{symbols, symbol_of, term_at}
-use Rattle.litmus_cells.specs.Arguments.{argument_at, two_arguments}
+use Rattle.litmus_tokens.specs.Arguments.{argument_at, two_arguments}
 use Rattle.litmus_cells.specs.Cells.{instr_of, cell_in}
-use Rattle.litmus_cells.specs.Forms.{locked_at, spelled_in}
-use Rattle.litmus_cells.specs.Locations.{located}
-use Rattle.litmus_cells.specs.Names.{location_at, register_at}
+use Rattle.litmus_tokens.specs.Forms.{locked_at, spelled_in}
+use Rattle.litmus_tokens.specs.Locations.{located}
+use Rattle.litmus_tokens.specs.Names.{location_at, register_at}
 use Rattle.litmus_reader.specs.Cells.{cells_in}
 use Rattle.litmus_reader.specs.Columns.{columns}
 use Rattle.litmus_reader.specs.Conditions.{claim_in, truth_at, setting_atom, atom_at, chain, chain_of, negation_at, opens_unit, unit_by, unit_at, quantified, condition_at}

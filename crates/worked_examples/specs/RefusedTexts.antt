@@ -1,8 +1,8 @@
 -- What texts are told that spell no test: slips as users make them, each text as short as it can be.
 use Rattle.std.specs.Prelude.{ℕ, zero, suc, List, [], ◌++◌, codes, Option, Some, None, Result, Ok, Err}
 use Rattle.worked_examples.specs.Vocabulary.{Litmus}
-use Rattle.litmus_cells.specs.declared.fault.Why.{Why}
-use Rattle.litmus_cells.specs.declared.fault.Fault.{Fault}
+use Rattle.litmus_tokens.specs.declared.fault.Why.{Why}
+use Rattle.litmus_tokens.specs.declared.fault.Fault.{Fault}
 use Rattle.litmus_reader.specs.declared.fault.TextFault.{TextFault}
 use Rattle.litmus_reader.specs.Places.{from_place}
 use Rattle.litmus_reader.specs.Reading.{reading_of, refusal}

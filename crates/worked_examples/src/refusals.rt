@@ -2,9 +2,9 @@
 //! stands from the place of the fault on.
 
 ghost use Rattle.std.specs.Prelude.{◌≡◌, ◌≤◌, ◌<◌, ◌++◌, ℕ, List, [], length, codes, None, Ok};
-ghost use Rattle.litmus_cells.specs.declared.fault.Why.TheVariants.{NoHeader, Unclosed, BadToken, BadInit, BadHeaderRow, WrongCells};
-ghost use Rattle.litmus_cells.specs.declared.fault.Why.TheVariants.{BadInstruction, BadNumber, TwiceInit, NoSuchCore, TooLarge};
-ghost use Rattle.litmus_cells.specs.declared.fault.Why.TheVariants.{BadCondition, Trailing};
+ghost use Rattle.litmus_tokens.specs.declared.fault.Why.TheVariants.{NoHeader, Unclosed, BadToken, BadInit, BadHeaderRow, WrongCells};
+ghost use Rattle.litmus_tokens.specs.declared.fault.Why.TheVariants.{BadInstruction, BadNumber, TwiceInit, NoSuchCore, TooLarge};
+ghost use Rattle.litmus_tokens.specs.declared.fault.Why.TheVariants.{BadCondition, Trailing};
 ghost use Rattle.litmus_reader.specs.Header.{sized};
 ghost use Rattle.worked_examples.specs.RefusedTexts.{told, refused, times, one_core, sixteen, long_test_name, long_name};
 

@@ -5,14 +5,10 @@ use Rattle.litmus_tokens.specs.declared.token.Token.{Token}
 use Rattle.litmus_tokens.specs.Pieces.{Piece}
 use Rattle.litmus_tokens.specs.inner.Pieces.{pieces}
 use Rattle.litmus_cells.specs.declared.cell.CoreInstr.{CoreInstr}
-use Rattle.litmus_cells.specs.declared.fault.Fault.{Fault}
-use Rattle.litmus_cells.specs.declared.fault.ReadError.{ReadError}
-use Rattle.litmus_cells.specs.inner.Faults.{Gives}
-use Rattle.litmus_cells.specs.Locations.{texts}
-
--- what is found, and the names of locations with it
-abbrev pub GivesNamed : {X Y : Type 0} → (X → Y) → Result X ReadError → List (Bor (List ℕ)) → Result (Y × List (List ℕ)) Fault → Type 0
-GivesNamed view result names read = Gives (λ x. (view x, texts names)) result read
+use Rattle.litmus_tokens.specs.declared.fault.Fault.{Fault}
+use Rattle.litmus_tokens.specs.declared.fault.ReadError.{ReadError}
+use Rattle.litmus_tokens.specs.inner.Faults.{Gives}
+use Rattle.litmus_tokens.specs.Locations.{texts}
 
 -- a reading of cells, after these instructions and names of locations
 abbrev pub ReadsCells : Type 0

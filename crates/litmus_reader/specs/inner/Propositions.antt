@@ -3,8 +3,8 @@ use Rattle.std.specs.Prelude.{◌<◌, ℕ, List, length, Option, Some, None, Re
 use denote.Ref.{Bor}
 use Rattle.litmus_reader.specs.Vocabulary.{BadCondition, Claim, claim_of, CloseRound, Fault, NotClaim, OpenRound, Piece, pieces, Stop, symbol_at, there, Token, ◌>>=◌}
 use Rattle.tso_model.specs.declared.condition.Prop.{Prop}
-use Rattle.litmus_cells.specs.declared.fault.ReadError.{ReadError}
-use Rattle.litmus_cells.specs.inner.Faults.{Gives}
+use Rattle.litmus_tokens.specs.declared.fault.ReadError.{ReadError}
+use Rattle.litmus_tokens.specs.inner.Faults.{Gives}
 use Rattle.litmus_reader.specs.Faults.{or_unfit}
 use Rattle.litmus_reader.specs.Places.{part_of}
 use Rattle.litmus_reader.specs.Conditions.{Claimed, Proposition, negation_at, unit_at}

@@ -3,21 +3,21 @@ use Rattle.std.specs.Prelude.{◌≡◌, ◌≢◌, ℕ, Bool, List, map, Option
 use denote.Ref.{Bor}
 use Rattle.litmus_reader.specs.Vocabulary.{claim_of, Cond, Condition, Fault, Piece, pieces, Token}
 use Rattle.tso_model.specs.declared.condition.Prop.{Prop}
-use Rattle.litmus_cells.specs.declared.fault.ReadError.{ReadError}
+use Rattle.litmus_tokens.specs.declared.fault.ReadError.{ReadError}
 use Rattle.litmus_reader.specs.declared.fault.TextFault.{TextFault}
 use Rattle.litmus_reader.specs.Conditions.{Proposition, Conditioned}
 use Rattle.litmus_reader.specs.inner.Conditions.{claimed, conditioned}
-use Rattle.litmus_cells.specs.inner.Faults.{Gives}
-use Rattle.litmus_cells.specs.inner.Returned.{GivesNamed}
+use Rattle.litmus_tokens.specs.inner.Faults.{Gives}
+use Rattle.litmus_tokens.specs.inner.Returned.{GivesNamed}
 use Rattle.litmus_reader.specs.inner.Initial.{given_of, initial}
 use Rattle.litmus_reader.specs.Initial.{Initial, judged}
-use Rattle.litmus_cells.specs.Locations.{texts}
+use Rattle.litmus_tokens.specs.Locations.{texts}
 use Rattle.litmus_reader.specs.Rows.{Table}
 use Rattle.litmus_reader.specs.inner.Rows.{table, rows}
 use Rattle.litmus_reader.specs.inner.Sections.{tokens_in}
 use Rattle.litmus_reader.specs.Written.{Setting}
 use Rattle.litmus_reader.specs.Returned.{asked_of}
-use Rattle.litmus_cells.specs.declared.fault.Why.TheVariants as why
+use Rattle.litmus_tokens.specs.declared.fault.Why.TheVariants as why
 use Rattle.litmus_reader.specs.declared.initial.Initial as state
 use Rattle.litmus_reader.specs.declared.row.Table as code
 

@@ -1,5 +1,5 @@
 use Rattle.litmus_reader.proofs.Vocabulary.{sym, ◌∙◌, arith, piece_of, is_symbol, Token}
-use Rattle.litmus_cells.proofs.Maps.{search_on, search_here, search_ends}
+use Rattle.litmus_tokens.proofs.Maps.{search_on, search_here, search_ends}
 use Rattle.litmus_reader.proofs.Scans.{found_at, found_nowhere}
 use Rattle.litmus_reader.proofs.cell.argument_of.Goals as goal
 

@@ -1,5 +1,5 @@
 use Rattle.litmus_reader.proofs.Vocabulary.{ℕ, sym, ◌∙◌, arith, eqb, eq-eqb, ne_eqb}
-use Rattle.litmus_cells.proofs.Maps.{search_on, search_here, search_ends}
+use Rattle.litmus_tokens.proofs.Maps.{search_on, search_here, search_ends}
 use Rattle.litmus_reader.proofs.Scans.{found_at, found_nowhere}
 use Rattle.litmus_reader.proofs.Lines.{line_cut, line_last}
 use Rattle.litmus_reader.proofs.header.first_line.Goals as goal

@@ -5,7 +5,7 @@ use Rattle.tso_model.specs.Registers.{register_named}
 use Rattle.tso_model.specs.declared.register.Reg.{Reg}
 use Rattle.litmus_tokens.specs.Pieces.{Piece}
 use Rattle.litmus_tokens.specs.Front.{name_at}
-use Rattle.litmus_cells.specs.Faults.{there}
+use Rattle.litmus_tokens.specs.Faults.{there}
 
 -- a name that a location may have, at the front
 unfoldable pub location_at : List Piece → Option (List ℕ × List Piece)

@@ -2,10 +2,10 @@
 //! appears.
 
 ghost use Rattle.std.specs.Prelude.{◌≡◌, OnOk};
-ghost use Rattle.litmus_cells.specs.inner.Faults.{Gives};
-ghost use Rattle.litmus_cells.specs.Locations as spec;
-ghost use Rattle.litmus_cells.specs.Locations.{texts};
-ghost use Rattle.litmus_cells.specs.GrammarNames as grammar;
+ghost use Rattle.litmus_tokens.specs.inner.Faults.{Gives};
+ghost use Rattle.litmus_tokens.specs.Locations as spec;
+ghost use Rattle.litmus_tokens.specs.Locations.{texts};
+ghost use Rattle.litmus_tokens.specs.GrammarNames as grammar;
 
 use crate::fault::{Fault, ReadError, Why};
 use tso_model::limits::MAX_LOCATIONS;

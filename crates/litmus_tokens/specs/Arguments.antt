@@ -5,8 +5,8 @@ use Rattle.litmus_tokens.specs.declared.token.Symbol.TheVariants.{OpenSquare, Cl
 use Rattle.decimals.specs.Decimals.{decimal_value}
 use Rattle.litmus_tokens.specs.Pieces.{Piece}
 use Rattle.litmus_tokens.specs.Front.{symbol_at, number_at}
-use Rattle.litmus_cells.specs.Faults.{there}
-use Rattle.litmus_cells.specs.Names.{location_at, register_at}
+use Rattle.litmus_tokens.specs.Faults.{there}
+use Rattle.litmus_tokens.specs.Names.{location_at, register_at}
 
 -- an operand without where its name lies in memory; a number of any size
 pub data ArgumentTerm : Type 0 where

@@ -1,8 +1,8 @@
 //! Why a text is refused, and at which place of it: how many bytes stand from there on.
 
 ghost use Rattle.std.specs.Prelude.{◌≡◌, Some};
-ghost use Rattle.litmus_cells.specs.Why.{name_of};
-ghost use Rattle.litmus_cells.specs.declared.fault.ReadError.TheVariants as errors;
+ghost use Rattle.litmus_tokens.specs.Why.{name_of};
+ghost use Rattle.litmus_tokens.specs.declared.fault.ReadError.TheVariants as errors;
 
 use std::alloc::AllocFailed;
 use std::fmt;
@@ -67,7 +67,7 @@ impl Why {
 }
 
 impl fmt::Display for Why {
-    ghost use Rattle.litmus_cells.specs.Why.{name_of};
+    ghost use Rattle.litmus_tokens.specs.Why.{name_of};
 
     ghost output = { λ why. Some (name_of why) };
 

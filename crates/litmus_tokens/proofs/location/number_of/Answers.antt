@@ -1,7 +1,7 @@
 use Rattle.std.proofs.Common.{◌≡◌, length, sym, ◌∙◌, arith}
-use Rattle.litmus_cells.proofs.Maps.{search_on, search_here, search_ends}
-use Rattle.litmus_cells.proofs.Numbering.{is_name, number_is}
-use Rattle.litmus_cells.proofs.location.number_of.Goals as goal
+use Rattle.litmus_tokens.proofs.Maps.{search_on, search_here, search_ends}
+use Rattle.litmus_tokens.proofs.Numbering.{is_name, number_is}
+use Rattle.litmus_tokens.proofs.location.number_of.Goals as goal
 
 pub loop-number-init : goal.loop-number-init
 loop-number-init c = omega arith

@@ -3,10 +3,10 @@ use Rattle.std.specs.Prelude.{ℕ, List, map, Result, Ok, Err, nat_lt, if◌then
 use denote.Ref.{Bor}
 use Rattle.tso_model.specs.declared.instruction.Loc.{Loc}
 use Rattle.tso_model.specs.Limits.{most_locations}
-use Rattle.litmus_cells.specs.declared.fault.Why.TheVariants.{TooLarge}
-use Rattle.litmus_cells.specs.declared.fault.Fault.{Fault}
-use Rattle.litmus_cells.specs.Places.{fault}
-use Rattle.litmus_cells.specs.GrammarNames.{number_of, with_name, location}
+use Rattle.litmus_tokens.specs.declared.fault.Why.TheVariants.{TooLarge}
+use Rattle.litmus_tokens.specs.declared.fault.Fault.{Fault}
+use Rattle.litmus_tokens.specs.Places.{fault}
+use Rattle.litmus_tokens.specs.GrammarNames.{number_of, with_name, location}
 
 abbrev pub texts : List (Bor (List ℕ)) → List (List ℕ)
 texts names = map (λ x. x.now) names

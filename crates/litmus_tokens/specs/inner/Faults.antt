@@ -1,8 +1,8 @@
 -- Readings that may refuse, and what a function that reads returns.
 use Rattle.std.specs.Prelude.{◌≡◌, Result, Ok, Err}
-use Rattle.litmus_cells.specs.declared.fault.Fault.{Fault}
-use Rattle.litmus_cells.specs.declared.fault.ReadError.{ReadError}
-use Rattle.litmus_cells.specs.declared.fault.ReadError.TheVariants as errors
+use Rattle.litmus_tokens.specs.declared.fault.Fault.{Fault}
+use Rattle.litmus_tokens.specs.declared.fault.ReadError.{ReadError}
+use Rattle.litmus_tokens.specs.declared.fault.ReadError.TheVariants as errors
 
 abbrev pub Fails : {Y : Type 0} → ReadError → Result Y Fault → Type 0
 Fails errors.NoMemory read = Unit {0}

@@ -1,8 +1,8 @@
 -- Operands of instructions: a register, a number after `$`, or a location in brackets.
 use Rattle.decimals.specs.Decimals.{decimal_value}
-use Rattle.litmus_cells.specs.declared.argument.Argument.{Argument}
-use Rattle.litmus_cells.specs.Arguments.{ArgumentTerm, constant, in_memory, in_register}
-use Rattle.litmus_cells.specs.declared.argument.Argument.TheVariants as code
+use Rattle.litmus_tokens.specs.declared.argument.Argument.{Argument}
+use Rattle.litmus_tokens.specs.Arguments.{ArgumentTerm, constant, in_memory, in_register}
+use Rattle.litmus_tokens.specs.declared.argument.Argument.TheVariants as code
 
 abbrev pub argument_of : Argument → ArgumentTerm
 argument_of (code.Location name) = in_memory name.now

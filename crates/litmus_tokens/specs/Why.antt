@@ -1,7 +1,7 @@
 -- The names of refusals, as they are printed. Scripts go by them, so each kind of fault has one that stays.
 use Rattle.std.specs.Prelude.{ℕ, List, codes}
-use Rattle.litmus_cells.specs.declared.fault.Why.{Why}
-use Rattle.litmus_cells.specs.declared.fault.Why.TheVariants as whys
+use Rattle.litmus_tokens.specs.declared.fault.Why.{Why}
+use Rattle.litmus_tokens.specs.declared.fault.Why.TheVariants as whys
 
 abbrev pub name_of : Why → List ℕ
 name_of whys.NoHeader = codes "NoHeader"

@@ -3,9 +3,9 @@ use Rattle.std.specs.Prelude.{ℕ, List, [], ◌∷◌, codes, Option, Some, Non
 use Rattle.tso_model.specs.Registers.{same_letters}
 use Rattle.litmus_tokens.specs.Pieces.{Piece}
 use Rattle.litmus_tokens.specs.Front.{name_at}
-use Rattle.litmus_cells.specs.Faults.{there}
-use Rattle.litmus_cells.specs.Arguments.{ArgumentTerm, in_memory, in_register, constant, two_arguments}
-use Rattle.litmus_cells.specs.Shapes.{Shape, store_imm, store_reg, load, set_imm, set_reg, fence, xchg, xadd}
+use Rattle.litmus_tokens.specs.Faults.{there}
+use Rattle.litmus_tokens.specs.Arguments.{ArgumentTerm, in_memory, in_register, constant, two_arguments}
+use Rattle.litmus_tokens.specs.Shapes.{Shape, store_imm, store_reg, load, set_imm, set_reg, fence, xchg, xadd}
 
 -- `MOV` of two operands
 abbrev pub mov_of : ArgumentTerm × ArgumentTerm → Option Shape

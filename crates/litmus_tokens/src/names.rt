@@ -3,9 +3,10 @@
 ghost use Rattle.std.specs.Prelude.{◌≡◌, ◌<◌, length, IfSome};
 ghost use Rattle.std.specs.Option.{option_map};
 ghost use Rattle.litmus_tokens.specs.inner.Pieces.{pieces};
-ghost use Rattle.litmus_cells.specs.Names as spec;
+ghost use Rattle.litmus_tokens.specs.Names as spec;
 
-use litmus_tokens::{Token, name_at};
+use crate::front::name_at;
+use crate::token::Token;
 use tso_model::Reg;
 use tso_model::names::is_location_name;
 

@@ -5,12 +5,13 @@ ghost use Rattle.std.specs.Prelude.{◌≡◌};
 ghost use Rattle.std.specs.Option.{option_map};
 ghost use Rattle.tso_model.specs.Registers.{same_letters};
 ghost use Rattle.litmus_tokens.specs.inner.Pieces.{pieces};
-ghost use Rattle.litmus_cells.specs.inner.Arguments.{argument_of};
-ghost use Rattle.litmus_cells.specs.Forms as spec;
-ghost use Rattle.litmus_cells.specs.inner.Forms.{shape_of};
+ghost use Rattle.litmus_tokens.specs.inner.Arguments.{argument_of};
+ghost use Rattle.litmus_tokens.specs.Forms as spec;
+ghost use Rattle.litmus_tokens.specs.inner.Forms.{shape_of};
 
 use crate::argument::{Argument, two_arguments};
-use litmus_tokens::{Token, name_at};
+use crate::front::name_at;
+use crate::token::Token;
 use tso_model::Reg;
 
 /// How an instruction with a register uses a location.

@@ -8,9 +8,9 @@ use Rattle.std.proofs.lemmas.List.Sums.{prefix_len-le-length}
 use Rattle.std.specs.Str.{bytes_eq}
 use denote.Ref.{Bor}
 use Prim.Native.Nat.compare
-use Rattle.litmus_cells.specs.Locations.{texts}
-use Rattle.litmus_cells.proofs.Maps.{position_or_len-map}
-use Rattle.litmus_cells.specs.GrammarNames.{number_of, with_name}
+use Rattle.litmus_tokens.specs.Locations.{texts}
+use Rattle.litmus_tokens.proofs.Maps.{position_or_len-map}
+use Rattle.litmus_tokens.specs.GrammarNames.{number_of, with_name}
 
 -- a search finds a place before the end where an item passes
 any_before : {X : Type 0} (p : X → Bool) (xs : List X) → list_any p xs ≡ ltb (position_or_len p xs) (length xs)

@@ -1,9 +1,9 @@
 -- The instructions as they are spelled in cells: one form for each, by the operands that it takes.
 use Rattle.decimals.specs.Decimals.{decimal_value}
-use Rattle.litmus_cells.specs.declared.form.Form.{Form}
-use Rattle.litmus_cells.specs.Shapes.{Shape, store_imm, store_reg, load, set_imm, set_reg, fence, xchg, xadd}
-use Rattle.litmus_cells.specs.declared.form.Form.TheVariants as code
-use Rattle.litmus_cells.specs.declared.form.Use.TheVariants as uses
+use Rattle.litmus_tokens.specs.declared.form.Form.{Form}
+use Rattle.litmus_tokens.specs.Shapes.{Shape, store_imm, store_reg, load, set_imm, set_reg, fence, xchg, xadd}
+use Rattle.litmus_tokens.specs.declared.form.Form.TheVariants as code
+use Rattle.litmus_tokens.specs.declared.form.Use.TheVariants as uses
 
 abbrev pub shape_of : Form → Shape
 shape_of (code.StoreImm name digits) = store_imm name.now (decimal_value digits.now)

@@ -1,10 +1,10 @@
 -- Numbers, which a text may have of any size: a word has to have room for each.
 use Rattle.std.specs.Prelude.{ℕ, Result}
 use Rattle.litmus_tokens.specs.Terms.{word_of}
-use Rattle.litmus_cells.specs.declared.fault.Why.TheVariants.{BadNumber}
-use Rattle.litmus_cells.specs.declared.fault.Fault.{Fault}
-use Rattle.litmus_cells.specs.Faults.{or_fault}
-use Rattle.litmus_cells.specs.Places.{fault}
+use Rattle.litmus_tokens.specs.declared.fault.Why.TheVariants.{BadNumber}
+use Rattle.litmus_tokens.specs.declared.fault.Fault.{Fault}
+use Rattle.litmus_tokens.specs.Faults.{or_fault}
+use Rattle.litmus_tokens.specs.Places.{fault}
 
 -- a number for which a word has room
 abbrev pub word_at : ℕ → ℕ → Result ℕ Fault

@@ -2,10 +2,10 @@
 
 ghost use Rattle.std.specs.Prelude.{◌≡◌};
 ghost use Rattle.decimals.specs.Decimals.{decimal_value};
-ghost use Rattle.litmus_cells.specs.Numbers as spec;
+ghost use Rattle.litmus_tokens.specs.Numbers as spec;
 
 use crate::fault::{Fault, Why};
-use litmus_tokens::word;
+use crate::lexing::word;
 
 /// The number that digits say; `BadNumber` at `remaining` where a word has no room for it.
 pub fn word_at(remaining: usize, digits: &[u8]) -> Result<u32, Fault>

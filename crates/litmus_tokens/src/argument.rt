@@ -3,11 +3,12 @@
 ghost use Rattle.std.specs.Prelude.{◌≡◌};
 ghost use Rattle.std.specs.Option.{option_map};
 ghost use Rattle.litmus_tokens.specs.inner.Pieces.{pieces};
-ghost use Rattle.litmus_cells.specs.Arguments as spec;
-ghost use Rattle.litmus_cells.specs.inner.Arguments.{argument_of};
+ghost use Rattle.litmus_tokens.specs.Arguments as spec;
+ghost use Rattle.litmus_tokens.specs.inner.Arguments.{argument_of};
 
+use crate::front::{after_symbol, number_at};
 use crate::names::{location_at, register_at};
-use litmus_tokens::{Symbol, Token, after_symbol, number_at};
+use crate::token::{Symbol, Token};
 use tso_model::Reg;
 
 /// What an instruction works on. A number is its digits.
