@@ -202,8 +202,8 @@ struct Surroundings {
     cores: usize,
 }
 
-/// The unit that begins with this opening, in which so many more negations and brackets may be open at once, from the tokens
-/// after the opening on; and the tokens after it.
+/// The unit of this opening, after which `inside` stands, and the tokens after the unit. So many more negations and brackets
+/// may be open in it at once.
 #[cycle(condition)]
 fn opened_at<'a, 'b>(
     alloc: Global,
