@@ -159,14 +159,6 @@ impl Branch {
     }
 }
 
-/// Marks all as to be looked at.
-pub fn look_at_all(branch: &mut Branch) {
-    for a in 0..branch.size {
-        branch.sets.add(DIRTY, a);
-    }
-    branch.claim_is_dirty = true;
-}
-
 /// A branch with no answer.
 pub fn make_branch(alloc: Global, problem: &Problem) -> Branch {
     let size = problem.size;
@@ -185,7 +177,6 @@ pub fn make_branch(alloc: Global, problem: &Problem) -> Branch {
         claim_is_dirty: true,
         conflict: Conflict::Open,
     };
-    look_at_all(&mut branch);
     branch.sets.join(VALUED, &problem.reads, RELEVANT);
     branch
 }

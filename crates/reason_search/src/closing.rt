@@ -42,36 +42,9 @@ pub fn add_leaf(desk: &mut Desk) -> usize {
     add_node(&mut desk.trees, growth, 1)
 }
 
-/// A tree that goes by an order. Where an answer above says it, that is used. Where none does, and it isn't the one that is turned, it
-/// follows from a chain: then the question stands above the tree, and the other order is a cycle.
-fn add_pair_above(
-    problem: &Problem,
-    branch: &Branch,
-    desk: &mut Desk,
-    turned: Turned,
-    first: usize,
-    second: usize,
-    tree: usize,
-) -> usize {
-    let is_turned = (first == turned.second) & (second == turned.first);
-    if is_turned | (first < problem.locations) {
-        return tree;
-    }
-    let fact = branch.moment(problem, first, second).facts;
-    if fact < desk.above {
-        desk.used.add(0, fact);
-        return tree;
-    }
-    reset(&mut desk.trial, Closing::Cycle(Relations::OnLocation));
-    desk.trial.cycle.push(first);
-    show_order(problem, branch, desk, first, second, turned.edges);
-    desk.trial.cycle.push(second);
-    let cycle = add_leaf(desk);
-    ask_order(desk, first, second, cycle, tree)
-}
-
 /// The tree of the best reason, for a read of `s`, or where this order is supposed to be turned; what it uses is used then. A write
-/// between two parts has above it the pairs that only follow from chains.
+/// between two parts goes by two orders. Where an answer above says one of them, that is used. Where none does, and it isn't the one that
+/// is turned, it follows from a chain: then the question stands above the tree, and the other order is a cycle.
 pub fn add_best(
     problem: &Problem,
     branch: &Branch,
@@ -83,10 +56,26 @@ pub fn add_best(
     let v = desk.trial.cycle.at(1);
     let own = desk.trial.cycle.at(2);
     let is_between = matches!(desk.trial.closing, Closing::Between);
-    let leaf = add_leaf(desk);
+    let mut tree = add_leaf(desk);
     if !is_between {
-        return leaf;
+        return tree;
     }
-    let tree = add_pair_above(problem, branch, desk, turned, v, own, leaf);
-    add_pair_above(problem, branch, desk, turned, s, v, tree)
+    for (first, second) in [(v, own), (s, v)] {
+        let is_turned = (first == turned.second) & (second == turned.first);
+        if is_turned | (first < problem.locations) {
+            continue;
+        }
+        let fact = branch.moment(problem, first, second).facts;
+        if fact < desk.above {
+            desk.used.add(0, fact);
+            continue;
+        }
+        reset(&mut desk.trial, Closing::Cycle(Relations::OnLocation));
+        desk.trial.cycle.push(first);
+        show_order(problem, branch, desk, first, second, turned.edges);
+        desk.trial.cycle.push(second);
+        let cycle = add_leaf(desk);
+        tree = ask_order(desk, first, second, cycle, tree);
+    }
+    tree
 }

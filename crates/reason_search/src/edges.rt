@@ -107,29 +107,29 @@ pub fn put_before(problem: &Problem, branch: &mut Branch, a: usize, b: usize, tr
     add_edge(problem, branch, Relations::Global, link);
 }
 
-/// Notes what is after an event in its program, where what is after those is known.
-fn add_program(problem: &Problem, branch: &mut Branch, relations: Relations, a: usize) {
-    let row = relations.row(branch.size, a);
-    branch.rows.join(row, &problem.program, row);
-    let mut b = branch.rows.next(row, a);
-    for _event in a..problem.size {
-        if b == NONE {
-            break;
-        }
-        let before = branch.before(relations, b);
-        let later = relations.row(branch.size, b);
-        branch.rows.add(before, a);
-        branch.rows.join_own(row, later);
-        b = branch.rows.next(row, b.wrapping_add(1));
-    }
-}
-
-/// Puts what the program alone tells on a branch that has nothing yet: its edges, from the last event on, and then what follows.
+/// Puts what the program alone tells on a branch that has nothing yet: its edges, from the last event on, so that what is after the
+/// next ones is known; and then what follows.
 pub fn put_program(problem: &Problem, branch: &mut Branch) {
-    for a in (0..problem.size).rev() {
-        add_program(problem, branch, Relations::OnLocation, a);
-        add_program(problem, branch, Relations::Global, a);
-        add_program(problem, branch, Relations::Coherence, a);
+    for relations in [
+        Relations::OnLocation,
+        Relations::Global,
+        Relations::Coherence,
+    ] {
+        for a in (0..problem.size).rev() {
+            let row = relations.row(branch.size, a);
+            branch.rows.join(row, &problem.program, row);
+            let mut b = branch.rows.next(row, a);
+            for _event in a..problem.size {
+                if b == NONE {
+                    break;
+                }
+                let before = branch.before(relations, b);
+                let later = relations.row(branch.size, b);
+                branch.rows.add(before, a);
+                branch.rows.join_own(row, later);
+                b = branch.rows.next(row, b.wrapping_add(1));
+            }
+        }
     }
     for a in problem.locations..problem.size {
         let event = problem.events.at(a);

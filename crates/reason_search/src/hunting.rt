@@ -1,7 +1,7 @@
 //! The search: questions are asked, what follows is noted, and where a branch is closed its tree is made and the next answer tried.
 //! An answer that its tree doesn't use is no question: the tree stands in its place.
 
-use crate::branch::{Branch, DIRTY, Mark, VALUED, look_at_all, make_branch, mark_here, undo};
+use crate::branch::{Branch, DIRTY, Mark, VALUED, make_branch, mark_here, undo};
 use crate::chance::{Chance, FIRST_CHANCE};
 use crate::choosing::{Ask, Choice, choose};
 use crate::edges::{put_before, put_program};
@@ -12,7 +12,7 @@ use crate::looking::{deduce, put_source};
 use crate::offers::Desk;
 use crate::paths::{lack_memory, make_paths};
 use crate::problem::Problem;
-use crate::questions::{Frame, NO_FRAME, Questions, begin};
+use crate::questions::{NO_FRAME, Questions, begin};
 use crate::reasoning::{add_conflict, add_order_question, add_source_question, wrap};
 use crate::rows::Rows;
 use crate::values::{Known, NOTHING, find_values};
@@ -105,39 +105,6 @@ fn put_answer(problem: &Problem, branch: &mut Branch, ask: Ask, answer: usize) -
     !branch.is_closed()
 }
 
-/// Goes back to the last question with the tree of its answer. The question's tree, where all its answers are closed; else `NONE`.
-fn go_back_one(problem: &Problem, hunt: &mut Hunt, frame: &Frame, tree: usize) -> usize {
-    undo(&mut hunt.branch, &frame.mark);
-    if !hunt.desk.used.has(0, frame.mark.facts) {
-        // The tree doesn't use the answer, and closes the question.
-        hunt.questions.take_back(frame);
-        return tree;
-    }
-    hunt.questions.keep(frame, tree, &hunt.desk.used);
-    let answer = hunt.questions.next_answer(frame);
-    let desk = &mut hunt.desk;
-    if answer != NONE {
-        if put_answer(problem, &mut hunt.branch, frame.ask, answer) {
-            return NONE;
-        }
-        return add_conflict(problem, &mut hunt.branch, desk);
-    }
-    hunt.questions
-        .put_trees(frame, &mut desk.branches, &mut desk.used);
-    hunt.questions.take_back(frame);
-    desk.above = hunt.branch.facts.len();
-    match frame.ask {
-        Ask::Source(r) => add_source_question(problem, &mut hunt.branch, desk, r),
-        Ask::Order(a, b) => {
-            let second = desk.branches.at(0);
-            let first = desk.branches.at(1);
-            desk.branches.put(0, NONE);
-            desk.branches.put(1, NONE);
-            add_order_question(desk, a, b, first, second)
-        }
-    }
-}
-
 /// Goes back from a closed branch to the next answer that is open. The tree where there is none.
 fn go_back(problem: &Problem, hunt: &mut Hunt) -> usize {
     let mut tree = add_conflict(problem, &mut hunt.branch, &mut hunt.desk);
@@ -151,17 +118,47 @@ fn go_back(problem: &Problem, hunt: &mut Hunt) -> usize {
         }
         let frame = hunt.questions.frames.at(asked.wrapping_sub(1));
         let next = frame.mark.facts.wrapping_add(1);
-        tree = wrap(problem, &mut hunt.branch, &mut hunt.desk, next, tree);
-        tree = go_back_one(problem, hunt, &frame, tree);
-        if tree == NONE {
-            return NONE;
+        let desk = &mut hunt.desk;
+        tree = wrap(problem, &mut hunt.branch, desk, next, tree);
+        undo(&mut hunt.branch, &frame.mark);
+        if !desk.used.has(0, frame.mark.facts) {
+            // The tree doesn't use the answer, and closes the question.
+            hunt.questions.take_back(&frame);
+            continue;
         }
+        hunt.questions.keep(&frame, tree, &desk.used);
+        let answer = hunt.questions.next_answer(&frame);
+        if answer != NONE {
+            if put_answer(problem, &mut hunt.branch, frame.ask, answer) {
+                return NONE;
+            }
+            tree = add_conflict(problem, &mut hunt.branch, desk);
+            continue;
+        }
+        hunt.questions
+            .put_trees(&frame, &mut desk.branches, &mut desk.used);
+        hunt.questions.take_back(&frame);
+        desk.above = hunt.branch.facts.len();
+        tree = match frame.ask {
+            Ask::Source(r) => add_source_question(problem, &mut hunt.branch, desk, r),
+            Ask::Order(a, b) => {
+                let second = desk.branches.at(0);
+                let first = desk.branches.at(1);
+                desk.branches.put(0, NONE);
+                desk.branches.put(1, NONE);
+                add_order_question(desk, a, b, first, second)
+            }
+        };
     }
     NONE
 }
 
-/// Searches until all is closed, or a branch is open to the end, or it pauses.
+/// Looks at all, and searches until all is closed, or a branch is open to the end, or it pauses.
 fn search(problem: &Problem, hunt: &mut Hunt) -> Find {
+    for a in 0..problem.size {
+        hunt.branch.sets.add(DIRTY, a);
+    }
+    hunt.branch.claim_is_dirty = true;
     for _case in 0..u64::MAX {
         hunt.cases = hunt.cases.wrapping_add(1);
         if (hunt.cases > hunt.pause) | is_refused(hunt) {
@@ -211,7 +208,6 @@ fn search(problem: &Problem, hunt: &mut Hunt) -> Find {
 /// Takes all questions back.
 pub fn start_anew(hunt: &mut Hunt) {
     undo(&mut hunt.branch, &hunt.start);
-    look_at_all(&mut hunt.branch);
     hunt.questions.take_back(&NO_FRAME);
     hunt.desk.trees.twigs.cut(0);
     hunt.desk.trees.events.cut(0);
@@ -238,7 +234,6 @@ pub fn hunt_for(problem: &Problem, hunt: &mut Hunt, most: usize) -> Find {
 pub fn hunt_again(problem: &Problem, hunt: &mut Hunt, most: usize) -> Find {
     start_anew(hunt);
     hunt.pause = hunt.cases.wrapping_add(most);
-    hunt.branch.sets.clear(DIRTY);
     for _event in 0..problem.size {
         let next = hunt.chance.below(problem.size);
         hunt.branch.sets.add(DIRTY, next);
@@ -246,6 +241,5 @@ pub fn hunt_again(problem: &Problem, hunt: &mut Hunt, most: usize) -> Find {
             break;
         }
     }
-    look_at_all(&mut hunt.branch);
     search(problem, hunt)
 }

@@ -12,24 +12,8 @@ use crate::values::{
     Known, NOTHING, find_values, is_wrong_source, is_wrong_value, parts_that_can_be,
 };
 
-/// Marks what may have as its source a write whose value hangs on a read; and where `all` says so, each read with no source on whose
-/// value what is asked may hang.
-fn look_at_dependents(problem: &Problem, branch: &mut Branch, r: usize, all: bool) {
-    for a in problem.locations..problem.size {
-        let event = problem.events.at(a);
-        if event.writes {
-            let term = problem.terms.at(a);
-            if (term.first == r) | (term.second == r) {
-                branch.sets.join(DIRTY, &problem.readers_of, event.location);
-            }
-        }
-        if all && problem.reads.has(RELEVANT, a) && branch.source.at(a) == NONE {
-            branch.sets.add(DIRTY, a);
-        }
-    }
-}
-
-/// A read has this source; what its value may change is to be looked at.
+/// A read has this source. To be looked at is then what its value may change: what may have as its source a write whose value hangs on the
+/// read; and where the source's value hangs on others, each read with no source on whose value what is asked may hang.
 pub fn put_source(problem: &Problem, branch: &mut Branch, r: usize, w: usize, tried: bool) {
     let fact = add_fact(branch, Answer::Source(r, w), tried);
     let link = Link {
@@ -45,7 +29,18 @@ pub fn put_source(problem: &Problem, branch: &mut Branch, r: usize, w: usize, tr
     let hangs = problem.terms.at(w).first != NONE;
     let all = hangs & problem.reads.has(RELEVANT, r);
     if is_stored | all {
-        look_at_dependents(problem, branch, r, all);
+        for a in problem.locations..problem.size {
+            let event = problem.events.at(a);
+            if event.writes {
+                let term = problem.terms.at(a);
+                if (term.first == r) | (term.second == r) {
+                    branch.sets.join(DIRTY, &problem.readers_of, event.location);
+                }
+            }
+            if all && problem.reads.has(RELEVANT, a) && branch.source.at(a) == NONE {
+                branch.sets.add(DIRTY, a);
+            }
+        }
     }
     // What no other value hangs on was tested as a source.
     branch.claim_is_dirty |= hangs | is_stored;
@@ -91,18 +86,6 @@ fn put_each(problem: &Problem, branch: &mut Branch, put: Put, k: usize, some: u6
                 add_edge(problem, branch, Relations::Global, link);
             }
         }
-    }
-}
-
-/// Writes that are after this one by one of the relations are after it in coherence.
-fn look_at_write(problem: &Problem, branch: &mut Branch, a: usize) {
-    let loc = problem.events.at(a).location;
-    for k in 0..branch.rows.width {
-        let later = branch.word_after(Relations::OnLocation, a, k)
-            | branch.word_after(Relations::Global, a, k);
-        let them = problem.writes_to.word(loc, k);
-        let known = branch.word_after(Relations::Coherence, a, k);
-        put_each(problem, branch, Put::After(a), k, later & them & !known);
     }
 }
 
@@ -253,7 +236,14 @@ pub fn deduce(problem: &Problem, branch: &mut Branch) -> bool {
         branch.sets.remove(DIRTY, a);
         let event = problem.events.at(a);
         if event.writes {
-            look_at_write(problem, branch, a);
+            // Writes that are after it by one of the relations are after it in coherence.
+            for k in 0..branch.rows.width {
+                let later = branch.word_after(Relations::OnLocation, a, k)
+                    | branch.word_after(Relations::Global, a, k);
+                let them = problem.writes_to.word(event.location, k);
+                let known = branch.word_after(Relations::Coherence, a, k);
+                put_each(problem, branch, Put::After(a), k, later & them & !known);
+            }
         } else if event.reads {
             let s = branch.source_of(a);
             if s == NONE {

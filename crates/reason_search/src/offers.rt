@@ -2,6 +2,7 @@
 //! answers.
 
 use crate::branch::Branch;
+use crate::closing::add_best;
 use crate::evidence::{Closing, Evidence, need, reset};
 use crate::facts::{Edge, Turned};
 use crate::growing::Trees;
@@ -204,8 +205,11 @@ fn offer_between(
     }
 }
 
-/// Finds the best reason why a read can't have a source.
-pub fn find_why_not(problem: &Problem, branch: &mut Branch, desk: &mut Desk, r: usize, s: usize) {
+/// Makes a tree for a source, where there is none, by the best reason why the read can't have it.
+pub fn close_source(problem: &Problem, branch: &mut Branch, desk: &mut Desk, r: usize, s: usize) {
+    if desk.branches.at(s) != NONE {
+        return;
+    }
     let removed = branch.moment(problem, r, s);
     let limit = removed.edges;
     let known = Known {
@@ -231,6 +235,14 @@ pub fn find_why_not(problem: &Problem, branch: &mut Branch, desk: &mut Desk, r: 
     if problem.events.at(r).partner != NONE {
         offer_between(problem, branch, desk, r, s, limit);
     }
+    let nothing = Turned {
+        first: NONE,
+        second: NONE,
+        fact: NONE,
+        edges: limit,
+    };
+    let tree = add_best(problem, branch, desk, s, nothing);
+    desk.branches.put(s, tree);
 }
 
 /// Offers a cycle of each relation: the path from the first one of two writes to an event, and the edge back.
@@ -254,15 +266,28 @@ fn offer_paths(
     offer_path(problem, branch, desk, global, turned.first, to, fact);
 }
 
-/// Finds the best reason why an order that a fact tells can't be turned.
-pub fn find_why_before(problem: &Problem, branch: &mut Branch, desk: &mut Desk, turned: Turned) {
-    let loc = problem.events.at(turned.first).location;
+/// The tree where the order that a fact tells is turned, by the best reason why it can't be.
+pub fn add_other(
+    problem: &Problem,
+    branch: &mut Branch,
+    desk: &mut Desk,
+    first: usize,
+    second: usize,
+    fact: usize,
+) -> usize {
+    let turned = Turned {
+        first,
+        second,
+        fact,
+        edges: branch.facts.at(fact).edges,
+    };
+    let loc = problem.events.at(first).location;
     reset(&mut desk.best, Closing::None);
-    offer_paths(problem, branch, desk, turned, turned.second, NONE);
+    offer_paths(problem, branch, desk, turned, second, NONE);
     if problem.parts_on.at(loc) != NONE {
         let known = Known {
-            first: turned.second,
-            limit: turned.fact,
+            first: second,
+            limit: fact,
             ..NOTHING
         };
         if need_falsity(problem, branch, known, &mut desk.trial) {
@@ -270,10 +295,12 @@ pub fn find_why_before(problem: &Problem, branch: &mut Branch, desk: &mut Desk, 
         }
     }
     for r in problem.locations..problem.size {
-        if (branch.source.at(r) < turned.fact) & (problem.events.at(r).location == loc) {
+        if (branch.source.at(r) < fact) & (problem.events.at(r).location == loc) {
             offer_read(problem, branch, desk, turned, r);
         }
     }
+    let s = branch.source_of(desk.best.cycle.at(0));
+    add_best(problem, branch, desk, s, turned)
 }
 
 /// Offers the reasons by a read of their location why an order can't be turned: it is before the second one then; or one of the two

@@ -31,22 +31,6 @@ fn is_waiting(problem: &Problem, branch: &Branch, left: &Rows, a: usize) -> bool
     false
 }
 
-/// Places an event with its value. A fence has 0.
-fn place(problem: &Problem, branch: &Branch, left: &mut Rows, order: &mut List<Entry>, a: usize) {
-    let event = problem.events.at(a);
-    let value = if event.reads {
-        branch.values.at(a)
-    } else {
-        written(problem, branch, a)
-    };
-    let value = if value == NONE { 0 } else { value };
-    left.remove(0, a);
-    order.push(Entry {
-        value: (value % 4_294_967_296) as u32,
-        ..event.entry
-    });
-}
-
 /// The order of an execution, from a branch on which each question has an answer. Where there is none, what could be placed.
 ///
 /// Errors: out of memory only.
@@ -64,21 +48,36 @@ pub fn make_order(
     }
     // Round by round those that wait for none, both parts of a locked instruction side by side.
     for _round in 0..size {
-        let placed = order.len();
+        let before = order.len();
         for a in problem.locations..size {
             let own = problem.events.at(a).partner;
             let is_second = own < a;
             if is_second | !left.has(0, a) || is_waiting(problem, branch, &left, a) {
                 continue;
             }
-            if own == NONE {
-                place(problem, branch, &mut left, &mut order, a);
-            } else if !is_waiting(problem, branch, &left, own) {
-                place(problem, branch, &mut left, &mut order, a);
-                place(problem, branch, &mut left, &mut order, own);
+            if own != NONE && is_waiting(problem, branch, &left, own) {
+                continue;
+            }
+            for placed in [a, own] {
+                if placed == NONE {
+                    continue;
+                }
+                let event = problem.events.at(placed);
+                let value = if event.reads {
+                    branch.values.at(placed)
+                } else {
+                    written(problem, branch, placed)
+                };
+                // A fence has 0.
+                let value = if value == NONE { 0 } else { value };
+                left.remove(0, placed);
+                order.push(Entry {
+                    value: (value % 4_294_967_296) as u32,
+                    ..event.entry
+                });
             }
         }
-        if order.len() == placed {
+        if order.len() == before {
             break;
         }
     }

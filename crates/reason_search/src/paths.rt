@@ -86,38 +86,8 @@ fn reach(paths: &mut Paths, step: Step, to: usize) {
     }
 }
 
-/// Reaches what an edge leads to from an event: those of the program first, and then those of answers, the last one first.
-fn reach_from(problem: &Problem, branch: &Branch, paths: &mut Paths, edges: Edges, a: usize) {
-    let row = edges.relations.row(problem.size, a);
-    let mut step = Step {
-        from: a,
-        edge: NONE,
-    };
-    for k in 0..paths.events.width {
-        let mut left = problem.program.word(row, k) & !paths.events.word(SEEN, k);
-        for _event in 0..64u8 {
-            if left == 0 {
-                break;
-            }
-            reach(paths, step, lowest(k, left));
-            left &= left.wrapping_sub(1);
-        }
-    }
-    let mut number = branch.heads.at(row);
-    for _edge in 0..branch.edges.len() {
-        if number == NONE {
-            break;
-        }
-        let edge = branch.edges.at(number);
-        if number < edges.limit {
-            step.edge = number;
-            reach(paths, step, edge.link.to);
-        }
-        number = edge.next;
-    }
-}
-
-/// Reaches events one after the other until this one is reached. False where it isn't.
+/// Reaches events one after the other until this one is reached: those to which the program's edges lead first, and then those of
+/// answers, the last one first. False where it isn't.
 fn reach_all(
     problem: &Problem,
     branch: &Branch,
@@ -129,9 +99,30 @@ fn reach_all(
         if paths.next >= paths.queue.len() {
             break;
         }
-        let a = paths.queue.at(paths.next);
+        let from = paths.queue.at(paths.next);
         paths.next = paths.next.wrapping_add(1);
-        reach_from(problem, branch, paths, edges, a);
+        let row = edges.relations.row(problem.size, from);
+        for k in 0..paths.events.width {
+            let mut left = problem.program.word(row, k) & !paths.events.word(SEEN, k);
+            for _event in 0..64u8 {
+                if left == 0 {
+                    break;
+                }
+                reach(paths, Step { from, edge: NONE }, lowest(k, left));
+                left &= left.wrapping_sub(1);
+            }
+        }
+        let mut number = branch.heads.at(row);
+        for _edge in 0..branch.edges.len() {
+            if number == NONE {
+                break;
+            }
+            let edge = branch.edges.at(number);
+            if number < edges.limit {
+                reach(paths, Step { from, edge: number }, edge.link.to);
+            }
+            number = edge.next;
+        }
         if paths.events.has(SEEN, to) {
             return true;
         }

@@ -199,40 +199,6 @@ fn held(registers: &List<Term>, core: Core, operand: Operand) -> Term {
     }
 }
 
-/// The terms of what an action of a core does.
-fn add_terms(terms: &mut List<Term>, registers: &mut List<Term>, core: Core, action: Action) {
-    let returned = Term {
-        first: terms.len(),
-        ..ZERO
-    };
-    match action {
-        Action::Store(_, operand) => terms.push(held(registers, core, operand)),
-        Action::Load(reg, _) => {
-            terms.push(returned);
-            registers.put(register_place(core, reg), returned);
-        }
-        Action::Move(reg, operand) => {
-            let value = held(registers, core, operand);
-            registers.put(register_place(core, reg), value);
-        }
-        Action::Fence => terms.push(ZERO),
-        Action::Lock(_, reg, update) => {
-            let place = register_place(core, reg);
-            let old = registers.at(place);
-            terms.push(returned);
-            terms.push(match update {
-                Update::Exchange => old,
-                Update::Add => Term {
-                    number: old.number,
-                    first: returned.first,
-                    second: old.first,
-                },
-            });
-            registers.put(place, returned);
-        }
-    }
-}
-
 /// The terms of all events, and of all registers at the end.
 fn run_cores(terms: &mut List<Term>, registers: &mut List<Term>, test: &Test) {
     for word in test.initial_words() {
@@ -242,11 +208,41 @@ fn run_cores(terms: &mut List<Term>, registers: &mut List<Term>, test: &Test) {
         });
     }
     for core in 0..test.cores() {
-        for number in test.initial_registers(Core(core)) {
+        let core = Core(core);
+        for number in test.initial_registers(core) {
             registers.push(Term { number, ..ZERO });
         }
-        for instr in test.program(Core(core)) {
-            add_terms(terms, registers, Core(core), instr.action());
+        for instr in test.program(core) {
+            let returned = Term {
+                first: terms.len(),
+                ..ZERO
+            };
+            match instr.action() {
+                Action::Store(_, operand) => terms.push(held(registers, core, operand)),
+                Action::Load(reg, _) => {
+                    terms.push(returned);
+                    registers.put(register_place(core, reg), returned);
+                }
+                Action::Move(reg, operand) => {
+                    let value = held(registers, core, operand);
+                    registers.put(register_place(core, reg), value);
+                }
+                Action::Fence => terms.push(ZERO),
+                Action::Lock(_, reg, update) => {
+                    let place = register_place(core, reg);
+                    let old = registers.at(place);
+                    terms.push(returned);
+                    terms.push(match update {
+                        Update::Exchange => old,
+                        Update::Add => Term {
+                            number: old.number,
+                            first: returned.first,
+                            second: old.first,
+                        },
+                    });
+                    registers.put(place, returned);
+                }
+            }
         }
     }
 }

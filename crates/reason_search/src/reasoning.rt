@@ -2,30 +2,15 @@
 //! that follows.
 
 use crate::branch::{Branch, Conflict};
-use crate::closing::{add_best, add_leaf, ask_order};
+use crate::closing::{add_leaf, ask_order};
 use crate::evidence::{Closing, reset};
-use crate::facts::{Answer, Turned};
+use crate::facts::Answer;
 use crate::growing::{Growth, add_node, put_branch};
 use crate::lists::NONE;
-use crate::offers::{Desk, find_why_before, find_why_not, need_edge, take_path};
+use crate::offers::{Desk, add_other, close_source, need_edge, take_path};
 use crate::paths::Edges;
 use crate::problem::Problem;
 use crate::values::{Known, NOTHING, need_falsity};
-
-/// Makes a tree for a source, where there is none, since the read can't have it.
-fn close_source(problem: &Problem, branch: &mut Branch, desk: &mut Desk, r: usize, s: usize) {
-    if desk.branches.at(s) == NONE {
-        find_why_not(problem, branch, desk, r, s);
-        let nothing = Turned {
-            first: NONE,
-            second: NONE,
-            fact: NONE,
-            edges: branch.moment(problem, r, s).edges,
-        };
-        let tree = add_best(problem, branch, desk, s, nothing);
-        desk.branches.put(s, tree);
-    }
-}
 
 /// The question what a read reads from: some sources have their trees in `branches`, the others are closed.
 pub fn add_source_question(
@@ -64,26 +49,6 @@ pub fn add_order_question(
     desk.weights.heed(a);
     desk.weights.heed(b);
     ask_order(desk, a, b, second, first)
-}
-
-/// The tree where the order that a fact tells is turned.
-fn add_other(
-    problem: &Problem,
-    branch: &mut Branch,
-    desk: &mut Desk,
-    first: usize,
-    second: usize,
-    fact: usize,
-) -> usize {
-    let turned = Turned {
-        first,
-        second,
-        fact,
-        edges: branch.facts.at(fact).edges,
-    };
-    find_why_before(problem, branch, desk, turned);
-    let s = branch.source_of(desk.best.cycle.at(0));
-    add_best(problem, branch, desk, s, turned)
 }
 
 /// The tree of a branch that is closed. What it uses is used then, and nothing else. Where an edge closes a cycle, its order follows,

@@ -97,25 +97,6 @@ fn overwriting(problem: &Problem, branch: &Branch, known: Known, w: usize) -> us
     NONE
 }
 
-/// Whether a location can have such a word at the end.
-fn word_can_be(
-    problem: &Problem,
-    branch: &Branch,
-    known: Known,
-    loc: usize,
-    demand: Demand,
-) -> bool {
-    for w in problem.locations..problem.size {
-        if problem.writes_to.has(loc, w)
-            && can_be(demand, written(problem, branch, w))
-            && overwriting(problem, branch, known, w) == NONE
-        {
-            return true;
-        }
-    }
-    false
-}
-
 /// The parts of what is asked that can be so, where a read, or a location at the end, is supposed to have this value; a `place` that is
 /// `NONE` is none.
 pub fn parts_that_can_be(
@@ -128,15 +109,22 @@ pub fn parts_that_can_be(
     let mut parts = NO_PARTS;
     for i in (0..problem.claim.len()).rev() {
         let can = match problem.claim.at(i) {
-            Part::Value(r, demand) => {
-                if r == place {
-                    can_be(demand, value)
-                } else if r < problem.locations {
-                    word_can_be(problem, branch, known, r, demand)
-                } else {
-                    can_be(demand, branch.values.at(r))
+            Part::Value(r, demand) if r == place => can_be(demand, value),
+            Part::Value(r, demand) if r < problem.locations => {
+                // A location has what a write writes that comes before no other one.
+                let mut has_it = false;
+                for w in problem.locations..problem.size {
+                    if problem.writes_to.has(r, w)
+                        && can_be(demand, written(problem, branch, w))
+                        && overwriting(problem, branch, known, w) == NONE
+                    {
+                        has_it = true;
+                        break;
+                    }
                 }
+                has_it
             }
+            Part::Value(r, demand) => can_be(demand, branch.values.at(r)),
             Part::Fixed(truth) => truth,
             Part::Both(second) => parts.has(i.wrapping_add(1)) & parts.has(second),
             Part::Either(second) => parts.has(i.wrapping_add(1)) | parts.has(second),
@@ -259,9 +247,22 @@ fn need_parts(
     }
 }
 
-/// Adds the sources from which needed values come, each once: its value is forgotten. There is another round while any hangs on another
-/// one.
-fn need_sources(problem: &Problem, branch: &mut Branch, known: Known, evidence: &mut Evidence) {
+/// Whether what is asked is false by what is known. Adds the facts by which it is: the sources from which needed values come, each once,
+/// since its value is forgotten. There is another round while any hangs on another one.
+pub fn need_falsity(
+    problem: &Problem,
+    branch: &mut Branch,
+    known: Known,
+    evidence: &mut Evidence,
+) -> bool {
+    find_values(problem, branch, known);
+    let can = parts_that_can_be(problem, branch, known, NONE, NONE);
+    if can.has(0) {
+        return false;
+    }
+    reset(evidence, Closing::False);
+    branch.sets.clear(NEEDED);
+    need_parts(problem, branch, known, evidence, &can);
     for _round in 0..problem.size {
         let mut changed = false;
         let mut r = branch.sets.next(NEEDED, problem.locations);
@@ -284,23 +285,5 @@ fn need_sources(problem: &Problem, branch: &mut Branch, known: Known, evidence: 
             break;
         }
     }
-}
-
-/// Whether what is asked is false by what is known. Adds the facts by which it is.
-pub fn need_falsity(
-    problem: &Problem,
-    branch: &mut Branch,
-    known: Known,
-    evidence: &mut Evidence,
-) -> bool {
-    find_values(problem, branch, known);
-    let can = parts_that_can_be(problem, branch, known, NONE, NONE);
-    if can.has(0) {
-        return false;
-    }
-    reset(evidence, Closing::False);
-    branch.sets.clear(NEEDED);
-    need_parts(problem, branch, known, evidence, &can);
-    need_sources(problem, branch, known, evidence);
     true
 }
