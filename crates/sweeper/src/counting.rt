@@ -4,11 +4,10 @@
 ghost use Rattle.std.specs.Prelude.{◌≡◌, ◌==◌, IfOk, OnOk};
 ghost use Rattle.sweep_runs.specs.Counting.{sweep_counts, SweepAnswersFit};
 
-use std::alloc::Global;
-use tso_laws::{
 use machine_core::Config;
 use protocol_tables::ProtocolKind;
 use scheduler::SweepPlan;
+use std::alloc::Global;
 use sweep_runs::sweep_into;
 use tso_model::{NoMemory, Test};
 use tso_report::Tally;
