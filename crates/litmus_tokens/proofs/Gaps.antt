@@ -1,7 +1,7 @@
 -- A comment's end, and the gap after it.
-use Rattle.std.proofs.Common.{◌≡◌, ℕ, ◌-◌, ◌<◌, ◌≤◌, Bool, true, false, cond, eqb, ◌&&◌, List, [], ◌∷◌, length, get_or, take, drop, take_all, Some, None, Err, refl, sym, ap, inl, inr, ◌⊎◌, arith}
+use Rattle.std.proofs.Common.{◌≡◌, ℕ, ◌-◌, ◌<◌, ◌≤◌, Bool, true, false, cond, eqb, ◌&&◌, List, [], ◌∷◌, length, get_or, take, drop, take_all, Some, None, Ok, Err, refl, sym, ap, inl, inr, ◌⊎◌, arith}
 use Rattle.std.proofs.lemmas.Bool.{ne_eqb}
-use Rattle.std.proofs.lemmas.Bool.Decides.{eqb_tells}
+use Rattle.std.proofs.lemmas.Bool.Decides.{eqb_tells, nat_tests}
 use Rattle.std.proofs.lemmas.List.{length-take, length-drop}
 use Rattle.litmus_tokens.specs.declared.token.Stop.TheVariants.{Unclosed}
 use Rattle.litmus_tokens.specs.Gap.{is_space, closes_comment, gap_end}
@@ -11,6 +11,20 @@ use Rattle.litmus_tokens.specs.inner.Gap.{comment_end}
 pub chosen : {A : Type 0} (b : Bool) (x y z : A) → cond b x y ≡ z → ((b ≡ true) × (x ≡ z)) ⊎ ((b ≡ false) × (y ≡ z))
 chosen true x y z e = inl (refl, e)
 chosen false x y z e = inr (refl, e)
+
+-- ---- no gap begins with a byte that is greater than those with which one begins
+
+solid_above : (b : ℕ) → 40 < b → is_space b ≡ false
+unfolding is_space
+solid_above b l = grind (arith, nat_tests)
+
+unopened_above : (b : ℕ) → 40 < b → eqb b 40 ≡ false
+unopened_above b l = grind (arith, nat_tests)
+
+pub no_gap_above : (bytes after : List ℕ) (first : ℕ) → bytes ≡ first ∷ after → 40 < first → gap_end None bytes ≡ Ok bytes
+unfolding gap_end
+no_gap_above bytes [] first whole l = rw (whole, solid_above first l) refl
+no_gap_above bytes (c ∷ cs) first whole l = rw (whole, solid_above first l, unopened_above first l) refl
 
 pub gap_after_space : (b : ℕ) (bs : List ℕ) → is_space b ≡ true → gap_end None (b ∷ bs) ≡ gap_end None bs
 unfolding gap_end

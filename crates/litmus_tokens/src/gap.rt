@@ -13,8 +13,7 @@ use crate::token::Stop;
 fn is_space(byte: u8) -> bool
     ensures { result ≡ gap.is_space byte }
 {
-    // Most bytes of a text are greater, and need no second look.
-    byte == b' ' || (byte < b' ' && matches!(byte, b'\t' | b'\n' | b'\r'))
+    matches!(byte, b' ' | b'\t' | b'\n' | b'\r')
 }
 
 /// What stands after the first `*)`.
@@ -40,6 +39,10 @@ fn after_one(bytes: &[u8]) -> Result<Option<&[u8]>, Stop>
     let Some((first, after)) = bytes.split_first() else {
         return Ok(None);
     };
+    // Most bytes of a text are greater than those that begin a gap, and need no second look.
+    if *first > b'(' {
+        return Ok(None);
+    }
     if is_space(*first) {
         return Ok(Some(after));
     }

@@ -1,6 +1,9 @@
 use Rattle.std.proofs.Common.{sym, ◌∙◌, arith}
-use Rattle.litmus_tokens.proofs.Gaps.{gap_over_comment, gap_over_unclosed}
+use Rattle.litmus_tokens.proofs.Gaps.{no_gap_above, gap_over_comment, gap_over_unclosed}
 use Rattle.litmus_tokens.proofs.gap.after_one.Goals as goal
+
+pub returns-then-first-gt40 : goal.returns-then-first-gt40
+returns-then-first-gt40 c = no_gap_above c.args.bytes.now c.in-Some.after.now c.in-Some.first.now c.in-Some.ensures.cases.0 c.if-first-gt40.true
 
 pub returns-in-Some-after_comment : goal.returns-in-Some-after_comment
 returns-in-Some-after_comment c = (
