@@ -110,23 +110,20 @@ pub fn put_before(problem: &Problem, branch: &mut Branch, a: usize, b: usize, tr
 /// Puts what the program alone tells on a branch that has nothing yet: its edges, from the last event on, so that what is after the
 /// next ones is known; and then what follows.
 pub fn put_program(problem: &Problem, branch: &mut Branch) {
-    for relations in [
-        Relations::OnLocation,
-        Relations::Global,
-        Relations::Coherence,
-    ] {
+    // For each of the relations, as they are numbered.
+    for relations in 0..3usize {
+        let first_after = branch.size.wrapping_mul(relations);
+        let first_before = branch.size.wrapping_mul(relations.wrapping_add(3));
         for a in (0..problem.size).rev() {
-            let row = relations.row(branch.size, a);
+            let row = first_after.wrapping_add(a);
             branch.rows.join(row, &problem.program, row);
             let mut b = branch.rows.next(row, a);
             for _event in a..problem.size {
                 if b == NONE {
                     break;
                 }
-                let before = branch.before(relations, b);
-                let later = relations.row(branch.size, b);
-                branch.rows.add(before, a);
-                branch.rows.join_own(row, later);
+                branch.rows.add(first_before.wrapping_add(b), a);
+                branch.rows.join_own(row, first_after.wrapping_add(b));
                 b = branch.rows.next(row, b.wrapping_add(1));
             }
         }

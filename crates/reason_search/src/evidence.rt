@@ -33,11 +33,6 @@ pub fn make_evidence(alloc: Global) -> Evidence {
     }
 }
 
-/// Whether memory was refused for a leaf.
-pub fn lacks_memory(evidence: &Evidence) -> bool {
-    evidence.cycle.is_refused | evidence.facts.is_refused
-}
-
 /// Begins a leaf anew.
 pub fn reset(evidence: &mut Evidence, closing: Closing) {
     evidence.closing = closing;

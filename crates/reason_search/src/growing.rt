@@ -1,9 +1,8 @@
 //! The tree of a refutation while it grows: each node with its first branch, and with the node of the next branch beside it.
 
 use crate::lists::{List, NONE};
-use crate::problem::{NO_EVENT, Problem, Relations};
+use crate::problem::Relations;
 use std::alloc::Global;
-use tso_model::{Entry, NoMemory};
 
 /// What stands at a node.
 #[derive(Clone, Copy)]
@@ -88,20 +87,4 @@ pub fn put_branch(trees: &mut Trees, question: usize, branch: usize) {
             ..above
         },
     );
-}
-
-/// The events of a cycle.
-pub fn cycle_of(
-    alloc: Global,
-    problem: &Problem,
-    events: &List<usize>,
-    start: usize,
-    length: usize,
-) -> Result<Vec<Entry>, NoMemory> {
-    let mut cycle = List::new(alloc, 0, NO_EVENT.entry);
-    for i in 0..length {
-        let a = events.at(start.wrapping_add(i));
-        cycle.push(problem.events.at(a).entry);
-    }
-    cycle.into_items()
 }

@@ -1,10 +1,10 @@
 //! What a search proposes: nodes of a tree, from the root on, or the order of an execution.
 
-use crate::growing::{Growth, Trees, cycle_of, no_trees};
-use crate::hunting::{Find, Hunt, hunt_again, hunt_for, is_refused, make_hunt};
+use crate::growing::{Growth, Trees, no_trees};
+use crate::hunting::{Find, Hunt, hunt_for, is_refused, make_hunt};
 use crate::lists::{List, NONE};
 use crate::ordering::make_order;
-use crate::problem::{Problem, Relations, make_problem};
+use crate::problem::{NO_EVENT, Problem, Relations, make_problem};
 use refutation_laws::Model;
 use refutations::Node;
 use std::alloc::Global;
@@ -28,8 +28,8 @@ pub struct Guide {
     open: List<usize>,
 }
 
-/// Searches: a tree, or a branch that is open to the end, or neither. Where memory is refused, the search ends, and `proposed_order`
-/// tells it. Where all is closed, the tree is the smallest of those that are found in a few tries, each at no more cases than the first
+/// Searches, with pauses, after each of which it begins anew: a tree, or a branch that is open to the end, or neither. Where memory is
+/// refused, the search ends, and `proposed_order` tells it. Where all is closed, the tree is the smallest of those that are found in a few tries, each at no more cases than the first
 /// one took.
 pub fn make_guide(alloc: Global, test: &Test, events: &[Entry], model: Model) -> Guide {
     let problem = make_problem(alloc, test, events, model);
@@ -44,7 +44,15 @@ pub fn make_guide(alloc: Global, test: &Test, events: &[Entry], model: Model) ->
         return guide;
     }
     let hunt = &mut guide.hunt;
-    let mut found = hunt_for(&guide.problem, hunt, MOST_CASES);
+    let mut found = Find::Paused;
+    let mut step = 400usize;
+    for _round in 0..u64::MAX {
+        found = hunt_for(&guide.problem, hunt, step, false);
+        if !matches!(found, Find::Paused) | (hunt.cases > MOST_CASES) | is_refused(hunt) {
+            break;
+        }
+        step = step.wrapping_add(step / 4);
+    }
     guide.is_allowed = matches!(found, Find::Allowed);
     let effort = hunt.cases.wrapping_add(20);
     let mut leaves = NONE;
@@ -64,7 +72,7 @@ pub fn make_guide(alloc: Global, test: &Test, events: &[Entry], model: Model) ->
         if is_small | is_late | is_refused(hunt) {
             break;
         }
-        found = hunt_again(&guide.problem, hunt, effort);
+        found = hunt_for(&guide.problem, hunt, effort, true);
     }
     guide
 }
@@ -115,7 +123,12 @@ pub fn propose(alloc: Global, guide: &mut Guide) -> Result<Option<Node>, NoMemor
             problem.events.at(b).entry,
         ),
         Growth::Cycle(relations, start, length) => {
-            let cycle = cycle_of(alloc, problem, &guide.trees.events, start, length)?;
+            let mut cycle = List::new(alloc, 0, NO_EVENT.entry);
+            for i in 0..length {
+                let a = guide.trees.events.at(start.wrapping_add(i));
+                cycle.push(problem.events.at(a).entry);
+            }
+            let cycle = cycle.into_items()?;
             match relations {
                 Relations::Global => Node::Globally(cycle),
                 _ => Node::OnLocation(cycle),

@@ -5,7 +5,7 @@ use crate::branch::{Branch, DIRTY, Mark, VALUED, make_branch, mark_here, undo};
 use crate::chance::{Chance, FIRST_CHANCE};
 use crate::choosing::{Ask, Choice, choose};
 use crate::edges::{put_before, put_program};
-use crate::evidence::{lacks_memory, make_evidence};
+use crate::evidence::make_evidence;
 use crate::growing::no_trees;
 use crate::lists::{List, NONE};
 use crate::looking::{deduce, put_source};
@@ -29,7 +29,7 @@ pub struct Hunt {
     start: Mark,
     /// How many cases were looked at.
     pub cases: usize,
-    pause: usize,
+    /// How often it began anew.
     round: usize,
     chance: Chance,
 }
@@ -68,7 +68,6 @@ pub fn make_hunt(alloc: Global, problem: &Problem) -> Hunt {
         },
         questions: Questions::none(alloc),
         cases: 0,
-        pause: 0,
         round: 0,
         chance: FIRST_CHANCE,
     }
@@ -81,8 +80,10 @@ pub fn is_refused(hunt: &Hunt) -> bool {
         | hunt.questions.is_refused()
         | lack_memory(&desk.paths)
         | lack_memory(&desk.inner)
-        | lacks_memory(&desk.best)
-        | lacks_memory(&desk.trial)
+        | desk.best.cycle.is_refused
+        | desk.best.facts.is_refused
+        | desk.trial.cycle.is_refused
+        | desk.trial.facts.is_refused
         | desk.trees.twigs.is_refused
         | desk.trees.events.is_refused
         | desk.used.words.is_refused
@@ -137,7 +138,6 @@ fn go_back(problem: &Problem, hunt: &mut Hunt) -> usize {
         }
         hunt.questions
             .put_trees(&frame, &mut desk.branches, &mut desk.used);
-        hunt.questions.take_back(&frame);
         desk.above = hunt.branch.facts.len();
         tree = match frame.ask {
             Ask::Source(r) => add_source_question(problem, &mut hunt.branch, desk, r),
@@ -153,15 +153,16 @@ fn go_back(problem: &Problem, hunt: &mut Hunt) -> usize {
     NONE
 }
 
-/// Looks at all, and searches until all is closed, or a branch is open to the end, or it pauses.
-fn search(problem: &Problem, hunt: &mut Hunt) -> Find {
+/// Looks at all, and searches until all is closed, or a branch is open to the end, or more cases were looked at than this.
+fn search(problem: &Problem, hunt: &mut Hunt, most: usize) -> Find {
+    let pause = hunt.cases.wrapping_add(most);
     for a in 0..problem.size {
         hunt.branch.sets.add(DIRTY, a);
     }
     hunt.branch.claim_is_dirty = true;
     for _case in 0..u64::MAX {
         hunt.cases = hunt.cases.wrapping_add(1);
-        if (hunt.cases > hunt.pause) | is_refused(hunt) {
+        if (hunt.cases > pause) | is_refused(hunt) {
             return Find::Paused;
         }
         if deduce(problem, &mut hunt.branch) {
@@ -205,41 +206,23 @@ fn search(problem: &Problem, hunt: &mut Hunt) -> Find {
     Find::Paused
 }
 
-/// Takes all questions back.
-pub fn start_anew(hunt: &mut Hunt) {
+/// Begins anew, with what it learnt of which questions matter, and looks at so many cases at most. Where `by_chance` says so, it looks
+/// first at one event after the other in an order of chance, with all that follows: so it may find a smaller tree.
+pub fn hunt_for(problem: &Problem, hunt: &mut Hunt, most: usize, by_chance: bool) -> Find {
     undo(&mut hunt.branch, &hunt.start);
     hunt.questions.take_back(&NO_FRAME);
     hunt.desk.trees.twigs.cut(0);
     hunt.desk.trees.events.cut(0);
+    if by_chance {
+        for _event in 0..problem.size {
+            let next = hunt.chance.below(problem.size);
+            hunt.branch.sets.add(DIRTY, next);
+            if !deduce(problem, &mut hunt.branch) {
+                break;
+            }
+        }
+    }
+    let found = search(problem, hunt, most);
     hunt.round = hunt.round.wrapping_add(1);
-}
-
-/// Searches with pauses, after each of which it begins anew with what it learnt of which questions matter: at most so many cases.
-pub fn hunt_for(problem: &Problem, hunt: &mut Hunt, most: usize) -> Find {
-    let mut step = 400usize;
-    for _round in 0..u64::MAX {
-        hunt.pause = hunt.cases.wrapping_add(step);
-        let found = search(problem, hunt);
-        if !matches!(found, Find::Paused) | (hunt.cases > most) | is_refused(hunt) {
-            return found;
-        }
-        start_anew(hunt);
-        step = step.wrapping_add(step / 4);
-    }
-    Find::Paused
-}
-
-/// Begins anew, and looks at so many cases at most: it may find a smaller tree, since it looks first at one event after the other in an
-/// order of chance, with all that follows.
-pub fn hunt_again(problem: &Problem, hunt: &mut Hunt, most: usize) -> Find {
-    start_anew(hunt);
-    hunt.pause = hunt.cases.wrapping_add(most);
-    for _event in 0..problem.size {
-        let next = hunt.chance.below(problem.size);
-        hunt.branch.sets.add(DIRTY, next);
-        if !deduce(problem, &mut hunt.branch) {
-            break;
-        }
-    }
-    search(problem, hunt)
+    found
 }

@@ -117,18 +117,19 @@ fn look_at_known(problem: &Problem, branch: &mut Branch, r: usize, s: usize) {
     }
 }
 
-/// Notes what is known to come before one of the writes to its location that are known to come before a read, or its store part.
-fn note_parted(problem: &Problem, branch: &mut Branch, r: usize) {
-    let loc = problem.events.at(r).location;
-    let own = problem.events.at(r).partner;
+/// What follows at a read whose source is open: it can't have those that it is known to be before, nor any but the last before it, nor
+/// those of a wrong value, if that isn't tested yet.
+fn look_at_open(problem: &Problem, branch: &mut Branch, r: usize) {
+    let event = problem.events.at(r);
+    // What is before one of the writes to its location that are known to come before it, or its store part.
     branch.sets.clear(PARTED);
     for k in 0..branch.rows.width {
         let mut earlier = branch.word_before(Relations::OnLocation, r, k)
             | branch.word_before(Relations::Global, r, k);
-        if own != NONE {
-            earlier |= branch.word_before(Relations::Coherence, own, k);
+        if event.partner != NONE {
+            earlier |= branch.word_before(Relations::Coherence, event.partner, k);
         }
-        let mut left = earlier & problem.writes_to.word(loc, k);
+        let mut left = earlier & problem.writes_to.word(event.location, k);
         for _write in 0..64u8 {
             if left == 0 {
                 break;
@@ -138,17 +139,10 @@ fn note_parted(problem: &Problem, branch: &mut Branch, r: usize) {
             left &= left.wrapping_sub(1);
         }
     }
-}
-
-/// What follows at a read whose source is open: it can't have those that it is known to be before, nor any but the last before it, nor
-/// those of a wrong value, if that isn't tested yet.
-fn look_at_open(problem: &Problem, branch: &mut Branch, r: usize) {
-    note_parted(problem, branch, r);
     let is_tested = !branch.sets.has(UNTESTED, r);
     let row = branch.candidates(r);
-    let core = problem.events.at(r).core;
     for k in 0..branch.rows.width {
-        let own = problem.events_of.word(core, k);
+        let own = problem.events_of.word(event.core, k);
         let barred = branch.word_after(Relations::OnLocation, r, k)
             | branch.word_after(Relations::Global, r, k) & !own
             | branch.sets.word(PARTED, k);
@@ -195,20 +189,6 @@ pub fn next_last(problem: &Problem, branch: &Branch, loc: usize, from: usize) ->
     NONE
 }
 
-/// What follows at a location of which something is asked, where only one write can be its last one.
-fn look_at_last(problem: &Problem, branch: &mut Branch, loc: usize) {
-    let only = next_last(problem, branch, loc, 0);
-    branch.claim_is_dirty = true;
-    if only == NONE || next_last(problem, branch, loc, only.wrapping_add(1)) != NONE {
-        return;
-    }
-    for k in 0..branch.rows.width {
-        let known = branch.word_before(Relations::Coherence, only, k);
-        let others = problem.writes_to.word(loc, k) & !known;
-        put_each(problem, branch, Put::Before(only), k, others);
-    }
-}
-
 /// Notes all that follows, first of all the values that are known. False where the branch is closed.
 pub fn deduce(problem: &Problem, branch: &mut Branch) -> bool {
     for _step in 0..u64::MAX {
@@ -252,7 +232,17 @@ pub fn deduce(problem: &Problem, branch: &mut Branch) -> bool {
                 look_at_known(problem, branch, a, s);
             }
         } else if problem.parts_on.at(a) != NONE {
-            look_at_last(problem, branch, a);
+            // Something is asked of the location: where only one write can be its last one, all others come before it.
+            let only = next_last(problem, branch, a, 0);
+            branch.claim_is_dirty = true;
+            if only == NONE || next_last(problem, branch, a, only.wrapping_add(1)) != NONE {
+                continue;
+            }
+            for k in 0..branch.rows.width {
+                let known = branch.word_before(Relations::Coherence, only, k);
+                let others = problem.writes_to.word(a, k) & !known;
+                put_each(problem, branch, Put::Before(only), k, others);
+            }
         }
     }
     !branch.is_closed()

@@ -58,10 +58,8 @@ pub fn make_order(
             if own != NONE && is_waiting(problem, branch, &left, own) {
                 continue;
             }
-            for placed in [a, own] {
-                if placed == NONE {
-                    continue;
-                }
+            let last = if own == NONE { a } else { own };
+            for placed in a..last.wrapping_add(1) {
                 let event = problem.events.at(placed);
                 let value = if event.reads {
                     branch.values.at(placed)

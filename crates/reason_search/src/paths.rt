@@ -86,17 +86,18 @@ fn reach(paths: &mut Paths, step: Step, to: usize) {
     }
 }
 
-/// Reaches events one after the other until this one is reached: those to which the program's edges lead first, and then those of
-/// answers, the last one first. False where it isn't.
-fn reach_all(
+/// Finds a shortest path from one of the starts to an event, which isn't one. Reaches events one after the other: those to which the
+/// program's edges lead first, and then those of answers, the last one first. False where there is no path; all are reached then.
+pub fn find(
     problem: &Problem,
     branch: &Branch,
     paths: &mut Paths,
     edges: Edges,
     to: usize,
 ) -> bool {
+    let mut is_found = false;
     for _event in 0..problem.size {
-        if paths.next >= paths.queue.len() {
+        if is_found | (paths.next >= paths.queue.len()) {
             break;
         }
         let from = paths.queue.at(paths.next);
@@ -123,22 +124,9 @@ fn reach_all(
             }
             number = edge.next;
         }
-        if paths.events.has(SEEN, to) {
-            return true;
-        }
+        is_found = paths.events.has(SEEN, to);
     }
-    false
-}
-
-/// Finds a shortest path from one of the starts to an event. No start is its end.
-pub fn find(
-    problem: &Problem,
-    branch: &Branch,
-    paths: &mut Paths,
-    edges: Edges,
-    to: usize,
-) -> bool {
-    if !reach_all(problem, branch, paths, edges, to) {
+    if !is_found {
         return false;
     }
     paths.path.cut(0);
@@ -168,7 +156,7 @@ pub fn start_from_later(
         relations: Relations::Coherence,
         limit,
     };
-    let _all = reach_all(problem, branch, paths, edges, NONE);
+    let _none = find(problem, branch, paths, edges, NONE);
     paths.events.join_own(STARTS, SEEN);
     paths.next = 1;
 }

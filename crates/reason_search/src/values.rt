@@ -187,29 +187,6 @@ pub fn is_wrong_value(problem: &Problem, branch: &Branch, place: usize, w: usize
     false
 }
 
-/// Notes by what a location doesn't have such a word at the end.
-fn need_word(
-    problem: &Problem,
-    branch: &mut Branch,
-    known: Known,
-    evidence: &mut Evidence,
-    loc: usize,
-    demand: Demand,
-) {
-    for w in problem.locations..problem.size {
-        if problem.writes_to.has(loc, w) {
-            if can_be(demand, written(problem, branch, w)) {
-                let fact = overwriting(problem, branch, known, w);
-                if fact < known.limit {
-                    need(evidence, fact);
-                }
-            } else {
-                add_reads(&mut branch.sets, NEEDED, problem.terms.at(w));
-            }
-        }
-    }
-}
-
 /// Notes by which of its parts what is asked is false, and by what those are, where it is known which can be so.
 fn need_parts(
     problem: &Problem,
@@ -226,11 +203,20 @@ fn need_parts(
         }
         let first = i.wrapping_add(1);
         match problem.claim.at(i) {
-            Part::Value(r, demand) => {
-                if r < problem.locations {
-                    need_word(problem, branch, known, evidence, r, demand);
-                } else {
-                    branch.sets.add(NEEDED, r);
+            Part::Value(r, _) if r >= problem.locations => branch.sets.add(NEEDED, r),
+            Part::Value(loc, demand) => {
+                for w in problem.locations..problem.size {
+                    if !problem.writes_to.has(loc, w) {
+                        continue;
+                    }
+                    if can_be(demand, written(problem, branch, w)) {
+                        let fact = overwriting(problem, branch, known, w);
+                        if fact < known.limit {
+                            need(evidence, fact);
+                        }
+                    } else {
+                        add_reads(&mut branch.sets, NEEDED, problem.terms.at(w));
+                    }
                 }
             }
             Part::Both(second) => {
