@@ -110,10 +110,13 @@ pub fn put_before(problem: &Problem, branch: &mut Branch, a: usize, b: usize, tr
 /// Puts what the program alone tells on a branch that has nothing yet: its edges, from the last event on, so that what is after the
 /// next ones is known; and then what follows.
 pub fn put_program(problem: &Problem, branch: &mut Branch) {
-    // For each of the relations, as they are numbered.
-    for relations in 0..3usize {
-        let first_after = branch.size.wrapping_mul(relations);
-        let first_before = branch.size.wrapping_mul(relations.wrapping_add(3));
+    for relations in [
+        Relations::OnLocation,
+        Relations::Global,
+        Relations::Coherence,
+    ] {
+        let first_after = relations.row(branch.size, 0);
+        let first_before = branch.before(relations, 0);
         for a in (0..problem.size).rev() {
             let row = first_after.wrapping_add(a);
             branch.rows.join(row, &problem.program, row);

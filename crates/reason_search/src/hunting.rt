@@ -127,8 +127,7 @@ fn go_back(problem: &Problem, hunt: &mut Hunt) -> usize {
             hunt.questions.take_back(&frame);
             continue;
         }
-        hunt.questions.keep(&frame, tree, &desk.used);
-        let answer = hunt.questions.next_answer(&frame);
+        let answer = hunt.questions.keep(&frame, tree, &desk.used);
         if answer != NONE {
             if put_answer(problem, &mut hunt.branch, frame.ask, answer) {
                 return NONE;
@@ -185,7 +184,7 @@ fn search(problem: &Problem, hunt: &mut Hunt, most: usize) -> Find {
                 return Find::Allowed;
             }
             let by_chance = hunt.round != 0;
-            let frame = begin(
+            let answer = begin(
                 problem,
                 &hunt.branch,
                 &mut hunt.questions,
@@ -193,7 +192,6 @@ fn search(problem: &Problem, hunt: &mut Hunt, most: usize) -> Find {
                 ask,
                 by_chance,
             );
-            let answer = hunt.questions.next_answer(&frame);
             if put_answer(problem, &mut hunt.branch, ask, answer) {
                 continue;
             }

@@ -8,7 +8,7 @@ use crate::facts::{Edge, Turned};
 use crate::growing::Trees;
 use crate::lists::{List, NONE};
 use crate::paths::{Edges, Paths, STARTS, begin, find, start_from, start_from_later};
-use crate::problem::{Problem, Relations};
+use crate::problem::{Event, Problem, Relations};
 use crate::rows::Rows;
 use crate::values::{Known, NOTHING, need_falsity};
 use crate::weights::Weights;
@@ -133,22 +133,6 @@ fn offer_write_between(problem: &Problem, desk: &mut Desk, r: usize, v: usize) {
     offer(desk);
 }
 
-/// Offers the cycle of a path between two events, and of the edge back, which a fact tells, or which is supposed.
-fn offer_path(
-    problem: &Problem,
-    branch: &Branch,
-    desk: &mut Desk,
-    edges: Edges,
-    from: usize,
-    to: usize,
-    fact: usize,
-) {
-    if take_path(problem, branch, desk, edges, from, to) {
-        need(&mut desk.trial, fact);
-        offer(desk);
-    }
-}
-
 /// Offers the reasons by the order of one relation why a read can't have a source: it is before the source, or after a write that is
 /// after the source.
 fn offer_orders(
@@ -162,46 +146,15 @@ fn offer_orders(
     let core = problem.events.at(r).core;
     let is_edge = matches!(edges.relations, Relations::OnLocation)
         | !problem.events_of.has(core, s);
-    if is_edge & branch.is_known(edges.relations, r, s) {
-        offer_path(problem, branch, desk, edges, r, s, NONE);
+    let is_before = is_edge & branch.is_known(edges.relations, r, s);
+    if is_before && take_path(problem, branch, desk, edges, r, s) {
+        offer(desk);
     }
     start_from_later(problem, branch, &mut desk.paths, s, edges.limit);
     if take_cycle(problem, branch, desk, edges, r) {
         let first = desk.trial.cycle.at(0);
         show_order(problem, branch, desk, s, first, edges.limit);
         offer(desk);
-    }
-}
-
-/// Offers a write of another core between the source of a load part and its store part.
-fn offer_between(
-    problem: &Problem,
-    branch: &Branch,
-    desk: &mut Desk,
-    r: usize,
-    s: usize,
-    limit: usize,
-) {
-    let own = problem.events.at(r).partner;
-    let edges = Edges {
-        relations: Relations::Coherence,
-        limit,
-    };
-    start_from_later(problem, branch, &mut desk.inner, s, limit);
-    begin(&mut desk.paths);
-    for x in problem.locations..problem.size {
-        let is_other = problem.events.at(x).core != problem.events.at(r).core;
-        if desk.inner.events.has(STARTS, x)
-            & is_other
-            & branch.is_known(Relations::Coherence, x, own)
-        {
-            start_from(&mut desk.paths, x);
-        }
-    }
-    if take_cycle(problem, branch, desk, edges, own) {
-        let x = desk.trial.cycle.at(0);
-        show_order(problem, branch, desk, s, x, limit);
-        offer_write_between(problem, desk, r, x);
     }
 }
 
@@ -218,22 +171,36 @@ pub fn close_source(problem: &Problem, branch: &mut Branch, desk: &mut Desk, r: 
         limit: removed.facts,
         ..NOTHING
     };
-    let on_location = Edges {
-        relations: Relations::OnLocation,
-        limit,
-    };
-    let global = Edges {
-        relations: Relations::Global,
-        limit,
-    };
     reset(&mut desk.best, Closing::None);
     if need_falsity(problem, branch, known, &mut desk.trial) {
         offer(desk);
     }
-    offer_orders(problem, branch, desk, on_location, r, s);
-    offer_orders(problem, branch, desk, global, r, s);
-    if problem.events.at(r).partner != NONE {
-        offer_between(problem, branch, desk, r, s, limit);
+    for relations in [Relations::OnLocation, Relations::Global] {
+        offer_orders(problem, branch, desk, Edges { relations, limit }, r, s);
+    }
+    let Event {
+        core,
+        partner: own,
+        ..
+    } = problem.events.at(r);
+    if own != NONE {
+        // A write of another core may stand between the source of the load part and its store part.
+        start_from_later(problem, branch, &mut desk.inner, s, limit);
+        begin(&mut desk.paths);
+        for x in problem.locations..problem.size {
+            if desk.inner.events.has(STARTS, x)
+                & (problem.events.at(x).core != core)
+                & branch.is_known(Relations::Coherence, x, own)
+            {
+                start_from(&mut desk.paths, x);
+            }
+        }
+        let relations = Relations::Coherence;
+        if take_cycle(problem, branch, desk, Edges { relations, limit }, own) {
+            let x = desk.trial.cycle.at(0);
+            show_order(problem, branch, desk, s, x, limit);
+            offer_write_between(problem, desk, r, x);
+        }
     }
     let nothing = Turned {
         first: NONE,
@@ -245,7 +212,8 @@ pub fn close_source(problem: &Problem, branch: &mut Branch, desk: &mut Desk, r: 
     desk.branches.put(s, tree);
 }
 
-/// Offers a cycle of each relation: the path from the first one of two writes to an event, and the edge back.
+/// Offers a cycle of each relation: the path from the first one of two writes to an event, and the edge back, which a fact tells, or which
+/// is supposed.
 fn offer_paths(
     problem: &Problem,
     branch: &Branch,
@@ -254,16 +222,14 @@ fn offer_paths(
     to: usize,
     fact: usize,
 ) {
-    let on_location = Edges {
-        relations: Relations::OnLocation,
-        limit: turned.edges,
-    };
-    let global = Edges {
-        relations: Relations::Global,
-        limit: turned.edges,
-    };
-    offer_path(problem, branch, desk, on_location, turned.first, to, fact);
-    offer_path(problem, branch, desk, global, turned.first, to, fact);
+    for relations in [Relations::OnLocation, Relations::Global] {
+        let limit = turned.edges;
+        let edges = Edges { relations, limit };
+        if take_path(problem, branch, desk, edges, turned.first, to) {
+            need(&mut desk.trial, fact);
+            offer(desk);
+        }
+    }
 }
 
 /// The tree where the order that a fact tells is turned, by the best reason why it can't be.
