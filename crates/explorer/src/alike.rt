@@ -1,8 +1,8 @@
 //! Which cores of a test are alike: the same program, the same first registers and the same hidden registers. States that
 //! differ by which of two such cores is which are kept as one; cores called alike that differ would make a search miss final
 //! states.
-ghost use Rattle.std.specs.Prelude.{◌≡◌, ◌<◌, IfOk, IfSome, length, true};
-ghost use Rattle.tso_laws.specs.Exchanged.{CoresAreAlike, AreAllAlike};
+ghost use Rattle.std.specs.Prelude.{◌≡◌, IfOk, true};
+ghost use Rattle.tso_laws.specs.Exchanged.{AreAllAlike};
 
 use crate::plan::hidden_of;
 use std::alloc::Global;
@@ -61,25 +61,7 @@ fn is_same_program(program: &[Instr], other: &[Instr]) -> bool
     true
 }
 
-/// The first core after this one that is like it, if there is one. Nobody looks at the hidden registers.
-fn next_alike(test: &Test, hidden: &[[bool; 6]], core: u8) -> Option<u8>
-    requires { core < length test.now.programs }
-    ensures { IfSome result (λ other. CoresAreAlike test.now hidden.now (core, other)) }
-{
-    let cores = test.cores();
-    let registers = test.initial_registers(Core(core));
-    for other in core + 1..cores {
-        if registers == test.initial_registers(Core(other))
-            && hidden_of(hidden, core) == hidden_of(hidden, other)
-            && is_same_program(test.program(Core(core)), test.program(Core(other)))
-        {
-            return Some(other);
-        }
-    }
-    None
-}
-
-/// Pairs of cores that are alike: each core with the next one like it.
+/// Pairs of cores that are alike: each core with the next one like it. Nobody looks at the hidden registers.
 ///
 /// Errors: out of memory only.
 pub fn alike_pairs(
@@ -90,9 +72,17 @@ pub fn alike_pairs(
     ensures { IfOk result (λ pairs. AreAllAlike test.now hidden.now pairs.items) }
 {
     let mut pairs = Vec::new(alloc);
-    for core in 0..test.cores() {
-        if let Some(other) = next_alike(test, hidden, core) {
-            pairs.push((core, other))?;
+    let cores = test.cores();
+    for core in 0..cores {
+        let registers = test.initial_registers(Core(core));
+        for other in core + 1..cores {
+            if registers == test.initial_registers(Core(other))
+                && hidden_of(hidden, core) == hidden_of(hidden, other)
+                && is_same_program(test.program(Core(core)), test.program(Core(other)))
+            {
+                pairs.push((core, other))?;
+                break;
+            }
         }
     }
     Ok(pairs)

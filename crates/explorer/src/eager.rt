@@ -45,23 +45,6 @@ fn is_eager_step(at: &Situation, core: Core) -> bool
     }
 }
 
-fn is_eager_drain(at: &Situation, core: Core) -> bool
-    requires { core.0 < length at.now.test.now.programs }
-    ensures { result ≡ true → IsEager at.now.depth at.now.test.now (state_of_snapshot at.now.state.now) (Choice.Drain core) }
-{
-    if at.depth == 0 {
-        return false;
-    }
-    let Some((oldest, _later)) = at.pending(core).split_first() else {
-        return false;
-    };
-    let meeting = Meeting {
-        loc: oldest.loc,
-        loads: true,
-    };
-    others_avoid(at, core, meeting)
-}
-
 /// A choice that need not wait, if there is one.
 fn eager_choice(state: &Snapshot, test: &Test, depth: u8) -> Option<Choice>
     requires { length state.now.cores.items ≡ length test.now.programs }
@@ -73,8 +56,17 @@ fn eager_choice(state: &Snapshot, test: &Test, depth: u8) -> Option<Choice>
         if is_eager_step(&at, Core(core)) {
             return Some(Choice::Step(Core(core)));
         }
-        if is_eager_drain(&at, Core(core)) {
-            return Some(Choice::Drain(Core(core)));
+        if depth == 0 {
+            continue;
+        }
+        if let Some((oldest, _later)) = at.pending(Core(core)).split_first() {
+            let meeting = Meeting {
+                loc: oldest.loc,
+                loads: true,
+            };
+            if others_avoid(&at, Core(core), meeting) {
+                return Some(Choice::Drain(Core(core)));
+            }
         }
     }
     None

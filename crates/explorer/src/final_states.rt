@@ -9,7 +9,7 @@ ghost use Rattle.flat_machine.specs.State.{state_of_snapshot};
 ghost use Rattle.tso_laws.specs.Closed.{IsCovered};
 ghost use Rattle.explorer.specs.inner.Planned.{IsPlan};
 ghost use Rattle.explorer.specs.inner.Packed.{state_of_packed};
-ghost use Rattle.explorer.specs.inner.Settled.{IsInOrder, IsNothingYet};
+ghost use Rattle.explorer.specs.inner.Settled.{IsInOrder};
 ghost use Rattle.explorer.specs.inner.Collected.{IsFinalOf, AreFinalsOf, MissesNoEnd};
 ghost use Rattle.explorer.specs.FinalStates.{AreReached, HaveEveryEnd, AreDistinct, HasMoreStates};
 ghost use Rattle.explorer.specs.FinalStates.{AreWhatTsoAllows, AreWhatSequentialConsistencyAllows};
@@ -139,49 +139,6 @@ pub struct Met {
     pub kept: usize,
 }
 
-/// Searches, where nothing is found yet, and answers what it met. The watcher is told of it.
-///
-/// Errors: out of memory only.
-fn meet<W: Watcher>(
-    alloc: Global,
-    plan: &Plan,
-    found: &mut Found,
-    limit: usize,
-    watcher: &mut W,
-) -> Result<Met, NoMemory>
-    requires plan { IsPlan plan.now }
-    requires nothing { IsNothingYet plan.now.test.now found.old }
-    ensures reached { IfOk result (λ m. AreReached plan.now.test.now plan.now.depth m.final_states.items) }
-    ensures once { IfOk result (λ m. AreDistinct plan.now.hidden.now m.final_states.items) }
-    ensures complete { IfOk result (λ m. m.extent ≡ Extent.Whole
-        → HaveEveryEnd plan.now.test.now plan.now.depth plan.now.hidden.now m.final_states.items) }
-    ensures within { IfOk result (λ m. m.extent ≡ Extent.Whole → m.kept ≤ limit) }
-    ensures more { IfOk result (λ m. m.extent ≡ Extent.Cut → limit < m.kept) }
-    ensures kept { IfOk result (λ m. (fewer : ℕ) → fewer < m.kept → HasMoreStates plan.now.test.now plan.now.depth fewer) }
-{
-    begin(alloc, plan, found)?;
-    alike_cores_are_exchangeable();
-    partly_closed_states_miss_none();
-    dead_registers_change_nothing();
-    runs_stop_where_they_end();
-    plan.test.know_limits();
-    let searched = search_all(alloc, plan, found, limit, watcher);
-    let kept = found.states.len();
-    watcher.is_over(kept);
-    searched?;
-    let final_states = final_states(alloc, plan, found)?;
-    let extent = if kept > limit {
-        Extent::Cut
-    } else {
-        Extent::Whole
-    };
-    Ok(Met {
-        extent,
-        final_states,
-        kept,
-    })
-}
-
 /// As [`explore`], watched: the watcher is told after each [`STRIDE`] further states that are kept, and when the search is over.
 /// Whatever the watcher does, the answer is the same. Where the machine can reach more states than `limit`, the search
 /// ends there, and answers what it had met. It keeps so many different states that the machine can reach.
@@ -204,7 +161,27 @@ pub fn explore_watched<W: Watcher>(
 {
     let plan = plan_of(alloc, test, depth, hidden)?;
     let mut found = nothing_found(alloc, plan.test)?;
-    meet(alloc, &plan, &mut found, limit, watcher)
+    begin(alloc, &plan, &mut found)?;
+    alike_cores_are_exchangeable();
+    partly_closed_states_miss_none();
+    dead_registers_change_nothing();
+    runs_stop_where_they_end();
+    plan.test.know_limits();
+    let searched = search_all(alloc, &plan, &mut found, limit, watcher);
+    let kept = found.states.len();
+    watcher.is_over(kept);
+    searched?;
+    let final_states = final_states(alloc, &plan, &found)?;
+    let extent = if kept > limit {
+        Extent::Cut
+    } else {
+        Extent::Whole
+    };
+    Ok(Met {
+        extent,
+        final_states,
+        kept,
+    })
 }
 
 /// Every final state that the machine can reach at this depth of its store buffers, each once, with

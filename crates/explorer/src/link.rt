@@ -26,18 +26,6 @@ pub struct Link {
     pub turns: Vec<Turn>,
 }
 
-/// Appends exchanges.
-///
-/// Errors: out of memory only.
-fn append(turns: &mut Vec<Turn>, exchanges: &[(u8, u8)]) -> Result<(), NoMemory>
-    ensures { OnOk result (turns.new.items ≡ turns.old.items ++ map Turn.Exchanged exchanges.now) }
-{
-    for pair in exchanges {
-        turns.push(Turn::Exchanged(*pair))?;
-    }
-    Ok(())
-}
-
 /// These choices and then these exchanges, with no room to spare.
 ///
 /// Errors: out of memory only.
@@ -53,7 +41,9 @@ pub fn turns_of(
     for choice in choices {
         turns.push(Turn::Made(*choice))?;
     }
-    append(&mut turns, exchanges)?;
+    for pair in exchanges {
+        turns.push(Turn::Exchanged(*pair))?;
+    }
     Ok(turns)
 }
 

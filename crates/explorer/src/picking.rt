@@ -55,25 +55,8 @@ fn all_to_meet(at: &Situation, core: Core, meeting: Meeting) -> u16 {
     set
 }
 
-/// What a core's step needs. One that stalls needs the core's drain: where no choice is left that need not wait, a fence has
+/// What each choice needs. A step that stalls needs the core's drain: where no choice is left that need not wait, a fence has
 /// something pending before it, and a store that isn't made at once finds the buffer full.
-fn step_needs(at: &Situation, core: Core) -> u16
-    requires { core.0 < length at.now.test.now.programs }
-{
-    let Some(action) = at.next_action(core) else {
-        return EVERY;
-    };
-    let waits = !at.pending(core).is_empty();
-    match action {
-        Action::Load(_, loc) => all_to_meet(at, core, Meeting { loc, loads: false }),
-        Action::Store(loc, _) | Action::Lock(loc, _, _) if !waits => {
-            all_to_meet(at, core, Meeting { loc, loads: true })
-        }
-        _ => drain_bit(core.0),
-    }
-}
-
-/// What each choice needs.
 fn needs_of(at: &Situation) -> Needs {
     let mut needs = Needs {
         steps: [EVERY; 8],
@@ -82,12 +65,22 @@ fn needs_of(at: &Situation) -> Needs {
     };
     for core in 0..8u8 {
         if core < at.test.cores() {
-            let step = step_needs(at, Core(core));
+            let pending = at.pending(Core(core));
+            let step = match at.next_action(Core(core)) {
+                None => EVERY,
+                Some(Action::Load(_, loc)) => {
+                    all_to_meet(at, Core(core), Meeting { loc, loads: false })
+                }
+                Some(Action::Store(loc, _) | Action::Lock(loc, _, _)) if pending.is_empty() => {
+                    all_to_meet(at, Core(core), Meeting { loc, loads: true })
+                }
+                Some(_) => drain_bit(core),
+            };
             needs.steps[usize::from(core)] = step;
             if step != EVERY && step != drain_bit(core) {
                 needs.open |= step_bit(core);
             }
-            if let Some((oldest, _later)) = at.pending(Core(core)).split_first() {
+            if let Some((oldest, _later)) = pending.split_first() {
                 let loc = oldest.loc;
                 needs.drains[usize::from(core)] = all_to_meet(
                     at,
@@ -101,43 +94,31 @@ fn needs_of(at: &Situation) -> Needs {
     needs
 }
 
-/// The set with what its choices need.
-fn grown(needs: &Needs, set: u16) -> u16 {
-    let mut grown = set;
-    for core in 0..8u8 {
-        if set & step_bit(core) != 0 {
-            grown |= needs.steps[usize::from(core)];
-        }
-        if set & drain_bit(core) != 0 {
-            grown |= needs.drains[usize::from(core)];
-        }
-    }
-    grown
-}
-
-/// The set with what its choices need, and what these need, and so on.
-fn closed(needs: &Needs, set: u16) -> u16 {
-    let mut all = set;
-    for _round in 0..16 {
-        let more = grown(needs, all);
-        if more == all {
-            break;
-        }
-        all = more;
-    }
-    all
-}
-
-/// The set of those begun with one choice of which the fewest choices don't stall; of equal ones the first.
+/// The smallest set: each is begun with one choice, and has what its choices need, and what these need, and so on. Of the fewest
+/// choices that don't stall; of equal ones the first.
 fn smallest(needs: &Needs) -> u16 {
     let mut best = EVERY;
     for at in 0..16u8 {
-        let bit = 1u16 << at;
-        if needs.open & bit != 0 {
-            let set = closed(needs, bit);
-            if (set & needs.open).count_ones() < (best & needs.open).count_ones() {
-                best = set;
+        let mut set = 1u16 << at;
+        if needs.open & set == 0 {
+            continue;
+        }
+        for _round in 0..16 {
+            let before = set;
+            for core in 0..8u8 {
+                if before & step_bit(core) != 0 {
+                    set |= needs.steps[usize::from(core)];
+                }
+                if before & drain_bit(core) != 0 {
+                    set |= needs.drains[usize::from(core)];
+                }
             }
+            if set == before {
+                break;
+            }
+        }
+        if (set & needs.open).count_ones() < (best & needs.open).count_ones() {
+            best = set;
         }
     }
     best

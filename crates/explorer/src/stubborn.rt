@@ -71,25 +71,8 @@ fn is_apart_write(at: &Situation, picked: &Picked, core: Core, loc: Loc) -> bool
     others_are_held_back(at, picked, core, Meeting { loc, loads: true })
 }
 
-/// Whether nothing that isn't picked meets this action, the core's next, or it waits for the core's drain, which is picked.
-fn is_apart_action(at: &Situation, picked: &Picked, core: Core, action: Action) -> bool
-    requires { core.0 < length at.now.test.now.programs }
-    ensures { result ≡ true → IsApartBy at.now.depth at.now.test.now (set_of picked.now) (state_of_snapshot at.now.state.now) core.0 action }
-{
-    let drain = is_marked(&picked.drains, core.0);
-    match action {
-        Action::Store(loc, _) if at.depth == 0 => is_apart_write(at, picked, core, loc),
-        Action::Store(..) => drain && at.pending(core).len() >= usize::from(at.depth),
-        Action::Load(_, loc) => {
-            others_are_held_back(at, picked, core, Meeting { loc, loads: false })
-        }
-        Action::Move(..) => false,
-        Action::Fence => drain,
-        Action::Lock(loc, _, _) => drain || is_apart_write(at, picked, core, loc),
-    }
-}
-
-/// Whether the core's step, if it is picked, is so.
+/// Whether the core's step, if it is picked, is so: nothing that isn't picked meets its next action, or that waits for the core's
+/// drain, which is picked.
 fn is_step_fine(at: &Situation, picked: &Picked, core: Core) -> bool
     ensures { result ≡ true → has_step (set_of picked.now) core.0 ≡ true → IsApartStep at.now.depth at.now.test.now (set_of picked.now) (state_of_snapshot at.now.state.now) core.0 }
 {
@@ -99,9 +82,16 @@ fn is_step_fine(at: &Situation, picked: &Picked, core: Core) -> bool
     if core.0 >= at.test.cores() {
         return false;
     }
+    let drain = is_marked(&picked.drains, core.0);
     match at.next_action(core) {
-        None => false,
-        Some(action) => is_apart_action(at, picked, core, action),
+        None | Some(Action::Move(..)) => false,
+        Some(Action::Store(loc, _)) if at.depth == 0 => is_apart_write(at, picked, core, loc),
+        Some(Action::Store(..)) => drain && at.pending(core).len() >= usize::from(at.depth),
+        Some(Action::Load(_, loc)) => {
+            others_are_held_back(at, picked, core, Meeting { loc, loads: false })
+        }
+        Some(Action::Fence) => drain,
+        Some(Action::Lock(loc, _, _)) => drain || is_apart_write(at, picked, core, loc),
     }
 }
 
