@@ -81,22 +81,14 @@ pub fn with_pair(
     Ok(Answers { sources, order })
 }
 
-fn is_write_of(w: &Entry, write: &Option<Entry>) -> bool
-    ensures { result ≡ spec.is_write_of w.now write.now }
-{
-    match write {
-        None => false,
-        Some(v) => same_event(v, w),
-    }
-}
-
 /// Whether it is an answer that r reads from w.
 pub fn reads_from(answers: &Answers, w: &Entry, r: &Entry) -> bool
     ensures { result ≡ spec.reads_from (known_of answers.now) w.now r.now }
 {
     for s in &answers.sources {
-        if same_event(&s.read, r) && is_write_of(w, &s.write) {
-            return true;
+        match &s.write {
+            Some(v) if same_event(&s.read, r) && same_event(v, w) => return true,
+            _ => {}
         }
     }
     false
@@ -114,21 +106,19 @@ pub fn comes_before(answers: &Answers, w: &Entry, v: &Entry) -> bool
     false
 }
 
-fn is_overwritten(answers: &Answers, r: &Entry, write: &Option<Entry>, v: &Entry) -> bool
-    ensures { result ≡ spec.is_overwritten (known_of answers.now) r.now write.now v.now }
-{
-    match write {
-        None => writes_to(r.loc.0, v),
-        Some(w) => comes_before(answers, w, v),
-    }
-}
-
 /// Whether v comes after what r reads from, by the answers.
 pub fn from_reads(answers: &Answers, r: &Entry, v: &Entry) -> bool
     ensures { result ≡ spec.from_reads (known_of answers.now) r.now v.now }
 {
     for s in &answers.sources {
-        if same_event(&s.read, r) && is_overwritten(answers, r, &s.write, v) {
+        if !same_event(&s.read, r) {
+            continue;
+        }
+        let is_overwritten = match &s.write {
+            None => writes_to(r.loc.0, v),
+            Some(w) => comes_before(answers, w, v),
+        };
+        if is_overwritten {
             return true;
         }
     }

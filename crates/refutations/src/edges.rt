@@ -1,9 +1,5 @@
 //! Edges that the answers tell, and the cycles of them that a model forbids. (herd's `x86tso.cat`.)
 ghost use Rattle.std.specs.Prelude.{◌≡◌, ◌&&◌};
-ghost use Rattle.std.specs.List.{list_any};
-ghost use Rattle.tso_model.specs.ProgramOrder as program_order;
-ghost use Rattle.tso_model.specs.declared.execution.Entry as declared;
-ghost use Rattle.tso_model.specs.declared.execution.Kind.TheVariants.{F};
 ghost use Rattle.refutation_laws.specs.Known.{events_of};
 ghost use Rattle.refutation_laws.specs.Edges as spec;
 ghost use Rattle.refutation_laws.specs.Shown as shown;
@@ -15,7 +11,7 @@ use crate::events::{
     share_location,
 };
 use refutation_laws::{Model, Relation};
-use tso_model::{Entry, Kind, Test};
+use tso_model::{Entry, Kind};
 
 /// Which relations are acyclic together.
 #[derive(Clone, Copy)]
@@ -24,19 +20,6 @@ pub enum Acyclic {
     OnLocation,
     /// The model's global ones.
     Globally(Model),
-}
-
-fn is_fenced(test: &Test, events: &[Entry], x: &Entry, y: &Entry) -> bool
-    requires { events.now ≡ events_of test.now }
-    ensures { result ≡ list_any (λ (f : declared.Entry). program_order.same_kind f.kind F && program_order.is_before x.now f
-        && program_order.is_before f y.now) (events_of test.now) }
-{
-    for f in events {
-        if f.kind == Kind::F && is_before(x, f) && is_before(f, y) {
-            return true;
-        }
-    }
-    false
 }
 
 /// Whether the answers tell that the relation leads from x to y.
@@ -50,7 +33,14 @@ pub fn relates(branch: Branch<'_>, relation: Relation, x: &Entry, y: &Entry) -> 
         Relation::PoGhb => {
             is_before(x, y) && (is_write(x) && is_write(y) || is_read(x) && is_access(y))
         }
-        Relation::Mfence => is_fenced(branch.test, branch.events, x, y),
+        Relation::Mfence => {
+            for f in branch.events {
+                if f.kind == Kind::F && is_before(x, f) && is_before(f, y) {
+                    return true;
+                }
+            }
+            false
+        }
         Relation::Implied => {
             is_before(x, y) && is_write(x) && is_read(y) && (is_locked(x) || is_locked(y))
         }

@@ -59,10 +59,10 @@ pub fn value_among(writes: &[Entry], w: &Entry) -> Option<u32>
 pub fn first_word(test: &Test, loc: Loc) -> u32
     ensures { result ≡ slice_index test.now.words loc.0 }
 {
-    test.initial_words()
-        .get(usize::from(loc.0))
-        .copied()
-        .unwrap_or(0)
+    match test.initial_words().get(usize::from(loc.0)) {
+        Some(word) => *word,
+        None => 0,
+    }
 }
 
 /// What is known of what a read returns, where these writes are known.
@@ -122,17 +122,23 @@ fn note(
     Ok(())
 }
 
-/// Does what an action does, where `word` is known of what it reads.
-fn act(
+/// Runs one instruction.
+fn run_instruction(
     walk: &mut Walk,
+    reads: Reads<'_>,
     core: Core,
     place: u8,
-    action: Action,
-    word: Option<u32>,
+    instr: Instr,
 ) -> Result<(), NoMemory>
-    ensures writes { IfOk result (λ _. walk.new.writes.items ≡ walk.old.writes.items ++ spec.writes_by core.0 place action walk.old.registers word) }
-    ensures registers { IfOk result (λ _. walk.new.registers ≡ spec.registers_left_by action walk.old.registers word) }
+    ensures writes { IfOk result (λ _. (rest : List Instr)
+        → walk.old.writes.items ++ spec.writes_of (spec.returned reads.entry.test.now reads.entry.writes.now reads.entry.sources.now) core.0 place (instr ∷ rest) walk.old.registers
+        ≡ walk.new.writes.items ++ spec.writes_of (spec.returned reads.entry.test.now reads.entry.writes.now reads.entry.sources.now) core.0 (place + 1) rest walk.new.registers) }
+    ensures registers { IfOk result (λ _. (rest : List Instr)
+        → spec.left_of (spec.returned reads.entry.test.now reads.entry.writes.now reads.entry.sources.now) core.0 place (instr ∷ rest) walk.old.registers
+        ≡ spec.left_of (spec.returned reads.entry.test.now reads.entry.writes.now reads.entry.sources.now) core.0 (place + 1) rest walk.new.registers) }
 {
+    let action = instr.action();
+    let word = word_given(reads, core, place, action);
     match action {
         Action::Store(loc, operand) => {
             let value = known_operand(&walk.registers, operand);
@@ -153,26 +159,6 @@ fn act(
             note(walk, core, place, Kind::LW, loc, value)
         }
     }
-}
-
-/// Runs one instruction.
-fn run_instruction(
-    walk: &mut Walk,
-    reads: Reads<'_>,
-    core: Core,
-    place: u8,
-    instr: Instr,
-) -> Result<(), NoMemory>
-    ensures writes { IfOk result (λ _. (rest : List Instr)
-        → walk.old.writes.items ++ spec.writes_of (spec.returned reads.entry.test.now reads.entry.writes.now reads.entry.sources.now) core.0 place (instr ∷ rest) walk.old.registers
-        ≡ walk.new.writes.items ++ spec.writes_of (spec.returned reads.entry.test.now reads.entry.writes.now reads.entry.sources.now) core.0 (place + 1) rest walk.new.registers) }
-    ensures registers { IfOk result (λ _. (rest : List Instr)
-        → spec.left_of (spec.returned reads.entry.test.now reads.entry.writes.now reads.entry.sources.now) core.0 place (instr ∷ rest) walk.old.registers
-        ≡ spec.left_of (spec.returned reads.entry.test.now reads.entry.writes.now reads.entry.sources.now) core.0 (place + 1) rest walk.new.registers) }
-{
-    let action = instr.action();
-    let word = word_given(reads, core, place, action);
-    act(walk, core, place, action, word)
 }
 
 /// Runs a core's program, where these writes are known before.
