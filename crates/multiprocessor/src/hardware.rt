@@ -25,7 +25,7 @@ use crate::accesses::{CacheUse, Next};
 use crate::config::Config;
 use crate::counts::{Counts, tally};
 use crate::pending_stores::PendingStores;
-use crate::processor::{Processor, drain, step as step_core};
+use crate::processor::{Processor, drain, step};
 use crate::split::act_on_split;
 use crate::turn::{Turn, Way};
 use commit_order::Commits;
@@ -57,6 +57,7 @@ pub fn begin<P: Protocol>(
     ensures config { IfOk result (λ hardware. hardware.config ≡ config) }
     ensures statistics { IfOk result (λ hardware. statistics_in hardware ≡ no_statistics (P.table protocol) config.shape test.now) }
 {
+    let counts = vec![in alloc; Counts::NONE; usize::from(test.cores())]?;
     let processors = processors_of(alloc, test, config.depth())?;
     let bus = SnoopBus::new(
         alloc,
@@ -65,7 +66,6 @@ pub fn begin<P: Protocol>(
         config.shape(),
         test.initial_words(),
     )?;
-    let counts = vec![in alloc; Counts::NONE; usize::from(test.cores())]?;
     Ok(Hardware {
         config,
         processors,
@@ -181,48 +181,24 @@ pub(crate) fn act<P: Protocol>(
     ensures fits { HardwareFitsTest test.now hardware.new }
 {
     match choice {
-        Choice::Step(core) => step(hardware, test, core, way),
+        Choice::Step(core) => {
+            let processor = &mut hardware.processors[core.0 as usize];
+            match instruction_at(test.program(core), processor.place) {
+                None => Ok((Outcome::Stalled(Stall::Done), CacheUse::Unused)),
+                Some(instr) => step(
+                    processor,
+                    Turn { core, way },
+                    instr,
+                    &mut hardware.bus,
+                    &mut hardware.commits,
+                ),
+            }
+        }
         Choice::Drain(core) => {
             let processor = &mut hardware.processors[core.0 as usize];
             drain(
                 processor,
                 Turn { core, way },
-                &mut hardware.bus,
-                &mut hardware.commits,
-            )
-        }
-    }
-}
-
-/// A step of a core at its next instruction, if there is one.
-#[inline(always)]
-fn step<P: Protocol>(
-    hardware: &mut Hardware<P>,
-    test: &Test,
-    core: Core,
-    way: Way,
-) -> Result<(Outcome, CacheUse), NoMemory>
-    requires core { core.0 < length test.now.programs }
-    requires fits { HardwareFitsTest test.now hardware.old }
-    requires free { MayMakeIn way test.now hardware.old (Choice.Step core) }
-
-    ensures makes { IfOk result (Makes (effect_made_in way) test.now hardware.old hardware.new (Choice.Step core)) }
-    ensures succeeds { SucceedsUnlessCommitting result (flat_effect_in test.now hardware.old (Choice.Step core)) }
-    ensures err { OnErr result (IsUndone hardware.old hardware.new) }
-    ensures keeps { KeepsHardware hardware.old hardware.new }
-    ensures holder { OnOk result (holder_of hardware.new.bus ≡ by_way way (holder_of hardware.old.bus) None) }
-    ensures fits { HardwareFitsTest test.now hardware.new }
-{
-    let program = test.program(core);
-    let processor = &mut hardware.processors[core.0 as usize];
-    match instruction_at(program, processor.place) {
-        None => Ok((Outcome::Stalled(Stall::Done), CacheUse::Unused)),
-        Some(instr) => {
-            let turn = Turn { core, way };
-            step_core(
-                processor,
-                turn,
-                instr,
                 &mut hardware.bus,
                 &mut hardware.commits,
             )
