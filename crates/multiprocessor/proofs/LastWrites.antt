@@ -1,5 +1,5 @@
 -- The store part of a locked instruction on a split bus.
-use Rattle.multiprocessor.proofs.Vocabulary.{◌≡◌, ◌≢◌, ℕ, zero, suc, false, List, [], ◌∷◌, None, slice_index, slice_set, refl, sym, ap, ◌∙◌, subst, set-get_or, Litmus, entry, value_in, updated, CoreState, State, Effect, advanced_with, effect_by, effect_of, core_of, MemoryAccess, NoAccess, Locks, store_access, load_access, locked_access, access_by, access_of, Free, HeldBetween, BusEffect, acts, as_read, after_first, Split, Reg, Loc, Action, Store, Load, Lock, Entry, LW, Step, Committed, HasRead, HolderFits, BusModel, IsFree, IsSameMachine, words_of, contents_of, awaited_of, Processor, Unused, Hardware, core_state, caches_of, not_through, is_awaited, used_between, state_in, HasUsed, use_by, writes_last_in, IsLock, WritesAs, locked_with}
+use Rattle.multiprocessor.proofs.Vocabulary.{◌≡◌, ◌≢◌, ℕ, zero, suc, false, List, [], ◌∷◌, None, slice_index, slice_set, refl, sym, ap, ◌∙◌, subst, set-get_or, Litmus, entry, value_in, updated, CoreState, State, Effect, advanced_with, effect_by, effect_of, core_of, MemoryAccess, NoAccess, Locks, store_access, load_access, locked_access, access_by, access_of, Free, HeldBetween, BusEffect, acts, as_read, after_first, Split, Reg, Loc, Update, Action, Store, Load, Lock, Entry, LW, Step, Committed, HasRead, HolderFits, BusModel, IsFree, IsSameMachine, words_of, contents_of, awaited_of, Processor, Unused, Hardware, core_state, caches_of, not_through, is_awaited, used_between, state_in, HasUsed, use_by, writes_last_in, locked_with}
 use Rattle.multiprocessor.proofs.Finishing.{free-awaits}
 use Rattle.multiprocessor.proofs.ChoiceEffects.{core_of-state_in}
 use Rattle.multiprocessor.proofs.StepCompletions.{IsNext, access-next, effect-next}
@@ -10,6 +10,16 @@ has-read t m e fits between = subst (HolderFits Split t m.config.depth (state_in
 
 pub locks-some : (what : MemoryAccess) (loc : Loc) → what ≡ Locks loc → what ≢ NoAccess
 locks-some what loc locks = λ none. (let z : NoAccess ≡ Locks loc = sym none ∙ locks in let w : ⊥ = cc in w)
+
+-- the action is a locked read and write
+abbrev pub IsLock : Action → Type 0
+IsLock (Lock loc reg update) = Unit {0}
+IsLock _ = ⊥
+
+-- with these registers a locked instruction that read this word writes this value, and the word goes to this register
+abbrev pub WritesAs : Action → List ℕ → ℕ → Reg → ℕ → Type 0
+WritesAs (Lock loc reg update) registers word into due = (into ≡ reg) × (due ≡ updated update word (value_in registers reg))
+WritesAs _ registers word into due = ⊥
 
 -- only a locked instruction locks
 no-store : (depth : ℕ) (loc at : Loc) → store_access depth loc ≡ Locks at → ⊥
@@ -25,6 +35,10 @@ is-lock depth (Store loc operand) pending at h = no-store depth loc at h
 is-lock depth (Load reg loc) pending at h = no-load loc at _ h
 is-lock depth (Lock loc reg update) pending at h = tt
 is-lock depth _ pending at h = (let z : ⊥ = cc in z)
+
+pub other-locks : (a : Action) → IsLock a → ((loc : Loc) (reg : Reg) (update : Update) → a ≢ Lock loc reg update) → ⊥
+other-locks (Lock loc reg update) lock other = other loc reg update refl
+other-locks _ lock other = lock
 
 -- the core has read this word, and writes this value
 abbrev pub last_part : ℕ → ℕ → CoreState → Loc → Reg → ℕ → ℕ → Effect

@@ -1,5 +1,5 @@
 -- A choice on a split bus that isn't the holder's next one.
-use Rattle.multiprocessor.proofs.Vocabulary.{◌≡◌, ◌≢◌, ℕ, ◌++◌, Bool, true, false, List, [], Option, None, Some, Result, Ok, Err, IfOk, OnOk, OnErr, inr, length, slice_set, append-nil, refl, sym, ap, ◌∙◌, subst, set-get_or, Litmus, CoreState, State, Effect, stalled, after_choice, chosen, core_of, idle, MemoryAccess, NoAccess, Writes, access_of, Holder, Free, HeldBy, HeldBetween, Attempt, BusEffect, acts, asks, needs_bus, same_choice, BusState, HitFits, NoMemory, Split, Core, Loc, Entry, Choice, Outcome, HolderFits, BusModel, words_of, cores_of, holder_of, IsSameMachine, AsksFor, Locked, Unused, Next, Complete, Write, Hardware, Way, by_way, Caches, Used, caches_of, at_access, ask_by, not_through, hits_by, is_awaited, used_between, completing_by, use_of, HardwareFitsTest, IsHeldForAccess, held_as, held_for, core_in, holder_by, state_in, ChoiceAnswer, HasUsed, HasEffect, MayAct, attempt_in, flat_effect_in, use_by, IsOther, begins_in, HasMade, IsUndone, effect_made_in}
+use Rattle.multiprocessor.proofs.Vocabulary.{◌≡◌, ◌≢◌, ℕ, ◌<◌, ◌++◌, Bool, true, false, List, [], Option, None, Some, Result, Ok, Err, IfOk, OnOk, OnErr, inr, length, slice_set, append-nil, refl, sym, ap, ◌∙◌, subst, set-get_or, Litmus, CoreState, State, Effect, stalled, after_choice, chosen, core_of, idle, MemoryAccess, NoAccess, Reads, Writes, Locks, access_of, Holder, Free, HeldBy, HeldBetween, Attempt, BusEffect, acts, asks, needs_bus, same_choice, BusState, HitFits, NoMemory, Split, Core, Loc, Entry, Choice, Outcome, HolderFits, BusModel, words_of, cores_of, holder_of, IsSameMachine, AsksFor, Locked, Unused, Next, Complete, Write, Hardware, Way, by_way, Caches, Used, caches_of, at_access, ask_by, not_through, hits_by, is_awaited, used_between, completing_by, use_of, HardwareFitsTest, IsHeldForAccess, held_as, held_for, core_in, holder_by, state_in, ChoiceAnswer, HasUsed, HasEffect, MayAct, attempt_in, flat_effect_in, use_by, IsOther, needed_by, IsAccessAmong, begins_in, HasMade, IsUndone, effect_made_in}
 use Rattle.multiprocessor.proofs.EachUse.{asks-nothing}
 use Rattle.std.proofs.Common.{option_map}
 use Rattle.tso_model.specs.declared.choice.Stall.TheVariants as stall
@@ -125,6 +125,48 @@ pub needs-is : {P : Type 0} (t : Litmus) (m : Hardware P) (choice : Choice) (cor
     → access ≡ access_of t m.config.depth (state_in m).flat choice → b ≡ needs_bus access (hits_by (caches_of m.bus) core access) → needs_in t m choice ≡ b
 needs-is t m choice core access b i a h =
     sym (h ∙ ap (λ k. needs_bus access (hits_by (caches_of m.bus) k access)) i ∙ ap (λ x. needs_bus x (hits_by (caches_of m.bus) (chosen choice) x)) a)
+
+-- what needs the bus needs it for its access
+pub needs-none : (a : MemoryAccess) (hits : Bool) → None ≡ needed_by a hits → needs_bus a hits ≡ false
+needs-none NoAccess hits h = refl
+needs-none (Reads loc) true h = refl
+needs-none (Reads loc) false h = absurd (let z : ⊥ = cc in z)
+needs-none (Writes loc) true h = refl
+needs-none (Writes loc) false h = absurd (let z : ⊥ = cc in z)
+needs-none (Locks loc) hits h = absurd (let z : ⊥ = cc in z)
+
+module _ (loc : Loc) (write : Bool) where
+  pub needs-some : (a : MemoryAccess) (hits : Bool) → Some (loc, write) ≡ needed_by a hits → needs_bus a hits ≡ true
+  needs-some NoAccess hits h = absurd (let z : ⊥ = cc in z)
+  needs-some (Reads at) true h = absurd (let z : ⊥ = cc in z)
+  needs-some (Reads at) false h = refl
+  needs-some (Writes at) true h = absurd (let z : ⊥ = cc in z)
+  needs-some (Writes at) false h = refl
+  needs-some (Locks at) hits h = refl
+
+  pub needed-at : {A : Type 0} (none : A) (f : Loc → Bool → A) (a : MemoryAccess) (hits : Bool) → Some (loc, write) ≡ needed_by a hits → at_access none f a ≡ f loc write
+  needed-at none f NoAccess hits h = absurd (let z : ⊥ = cc in z)
+  needed-at none f (Reads at) true h = absurd (let z : ⊥ = cc in z)
+  needed-at none f (Reads at) false h = let z : (at, false) ≡ (loc, write) = cc in ap (λ (x : Loc × Bool). f x.0 x.1) z
+  needed-at none f (Writes at) true h = absurd (let z : ⊥ = cc in z)
+  needed-at none f (Writes at) false h = let z : (at, true) ≡ (loc, write) = cc in ap (λ (x : Loc × Bool). f x.0 x.1) z
+  needed-at none f (Locks at) hits h = let z : (at, true) ≡ (loc, write) = cc in ap (λ (x : Loc × Bool). f x.0 x.1) z
+
+  pub needed-among : (locations : ℕ) (a : MemoryAccess) (hits : Bool) → Some (loc, write) ≡ needed_by a hits → IsAccessAmong locations a → loc.0 < locations
+  needed-among locations NoAccess hits h among = absurd (let z : ⊥ = cc in z)
+  needed-among locations (Reads at) true h among = absurd (let z : ⊥ = cc in z)
+  needed-among locations (Reads at) false h among = let both : (at, false) ≡ (loc, write) = cc in let z : at ≡ loc = ap (λ (x : Loc × Bool). x.0) both in subst (λ (l : Loc). l.0 < locations) z among
+  needed-among locations (Writes at) true h among = absurd (let z : ⊥ = cc in z)
+  needed-among locations (Writes at) false h among = let both : (at, true) ≡ (loc, write) = cc in let z : at ≡ loc = ap (λ (x : Loc × Bool). x.0) both in subst (λ (l : Loc). l.0 < locations) z among
+  needed-among locations (Locks at) hits h among = let both : (at, true) ≡ (loc, write) = cc in let z : at ≡ loc = ap (λ (x : Loc × Bool). x.0) both in subst (λ (l : Loc). l.0 < locations) z among
+
+  pub needed-misses : (a : MemoryAccess) (hits : Bool) → Some (loc, write) ≡ needed_by a hits → write ≡ false → hits ≡ false
+  needed-misses NoAccess hits h reads = absurd (let z : ⊥ = cc in z)
+  needed-misses (Reads at) true h reads = absurd (let z : ⊥ = cc in z)
+  needed-misses (Reads at) false h reads = refl
+  needed-misses (Writes at) true h reads = absurd (let z : ⊥ = cc in z)
+  needed-misses (Writes at) false h reads = refl
+  needed-misses (Locks at) hits h reads = let both : (at, true) ≡ (loc, write) = cc in let z : true ≡ false = ap (λ (x : Loc × Bool). x.1) both ∙ reads in absurd (let w : ⊥ = cc in w)
 
 pub may-act : {P : Type 0} (t : Litmus) (m : Hardware P) (choice : Choice) → needs_in t m choice ≡ false
     → MayAct m.bus (chosen choice) (access_of t m.config.depth (state_in m).flat choice)

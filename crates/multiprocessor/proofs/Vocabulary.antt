@@ -40,7 +40,7 @@ pub use Rattle.multiprocessor.specs.declared.accesses.Next.TheVariants.{Complete
 pub use Rattle.multiprocessor.specs.declared.hardware.Hardware.{Hardware}
 pub use Rattle.multiprocessor.specs.Keeping.{HardwareFitsTest, IsHeldForAccess, held_as, held_for, core_in, holder_by, state_in, IsAtMost, IsCore}
 pub use Rattle.multiprocessor.specs.Split.{use_by, completes_in}
-pub use Rattle.multiprocessor.specs.inner.Split.{IsOther, begins_in, split_effect_in, writes_last_in, IsLock, WritesAs}
+pub use Rattle.multiprocessor.specs.inner.Split.{IsOther, needed_by, IsAccessAmong, begins_in, split_effect_in, writes_last_in}
 pub use Rattle.multiprocessor.specs.OneChoice.{HasMade, IsUndone, AreConsistent}
 pub use Rattle.multiprocessor.specs.inner.OneChoice.{effect_made_in}
 pub use Rattle.snoop_bus.specs.Held.{holder_in, transaction_in}

@@ -10,7 +10,7 @@ ghost use Rattle.tso_model.specs.declared.execution.Kind.TheVariants.{LR};
 ghost use Rattle.tso_model.specs.declared.choice.Bus.TheVariants as Bus;
 ghost use Rattle.multiprocessor.specs.Keeping.{state_in};
 ghost use Rattle.multiprocessor.specs.Split.{completes_in};
-ghost use Rattle.multiprocessor.specs.inner.Split.{writes_last_in, IsLock, WritesAs};
+ghost use Rattle.multiprocessor.specs.inner.Split.{writes_last_in};
 ghost use Rattle.multiprocessor.specs.OneChoice.{AreConsistent, AreOfTest, HasMade, Makes, IsUndone, KeepsHardware};
 
 use crate::accesses::{CacheUse, MemoryAccess, Next};
@@ -20,7 +20,7 @@ use crate::processor::{Processor, advance};
 use crate::split::access_of;
 use crate::turn::Way;
 use protocol_tables::Protocol;
-use tso_model::{Action, Choice, Entry, Kind, NoMemory, Outcome, Reg, Test};
+use tso_model::{Action, Choice, Entry, Kind, NoMemory, Outcome, Test};
 
 /// Completes the action that has asked, which is this choice; of a locked instruction its load part.
 ///
@@ -77,22 +77,14 @@ pub fn write_last<P: Protocol>(
     let core = read.core;
     let processor = &mut hardware.processors[core.0 as usize];
     let instr = instruction_at(test.program(core), processor.place).unwrap();
-    let (reg, value) = written(processor, instr.action(), read.value);
+    let Action::Lock(_, reg, update) = instr.action() else {
+        unreachable!()
+    };
+    let value = update.apply(read.value, processor.register(reg));
     hardware
         .commits
         .note(entry(core, read.place, Kind::LW, read.loc, value))?;
     hardware.bus.complete_write(core, read.loc, value);
     advance(processor, reg, read.value);
     Ok((Outcome::Committed, CacheUse::Unused))
-}
-
-/// The register of a locked instruction, and what it writes where it read this word.
-fn written(processor: &Processor, action: Action, word: u32) -> (Reg, u32)
-    requires { IsLock action }
-    ensures { WritesAs action processor.now.registers word result.0 result.1 }
-{
-    match action {
-        Action::Lock(_, reg, update) => (reg, update.apply(word, processor.register(reg))),
-        _ => unreachable!(),
-    }
 }

@@ -2,7 +2,7 @@
 //! Depth 0 is a machine without store buffers, whose runs are sequentially consistent. (Primer, chapter 3.)
 
 ghost use Rattle.std.specs.Prelude.{◌≡◌, ◌≤◌, ◌↔◌, IsSome, IfSome};
-ghost use Rattle.cache_set.specs.Geometry.{IsLineSize, IsShapeWithinLimits};
+ghost use Rattle.cache_set.specs.Geometry.{IsLineSize};
 ghost use Rattle.tso_model.specs.Limits.{most_depth};
 ghost use Rattle.multiprocessor.specs.Configuration.{IsConfigurationWithinLimits};
 
@@ -40,7 +40,8 @@ impl Config {
         ensures value { IfSome result (λ c. c ≡ record { depth = depth; shape = shape; bus = bus }) }
         ensures valid { IsSome result ↔ (depth ≤ most_depth) }
     {
-        know_shape(shape);
+        // These calls have no effect; from them on it is known that the shape is within its limits.
+        let _limits = (shape.sets(), shape.ways(), shape.words());
         if depth <= MAX_DEPTH {
             Some(Config { depth, shape, bus })
         } else {
@@ -93,11 +94,4 @@ impl Config {
     {
         self.shape.words()
     }
-}
-
-/// A shape is within its limits: so much is known of it from this call on, which has no effect.
-fn know_shape(shape: Shape)
-    ensures { IsShapeWithinLimits shape }
-{
-    let _limits = (shape.sets(), shape.ways(), shape.words());
 }

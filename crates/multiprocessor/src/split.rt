@@ -2,21 +2,21 @@
 //! stalls while it is held, or acts at once where its access hits. Between the two parts of a locked instruction no write
 //! of another core to its location may hit: the instruction would no longer be atomic. (Primer, chapter 7, the
 //! split-transaction bus.)
-ghost use Rattle.std.specs.Prelude.{◌≡◌, ℕ, ◌<◌, true, IfOk, OnErr, Some, filter, length};
+ghost use Rattle.std.specs.Prelude.{◌≡◌, ℕ, ◌<◌, IfOk, OnErr, Some, filter, length};
 ghost use Rattle.tso_model.specs.Litmus.{KnownLocation};
 ghost use Rattle.tso_model.specs.FlatMachine.{chosen};
 ghost use Rattle.tso_model.specs.MemoryAccess.{access_of, step_access, store_access, load_access, locked_access, drain_access};
 ghost use Rattle.tso_model.specs.ProgramOrder.{writes_to};
-ghost use Rattle.tso_model.specs.SplitMachine.{needs_bus, same_choice};
+ghost use Rattle.tso_model.specs.SplitMachine.{same_choice};
 ghost use Rattle.tso_model.specs.declared.choice.Bus.TheVariants as Bus;
-ghost use Rattle.snoop_bus.specs.Bus.{words_of, cores_of, holder_of, IsFree};
+ghost use Rattle.snoop_bus.specs.Bus.{words_of, cores_of};
 ghost use Rattle.multiprocessor.specs.Cores.{AreKnown};
 ghost use Rattle.multiprocessor.specs.inner.Cores.{pending_in};
-ghost use Rattle.multiprocessor.specs.Caches.{caches_of, hits_by, asking_by};
-ghost use Rattle.multiprocessor.specs.Keeping.{HardwareFitsTest, held_for, state_in};
+ghost use Rattle.multiprocessor.specs.Caches.{caches_of, hits_by};
+ghost use Rattle.multiprocessor.specs.Keeping.{HardwareFitsTest, state_in};
 ghost use Rattle.multiprocessor.specs.inner.Keeping.{memory_access_in};
 ghost use Rattle.multiprocessor.specs.inner.OneCore.{SucceedsUnlessCommitting};
-ghost use Rattle.multiprocessor.specs.inner.Split.{split_effect_in, begins_in, IsAccessAmong, IsOther};
+ghost use Rattle.multiprocessor.specs.inner.Split.{split_effect_in, begins_in, needed_by, IsAccessAmong, IsOther};
 ghost use Rattle.multiprocessor.specs.OneChoice.{AreConsistent, AreOfTest, Makes, IsUndone, KeepsHardware};
 ghost use Rattle.multiprocessor.specs.inner.OneChoice.{AnswerFitsIn, LeavesLocked};
 
@@ -83,51 +83,46 @@ fn begin<P: Protocol>(
     accesses_wait();
     let core = core_of(choice);
     let access = access_of(hardware, test, choice);
-    if !needs_bus(&hardware.bus, core, access) {
-        return act(hardware, test, choice, Way::Whole);
-    }
-    match next_of(hardware) {
-        None => {
-            ask(&mut hardware.bus, core, access);
-            hardware.next = Next::Complete(choice);
-            Ok((Outcome::Asked, CacheUse::Unused))
-        }
-        Some(_) => Ok((Outcome::Stalled(Stall::Bus), CacheUse::Unused)),
+    match needed(&hardware.bus, core, access) {
+        None => act(hardware, test, choice, Way::Whole),
+        Some((loc, write)) => match next_of(hardware) {
+            None => {
+                hardware.bus.ask(core, loc, write);
+                hardware.next = Next::Complete(choice);
+                Ok((Outcome::Asked, CacheUse::Unused))
+            }
+            Some(_) => Ok((Outcome::Stalled(Stall::Bus), CacheUse::Unused)),
+        },
     }
 }
 
-/// Whether a core's access needs the bus: a read or a write that doesn't hit, and a locked instruction's.
+/// For what a core's access needs the bus, a location and whether it writes there: a read or a write that doesn't
+/// hit, and a locked instruction's. `None` where it doesn't need the bus.
 #[inline(always)]
-fn needs_bus<P: Protocol>(bus: &SnoopBus<P>, core: Core, access: MemoryAccess) -> bool
+fn needed<P: Protocol>(bus: &SnoopBus<P>, core: Core, access: MemoryAccess) -> Option<(Loc, bool)>
     requires { core.0 < cores_of bus.now }
-    ensures value { result ≡ needs_bus (memory_access_in access) (hits_by (caches_of bus.now) core.0 (memory_access_in access)) }
+    ensures value { result ≡ needed_by (memory_access_in access) (hits_by (caches_of bus.now) core.0 (memory_access_in access)) }
 
     // Between the two parts of a locked instruction no write of another core to its location hits.
     ensures taken { LeavesLocked bus.now core.0 (memory_access_in access) }
 {
     match access {
-        MemoryAccess::Nothing => false,
-        MemoryAccess::Read(loc) => !bus.would_hit(core, loc, false),
-        MemoryAccess::Write(loc) => !bus.would_hit(core, loc, true),
-        MemoryAccess::Lock(_) => true,
-    }
-}
-
-/// A core asks for its access.
-fn ask<P: Protocol>(bus: &mut SnoopBus<P>, core: Core, access: MemoryAccess)
-    requires core { core.0 < cores_of bus.old }
-    requires known { IsAccessAmong (length (words_of bus.old)) (memory_access_in access) }
-    requires free { IsFree bus.old }
-    requires needs { needs_bus (memory_access_in access) (hits_by (caches_of bus.old) core.0 (memory_access_in access)) ≡ true }
-    ensures words { words_of bus.new ≡ words_of bus.old }
-    ensures caches { caches_of bus.new ≡ (asking_by (caches_of bus.old) core.0 (memory_access_in access)).caches }
-    ensures holder { holder_of bus.new ≡ held_for core (memory_access_in access) }
-    ensures cores { cores_of bus.new ≡ cores_of bus.old }
-{
-    match access {
-        MemoryAccess::Nothing => {}
-        MemoryAccess::Read(loc) => bus.ask(core, loc, false),
-        MemoryAccess::Write(loc) | MemoryAccess::Lock(loc) => bus.ask(core, loc, true),
+        MemoryAccess::Nothing => None,
+        MemoryAccess::Read(loc) => {
+            if bus.would_hit(core, loc, false) {
+                None
+            } else {
+                Some((loc, false))
+            }
+        }
+        MemoryAccess::Write(loc) => {
+            if bus.would_hit(core, loc, true) {
+                None
+            } else {
+                Some((loc, true))
+            }
+        }
+        MemoryAccess::Lock(loc) => Some((loc, true)),
     }
 }
 

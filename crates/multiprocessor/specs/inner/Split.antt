@@ -1,8 +1,8 @@
 -- A choice made on the hardware of a machine with a split bus: the holder's next one, which completes, or any other, which
 -- asks, waits or acts at once. (Primer, chapter 7; this project's profile.)
-use Rattle.std.specs.Prelude.{◌≡◌, ◌<◌, ℕ, false, List}
-use Rattle.multiprocessor.specs.Vocabulary.{begins, BusEffect, Free, HeldBetween, HeldBy, Holder, Litmus, Lock, Locks, MemoryAccess, NoAccess, Reads, same_choice, split_effect, updated, value_in, Writes, writes_last}
-use Rattle.basic_laws.specs.Types.{Reg, Action, Entry, Choice, Step}
+use Rattle.std.specs.Prelude.{◌≡◌, ◌<◌, ℕ, Bool, true, false, if◌then◌else◌, Option, None, Some}
+use Rattle.multiprocessor.specs.Vocabulary.{begins, BusEffect, Free, HeldBetween, HeldBy, Holder, Litmus, Locks, MemoryAccess, NoAccess, Reads, same_choice, split_effect, Writes, writes_last}
+use Rattle.basic_laws.specs.Types.{Loc, Entry, Choice, Step}
 use Rattle.multiprocessor.specs.declared.hardware.Hardware.{Hardware}
 use Rattle.multiprocessor.specs.Keeping.{state_in}
 use Rattle.multiprocessor.specs.inner.Effects.{attempt_in}
@@ -14,6 +14,13 @@ split_effect_in t m choice = split_effect t m.config.depth (state_in m).flat (at
 -- what a choice does that isn't the holder's next one
 abbrev pub begins_in : {P : Type 0} → Litmus → Hardware P → Choice → BusEffect
 begins_in t m choice = begins t m.config.depth (state_in m).flat (attempt_in t m choice) (state_in m).holder
+
+-- for what an access needs the bus, with the caches' answer whether it hits: a location, and whether it writes there
+abbrev pub needed_by : MemoryAccess → Bool → Option (Loc × Bool)
+needed_by NoAccess hits = None
+needed_by (Reads loc) hits = if hits then None else Some (loc, false)
+needed_by (Writes loc) hits = if hits then None else Some (loc, true)
+needed_by (Locks loc) hits = Some (loc, true)
 
 -- the access is at one of so many locations
 abbrev pub IsAccessAmong : ℕ → MemoryAccess → Type 0
@@ -30,13 +37,3 @@ abbrev pub IsOther : Holder → Choice → Type 0
 IsOther Free choice = Unit {0}
 IsOther (HeldBy asked) choice = same_choice asked choice ≡ false
 IsOther (HeldBetween e) choice = same_choice (Step e.core) choice ≡ false
-
--- the action is a locked read and write
-abbrev pub IsLock : Action → Type 0
-IsLock (Lock loc reg update) = Unit {0}
-IsLock _ = ⊥
-
--- with these registers a locked instruction that read this word writes this value, and the word goes to this register
-abbrev pub WritesAs : Action → List ℕ → ℕ → Reg → ℕ → Type 0
-WritesAs (Lock loc reg update) registers word into due = (into ≡ reg) × (due ≡ updated update word (value_in registers reg))
-WritesAs _ registers word into due = ⊥
