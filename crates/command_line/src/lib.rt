@@ -4,7 +4,6 @@
 
 pub mod explanation;
 mod help;
-mod known;
 mod options;
 pub mod search;
 pub mod settings;

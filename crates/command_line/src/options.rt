@@ -30,22 +30,16 @@ fn program_of<'a>(alloc: Global, commands: &[Subcommand]) -> Result<Command<'a>,
     Ok(program)
 }
 
-fn command_of<'a>(alloc: Global, declared: Subcommand) -> Result<Command<'a>, AllocError> {
-    let command = Command::new(alloc, declared.name())
-        .about(declared.about())
-        .after_help(declared.help());
-    let command = with_options(alloc, command, declared.options())?;
-    with_options(alloc, command, declared.further_options())
-}
-
-/// The command with more options.
-fn with_options<'a>(
-    alloc: Global,
-    mut command: Command<'a>,
-    options: &'static [DeclaredOption],
-) -> Result<Command<'a>, AllocError> {
-    for declared in options {
-        command = command.arg(option_of(alloc, declared))?;
+fn command_of<'a>(alloc: Global, subcommand: Subcommand) -> Result<Command<'a>, AllocError> {
+    let mut command = Command::new(alloc, subcommand.name())
+        .about(subcommand.about())
+        .after_help(subcommand.help());
+    for option in subcommand
+        .options()
+        .iter()
+        .chain(subcommand.further_options())
+    {
+        command = command.arg(option_of(alloc, option))?;
     }
     Ok(command)
 }

@@ -5,7 +5,6 @@ ghost use Rattle.std.specs.Prelude.{IfOk, IfSome};
 ghost use Rattle.command_line.specs.Limits.{IsWithinLimits, HasDepth};
 
 use crate::explanation::ReasonPlan;
-use crate::known::{know_config, know_plan, know_reason, know_search};
 use crate::options::command_line;
 use crate::search::SearchPlan;
 use crate::table::Subcommand;
@@ -74,14 +73,21 @@ impl Settings {
         requires { HasDepth self.now }
         ensures { IsWithinLimits self.now }
     {
+        // Each call here is made for what it ensures: that what it asks is within its limits.
         match self {
-            Settings::Run { config, .. } | Settings::Trace { config, .. } => know_config(*config),
-            Settings::Sweep { config, plan, .. } => {
-                know_config(*config);
-                know_plan(*plan);
+            Settings::Run { config, .. } | Settings::Trace { config, .. } => {
+                let _depth = config.depth();
             }
-            Settings::Outcomes { search, .. } => know_search(*search),
-            Settings::Why { plan, .. } => know_reason(*plan),
+            Settings::Sweep { config, plan, .. } => {
+                let _depth = config.depth();
+                let _seeds = plan.seeds();
+            }
+            Settings::Outcomes { search, .. } => {
+                let _depth = search.depth();
+            }
+            Settings::Why { plan, .. } => {
+                let _cases = plan.cases();
+            }
             Settings::Check | Settings::Witness { .. } | Settings::Tables(_) => {}
         }
     }
@@ -136,7 +142,12 @@ fn settings_named(name: &str, matches: &ArgMatches<'_>) -> Option<Settings>
         Some(Subcommand::Outcomes) => outcomes_settings(matches),
         Some(Subcommand::Why) => why_settings(matches),
         Some(Subcommand::Check) => Some(Settings::Check),
-        Some(Subcommand::Witness) => witness_settings(matches),
+        Some(Subcommand::Witness) => match matches.get_one::<u8>("depth") {
+            Some(depth) if (MIN_DEPTH..=MAX_DEPTH).contains(&depth) => {
+                Some(Settings::Witness { depth })
+            }
+            _ => None,
+        },
         Some(Subcommand::Tables) => Some(Settings::Tables(protocol_in(matches)?)),
         None => None,
     }
@@ -187,10 +198,15 @@ fn sweep_settings(matches: &ArgMatches<'_>) -> Option<Settings>
 fn outcomes_settings(matches: &ArgMatches<'_>) -> Option<Settings>
     ensures { IfSome result HasDepth }
 {
-    let (Some(depth), Some(states), Some(show)) = (
+    let show = match matches.get_str("show") {
+        Some("condition") => Show::Condition,
+        Some("registers") => Show::Registers,
+        Some("all") => Show::All,
+        _ => return None,
+    };
+    let (Some(depth), Some(states)) = (
         matches.get_one::<u8>("depth"),
         matches.get_one::<u32>("states"),
-        show_in(matches),
     ) else {
         return None;
     };
@@ -207,61 +223,32 @@ fn outcomes_settings(matches: &ArgMatches<'_>) -> Option<Settings>
 fn why_settings(matches: &ArgMatches<'_>) -> Option<Settings>
     ensures { IfSome result HasDepth }
 {
-    let (Some(model), Some(cases)) = (model_in(matches), matches.get_one::<u32>("cases")) else {
-        return None;
+    let model = match matches.get_str("model") {
+        Some("tso") => Model::Tso,
+        Some("sc") => Model::Sequential,
+        _ => return None,
     };
-    let plan = ReasonPlan::new(model, cases)?;
+    let plan = ReasonPlan::new(model, matches.get_one::<u32>("cases")?)?;
     let json = matches.get_flag("json");
     let assert = matches.get_flag("assert");
     Some(Settings::Why { plan, json, assert })
 }
 
-fn witness_settings(matches: &ArgMatches<'_>) -> Option<Settings>
-    ensures { IfSome result HasDepth }
-{
-    let depth = matches.get_one::<u8>("depth")?;
-    if !(MIN_DEPTH..=MAX_DEPTH).contains(&depth) {
-        return None;
-    }
-    Some(Settings::Witness { depth })
-}
-
 fn config_in(matches: &ArgMatches<'_>) -> Option<Config> {
-    let (Some(depth), Some(sets), Some(ways), Some(words), Some(bus)) = (
+    let bus = match matches.get_str("bus") {
+        Some("atomic") => Bus::Atomic,
+        Some("split") => Bus::Split,
+        _ => return None,
+    };
+    let (Some(depth), Some(sets), Some(ways), Some(words)) = (
         matches.get_one::<u8>("depth"),
         matches.get_one::<u8>("sets"),
         matches.get_one::<u8>("ways"),
         matches.get_one::<u8>("words"),
-        bus_in(matches),
     ) else {
         return None;
     };
     Config::new(depth, Shape::new(sets, ways, words)?, bus)
-}
-
-fn bus_in(matches: &ArgMatches<'_>) -> Option<Bus> {
-    match matches.get_str("bus") {
-        Some("atomic") => Some(Bus::Atomic),
-        Some("split") => Some(Bus::Split),
-        _ => None,
-    }
-}
-
-fn show_in(matches: &ArgMatches<'_>) -> Option<Show> {
-    match matches.get_str("show") {
-        Some("condition") => Some(Show::Condition),
-        Some("registers") => Some(Show::Registers),
-        Some("all") => Some(Show::All),
-        _ => None,
-    }
-}
-
-fn model_in(matches: &ArgMatches<'_>) -> Option<Model> {
-    match matches.get_str("model") {
-        Some("tso") => Some(Model::Tso),
-        Some("sc") => Some(Model::Sequential),
-        _ => None,
-    }
 }
 
 fn protocol_in(matches: &ArgMatches<'_>) -> Option<ProtocolKind> {
