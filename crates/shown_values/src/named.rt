@@ -5,7 +5,7 @@ ghost use Rattle.tso_model.specs.Actions.{action_of};
 ghost use Rattle.tso_report.specs.Report.{all_registers};
 ghost use Rattle.tso_report.specs.Tally.{named_register, named_registers, named_locations};
 ghost use Rattle.tso_report.specs.inner.Tally.{NameExists};
-ghost use Rattle.shown_values.specs.Shown.{writes, writes_one, is_written, is_location, is_added, is_shown, names_shown};
+ghost use Rattle.shown_values.specs.Shown.{writes, writes_one, is_written, is_added, is_shown, names_shown};
 ghost use Rattle.shown_values.specs.inner.Shown.{ShownAreNoted};
 
 use crate::show::Show;
@@ -94,7 +94,7 @@ fn is_added(test: &Test, show: Show, named: Named) -> bool
     match show {
         Show::Condition => false,
         Show::Registers => is_written(test, named),
-        Show::All => is_written(test, named) || is_location(named),
+        Show::All => is_written(test, named) || matches!(named, Named::Location(_)),
     }
 }
 
@@ -109,20 +109,16 @@ fn is_written(test: &Test, named: Named) -> bool
     }
 }
 
-fn is_location(named: Named) -> bool
-    ensures { result ≡ is_location named }
-{
-    match named {
-        Named::Register(..) => false,
-        Named::Location(_) => true,
-    }
-}
-
 /// Whether an instruction of the program writes the register.
 fn writes_one(program: &[Instr], reg: Reg) -> bool
     ensures { result ≡ writes_one program.now reg }
 {
-    program.iter().any(|instr| writes(*instr, reg))
+    for instr in program {
+        if writes(*instr, reg) {
+            return true;
+        }
+    }
+    false
 }
 
 fn writes(instr: Instr, reg: Reg) -> bool
