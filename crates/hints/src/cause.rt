@@ -2,12 +2,12 @@
 //! input.
 
 use crate::body::{body_of, ending_of};
-use crate::orders::{from_line_at_fault, names_no_location};
+use crate::orders::{first_line, from_line_at_fault, location_in};
 use crate::quotes::first_word;
 use crate::reader::Reader;
 use crate::search_end::SearchEnd;
 use crate::unended::count_instructions;
-use crate::unused::{first_unused, uses_all_locations};
+use crate::unused::{first_unused, location_named, uses_all_locations};
 use litmus_reader::Fault;
 use litmus_tokens::tokens_of;
 use order_builder::OrderFault;
@@ -98,10 +98,14 @@ impl Cause {
     /// That an order of a test is at fault.
     pub fn of_order(test: &Test, text: &[u8], fault: OrderFault) -> Cause {
         let from_line = from_line_at_fault(text, fault);
+        let unknown_location = match location_in(first_line(from_line)) {
+            Some(name) => location_named(test, name).is_none(),
+            None => false,
+        };
         Cause::Order {
             length: text.len(),
             from_line: from_line.len(),
-            unknown_location: names_no_location(test, from_line),
+            unknown_location,
             fault,
         }
     }

@@ -14,7 +14,21 @@ pub fn say_choices(line: &mut Line, cores: u8, text: &[u8], fault: ChoiceFault) 
     match fault {
         ChoiceFault::BadWord(number) => {
             let (word, part) = begin_word(line, text, number);
-            bad_word(line, word, part);
+            if says_foreign(line, word, "choices are 0s, 0d and seed N M") {
+                return;
+            }
+            match part {
+                Part::First => bad_first(line, word),
+                Part::Seed => line.say_of(
+                    "{} is no seed: in seed N M the seed N is a number below 2^64",
+                    word,
+                ),
+                Part::Count => line.say_of_number(
+                    "{} is no number: in seed N M there are M choices, at most {}",
+                    word,
+                    MAX_CHOICES,
+                ),
+            }
         }
         ChoiceFault::NoSuchCore(number) => {
             let (word, _) = begin_word(line, text, number);
@@ -41,12 +55,6 @@ pub fn too_many_steps(line: &mut Line, text: &[u8], number: usize, most: usize) 
     );
 }
 
-/// Says of which word of choices the hint is, from 1; that word, and which word of its item it is.
-fn begin_word<'a>(line: &mut Line, text: &'a [u8], number: usize) -> (&'a [u8], Part) {
-    line.say_number("word {}: ", number);
-    word_at(text, number)
-}
-
 /// Which word of its item a word is.
 #[derive(Clone, Copy)]
 enum Part {
@@ -55,8 +63,9 @@ enum Part {
     Count,
 }
 
-/// The word of this number, from 1, and which word of its item it is.
-fn word_at(text: &[u8], number: usize) -> (&[u8], Part) {
+/// Says of which word of choices the hint is, from 1; that word, and which word of its item it is.
+fn begin_word<'a>(line: &mut Line, text: &'a [u8], number: usize) -> (&'a [u8], Part) {
+    line.say_number("word {}: ", number);
     let mut part = Part::First;
     let mut place = 0usize;
     let mut rest = text;
@@ -82,31 +91,22 @@ fn word_at(text: &[u8], number: usize) -> (&[u8], Part) {
     (&[], part)
 }
 
-fn bad_word(line: &mut Line, word: &[u8], part: Part) {
-    if says_foreign(line, word, "choices are 0s, 0d and seed N M") {
-        return;
-    }
-    match part {
-        Part::First => bad_first(line, word),
-        Part::Seed => line.say_of(
-            "{} is no seed: in seed N M the seed N is a number below 2^64",
-            word,
-        ),
-        Part::Count => line.say_of_number(
-            "{} is no number: in seed N M there are M choices, at most {}",
-            word,
-            MAX_CHOICES,
-        ),
-    }
-}
-
 fn bad_first(line: &mut Line, word: &[u8]) {
     let sentence = if is_exactly_one_of(&["seed"], word) {
         "write two numbers after seed, the seed and how many choices it makes, as in seed 1 1000"
     } else if is_one_of(&["seed"], word) {
         "{}: write seed, in small letters"
     } else if is_all_digits(word) {
-        return no_letter(line, word);
+        // A letter belongs to the number.
+        let core = if word.len() < 10 {
+            Piece::Shown(word)
+        } else {
+            Piece::Text("0")
+        };
+        return line.say_with(
+            "{} lacks its letter: {}s steps that core, {}d drains it",
+            &[Piece::Named(word), core, core],
+        );
     } else if word.starts_with(b"=") {
         "{}: an input has only one line ====, between the test and the choices"
     } else if word.starts_with(b"X86") {
@@ -141,17 +141,4 @@ fn other_first(line: &mut Line, word: &[u8]) {
             word,
         ),
     }
-}
-
-/// Says of a number alone that a letter belongs to it.
-fn no_letter(line: &mut Line, word: &[u8]) {
-    let core = if word.len() < 10 {
-        Piece::Shown(word)
-    } else {
-        Piece::Text("0")
-    };
-    line.say_with(
-        "{} lacks its letter: {}s steps that core, {}d drains it",
-        &[Piece::Named(word), core, core],
-    );
 }

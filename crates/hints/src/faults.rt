@@ -8,7 +8,7 @@ use crate::line::Line;
 use crate::numbers::bad_number;
 use crate::openings::{bad_init, bad_token, no_header, unclosed};
 use crate::place::Place;
-use crate::quotes::up_to;
+use crate::quotes::{begins_with_letter, digits_and_letters, last_bytes, up_to};
 use crate::rows::{ROW_OF_CORES, too_large, wrong_cells};
 use crate::tables::{is_exactly_one_of, is_one_of};
 use litmus_reader::Why;
@@ -26,8 +26,9 @@ pub const ONE_TEST: &str =
 pub const CONNECTIVES: &str =
     "{}: in a condition write /\\ for and, \\/ for or, ~ for not, and = alone";
 
-/// What is said of a number to base 16.
-pub const DECIMAL: &str = "{}: numbers are decimal";
+/// The form of conditions.
+const CONDITION: &str =
+    ": a condition is exists, ~exists or forall, and then atoms as 0:EAX=1, x=1 or true, joined by /\\ and \\/";
 
 /// Says what is at fault at a place of a test, with the line.
 ///
@@ -67,8 +68,19 @@ pub fn say_fault(
             place.token,
         ),
         Why::TooLarge => return too_large(alloc, line, place),
-        Why::BadCondition => bad_condition(line, place),
-        Why::Trailing => trailing(line, asked, place),
+        Why::BadCondition => {
+            if !says_foreign_form(line, place) && !says_foreign_register(line, place) {
+                unfit(line, place, "the test ends within its condition", CONDITION);
+            }
+        }
+        Why::Trailing => {
+            if !says_missing_divider(line, asked, place.rest) && !says_foreign_form(line, place) {
+                line.say_of(
+                    "{} stands after the end of the test: leave it out",
+                    place.token,
+                );
+            }
+        }
         Why::NoMemory => line.say(NOTHING_KNOWN),
     }
     Ok(())
@@ -87,26 +99,6 @@ fn foreign_line(place: &Place<'_>, why: Why) -> Option<&'static str> {
     }
 }
 
-fn trailing(line: &mut Line, asked: Asked, place: &Place<'_>) {
-    if !says_missing_divider(line, asked, place.rest) && !says_foreign_form(line, place) {
-        line.say_of(
-            "{} stands after the end of the test: leave it out",
-            place.token,
-        );
-    }
-}
-
-/// The form of conditions.
-const CONDITION: &str =
-    ": a condition is exists, ~exists or forall, and then atoms as 0:EAX=1, x=1 or true, joined by /\\ and \\/";
-
-/// Says what doesn't fit in a condition.
-fn bad_condition(line: &mut Line, place: &Place<'_>) {
-    if !says_foreign_form(line, place) && !says_foreign_register(line, place) {
-        unfit(line, place, "the test ends within its condition", CONDITION);
-    }
-}
-
 /// Of what doesn't fit in a part of a test, which has this form; `end` says that the test ends there.
 fn unfit(line: &mut Line, place: &Place<'_>, end: &str, form: &str) {
     if place.rest.is_empty() {
@@ -120,8 +112,7 @@ fn unfit(line: &mut Line, place: &Place<'_>, end: &str, form: &str) {
 /// Says of a number or a connective of another form, within a condition or after it. Whether one stands there.
 fn says_foreign_form(line: &mut Line, place: &Place<'_>) -> bool {
     let token = place.token;
-    if place.is_hexadecimal() {
-        line.say_of(DECIMAL, place.with_last_byte());
+    if says_hexadecimal(line, place) {
         true
     } else if is_one_of(&["|", "and", "or"], token)
         || (is_exactly_one_of(&["="], token) && is_exactly_one_of(&["="], place.last_word))
@@ -133,10 +124,21 @@ fn says_foreign_form(line: &mut Line, place: &Place<'_>) -> bool {
     }
 }
 
+/// Says of a number to base 16, where `x` follows a zero. Whether one stands there.
+pub fn says_hexadecimal(line: &mut Line, place: &Place<'_>) -> bool {
+    let rest = place.rest;
+    if !place.before.ends_with(b"0") || !(rest.starts_with(b"x") || rest.starts_with(b"X")) {
+        return false;
+    }
+    let number = digits_and_letters(last_bytes(place.text, rest.len().saturating_add(1)));
+    line.say_of("{}: numbers are decimal", number);
+    true
+}
+
 /// Says of a register of another form: of one that isn't read, or of the `P` of its core. Whether one stands there.
 pub fn says_foreign_register(line: &mut Line, place: &Place<'_>) -> bool {
     let last = place.last_word;
-    if place.is_register() {
+    if is_exactly_one_of(&[":"], last) && begins_with_letter(place.rest) {
         line.say_of(
             "{} is none of EAX, EBX, ECX, EDX, ESI, EDI, the registers of 32 bits: tools/import renames others, but not parts such as AL",
             place.token,

@@ -3,7 +3,7 @@
 
 use crate::characters::{say_character, says_foreign};
 use crate::divider::{Asked, says_missing_divider};
-use crate::faults::{COMMENT, CONNECTIVES, DECIMAL, says_foreign_register};
+use crate::faults::{COMMENT, CONNECTIVES, says_foreign_register, says_hexadecimal};
 use crate::line::{Line, Piece};
 use crate::operands::percent;
 use crate::place::Place;
@@ -168,7 +168,7 @@ fn bad_byte(line: &mut Line, place: &Place<'_>, byte: u8) {
         return line.say_of(said, place.token);
     }
     match byte {
-        b'%' => percent(line, place.cell()),
+        b'%' => percent(line, place),
         b'!'..=b'~' => line.say_of("{} can't stand here", place.token),
         _ => say_character(line, place, byte),
     }
@@ -177,9 +177,10 @@ fn bad_byte(line: &mut Line, place: &Place<'_>, byte: u8) {
 /// Of an item of the initial state.
 pub fn bad_init(line: &mut Line, place: &Place<'_>) {
     let last = place.last_word;
-    if place.is_hexadecimal() {
-        line.say_of(DECIMAL, place.with_last_byte());
-    } else if is_one_of(&TYPES, last) || (last.ends_with(b"_t") && is_location_name(last)) {
+    if says_hexadecimal(line, place) {
+        return;
+    }
+    if is_one_of(&TYPES, last) || (last.ends_with(b"_t") && is_location_name(last)) {
         line.say_of(
             "{} is a type, and items have no types here: leave it out; if the item has no value, leave out the whole item, since 0 is its value",
             last,

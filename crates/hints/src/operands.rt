@@ -2,7 +2,8 @@
 //! turn a load into a store: each such hint tells of the order.
 
 use crate::line::Line;
-use crate::quotes::after_byte;
+use crate::place::Place;
+use crate::quotes::{after_byte, up_to_any};
 use litmus_tokens::{Lexeme, Symbol, Token};
 
 const SOURCE_FIRST: &str =
@@ -40,8 +41,12 @@ pub fn source_first(operands: &[Token<'_>]) -> Option<&'static str> {
     }
 }
 
-/// Of a `%` before a register of this cell: with two operands it is a sign of AT&T's order.
-pub fn percent(line: &mut Line, cell: &[u8]) {
+/// What ends a cell of a row, or what stands before rows.
+const ENDS_OF_CELL: &[u8] = b"|;}\n";
+
+/// Of a `%` before a register: with two operands in its cell it is a sign of AT&T's order.
+pub fn percent(line: &mut Line, place: &Place<'_>) {
+    let cell = up_to_any(place.from_last(ENDS_OF_CELL), ENDS_OF_CELL).trim_ascii();
     let sentence = if !cell.contains(&b',') {
         "a register is written without %: EAX"
     } else if cell.contains(&b'[') {

@@ -4,10 +4,8 @@ use crate::characters::says_foreign;
 use crate::hinting::NOTHING_KNOWN;
 use crate::line::Line;
 use crate::quotes::{after_byte, after_front, first_word, is_all_digits, is_choice, up_to};
-use crate::unused::location_named;
 use litmus_tokens::word as word_value;
 use order_builder::OrderFault;
-use tso_model::Test;
 
 /// Says what is at fault in an order; of a line, with which `from_line` begins, whether it has a location that the test
 /// hasn't.
@@ -19,7 +17,19 @@ pub fn say_order(
     fault: OrderFault,
 ) {
     match fault {
-        OrderFault::NoOrder => no_order(line, first_word(text)),
+        OrderFault::NoOrder => {
+            let word = first_word(text);
+            let sentence = if word.is_empty() {
+                "no order: give one after a line ====, as run prints it; --help says more"
+            } else if word.starts_with(b"{") {
+                "no line is Order: give the report that run prints without --json"
+            } else if is_choice(word) {
+                "no line is Order: {} is a choice; check and witness read an order, as run prints it"
+            } else {
+                "no line is Order: an order begins with this line and ends with a line Endorder n, as run prints it"
+            };
+            line.say_of(sentence, word);
+        }
         OrderFault::BadLine(number) => {
             line.say_number("line {} after ====: ", number);
             bad_line(line, unknown_location, first_line(from_line));
@@ -29,27 +39,13 @@ pub fn say_order(
     }
 }
 
-/// Of a text whose first word is this.
-fn no_order(line: &mut Line, word: &[u8]) {
-    let sentence = if word.is_empty() {
-        "no order: give one after a line ====, as run prints it; --help says more"
-    } else if word.starts_with(b"{") {
-        "no line is Order: give the report that run prints without --json"
-    } else if is_choice(word) {
-        "no line is Order: {} is a choice; check and witness read an order, as run prints it"
-    } else {
-        "no line is Order: an order begins with this line and ends with a line Endorder n, as run prints it"
-    };
-    line.say_of(sentence, word);
-}
-
 /// A line without a carriage return at its end.
 fn without_return(line: &[u8]) -> &[u8] {
     line.strip_suffix(b"\r").unwrap_or(line)
 }
 
 /// The first line of a text, without a carriage return at its end.
-fn first_line(text: &[u8]) -> &[u8] {
+pub fn first_line(text: &[u8]) -> &[u8] {
     without_return(up_to(text, b'\n'))
 }
 
@@ -113,20 +109,12 @@ fn is_over_a_byte(digits: &[u8]) -> bool {
 }
 
 /// What stands before `=` in the third of three pieces, which one space separates.
-fn location_in(entry: &[u8]) -> Option<&[u8]> {
+pub fn location_in(entry: &[u8]) -> Option<&[u8]> {
     let access = after_byte(after_byte(entry, b' '), b' ');
     if access.contains(&b' ') || !access.contains(&b'=') {
         return None;
     }
     Some(up_to(access, b'='))
-}
-
-/// Whether the line with which a text begins has a location that the test hasn't.
-pub fn names_no_location(test: &Test, text: &[u8]) -> bool {
-    match location_in(first_line(text)) {
-        Some(name) => location_named(test, name).is_none(),
-        None => false,
-    }
 }
 
 /// Says of an order that its end is missing, or counts other entries.

@@ -30,7 +30,7 @@ pub fn limit_at(alloc: Global, place: &Place<'_>) -> Result<Limit, NoMemory> {
     let ending = tokens_of(alloc, ending_of(body, &tokens))?;
     let limit = if !ending.items.is_empty() {
         limit_in_condition(&ending.items)
-    } else if let Some(rows) = after_first(Symbol::CloseCurly, &tokens.items) {
+    } else if let Some(rows) = after_curly(&tokens.items) {
         limit_in_rows(rows)
     } else {
         Limit::Locations
@@ -38,10 +38,10 @@ pub fn limit_at(alloc: Global, place: &Place<'_>) -> Result<Limit, NoMemory> {
     Ok(limit)
 }
 
-/// What stands after the first of this symbol.
-fn after_first<'a, 'b>(symbol: Symbol, tokens: &'b [Token<'a>]) -> Option<&'b [Token<'a>]> {
+/// What stands after the initial state, where that ends.
+fn after_curly<'a, 'b>(tokens: &'b [Token<'a>]) -> Option<&'b [Token<'a>]> {
     for at in 0..tokens.len() {
-        if is_symbol(symbol, &tokens[at]) {
+        if is_symbol(Symbol::CloseCurly, &tokens[at]) {
             return Some(&tokens[at + 1..]);
         }
     }
@@ -63,27 +63,21 @@ fn limit_in_condition(tokens: &[Token<'_>]) -> Limit {
     }
 }
 
-/// The limit that what stands after these tokens of rows passes; the first row is that of the cores.
+/// The limit that what stands after these tokens of rows passes; the first row is that of the cores. A core has as many
+/// instructions as cells have something in them in the rows that end, in the column in which the last row stops, which doesn't end.
 fn limit_in_rows(tokens: &[Token<'_>]) -> Limit {
-    if after_first(Symbol::Semicolon, tokens).is_none() {
-        Limit::Cores
-    } else if cells_above(tokens) >= MAX_INSTRUCTIONS {
-        Limit::Instructions
-    } else {
-        Limit::Locations
-    }
-}
-
-/// How many cells have something in them in the rows that end, in the column in which the last row stops, which doesn't end; the first
-/// row is that of the cores.
-fn cells_above(tokens: &[Token<'_>]) -> usize {
+    let mut has_row = false;
     let mut column = 0usize;
     for token in tokens {
         if is_symbol(Symbol::Semicolon, token) {
+            has_row = true;
             column = 0;
         } else if is_symbol(Symbol::Bar, token) {
             column = column.saturating_add(1);
         }
+    }
+    if !has_row {
+        return Limit::Cores;
     }
     let mut cells = 0usize;
     let mut is_first_row = true;
@@ -103,5 +97,9 @@ fn cells_above(tokens: &[Token<'_>]) -> usize {
             is_filled = true;
         }
     }
-    cells
+    if cells >= MAX_INSTRUCTIONS {
+        Limit::Instructions
+    } else {
+        Limit::Locations
+    }
 }

@@ -1,13 +1,7 @@
 //! The place of a fault in a text: a refusal has the line alone, and a hint names what stands there.
 
-use crate::quotes::{
-    after_last, begins_with_letter, digits_and_letters, last_bytes, last_word, token, up_to_any,
-};
-use crate::tables::is_exactly_one_of;
+use crate::quotes::{after_last, last_bytes, last_word, token};
 use litmus_tokens::line_of;
-
-/// What ends a cell of a row, or what stands before rows.
-const ENDS_OF_CELL: &[u8] = b"|;}\n";
 
 /// A text in two: what stands before a place, and what stands from there on.
 #[derive(Clone, Copy)]
@@ -55,12 +49,6 @@ impl<'a> Place<'a> {
         last_bytes(self.text, self.rest.len().saturating_add(count))
     }
 
-    /// The cell of a row in which it is, or of another line what stands there between such ends.
-    pub fn cell(&self) -> &'a [u8] {
-        let from_cell = self.from_last(ENDS_OF_CELL);
-        up_to_any(from_cell, ENDS_OF_CELL).trim_ascii()
-    }
-
     /// Which character of its line it is, from 1.
     pub fn column(&self) -> usize {
         let mut column = 1usize;
@@ -71,20 +59,5 @@ impl<'a> Place<'a> {
             }
         }
         column
-    }
-
-    /// The name or the digits that begin with the byte before it.
-    pub fn with_last_byte(&self) -> &'a [u8] {
-        digits_and_letters(last_bytes(self.text, self.rest.len().saturating_add(1)))
-    }
-
-    /// Whether `x` follows a zero there, as in a hexadecimal number.
-    pub fn is_hexadecimal(&self) -> bool {
-        self.before.ends_with(b"0") && (self.rest.starts_with(b"x") || self.rest.starts_with(b"X"))
-    }
-
-    /// Whether a letter follows a colon there, as that of a register does.
-    pub fn is_register(&self) -> bool {
-        is_exactly_one_of(&[":"], self.last_word) && begins_with_letter(self.rest)
     }
 }

@@ -52,31 +52,27 @@ pub fn too_large(alloc: Global, line: &mut Line, place: &Place<'_>) -> Result<()
             MAX_OPEN,
         );
     } else {
-        one_too_many(line, place, limit_at(alloc, place)?);
+        // What stands before the end of a cell, of an item or of an atom.
+        let item = up_to_any(place.rest, b"|;}/\\)").trim_ascii_end();
+        let (sentence, named, most) = match limit_at(alloc, place)? {
+            Limit::Cores => ("{}: a test has at most {} cores", token, MAX_CORES),
+            Limit::Locations => (
+                "{} is one too many: a test has at most {} locations",
+                item,
+                MAX_LOCATIONS,
+            ),
+            Limit::Instructions => (
+                "{} is one too many: a core has at most {} instructions",
+                item,
+                MAX_INSTRUCTIONS,
+            ),
+            Limit::Atoms => (
+                "{} is one too many: a condition has at most {} atoms",
+                item,
+                MAX_ATOMS,
+            ),
+        };
+        line.say_of_number(sentence, named, most);
     }
     Ok(())
-}
-
-fn one_too_many(line: &mut Line, place: &Place<'_>, limit: Limit) {
-    // What stands before the end of a cell, of an item or of an atom.
-    let item = up_to_any(place.rest, b"|;}/\\)").trim_ascii_end();
-    let (sentence, named, most) = match limit {
-        Limit::Cores => ("{}: a test has at most {} cores", place.token, MAX_CORES),
-        Limit::Locations => (
-            "{} is one too many: a test has at most {} locations",
-            item,
-            MAX_LOCATIONS,
-        ),
-        Limit::Instructions => (
-            "{} is one too many: a core has at most {} instructions",
-            item,
-            MAX_INSTRUCTIONS,
-        ),
-        Limit::Atoms => (
-            "{} is one too many: a condition has at most {} atoms",
-            item,
-            MAX_ATOMS,
-        ),
-    };
-    line.say_of_number(sentence, named, most);
 }

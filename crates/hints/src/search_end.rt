@@ -60,6 +60,14 @@ pub fn search_ends(line: &mut Line, end: &SearchEnd) {
         Sighting::NoCondition => "give a condition, so that only its atoms tell states apart",
         _ => "name fewer atoms in the condition; tso why needs no states",
     };
+    let met_words = match (end.finals, &end.sighting) {
+        (0, _) | (1, Sighting::NoCondition) => "state was met",
+        (1, Sighting::None) => "state was met, which makes the proposition false",
+        (1, Sighting::Met(_)) => "state was met, which makes the proposition true",
+        (_, Sighting::NoCondition) => "states were met",
+        (_, Sighting::None) => "states were met, none of which makes the proposition true",
+        (_, Sighting::Met(_)) => "states were met, one of which makes the proposition true",
+    };
     line.say_with(
         "the machine can reach more than {} states, {}{}; {} final {}",
         &[
@@ -67,21 +75,9 @@ pub fn search_ends(line: &mut Line, end: &SearchEnd) {
             Piece::Text(limit),
             Piece::Text(condition),
             met,
-            Piece::Text(met_words(end.finals, &end.sighting)),
+            Piece::Text(met_words),
         ],
     );
-}
-
-/// Of so many final states, whether one of them was looked for.
-fn met_words(finals: usize, sighting: &Sighting) -> &'static str {
-    match (finals, sighting) {
-        (0, _) | (1, Sighting::NoCondition) => "state was met",
-        (1, Sighting::None) => "state was met, which makes the proposition false",
-        (1, Sighting::Met(_)) => "state was met, which makes the proposition true",
-        (_, Sighting::NoCondition) => "states were met",
-        (_, Sighting::None) => "states were met, none of which makes the proposition true",
-        (_, Sighting::Met(_)) => "states were met, one of which makes the proposition true",
-    }
 }
 
 /// The line with choices that lead to a state that was looked for, where a search ended at its limit and had met one. The

@@ -40,9 +40,18 @@ pub fn first_unused(
 ) -> Option<Cause> {
     for loc in 0..test.locations() {
         let name = test.location_name(Loc(loc)).as_bytes();
-        if !is_used(test, Loc(loc)) && !is_set(body, name) {
-            return named_in(text, ending, name);
+        if is_used(test, Loc(loc)) || is_set(body, name) {
+            continue;
         }
+        for token in ending {
+            if is_name(token, name) {
+                return Some(Cause::UnusedLocation {
+                    first: text.len().saturating_sub(token.remaining),
+                    length: name.len(),
+                });
+            }
+        }
+        return None;
     }
     None
 }
@@ -85,17 +94,4 @@ fn is_set(tokens: &[Token<'_>], name: &[u8]) -> bool {
         }
     }
     false
-}
-
-/// That nothing else uses a name, where it stands first among the tokens of a text's end.
-fn named_in(text: &[u8], tokens: &[Token<'_>], name: &[u8]) -> Option<Cause> {
-    for token in tokens {
-        if is_name(token, name) {
-            return Some(Cause::UnusedLocation {
-                first: text.len().saturating_sub(token.remaining),
-                length: name.len(),
-            });
-        }
-    }
-    None
 }
