@@ -4,7 +4,7 @@
 ghost use Rattle.std.specs.Prelude.{◌≡◌, ◌<◌, ◌/◌, option_map};
 ghost use Rattle.snoop_bus.specs.Asks.{awaited_by};
 ghost use Rattle.multiprocessor.specs.inner.Keeping.{memory_access_in};
-ghost use Rattle.trace_report.specs.Steps.{request_at, sent_whole, sent_asked, sent_on};
+ghost use Rattle.trace_report.specs.Steps.{request_at, sent_on};
 
 use crate::step::LineRequest;
 use machine_core::{CacheUse, MemoryAccess};
@@ -53,37 +53,25 @@ pub fn sent_on(
     ensures { result ≡ sent_on bus outcome request cache_use (option_map awaited_by awaited) }
 {
     match (bus, outcome) {
-        (Bus::Atomic, _) => sent_whole(request, cache_use),
-        (Bus::Split, Outcome::Asked) => sent_asked(request, awaited),
-        (Bus::Split, _) => Sent::NOTHING,
-    }
-}
-
-/// What an access sends that is made whole. A hit sends nothing.
-fn sent_whole(request: Option<LineRequest>, cache_use: CacheUse) -> Sent
-    ensures { result ≡ sent_whole request cache_use }
-{
-    match cache_use {
-        CacheUse::Unused | CacheUse::Forwarded => Sent::NOTHING,
-        CacheUse::Through(access) => Sent {
-            request: match access.kind {
-                AccessKind::Hit => None,
-                AccessKind::Upgrade | AccessKind::Miss => request,
+        // An access is made whole, and a hit sends nothing.
+        (Bus::Atomic, _) => match cache_use {
+            CacheUse::Unused | CacheUse::Forwarded => Sent::NOTHING,
+            CacheUse::Through(access) => Sent {
+                request: match access.kind {
+                    AccessKind::Hit => None,
+                    AccessKind::Upgrade | AccessKind::Miss => request,
+                },
+                flushed: access.flushed,
             },
-            flushed: access.flushed,
         },
-    }
-}
-
-/// What is sent where an access is asked for. A write access that hits sends nothing.
-fn sent_asked(request: Option<LineRequest>, awaited: Option<Transaction>) -> Sent
-    ensures { result ≡ sent_asked request (option_map awaited_by awaited) }
-{
-    match awaited {
-        None => Sent::NOTHING,
-        Some(transaction) => Sent {
-            request,
-            flushed: transaction.flushed,
+        // A write access that hits sends nothing.
+        (Bus::Split, Outcome::Asked) => match awaited {
+            None => Sent::NOTHING,
+            Some(transaction) => Sent {
+                request,
+                flushed: transaction.flushed,
+            },
         },
+        (Bus::Split, _) => Sent::NOTHING,
     }
 }

@@ -36,31 +36,16 @@ pub fn states_of<P: Protocol>(
     ensures { IfOk result (λ states. states.items ≡ states_of machine.now) }
 {
     let mut states = Vec::new(alloc);
-    for core in 0..test.cores() {
-        note_core(&mut states, machine, test, Core(core), words)?;
-    }
-    Ok(states)
-}
-
-/// What each line of a core is in.
-fn note_core<P: Protocol>(
-    states: &mut Vec<PlacedState>,
-    machine: &Machine<P>,
-    test: &Test,
-    core: Core,
-    words: u8,
-) -> Result<(), NoMemory>
-    requires looked { IsLookedAt test.now words machine.now }
-    requires core { core.0 < length test.now.programs }
-    ensures { OnOk result (states.new.items ≡ states.old.items ++ line_states machine.now core.0 0 (number_of_lines machine.now)) }
-{
     let holder = machine.bus_holder();
     let lines = test.locations().div_ceil(words);
-    for line in 0..lines {
-        let state = line_state(machine, holder, words, core, line);
-        states.push(PlacedState { core, line, state })?;
+    for number in 0..test.cores() {
+        let core = Core(number);
+        for line in 0..lines {
+            let state = line_state(machine, holder, words, core, line);
+            states.push(PlacedState { core, line, state })?;
+        }
     }
-    Ok(())
+    Ok(states)
 }
 
 /// What a core's line is in, where lines have so many words and this is the action that holds the bus. While the core

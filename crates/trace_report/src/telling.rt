@@ -60,7 +60,19 @@ pub fn tell<P: Protocol>(
     ensures answer { OnOk result (AnswerFits machine.old choice) }
 {
     match tell_or_stall(alloc, machine, states, test, config, choice)? {
-        Told::Stalled(stall) => Ok(stalled_step(alloc, choice, stall)),
+        Told::Stalled(stall) => Ok(Step {
+            choice,
+            outcome: Outcome::Stalled(stall),
+            entries: Vec::new(alloc),
+            moved: None,
+            forwarded: false,
+            access: None,
+            request: None,
+            flushed: None,
+            wrote_back: None,
+            changes: Vec::new(alloc),
+            buffer: None,
+        }),
         Told::Made(step) => Ok(step),
     }
 }
@@ -123,26 +135,6 @@ pub fn tell_or_stall<P: Protocol>(
         changes: left.changes,
         buffer: left.buffer,
     }))
-}
-
-/// The step of a choice that stalled.
-fn stalled_step(alloc: Global, choice: Choice, stall: Stall) -> Step
-    ensures shown_step { shown_step result ≡ stalled_step choice stall }
-    ensures outcome { result.outcome ≡ Outcome.Stalled stall }
-{
-    Step {
-        choice,
-        outcome: Outcome::Stalled(stall),
-        entries: Vec::new(alloc),
-        moved: None,
-        forwarded: false,
-        access: None,
-        request: None,
-        flushed: None,
-        wrote_back: None,
-        changes: Vec::new(alloc),
-        buffer: None,
-    }
 }
 
 /// A choice that was made, its outcome, and how many entries were committed before it.

@@ -5,10 +5,10 @@ ghost use Rattle.std.specs.Prelude.{◌≡◌, ◌++◌, OnOk, All, IfSome, code
 ghost use Rattle.order_builder.specs.PrintedOrder.{HasLocation};
 ghost use Rattle.trace_report.specs.Shown.{shown_step};
 ghost use Rattle.protocol_tables.specs.PrintedTable.{line};
-ghost use Rattle.trace_report.specs.Lines.{line_name, entries_text, moved_text, access_text, outcome_name, outcome_text};
-ghost use Rattle.trace_report.specs.Lines.{request_text, flush_text, write_back_text, changes_text};
+ghost use Rattle.trace_report.specs.Lines.{line_name, entries_text, outcome_text};
+ghost use Rattle.trace_report.specs.Lines.{bus_traffic_text, changes_text};
 ghost use Rattle.trace_report.specs.Lines.{printed_request, printed_change};
-ghost use Rattle.trace_report.specs.Lines.{stores_text, buffer_text, done_text};
+ghost use Rattle.trace_report.specs.Lines.{buffer_text, done_text};
 ghost use Rattle.trace_report.specs.Lines.{trace_step_line, end_line};
 ghost use Rattle.trace_report.specs.Known.{IsLine, IsAt, StepNamesExist};
 ghost use Rattle.trace_report.specs.Stalls.{stall_line};
@@ -17,7 +17,6 @@ use crate::names::{access_name, request_name, stall_name, state_name};
 use crate::pieces::{Piece, write_number, write_pieces};
 use crate::step::{LineRequest, Moved, StateChange, Step, core_of};
 use order_builder::write_entry;
-use snoop_bus::AccessKind;
 use tso_model::{Choice, Core, Entry, Loc, NoMemory, Outcome, Stall, Test};
 
 /// Writes the first line of a trace, `Trace`.
@@ -59,9 +58,7 @@ pub fn write_step(
 {
     write_outcome(text, number, step.choice, step.outcome)?;
     write_done(text, test, step)?;
-    write_request(text, test, words, step.request)?;
-    write_flush(text, step.flushed)?;
-    write_write_back(text, test, words, step.wrote_back)?;
+    write_bus_traffic(text, test, words, step)?;
     write_changes(text, test, words, &step.changes)?;
     write_buffer(text, test, core_of(step.choice), &step.buffer)?;
     write_pieces(text, &[Piece::Word("\n")])
@@ -96,7 +93,13 @@ fn write_outcome(
         Choice::Step(core) => (core, "s "),
         Choice::Drain(core) => (core, "d "),
     };
-    let (name, reason) = outcome_words(outcome);
+    let (name, reason) = match outcome {
+        Outcome::Committed => ("committed", ""),
+        Outcome::Buffered => ("buffered", ""),
+        Outcome::Moved => ("moved", ""),
+        Outcome::Asked => ("asked", ""),
+        Outcome::Stalled(stall) => ("stalled ", stall_name(stall)),
+    };
     write_number(text, number)?;
     text.push(' ')?;
     write_number(text, usize::from(core.0))?;
@@ -105,30 +108,28 @@ fn write_outcome(
     Ok(text.push_str(reason)?)
 }
 
-/// `committed`, or `stalled ` and `Full`.
-fn outcome_words(outcome: Outcome) -> (&'static str, &'static str)
-    ensures { result.0.now ++ result.1.now ≡ outcome_name outcome }
-{
-    match outcome {
-        Outcome::Committed => ("committed", ""),
-        Outcome::Buffered => ("buffered", ""),
-        Outcome::Moved => ("moved", ""),
-        Outcome::Asked => ("asked", ""),
-        Outcome::Stalled(stall) => ("stalled ", stall_name(stall)),
-    }
-}
-
 /// What the choice did to the order and the registers, and by its access.
 fn write_done(text: &mut String, test: &Test, step: &Step) -> Result<(), NoMemory>
     requires { All (HasLocation test.now) step.now.entries.items }
     ensures { OnOk result (string_bytes text.new ≡ string_bytes text.old ++ done_text test.now (shown_step step.now)) }
 {
     write_entries(text, test, &step.entries)?;
-    write_moved(text, step.moved)?;
+    if let Some(Moved { reg, value }) = step.moved {
+        let pieces = [
+            Piece::Word(" "),
+            Piece::Word(reg.name()),
+            Piece::Word("="),
+            Piece::Number(value as usize),
+        ];
+        write_pieces(text, &pieces)?;
+    }
     if step.forwarded {
         text.push_str(" forwarded")?;
     }
-    write_access(text, step.access)
+    match step.access {
+        None => Ok(()),
+        Some(kind) => write_pieces(text, &[Piece::Word(" "), Piece::Word(access_name(kind))]),
+    }
 }
 
 fn write_entries(text: &mut String, test: &Test, entries: &[Entry]) -> Result<(), NoMemory>
@@ -142,46 +143,25 @@ fn write_entries(text: &mut String, test: &Test, entries: &[Entry]) -> Result<()
     Ok(())
 }
 
-fn write_moved(text: &mut String, moved: Option<Moved>) -> Result<(), NoMemory>
-    ensures { OnOk result (string_bytes text.new ≡ string_bytes text.old ++ moved_text moved) }
+/// What the choice put on the bus, and what was sent to memory.
+fn write_bus_traffic(text: &mut String, test: &Test, words: u8, step: &Step) -> Result<(), NoMemory>
+    requires request { IfSome step.now.request (λ r. IsLine test.now words r.line) }
+    requires wrote_back { IfSome step.now.wrote_back (IsLine test.now words) }
+    ensures { OnOk result (string_bytes text.new ≡ string_bytes text.old ++ bus_traffic_text test.now words (shown_step step.now)) }
 {
-    match moved {
-        None => Ok(()),
-        Some(Moved { reg, value }) => {
-            let pieces = [
-                Piece::Word(" "),
-                Piece::Word(reg.name()),
-                Piece::Word("="),
-                Piece::Number(value as usize),
-            ];
-            write_pieces(text, &pieces)
-        }
+    if let Some(request) = step.request {
+        text.push(' ')?;
+        write_line_request(text, test, words, request)?;
     }
-}
-
-fn write_access(text: &mut String, access: Option<AccessKind>) -> Result<(), NoMemory>
-    ensures { OnOk result (string_bytes text.new ≡ string_bytes text.old ++ access_text access) }
-{
-    match access {
-        None => Ok(()),
-        Some(kind) => write_pieces(text, &[Piece::Word(" "), Piece::Word(access_name(kind))]),
+    if let Some(core) = step.flushed {
+        let number = usize::from(core.0);
+        write_pieces(text, &[Piece::Word(" flush P"), Piece::Number(number)])?;
     }
-}
-
-fn write_request(
-    text: &mut String,
-    test: &Test,
-    words: u8,
-    request: Option<LineRequest>,
-) -> Result<(), NoMemory>
-    requires { IfSome request (λ r. IsLine test.now words r.line) }
-    ensures { OnOk result (string_bytes text.new ≡ string_bytes text.old ++ request_text test.now words request) }
-{
-    match request {
+    match step.wrote_back {
         None => Ok(()),
-        Some(request) => {
-            text.push(' ')?;
-            write_line_request(text, test, words, request)
+        Some(line) => {
+            text.push_str(" write-back ")?;
+            write_line_name(text, test, words, line)
         }
     }
 }
@@ -201,36 +181,6 @@ pub fn write_line_request(
     let name = request_name(request.request);
     write_pieces(text, &[Piece::Word(name), Piece::Word(" ")])?;
     write_line_name(text, test, words, request.line)
-}
-
-fn write_flush(text: &mut String, flushed: Option<Core>) -> Result<(), NoMemory>
-    ensures { OnOk result (string_bytes text.new ≡ string_bytes text.old ++ flush_text flushed) }
-{
-    match flushed {
-        None => Ok(()),
-        Some(core) => {
-            let number = usize::from(core.0);
-            write_pieces(text, &[Piece::Word(" flush P"), Piece::Number(number)])
-        }
-    }
-}
-
-fn write_write_back(
-    text: &mut String,
-    test: &Test,
-    words: u8,
-    wrote_back: Option<u8>,
-) -> Result<(), NoMemory>
-    requires { IfSome wrote_back (IsLine test.now words) }
-    ensures { OnOk result (string_bytes text.new ≡ string_bytes text.old ++ write_back_text test.now words wrote_back) }
-{
-    match wrote_back {
-        None => Ok(()),
-        Some(line) => {
-            text.push_str(" write-back ")?;
-            write_line_name(text, test, words, line)
-        }
-    }
 }
 
 /// Writes the names of the locations of a line, with `+` between them.
@@ -319,15 +269,6 @@ fn write_buffer(
         Piece::Word("["),
     ];
     write_pieces(text, &front)?;
-    write_stores(text, test, stores)?;
-    write_pieces(text, &[Piece::Word("]")])
-}
-
-/// `x=1 y=2`
-fn write_stores(text: &mut String, test: &Test, stores: &[Entry]) -> Result<(), NoMemory>
-    requires { All (IsAt test.now) stores.now }
-    ensures { OnOk result (string_bytes text.new ≡ string_bytes text.old ++ stores_text test.now stores.now) }
-{
     for (at, store) in stores.iter().enumerate() {
         let space = if at == 0 { "" } else { " " };
         let pieces = [
@@ -338,5 +279,5 @@ fn write_stores(text: &mut String, test: &Test, stores: &[Entry]) -> Result<(), 
         ];
         write_pieces(text, &pieces)?;
     }
-    Ok(())
+    write_pieces(text, &[Piece::Word("]")])
 }
