@@ -1,7 +1,7 @@
 -- The line of a step, put together from what is written of it.
-use Rattle.trace_report.proofs.Vocabulary.{◌≡◌, ◌≢◌, ◌∙◌, ◌⊎◌, inl, inr, refl, arith, ℕ, zero, suc, ◌+◌, slice_index_or, List, [], ◌∷◌, ◌++◌, codes, sym, ap, append_assoc, append-nil, ◌≤◌, length, drop, Some, Litmus, Entry, later_stores}
+use Rattle.trace_report.proofs.Vocabulary.{◌≡◌, ◌≢◌, ◌∙◌, ◌⊎◌, inl, inr, refl, arith, ℕ, zero, suc, ◌+◌, slice_index_or, List, [], ◌∷◌, ◌++◌, codes, sym, ap, append_assoc, Litmus, Entry, later_stores}
 use Rattle.std.specs.Fmt.{decimal}
-use Rattle.trace_report.specs.Lines.{store_text, stores_text, buffer_text}
+use Rattle.trace_report.specs.Lines.{store_text, stores_text}
 
 -- the pending stores from the one at this place on
 abbrev pub stores_from : Litmus → ℕ → List Entry → List ℕ
@@ -29,27 +29,6 @@ one-store t at e es all space name before after whole where_it_is name_is is nex
     by_place (suc n) (inr (other, one)) so_far =
         ap (λ place. after ++ stores_from t place es) (later (suc n))
         ∙ (ap (λ text. text ++ later_stores t es) (written ∙ ap (λ s. before ++ (s ++ store_text t e)) one) ∙ (append_assoc before (codes " " ++ store_text t e) (later_stores t es) ∙ so_far))
-
--- all are written
-pub all-stores : (t : Litmus) (at : ℕ) (stores : List Entry) (core : ℕ) (old front before after : List ℕ) → length stores ≤ at
-    → front ≡ old ++ (codes " P" ++ (decimal core ++ codes "[")) → before ++ stores_from t at (drop at stores) ≡ front ++ stores_text t stores
-    → after ≡ before ++ codes "]" → after ≡ old ++ buffer_text t core (Some stores)
-all-stores t at stores core old front before after h front_is was is =
-    is ∙ (ap (λ text. text ++ codes "]") (sym (append-nil before) ∙ (sym (ap (λ rest. before ++ rest) (nothing at stores h))
-    ∙ (was ∙ ap (λ text. text ++ stores_text t stores) front_is))) ∙ regrouped old (codes " P") (decimal core) (codes "[") (stores_text t stores) (codes "]"))
-  where
-    past : (n : ℕ) (list : List Entry) → length list ≤ n → drop n list ≡ []
-    past zero [] few = refl
-    past zero (e ∷ es) few = absurd (omega arith)
-    past (suc n) [] few = refl
-    past (suc n) (e ∷ es) few = let fewer : length es ≤ n = omega arith in past n es fewer
-
-    nothing : (n : ℕ) (list : List Entry) → length list ≤ n → stores_from t n (drop n list) ≡ []
-    nothing zero list few = ap (λ rest. stores_text t rest) (past zero list few)
-    nothing (suc n) list few = ap (λ rest. later_stores t rest) (past (suc n) list few)
-
-    regrouped : (a b c d e f : List ℕ) → ((a ++ (b ++ (c ++ d))) ++ e) ++ f ≡ a ++ (b ++ (c ++ (d ++ (e ++ f))))
-    regrouped a b c d e f = simp append_assoc
 
 -- a line of five parts, the last two of them together
 pub five-parts : (old outcome did traffic changes buffer : List ℕ) (first second third fourth fifth all : List ℕ)

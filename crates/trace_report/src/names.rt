@@ -2,6 +2,7 @@
 //! chapter 7.)
 
 ghost use Rattle.std.specs.Prelude.{◌≡◌};
+ghost use Rattle.protocol_tables.specs.PrintedTable.{letter};
 ghost use Rattle.trace_report.specs.Lines.{stall_name, access_name, request_name, transient_name, state_name};
 
 use crate::step::LineState;
@@ -49,11 +50,7 @@ pub fn state_name(state: LineState) -> &'static str
     ensures { result.now ≡ state_name state }
 {
     match state {
-        LineState::Stable(State::M) => "M",
-        LineState::Stable(State::O) => "O",
-        LineState::Stable(State::E) => "E",
-        LineState::Stable(State::S) => "S",
-        LineState::Stable(State::I) => "I",
+        LineState::Stable(state) => stable_name(state),
         LineState::Transient(transient) => transient_name(transient),
     }
 }
@@ -66,5 +63,17 @@ pub fn transient_name(transient: Transient) -> &'static str
         Transient::IsD => "IS_D",
         Transient::ImD => "IM_D",
         Transient::SmD => "SM_D",
+    }
+}
+
+fn stable_name(state: State) -> &'static str
+    ensures { result.now ≡ letter state }
+{
+    match state {
+        State::M => "M",
+        State::O => "O",
+        State::E => "E",
+        State::S => "S",
+        State::I => "I",
     }
 }

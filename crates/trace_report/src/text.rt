@@ -5,10 +5,10 @@ ghost use Rattle.std.specs.Prelude.{◌≡◌, ◌++◌, OnOk, All, IfSome, code
 ghost use Rattle.order_builder.specs.PrintedOrder.{HasLocation};
 ghost use Rattle.trace_report.specs.Shown.{shown_step};
 ghost use Rattle.protocol_tables.specs.PrintedTable.{line};
-ghost use Rattle.trace_report.specs.Lines.{line_name, entries_text, outcome_text};
+ghost use Rattle.trace_report.specs.Lines.{line_name, entries_text, moved_text, access_text, outcome_name, outcome_text};
 ghost use Rattle.trace_report.specs.Lines.{bus_traffic_text, changes_text};
 ghost use Rattle.trace_report.specs.Lines.{printed_request, printed_change};
-ghost use Rattle.trace_report.specs.Lines.{buffer_text, done_text};
+ghost use Rattle.trace_report.specs.Lines.{stores_text, buffer_text, done_text};
 ghost use Rattle.trace_report.specs.Lines.{trace_step_line, end_line};
 ghost use Rattle.trace_report.specs.Known.{IsLine, IsAt, StepNamesExist};
 ghost use Rattle.trace_report.specs.Stalls.{stall_line};
@@ -17,6 +17,7 @@ use crate::names::{access_name, request_name, stall_name, state_name};
 use crate::pieces::{Piece, write_number, write_pieces};
 use crate::step::{LineRequest, Moved, StateChange, Step, core_of};
 use order_builder::write_entry;
+use snoop_bus::AccessKind;
 use tso_model::{Choice, Core, Entry, Loc, NoMemory, Outcome, Stall, Test};
 
 /// Writes the first line of a trace, `Trace`.
@@ -93,13 +94,7 @@ fn write_outcome(
         Choice::Step(core) => (core, "s "),
         Choice::Drain(core) => (core, "d "),
     };
-    let (name, reason) = match outcome {
-        Outcome::Committed => ("committed", ""),
-        Outcome::Buffered => ("buffered", ""),
-        Outcome::Moved => ("moved", ""),
-        Outcome::Asked => ("asked", ""),
-        Outcome::Stalled(stall) => ("stalled ", stall_name(stall)),
-    };
+    let (name, reason) = outcome_words(outcome);
     write_number(text, number)?;
     text.push(' ')?;
     write_number(text, usize::from(core.0))?;
@@ -108,28 +103,30 @@ fn write_outcome(
     Ok(text.push_str(reason)?)
 }
 
+/// `committed`, or `stalled ` and `Full`.
+fn outcome_words(outcome: Outcome) -> (&'static str, &'static str)
+    ensures { result.0.now ++ result.1.now ≡ outcome_name outcome }
+{
+    match outcome {
+        Outcome::Committed => ("committed", ""),
+        Outcome::Buffered => ("buffered", ""),
+        Outcome::Moved => ("moved", ""),
+        Outcome::Asked => ("asked", ""),
+        Outcome::Stalled(stall) => ("stalled ", stall_name(stall)),
+    }
+}
+
 /// What the choice did to the order and the registers, and by its access.
 fn write_done(text: &mut String, test: &Test, step: &Step) -> Result<(), NoMemory>
     requires { All (HasLocation test.now) step.now.entries.items }
     ensures { OnOk result (string_bytes text.new ≡ string_bytes text.old ++ done_text test.now (shown_step step.now)) }
 {
     write_entries(text, test, &step.entries)?;
-    if let Some(Moved { reg, value }) = step.moved {
-        let pieces = [
-            Piece::Word(" "),
-            Piece::Word(reg.name()),
-            Piece::Word("="),
-            Piece::Number(value as usize),
-        ];
-        write_pieces(text, &pieces)?;
-    }
+    write_moved(text, step.moved)?;
     if step.forwarded {
         text.push_str(" forwarded")?;
     }
-    match step.access {
-        None => Ok(()),
-        Some(kind) => write_pieces(text, &[Piece::Word(" "), Piece::Word(access_name(kind))]),
-    }
+    write_access(text, step.access)
 }
 
 fn write_entries(text: &mut String, test: &Test, entries: &[Entry]) -> Result<(), NoMemory>
@@ -141,6 +138,32 @@ fn write_entries(text: &mut String, test: &Test, entries: &[Entry]) -> Result<()
         write_entry(text, test, entry)?;
     }
     Ok(())
+}
+
+fn write_moved(text: &mut String, moved: Option<Moved>) -> Result<(), NoMemory>
+    ensures { OnOk result (string_bytes text.new ≡ string_bytes text.old ++ moved_text moved) }
+{
+    match moved {
+        None => Ok(()),
+        Some(Moved { reg, value }) => {
+            let pieces = [
+                Piece::Word(" "),
+                Piece::Word(reg.name()),
+                Piece::Word("="),
+                Piece::Number(value as usize),
+            ];
+            write_pieces(text, &pieces)
+        }
+    }
+}
+
+fn write_access(text: &mut String, access: Option<AccessKind>) -> Result<(), NoMemory>
+    ensures { OnOk result (string_bytes text.new ≡ string_bytes text.old ++ access_text access) }
+{
+    match access {
+        None => Ok(()),
+        Some(kind) => write_pieces(text, &[Piece::Word(" "), Piece::Word(access_name(kind))]),
+    }
 }
 
 /// What the choice put on the bus, and what was sent to memory.
@@ -269,6 +292,15 @@ fn write_buffer(
         Piece::Word("["),
     ];
     write_pieces(text, &front)?;
+    write_stores(text, test, stores)?;
+    write_pieces(text, &[Piece::Word("]")])
+}
+
+/// `x=1 y=2`
+fn write_stores(text: &mut String, test: &Test, stores: &[Entry]) -> Result<(), NoMemory>
+    requires { All (IsAt test.now) stores.now }
+    ensures { OnOk result (string_bytes text.new ≡ string_bytes text.old ++ stores_text test.now stores.now) }
+{
     for (at, store) in stores.iter().enumerate() {
         let space = if at == 0 { "" } else { " " };
         let pieces = [
@@ -279,5 +311,5 @@ fn write_buffer(
         ];
         write_pieces(text, &pieces)?;
     }
-    write_pieces(text, &[Piece::Word("]")])
+    Ok(())
 }

@@ -20,6 +20,6 @@ loop-number-preserved g c =
     let none : c.div_ceil-lines.result - c.loop-line.line ≡ 0 = omega arith in
     let lines : c.div_ceil-lines.result ≡ number_of_lines m = search rules in
     let noted : c.loop-line.states.items ≡ states ++ line_states m core 0 (number_of_lines m) =
-      sym (append-nil c.loop-line.states.items) ∙ (sym (ap (λ n. c.loop-line.states.items ++ line_states m core c.loop-line.line n) none)
-      ∙ (c.loop-line.invariant ∙ ap (λ n. states ++ line_states m core 0 n) lines)) in
+    sym (append-nil c.loop-line.states.items) ∙ (sym (ap (λ n. c.loop-line.states.items ++ line_states m core c.loop-line.line n) none)
+    ∙ (c.loop-line.invariant ∙ ap (λ n. states ++ line_states m core 0 n) lines)) in
     one-core m core cores states c.loop-line.states.items (placed_states_from m 0 cores) within noted c.loop-number.invariant

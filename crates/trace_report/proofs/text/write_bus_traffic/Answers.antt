@@ -19,13 +19,13 @@ returns-in_ok-push_str-in-Some-wrote_back c =
     let name = line_name t words c.in-Some-wrote_back.line in
     let asked : first ≡ old ++ request_text t words s.request = elim c.match-step.branch [
       | in-Some+in_ok-push+in_ok-write_line_request w ↦ let printed = printed_request t words w.in-Some.request in
-        ap string_bytes w.text-is ∙ (w.in_ok-write_line_request.ensures ∙ (ap (λ front. front ++ printed) w.in_ok-push.ensures.bytes
-        ∙ (append_assoc old (codes " ") printed ∙ sym (ap (λ r. old ++ request_text t words r) w.in-Some.is))))
+          ap string_bytes w.text-is ∙ (w.in_ok-write_line_request.ensures ∙ (ap (λ front. front ++ printed) w.in_ok-push.ensures.bytes
+          ∙ (append_assoc old (codes " ") printed ∙ sym (ap (λ r. old ++ request_text t words r) w.in-Some.is))))
       | in_default w ↦ ap string_bytes w.text-is ∙ (sym (append-nil old) ∙ sym (ap (λ r. old ++ request_text t words r) w.in_default.is))
     ] in
     let flushed : second ≡ first ++ flush_text s.flushed = elim c.match-step-2.branch [
       | in-Some-flushed+in_ok-write_pieces w ↦ ap string_bytes w.text-is ∙ (w.in_ok-write_pieces.ensures ∙ (ap (λ digits. first ++ (codes " flush P" ++ digits)) (append-nil _)
-        ∙ (ap (λ n. first ++ (codes " flush P" ++ decimal n)) w.from-number.ensures ∙ sym (ap (λ f. first ++ flush_text f) w.in-Some-flushed.is))))
+          ∙ (ap (λ n. first ++ (codes " flush P" ++ decimal n)) w.from-number.ensures ∙ sym (ap (λ f. first ++ flush_text f) w.in-Some-flushed.is))))
       | in_default-flushed w ↦ ap string_bytes w.text-is ∙ (sym (append-nil first) ∙ sym (ap (λ f. first ++ flush_text f) w.in_default-flushed.is))
     ] in
     on_ok_weaker c.write_line_name.result
