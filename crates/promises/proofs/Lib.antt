@@ -22,7 +22,7 @@ pub mod JsonNumbers
 pub mod JsonMemory
 pub mod JsonReports
 pub mod PrintedRuns
-pub mod Machines
+pub mod PrintedMachines
 pub mod Keys
 pub mod OutcomeLines
 pub mod Endings

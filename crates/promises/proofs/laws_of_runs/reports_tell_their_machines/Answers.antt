@@ -1,4 +1,4 @@
-use Rattle.promises.proofs.Machines.{lines-name, object-names}
+use Rattle.promises.proofs.PrintedMachines.{lines-name, object-names}
 use Rattle.promises.proofs.laws_of_runs.reports_tell_their_machines.Goals as goal
 
 pub returns-clause-lines : goal.returns-clause-lines

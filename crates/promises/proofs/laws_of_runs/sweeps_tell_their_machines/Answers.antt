@@ -1,4 +1,4 @@
-use Rattle.promises.proofs.Machines.{sweeps-name}
+use Rattle.promises.proofs.PrintedMachines.{sweeps-name}
 use Rattle.promises.proofs.laws_of_runs.sweeps_tell_their_machines.Goals as goal
 
 pub returns : goal.returns
