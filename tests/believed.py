@@ -192,9 +192,9 @@ PROMISES = {
     "check": ([TOP_LEVEL], "Check", ()),
     "witness": ([TOP_LEVEL], "Witness", ()),
     "headline": ([TOP_LEVEL], None, ()),
-    "axioms": ([("tso_model.specs.Axioms", "IsTsoExecution")], None, ()),
-    "state": ([("tso_model.specs.Axioms", "IsTsoExecution"), ("tso_model.specs.FinalState", "final_words"),
-               ("tso_model.specs.FinalState", "final_registers"), ("machine_runs.specs.Simulation", "verdict")], None, ()),
+    "axioms": ([("tso_terms.specs.Axioms", "IsTsoExecution")], None, ()),
+    "state": ([("tso_terms.specs.Axioms", "IsTsoExecution"), ("tso_terms.specs.FinalState", "final_words"),
+               ("tso_terms.specs.FinalState", "final_registers"), ("machine_runs.specs.Simulation", "verdict")], None, ()),
 }
 
 

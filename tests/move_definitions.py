@@ -1,7 +1,7 @@
 #!/usr/bin/env python3
 """Moves definitions of specs/ from one file to another, and has every import follow.
 
-    tests/move_definitions.py FROM TO NAME..       as tso_model/Execution tso_model/Axioms IsWhole StandsIn
+    tests/move_definitions.py FROM TO NAME..       as tso_terms/Execution tso_terms/Axioms IsWhole StandsIn
     tests/move_definitions.py FROM TO              all of the file
 
 A file is told by its crate and its path below specs/; TO is made where it isn't there yet, with the head of FROM, and FROM goes where

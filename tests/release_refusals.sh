@@ -48,7 +48,7 @@ commit() { git_in add -A && git_in commit -qm "$1"; }
 
 # The crates and the files of rows that the repository has: some on which the program stands, and the page's; what has a word that one of the
 # programs here says otherwise.
-crates=(tso_model decimals scheduler command_line tso page_exports)
+crates=(tso_terms decimals scheduler command_line tso page_exports)
 rows=(outcomes sweep)
 
 # Those of its files that are as they are in this checkout, where that has a history or not, each ended by a zero byte.

@@ -2,9 +2,9 @@
 -- (Sewell and others, "x86-TSO", 2010, section 3. The two parts of a locked instruction are put side by side, as this
 -- project's orders have them.)
 use Rattle.std.specs.Prelude.{ℕ, ◌≡◌, List, [], length, map, Some, slice_get, slice_index_or}
-use Rattle.tso_model.specs.Litmus.{Litmus}
-use Rattle.tso_model.specs.Together.{put_together}
-use Rattle.tso_model.specs.declared.execution.Entry.{Entry}
+use Rattle.tso_terms.specs.Litmus.{Litmus}
+use Rattle.tso_terms.specs.Together.{put_together}
+use Rattle.tso_terms.specs.declared.execution.Entry.{Entry}
 use Rattle.abstract_machine.specs.Machine.{HardwareThread, Machine, first}
 use Rattle.abstract_machine.specs.Steps.{Runs}
 

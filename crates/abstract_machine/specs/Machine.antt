@@ -1,8 +1,8 @@
 -- The state of the abstract machine of x86-TSO: one memory, a write buffer for each hardware thread, and a global lock.
 -- (Sewell, Sarkar, Owens, Zappa Nardelli, Myreen, "x86-TSO", Communications of the ACM, 2010, section 3.)
 use Rattle.std.specs.Prelude.{ℕ, ◌+◌, ◌≡◌, ◌⊎◌, List, [], ◌∷◌, Option, Some, None, slice_index_or, slice_set}
-use Rattle.tso_model.specs.Litmus.{Litmus}
-use Rattle.tso_model.specs.Thread.{with_value}
+use Rattle.tso_terms.specs.Litmus.{Litmus}
+use Rattle.tso_terms.specs.Thread.{with_value}
 use Rattle.basic_laws.specs.Types.{Reg, Instr, Entry}
 
 -- how far a thread is with a locked instruction: it isn't in one; it has begun one; it has read this value; it has written

@@ -2,10 +2,10 @@
 -- (Sewell and others, "x86-TSO", Communications of the ACM, 2010, section 3, the machine's transitions: R and τ have "the thread
 -- is not blocked" as their condition, L "the lock is not held", and U "the thread holds the lock, and its buffer is empty".)
 use Rattle.std.specs.Prelude.{ℕ, ◌≡◌, ◌≢◌, ◌⊎◌, List, [], ◌∷◌, ◌++◌, Some, None, slice_get}
-use Rattle.tso_model.specs.Litmus.{Litmus}
-use Rattle.tso_model.specs.Thread.{fence}
+use Rattle.tso_terms.specs.Litmus.{Litmus}
+use Rattle.tso_terms.specs.Thread.{fence}
 use Rattle.basic_laws.specs.Types.{Reg, Loc, Operand, Update, Entry}
-use Rattle.tso_model.specs.declared.action.Action.TheVariants.{Store, Move, Lock}
+use Rattle.tso_terms.specs.declared.action.Action.TheVariants.{Store, Move, Lock}
 use Rattle.abstract_machine.specs.Machine.{NotLocked, HasRead, HasWritten, HardwareThread, Machine}
 use Rattle.abstract_machine.specs.Steps.{StandsAt, ThreadStep}
 

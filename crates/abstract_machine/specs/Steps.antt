@@ -1,12 +1,12 @@
 -- The steps of the abstract machine, rule by rule; R, W, F, L, U and τ are the paper's names of their events.
 -- (Sewell and others, "x86-TSO", Communications of the ACM, 2010, section 3, the machine's transitions.)
 use Rattle.std.specs.Prelude.{ℕ, ◌≡◌, true, List, [], ◌∷◌, ◌++◌, filter, Some, None, slice_get, slice_index, slice_index_or}
-use Rattle.tso_model.specs.Litmus.{Litmus}
-use Rattle.tso_model.specs.Actions.{action_of}
-use Rattle.tso_model.specs.Thread.{entry, fence, value_in, value_of, updated}
-use Rattle.tso_model.specs.ProgramOrder.{writes_to}
+use Rattle.tso_terms.specs.Litmus.{Litmus}
+use Rattle.tso_terms.specs.Actions.{action_of}
+use Rattle.tso_terms.specs.Thread.{entry, fence, value_in, value_of, updated}
+use Rattle.tso_terms.specs.ProgramOrder.{writes_to}
 use Rattle.basic_laws.specs.Types.{Reg, Loc, Instr, Operand, Update, Action, Entry, R, W, LR, LW}
-use Rattle.tso_model.specs.declared.action.Action.TheVariants.{Store, Load, Move, Fence, Lock}
+use Rattle.tso_terms.specs.declared.action.Action.TheVariants.{Store, Load, Move, Fence, Lock}
 use Rattle.abstract_machine.specs.Machine.{Progress, NotLocked, HasBegun, HasRead, HasWritten, HardwareThread, Machine, IsNotBlocked}
 use Rattle.abstract_machine.specs.Machine.{with_thread, with_lock, with_write, passed, with_register, with_buffer, with_progress}
 

@@ -12,11 +12,11 @@
 #![tactic(auto)]
 
 ghost use Rattle.std.specs.Prelude.{ℕ, ◌≡◌, ◌≤◌, ◌↔◌, List};
-ghost use Rattle.tso_model.specs.Litmus.{Litmus, IsTest};
-ghost use Rattle.tso_model.specs.Axioms.{IsTsoExecution};
-ghost use Rattle.tso_model.specs.FinalState.{final_words, final_registers};
-ghost use Rattle.tso_model.specs.Examples.{sb, sb_order, n6, n6_order, added, separated_order};
-ghost use Rattle.tso_model.specs.declared.execution.Entry.{Entry};
+ghost use Rattle.tso_terms.specs.Litmus.{Litmus, IsTest};
+ghost use Rattle.tso_terms.specs.Axioms.{IsTsoExecution};
+ghost use Rattle.tso_terms.specs.FinalState.{final_words, final_registers};
+ghost use Rattle.tso_terms.specs.Examples.{sb, sb_order, n6, n6_order, added, separated_order};
+ghost use Rattle.tso_terms.specs.declared.execution.Entry.{Entry};
 ghost use Rattle.tso_laws.specs.Counting.{most_stores};
 ghost use Rattle.tso_laws.specs.Reached.{IsReached};
 ghost use Rattle.tso_laws.specs.WorkedRuns.{short_order, turned_order, wrong_order};

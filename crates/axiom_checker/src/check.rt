@@ -13,8 +13,8 @@ use order_breaches::met::first_met;
 use std::alloc::Global;
 use std::marker::Brand;
 use std::sync::ledger::{Blank, Ledger};
-use tso_model::limits::MAX_CORES;
-use tso_model::{Execution, NoMemory, Test, Watched};
+use tso_terms::limits::MAX_CORES;
+use tso_terms::{Execution, NoMemory, Test, Watched};
 
 /// Whether the order is a TSO execution of the test: it holds each memory action of the programs
 /// exactly once, with the values that the programs give, keeps program order but for a plain store

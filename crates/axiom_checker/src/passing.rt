@@ -3,7 +3,7 @@
 //! alone is wrong. (Primer, chapter 4.)
 ghost use Rattle.std.specs.Prelude.{◌≡◌, ◌+◌, ◌≤◌, ◌<◌, ℕ, true, length, slice_get, slice_index, IfSome, IsNone};
 ghost use Rattle.std.specs.Option.{unwrap_or};
-ghost use Rattle.tso_model.specs.ProgramOrder as program_order;
+ghost use Rattle.tso_terms.specs.ProgramOrder as program_order;
 ghost use Rattle.order_breaches.specs.Entries.{IsExtra};
 ghost use Rattle.order_breaches.specs.inner.Slots.{IsIndex};
 ghost use Rattle.order_breaches.specs.inner.Sources.{TellsSources, IsDueFrom, due_from};
@@ -16,7 +16,7 @@ use order_breaches::met::{Met, first};
 use order_breaches::progress::{reach, settle, write};
 use order_breaches::sources::source;
 use std::sync::ledger::Ledger;
-use tso_model::{Entry, Watched};
+use tso_terms::{Entry, Watched};
 
 /// Goes over an order that holds each action of the programs once, and notes the first wrong value
 /// of a write, late entry, separated pair and wrong read that it meets. A wrong read is one only where

@@ -1,7 +1,7 @@
 -- Small facts on numbers, tests and kinds of entries.
 use Rattle.std.proofs.Common.{max, ◌≡◌, ◌≢◌, ◌<◌, ◌≤◌, ℕ, Bool, true, false, arith, refl, ◌⊎◌, inl, inr, ◌==◌, ◌&&◌, nat_lt, ◌∙◌}
 use Rattle.std.proofs.lemmas.Bool.Decides.{nat_tests}
-use Rattle.tso_model.specs.ProgramOrder.{is_before}
+use Rattle.tso_terms.specs.ProgramOrder.{is_before}
 use Rattle.basic_laws.specs.Ranks.{part_of, rank}
 use Rattle.basic_laws.proofs.Ranks.{is_load_kind, by-rank}
 use Rattle.basic_laws.specs.Types.{Entry, Kind, R, W, F, LR, LW}

@@ -1,10 +1,10 @@
 -- The cores of a state: how each begins, and when all are done.
 use Rattle.std.proofs.Common.{◌≡◌, ◌<◌, ◌≤◌, ℕ, ◌+◌, zero, suc, List, [], ◌∷◌, length, slice_index_or, true, arith, ap, refl, inl, inr}
 use Rattle.std.proofs.lemmas.List.{get_or_past}
-use Rattle.tso_model.specs.Litmus.{Litmus}
-use Rattle.tso_model.specs.FlatMachine.{CoreState, State, idle, started, program_of, core_of}
-use Rattle.tso_model.specs.Runs.{is_done, all_done, has_ended}
-use Rattle.tso_model.specs.declared.instruction.Instr.{Instr}
+use Rattle.tso_terms.specs.Litmus.{Litmus}
+use Rattle.tso_terms.specs.FlatMachine.{CoreState, State, idle, started, program_of, core_of}
+use Rattle.tso_terms.specs.Runs.{is_done, all_done, has_ended}
+use Rattle.tso_terms.specs.declared.instruction.Instr.{Instr}
 use Rattle.basic_laws.proofs.Basics.{and-left, and-right, lt-or}
 
 pub starts-idle : (c : ℕ) (ps : List (List Instr)) (registers : List (List ℕ)) (k : ℕ) → (slice_index_or (started c ps registers) k idle).place ≡ 0 × (slice_index_or (started c ps registers) k idle).pending ≡ []

@@ -1,7 +1,7 @@
 -- Kinds of entries by themselves, and program order as an order of numbers.
 use Rattle.std.proofs.Common.{◌≡◌, ℕ, ◌+◌, Bool, true, false, not, ◌==◌, ◌&&◌, ◌||◌, nat_lt, arith, ap}
 use Rattle.std.proofs.lemmas.Bool.Decides.{nat_tests}
-use Rattle.tso_model.specs.ProgramOrder.{same_kind, is_before}
+use Rattle.tso_terms.specs.ProgramOrder.{same_kind, is_before}
 use Rattle.basic_laws.specs.Types.{Entry, Kind, R, W, LR, LW}
 use Rattle.basic_laws.specs.Ranks.{part_of, rank}
 

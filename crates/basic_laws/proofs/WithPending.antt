@@ -1,9 +1,9 @@
 -- What waits until nothing is pending, and drains, with the pending stores told apart from the core.
 use Rattle.std.proofs.Common.{ℕ, List, [], ◌∷◌, take, drop, if◌then◌else◌}
-use Rattle.tso_model.specs.Thread.{entry, fence}
-use Rattle.tso_model.specs.FlatMachine.{CoreState, Effect, is_none_pending, stalled, advanced, advanced_with}
+use Rattle.tso_terms.specs.Thread.{entry, fence}
+use Rattle.tso_terms.specs.FlatMachine.{CoreState, Effect, is_none_pending, stalled, advanced, advanced_with}
 use Rattle.basic_laws.specs.Types.{Reg, Loc, Entry, LR, LW, Committed}
-use Rattle.tso_model.specs.declared.choice.Stall.TheVariants as stall
+use Rattle.tso_terms.specs.declared.choice.Stall.TheVariants as stall
 
 abbrev pub fenced_with : ℕ → CoreState → List Entry → Effect
 fenced_with core s pending =

@@ -1,3 +1,3 @@
 pub mod Ranks
-pub use Rattle.tso_model.specs.ProgramOrder
+pub use Rattle.tso_terms.specs.ProgramOrder
 pub mod Types

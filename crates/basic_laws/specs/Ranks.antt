@@ -1,6 +1,6 @@
 -- Where an entry stands among those of its program, as one number. (This project's.)
 use Rattle.std.specs.Prelude.{ℕ, ◌+◌, ◌≡◌, ◌==◌, ◌&&◌, nat_lt}
-use Rattle.tso_model.specs.ProgramOrder.{is_before}
+use Rattle.tso_terms.specs.ProgramOrder.{is_before}
 use Rattle.basic_laws.specs.Types.{Entry, Kind, LW}
 
 -- of the two parts of a locked instruction the store is the later

@@ -30,6 +30,6 @@ pub use Rattle.protocol_tables.specs.Laws.{is_dirty}
 pub use Rattle.cache_set.specs.inner.Cleaning.{cleaned_at, cleaned_below, clean_tag_at, clean_tag_below, clean_copy, words_if_dirty}
 pub use Rattle.cache_set.specs.inner.Tags.{clean, cleaned}
 pub use Rattle.cache_set.specs.inner.Supplying.{supplied_of, Supplied}
-pub use Rattle.tso_model.specs.declared.instruction.Core.{Core}
-pub use Rattle.tso_model.specs.Limits.{most_cores}
+pub use Rattle.tso_terms.specs.declared.instruction.Core.{Core}
+pub use Rattle.tso_terms.specs.Limits.{most_cores}
 pub use Rattle.cache_set.specs.Requests.{snoop_column}

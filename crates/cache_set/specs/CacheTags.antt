@@ -4,7 +4,7 @@
 use Rattle.std.specs.Prelude.{◌+◌, ◌%◌, ℕ, zero, suc, Bool, false, Option, Some, None, is_some, if◌then◌else◌, List, []}
 use Rattle.std.specs.Prelude.{◌∷◌, length, map, slice_set, slice_index_or}
 use Rattle.std.specs.List.{list_any}
-use Rattle.tso_model.specs.declared.instruction.Core.{Core}
+use Rattle.tso_terms.specs.declared.instruction.Core.{Core}
 use Rattle.protocol_tables.specs.Tables.{Table}
 use Rattle.protocol_tables.specs.declared.state.Snoop.{Snoop}
 use Rattle.protocol_tables.specs.declared.state.State.{State}

@@ -14,7 +14,7 @@ use crate::{CacheSet, Line, MAX_WORDS, Victim};
 use protocol_tables::State;
 use std::alloc::Global;
 use std::marker::Model;
-use tso_model::NoMemory;
+use tso_terms::NoMemory;
 
 /// The sets of one core's cache. A line lies in the set whose number is the line's modulo their count.
 #[derive(Drop)]

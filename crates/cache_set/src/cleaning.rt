@@ -1,7 +1,7 @@
 //! Dirty copies of one core that go to memory, and stay as clean ones.
 
 ghost use Rattle.std.specs.Prelude.{◌≡◌, ◌<◌, ◌≤◌, ℕ, None, length, map, option_map};
-ghost use Rattle.tso_model.specs.Limits.{most_locations};
+ghost use Rattle.tso_terms.specs.Limits.{most_locations};
 ghost use Rattle.cache_set.specs.Lines.{line_in};
 ghost use Rattle.cache_set.specs.Copies.{copy_in, tags_in};
 ghost use Rattle.cache_set.specs.inner.Tags.{cleaned};

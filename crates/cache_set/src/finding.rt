@@ -3,7 +3,7 @@
 
 ghost use Rattle.std.specs.Prelude.{◌≡◌, ◌<◌, ◌≤◌, ℕ, None, length, slice_index_or, is_some};
 ghost use Rattle.std.specs.List.{list_any};
-ghost use Rattle.tso_model.specs.Limits.{most_cores};
+ghost use Rattle.tso_terms.specs.Limits.{most_cores};
 ghost use Rattle.cache_set.specs.Copies.{copy_in, tags_of};
 ghost use Rattle.cache_set.specs.CacheTags.{flusher_from};
 ghost use Rattle.cache_set.specs.Requests.{snoop_column};
@@ -14,8 +14,8 @@ ghost use Rattle.cache_set.specs.inner.Finding.{noting};
 use crate::cache::Cache;
 use crate::{Line, MAX_WORDS};
 use protocol_tables::{Protocol, Request, Snoop, State};
-use tso_model::Core;
-use tso_model::limits::MAX_CORES;
+use tso_terms::Core;
+use tso_terms::limits::MAX_CORES;
 
 /// What a copy in this state does when another core's request for its line is seen.
 pub fn answer<P: Protocol>(protocol: &P, request: Request, state: State) -> Snoop

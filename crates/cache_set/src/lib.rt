@@ -25,7 +25,7 @@ use crate::ways::{
 use protocol_tables::State;
 use std::alloc::Global;
 use std::marker::Model;
-use tso_model::NoMemory;
+use tso_terms::NoMemory;
 
 /// Maximum number of lines that a set has room for.
 pub const MAX_WAYS: u8 = 8;

@@ -1,7 +1,7 @@
 //! Memory as lines of words: caches hold whole lines, so memory hands them out and takes them back whole.
 
 ghost use Rattle.std.specs.Prelude.{◌≡◌, ◌≤◌, IfOk, length};
-ghost use Rattle.tso_model.specs.Limits.{most_locations};
+ghost use Rattle.tso_terms.specs.Limits.{most_locations};
 ghost use Rattle.std.specs.Int.{div_ceil};
 ghost use Rattle.cache_set.specs.Limits.{most_words};
 ghost use Rattle.cache_set.specs.Lines.{offset_of, line_of_words, lines_of_words};
@@ -9,7 +9,7 @@ ghost use Rattle.cache_set.specs.Lines.{offset_of, line_of_words, lines_of_words
 use crate::MAX_WORDS;
 use crate::shape::Shape;
 use std::alloc::Global;
-use tso_model::NoMemory;
+use tso_terms::NoMemory;
 
 /// The lines of these words.
 pub fn lines_of(

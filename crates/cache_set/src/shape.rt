@@ -7,7 +7,7 @@ ghost use Rattle.cache_set.specs.Geometry.{geometry, IsLineSize, IsShapeWithinLi
 
 use crate::MAX_WAYS;
 use std::marker::Model;
-use tso_model::{Core, Loc};
+use tso_terms::{Core, Loc};
 
 /// Maximum number of sets of a cache.
 pub const MAX_SETS: u8 = 8;

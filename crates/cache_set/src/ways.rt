@@ -14,7 +14,7 @@ use lru::LruCache;
 use protocol_tables::State;
 use std::alloc::Global;
 use std::num::NonZeroUsize;
-use tso_model::NoMemory;
+use tso_terms::NoMemory;
 
 /// The ways of a set by their numbers, the most recently used first. All are there from the beginning.
 pub type Ways = LruCache<u8, Way, NumberHasher>;

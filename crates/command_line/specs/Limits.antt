@@ -1,6 +1,6 @@
 -- The settings that a command may be run with: whatever the words were, what comes of them is within these limits.
 use Rattle.std.specs.Prelude.{ℕ, ◌≤◌}
-use Rattle.tso_model.specs.Limits.{least_depth, most_depth}
+use Rattle.tso_terms.specs.Limits.{least_depth, most_depth}
 use Rattle.multiprocessor.specs.Configuration.{IsConfigurationWithinLimits}
 use Rattle.scheduler.specs.Plan.{IsPlanWithinLimits}
 use Rattle.command_line.specs.Search.{IsSearchWithinLimits}

@@ -6,7 +6,7 @@ ghost use Rattle.command_line.specs.Search.{most_states, IsSearchWithinLimits};
 
 use shown_values::Show;
 use std::marker::Model;
-use tso_model::limits::MAX_DEPTH;
+use tso_terms::limits::MAX_DEPTH;
 
 /// Maximum number of states of the machine that a search may keep.
 pub const MAX_STATES: u32 = 10_000_000;

@@ -16,7 +16,7 @@ use scheduler::SweepPlan;
 use shown_values::Show;
 use std::alloc::Global;
 use thiserror::Error;
-use tso_model::limits::{MAX_DEPTH, MIN_DEPTH};
+use tso_terms::limits::{MAX_DEPTH, MIN_DEPTH};
 
 /// What a command line asks for.
 #[derive(Clone, Copy)]

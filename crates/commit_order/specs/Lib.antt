@@ -1,4 +1,4 @@
 pub mod Pairs
 pub mod inner
-pub use Rattle.tso_model.specs.Axioms
-pub use Rattle.tso_model.specs.Together
+pub use Rattle.tso_terms.specs.Axioms
+pub use Rattle.tso_terms.specs.Together

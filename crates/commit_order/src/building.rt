@@ -1,16 +1,16 @@
 //! How commits become an order: each load part of a locked instruction is put directly before its store part, where the
 //! axioms want it. On a split bus others may commit between the two. (Primer, chapter 4.)
 ghost use Rattle.std.specs.Prelude.{◌≡◌, IfOk};
-ghost use Rattle.tso_model.specs.Axioms.{IsAdjacent};
-ghost use Rattle.tso_model.specs.ProgramOrder.{same_kind};
-ghost use Rattle.tso_model.specs.Together.{put_together};
-ghost use Rattle.tso_model.specs.declared.execution.Kind.TheVariants.{LR};
+ghost use Rattle.tso_terms.specs.Axioms.{IsAdjacent};
+ghost use Rattle.tso_terms.specs.ProgramOrder.{same_kind};
+ghost use Rattle.tso_terms.specs.Together.{put_together};
+ghost use Rattle.tso_terms.specs.declared.execution.Kind.TheVariants.{LR};
 ghost use Rattle.commit_order.specs.Pairs.{IsPaired};
 ghost use Rattle.commit_order.specs.inner.Waiting.{first_of_core, others_of};
 
 use crate::commits::Commits;
 use std::alloc::Global;
-use tso_model::{Core, Entry, Execution, Kind, NoMemory};
+use tso_terms::{Core, Entry, Execution, Kind, NoMemory};
 
 /// The order that the commits make: the entries as they were noted, but for each load part of a
 /// locked instruction, which stands directly before its store part.

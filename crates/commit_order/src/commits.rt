@@ -4,7 +4,7 @@ ghost use Rattle.std.specs.Prelude.{◌≡◌, ◌+◌, ◌<◌, ◌≤◌, [], 
 
 use std::alloc::Global;
 use std::marker::Model;
-use tso_model::{Entry, NoMemory};
+use tso_terms::{Entry, NoMemory};
 
 /// The entries that have been committed, in the order of their commits.
 #[derive(Drop)]

@@ -1,6 +1,6 @@
 -- How many cores and locations a final state has.
 use Rattle.std.proofs.Common.{◌≡◌, ℕ, ◌+◌, suc, List, [], ◌∷◌, length, ap, refl}
-use Rattle.tso_model.specs.FinalState.{registers_from, words_from}
+use Rattle.tso_terms.specs.FinalState.{registers_from, words_from}
 use Rattle.basic_laws.specs.Types.{Instr, Entry}
 
 -- the final state has registers for each core, and a word for each location

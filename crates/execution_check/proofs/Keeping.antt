@@ -1,9 +1,9 @@
 -- An order keeps all of program order exactly where no entry stands behind one that comes later in its program.
 use Rattle.std.proofs.Common.{◌≡◌, ◌<◌, ◌&&◌, ◌||◌, ℕ, zero, suc, true, false, not, Bool, List, [], ◌∷◌, Some, slice_get, arith, sym, refl, subst}
 use Rattle.std.specs.List.{list_any}
-use Rattle.tso_model.specs.ProgramOrder.{is_before}
-use Rattle.tso_model.specs.SequentialConsistency.{KeepsAllOrder}
-use Rattle.tso_model.specs.declared.execution.Entry.{Entry}
+use Rattle.tso_terms.specs.ProgramOrder.{is_before}
+use Rattle.tso_terms.specs.SequentialConsistency.{KeepsAllOrder}
+use Rattle.tso_terms.specs.declared.execution.Entry.{Entry}
 use Rattle.execution_check.specs.inner.Orders.{is_preceded_by, keeps}
 use Rattle.relational_model.proofs.Ranks.{before-irreflexive}
 

@@ -1,11 +1,12 @@
 //! What an order makes of the programs, by its own read values: their entries, and the final state, which is the last write to each
 //! location and what the programs compute from their reads.
 ghost use Rattle.std.specs.Prelude.{◌≡◌, ◌<◌, ◌++◌, [], IfOk, length, slice_index_or};
-ghost use Rattle.tso_model.specs.ProgramEntries as entries;
-ghost use Rattle.tso_model.specs.FinalState as state;
+ghost use Rattle.tso_terms.specs.ProgramEntries as entries;
+ghost use Rattle.tso_terms.specs.FinalState as state;
 
 use std::alloc::Global;
-use tso_model::{Action, Core, Entry, Kind, NoMemory, Test, Thread, thread_entries};
+use tso_model::{Thread, thread_entries};
+use tso_terms::{Action, Core, Entry, Kind, NoMemory, Test};
 
 fn read_value(order: &[Entry], core: Core, place: u8, kind: Kind) -> u32
     ensures { result ≡ entries.read_value core.0 place kind order.now }

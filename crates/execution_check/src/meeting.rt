@@ -1,9 +1,9 @@
 //! Whether an order is an execution of a model in whose final state what a test asks is true.
 ghost use Rattle.std.specs.Prelude.{◌≡◌, ◌↔◌, true, false, IfOk, IsTrue, length};
-ghost use Rattle.tso_model.specs.Condition.{truth_of, NamesExist};
-ghost use Rattle.tso_model.specs.FinalState.{final_registers, final_words};
-ghost use Rattle.tso_model.specs.SequentialConsistency.{KeepsAllOrder};
-ghost use Rattle.tso_model.specs.Axioms.{IsTsoExecution};
+ghost use Rattle.tso_terms.specs.Condition.{truth_of, NamesExist};
+ghost use Rattle.tso_terms.specs.FinalState.{final_registers, final_words};
+ghost use Rattle.tso_terms.specs.SequentialConsistency.{KeepsAllOrder};
+ghost use Rattle.tso_terms.specs.Axioms.{IsTsoExecution};
 ghost use Rattle.refutation_laws.specs.Refutations.{asked_claim};
 ghost use Rattle.refutation_laws.specs.Models.{IsExecutionOf, IsMet};
 ghost use Rattle.execution_check.specs.inner.Orders as spec;
@@ -13,7 +13,7 @@ use axiom_checker::{Breach, check_order};
 use refutation_laws::Model;
 use refutations::events::is_before;
 use std::alloc::Global;
-use tso_model::{Entry, Execution, NoMemory, Quantifier, Test, cond_holds};
+use tso_terms::{Entry, Execution, NoMemory, Quantifier, Test, cond_holds};
 
 /// Whether one of these entries stands before x in its program.
 fn is_preceded_by(x: &Entry, later: &[Entry]) -> bool

@@ -3,8 +3,8 @@ pub use Rattle.std.proofs.Common.{◌≡◌, ◌<◌, ◌≤◌, ℕ, ◌+◌, z
 pub use Rattle.std.proofs.lemmas.Option.{slice_get-get_or}
 pub use Rattle.basic_laws.proofs.Basics.{lt-or, and-left, and-right}
 pub use Rattle.basic_laws.proofs.Lists.{drop-at, append-nil, drop-end}
-pub use Rattle.tso_model.specs.Litmus.{Litmus, IsTest}
-pub use Rattle.tso_model.specs.FlatMachine.{State, CoreState, idle, program_of, after_choice, effect_of, start, chosen, step, drain, core_of, is_none_pending, step_of, drain_of, registers_in, started}
+pub use Rattle.tso_terms.specs.Litmus.{Litmus, IsTest}
+pub use Rattle.tso_terms.specs.FlatMachine.{State, CoreState, idle, program_of, after_choice, effect_of, start, chosen, step, drain, core_of, is_none_pending, step_of, drain_of, registers_in, started}
 pub use Rattle.basic_laws.specs.Types.{Choice, Instr, Entry, Step, Drain, Action}
 pub use Rattle.tso_laws.specs.Exchanged.{exchanged, exchanged_by, IsOneOf, AreOf, CoresAreAlike, AreAllAlike, AlikeCoresAreExchangeable, exchanged_core, exchanged_choice, renamed, IsExchangeable, exchanged_entry}
 pub use Rattle.flat_machine.specs.State.{core_of_processor, state_of_snapshot}
@@ -12,7 +12,7 @@ pub use Rattle.explorer.specs.inner.Arranged.{played, IsArranged, ArePairs, HasE
 pub use Rattle.explorer.specs.declared.link.Turn.{Turn}
 pub use Rattle.flat_machine.specs.declared.snapshot.Processor.{Processor}
 pub use Rattle.flat_machine.proofs.Choosing.{map-set, beyond, map-at, on-ok-2, stall-why, takes-effect, on-ok, core-at}
-pub use Rattle.tso_model.specs.Limits.{most_depth}
+pub use Rattle.tso_terms.specs.Limits.{most_depth}
 pub use Rattle.tso_laws.specs.Outcomes.{IsEnd, LeadToEnd, EndsAreWhatTsoAllows}
 pub use Rattle.explorer.specs.FinalStates.{AreReached, HaveEveryEnd, AreWhatTsoAllows, AreWhatSequentialConsistencyAllows, IsReachable, HasMoreStates, Have, AreDistinct}
 pub use Rattle.explorer.specs.declared.final_states.FinalState.{FinalState}
@@ -21,7 +21,7 @@ pub use Rattle.explorer.specs.inner.Planned.{AreDead}
 pub use Rattle.std.specs.List.{list_any, AllByRecursion}
 unfoldable pub use Rattle.std.specs.List.{IsDistinct}
 pub use Rattle.indexmap.specs.IndexSet.{insert_key}
-pub use Rattle.tso_model.specs.Runs.{stall_count, CoresExist, is_done, all_done, has_ended, resting, then_run, run_from, run}
+pub use Rattle.tso_terms.specs.Runs.{stall_count, CoresExist, is_done, all_done, has_ended, resting, then_run, run_from, run}
 pub use Rattle.tso_laws.specs.Eager.{IsEager, IsEagerBy, Avoids, meets}
 pub use Rattle.tso_laws.specs.Closed.{LeadsEagerly, IsAmongStates, IsCovered, IsExpandedEnough, ArePartlyClosed, PartlyClosedStatesMissNone}
 pub use Rattle.explorer.specs.Settled.{LeadsBy, IsSettled, LeadsToForgotten}
@@ -33,7 +33,7 @@ unfoldable pub use Rattle.explorer.specs.inner.Packed.{read_registers}
 pub use Rattle.explorer.specs.declared.link.Link.{Link}
 pub use Rattle.explorer.specs.declared.link.Turn.TheVariants.{Made, Exchanged}
 pub use Rattle.std.proofs.lemmas.Map.Keys.{IsDistinct-head, IsDistinct-tail}
-pub use Rattle.tso_model.specs.Actions.{action_of}
+pub use Rattle.tso_terms.specs.Actions.{action_of}
 pub use Rattle.std.specs.Cmp.Lexicographic.{pointwise}
 pub use Rattle.std.proofs.lemmas.Bool.{eqb-true, eq-eqb, both_ways}
 pub use Rattle.std.specs.Prelude.{replicate, ◌⊎◌}

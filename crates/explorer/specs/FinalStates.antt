@@ -1,10 +1,10 @@
 -- What a search answers: final states, each with choices that lead there, and every one that there is, but for registers that
 -- nobody looks at. A state that was missed would make a test look safer than it is.
 use Rattle.std.specs.Prelude.{ℕ, ◌≡◌, ◌<◌, Bool, List, length, Some, slice_get}
-use Rattle.tso_model.specs.Litmus.{Litmus}
-use Rattle.tso_model.specs.FlatMachine.{State, start}
-use Rattle.tso_model.specs.Runs.{CoresExist}
-use Rattle.tso_model.specs.declared.choice.Choice.{Choice}
+use Rattle.tso_terms.specs.Litmus.{Litmus}
+use Rattle.tso_terms.specs.FlatMachine.{State, start}
+use Rattle.tso_terms.specs.Runs.{CoresExist}
+use Rattle.tso_terms.specs.declared.choice.Choice.{Choice}
 use Rattle.tso_laws.specs.Choices.{state_after}
 use Rattle.tso_laws.specs.Outcomes.{IsEnd, LeadToEnd, IsAllowedByTso, IsAllowedSequentially}
 use Rattle.tso_laws.specs.Dead.{seen}

@@ -1,9 +1,9 @@
 pub mod Settled
 pub mod FinalStates
 pub mod inner
-pub use Rattle.tso_model.specs.FlatMachine
-pub use Rattle.tso_model.specs.Litmus
-pub use Rattle.tso_model.specs.Runs
+pub use Rattle.tso_terms.specs.FlatMachine
+pub use Rattle.tso_terms.specs.Litmus
+pub use Rattle.tso_terms.specs.Runs
 pub use Rattle.tso_laws.specs.Choices
 pub use Rattle.tso_laws.specs.Eager
 pub use Rattle.tso_laws.specs.Exchanged

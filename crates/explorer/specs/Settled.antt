@@ -1,9 +1,9 @@
 -- What the search keeps, as a contract above it may say: choices lead from state to state, and none of them stalls.
 use Rattle.std.specs.Prelude.{ℕ, ◌≡◌, ◌<◌, ◌++◌, Bool, List, [], ◌∷◌, length}
-use Rattle.tso_model.specs.Litmus.{Litmus}
-use Rattle.tso_model.specs.FlatMachine.{State, after_choice, effect_of, chosen}
-use Rattle.tso_model.specs.Runs.{stall_count}
-use Rattle.tso_model.specs.declared.choice.Choice.{Choice}
+use Rattle.tso_terms.specs.Litmus.{Litmus}
+use Rattle.tso_terms.specs.FlatMachine.{State, after_choice, effect_of, chosen}
+use Rattle.tso_terms.specs.Runs.{stall_count}
+use Rattle.tso_terms.specs.declared.choice.Choice.{Choice}
 use Rattle.tso_laws.specs.Closed.{LeadsEagerly}
 use Rattle.tso_laws.specs.Dead.{forgotten}
 

@@ -6,7 +6,7 @@ ghost use Rattle.tso_laws.specs.Exchanged.{AreAllAlike};
 
 use crate::plan::hidden_of;
 use std::alloc::Global;
-use tso_model::{Core, Instr, NoMemory, Reg, Test};
+use tso_terms::{Core, Instr, NoMemory, Reg, Test};
 
 /// Whether two registers are the same.
 fn is_same_register(reg: Reg, other: Reg) -> bool

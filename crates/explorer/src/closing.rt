@@ -1,7 +1,7 @@
 //! What exchanges of alike cores make of the states in which the test has ended. A search keeps one of the states that
 //! differ by such exchanges; all of those that have ended are added to it at its end, each with choices that lead there.
 ghost use Rattle.std.specs.Prelude.{◌≡◌, ◌<◌, ◌≤◌, true, OnOk, map, length, slice_get, Some};
-ghost use Rattle.tso_model.specs.Runs.{has_ended};
+ghost use Rattle.tso_terms.specs.Runs.{has_ended};
 ghost use Rattle.tso_laws.specs.Closed.{IsAmongStates};
 ghost use Rattle.tso_laws.specs.Exchanged.{exchanged, IsOneOf};
 ghost use Rattle.flat_machine.specs.State.{state_of_snapshot};
@@ -18,7 +18,7 @@ use crate::unpacking::unpack;
 use flat_machine::{has_ended, overwrite};
 use std::alloc::Global;
 use tso_laws::{alike_cores_are_exchangeable, dead_registers_change_nothing};
-use tso_model::NoMemory;
+use tso_terms::NoMemory;
 
 /// Adds what one exchange makes of the state that is gone through, if it isn't there yet.
 ///

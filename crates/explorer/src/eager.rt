@@ -1,8 +1,8 @@
 //! Choices that need not wait: nothing that another core has still to do can meet them. They are made at once, which keeps
 //! the number of states small; one that could be met would lose final states.
 ghost use Rattle.std.specs.Prelude.{◌≡◌, ◌<◌, true, length, IfSome, OnOk};
-ghost use Rattle.tso_model.specs.FlatMachine.{chosen};
-ghost use Rattle.tso_model.specs.declared.choice.Choice.{Choice};
+ghost use Rattle.tso_terms.specs.FlatMachine.{chosen};
+ghost use Rattle.tso_terms.specs.declared.choice.Choice.{Choice};
 ghost use Rattle.tso_laws.specs.Eager.{OthersAvoid, IsEager, IsEagerBy};
 ghost use Rattle.flat_machine.specs.State.{state_of_snapshot};
 ghost use Rattle.explorer.specs.Settled.{IsSettled};
@@ -12,7 +12,7 @@ use crate::situation::Situation;
 use crate::stubborn::{NOTHING, others_are_held_back};
 use flat_machine::{Snapshot, act};
 use tso_laws::eager_choices_take_effect;
-use tso_model::{Action, Choice, Core, Entry, NoMemory, Test};
+use tso_terms::{Action, Choice, Core, Entry, NoMemory, Test};
 
 /// Maximum number of choices that a test takes: for each core two for each instruction.
 const MOST_CHOICES: usize = 512;

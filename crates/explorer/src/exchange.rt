@@ -4,7 +4,7 @@ ghost use Rattle.tso_laws.specs.Exchanged.{exchanged_core, exchanged_choice, exc
 ghost use Rattle.flat_machine.specs.State.{state_of_snapshot};
 
 use flat_machine::Snapshot;
-use tso_model::{Choice, Core, Entry};
+use tso_terms::{Choice, Core, Entry};
 
 /// The core that stands for this one where two are exchanged.
 fn exchanged_core(core: Core, pair: (u8, u8)) -> Core

@@ -6,7 +6,7 @@ ghost use Rattle.explorer.specs.declared.fault.ExploreFault.TheVariants as fault
 
 use std::error::Error;
 use std::fmt;
-use tso_model::NoMemory;
+use tso_terms::NoMemory;
 
 /// Why a search has no answer.
 #[derive(Clone, Copy, Debug)]

@@ -1,9 +1,9 @@
 //! The final states that a search met: those kept states in which the test has ended, each once, with choices that lead
 //! there. A kept state has 0 in its hidden registers; what they hold at the end is known by making the choices again.
 ghost use Rattle.std.specs.Prelude.{◌≡◌, ◌<◌, ◌≤◌, ℕ, IfOk, IfErr, OnOk, length, map, slice_get, Some};
-ghost use Rattle.tso_model.specs.FlatMachine.{start};
-ghost use Rattle.tso_model.specs.Limits.{most_depth};
-ghost use Rattle.tso_model.specs.Runs.{CoresExist};
+ghost use Rattle.tso_terms.specs.FlatMachine.{start};
+ghost use Rattle.tso_terms.specs.Limits.{most_depth};
+ghost use Rattle.tso_terms.specs.Runs.{CoresExist};
 ghost use Rattle.tso_laws.specs.Choices.{state_after};
 ghost use Rattle.flat_machine.specs.State.{state_of_snapshot};
 ghost use Rattle.tso_laws.specs.Closed.{IsCovered};
@@ -32,7 +32,7 @@ use tso_laws::{
     alike_cores_are_exchangeable, dead_registers_change_nothing, ends_are_what_tso_allows,
     partly_closed_states_miss_none, runs_stop_where_they_end,
 };
-use tso_model::{Choice, NoMemory, Test};
+use tso_terms::{Choice, NoMemory, Test};
 
 /// A final state of a test: the registers of each core, in the order of `Reg::ALL`, the word of each
 /// location, and choices that lead there, of which none stalls and none is left over.

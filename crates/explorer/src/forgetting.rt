@@ -1,13 +1,13 @@
 //! Dead registers are forgotten: each gets 0, so that they tell no two states apart. Nothing else of a state changes.
 ghost use Rattle.std.specs.Prelude.{◌≡◌, ◌+◌, Bool, List, length};
-ghost use Rattle.tso_model.specs.declared.instruction.Instr.{Instr};
+ghost use Rattle.tso_terms.specs.declared.instruction.Instr.{Instr};
 ghost use Rattle.tso_laws.specs.Dead.{cleared, forgotten_core, forgotten};
 ghost use Rattle.flat_machine.specs.State.{state_of_snapshot, core_of_processor};
 ghost use Rattle.explorer.specs.inner.Planned.{AreDead, IsPlan};
 
 use crate::plan::Plan;
 use flat_machine::Snapshot;
-use tso_model::Core;
+use tso_terms::Core;
 
 /// Puts 0 into the registers that are dead.
 fn clear(registers: &mut [u32; 6], dead: &[bool; 6])

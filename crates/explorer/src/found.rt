@@ -1,6 +1,6 @@
 //! What a search has found: states, packed, each once, in the order in which they were found, and how each was reached.
 ghost use Rattle.std.specs.Prelude.{◌≡◌, IfOk, OnOk, map};
-ghost use Rattle.tso_model.specs.FlatMachine.{start};
+ghost use Rattle.tso_terms.specs.FlatMachine.{start};
 ghost use Rattle.tso_laws.specs.Closed.{IsAmongStates, IsCovered};
 ghost use Rattle.flat_machine.specs.State.{state_of_snapshot};
 ghost use Rattle.explorer.specs.inner.Settled.{Grows, LeadOn, IsInOrder, IsNothingYet};
@@ -18,7 +18,7 @@ use crate::reached::Reached;
 use flat_machine::{Snapshot, exact, start};
 use indexmap::IndexSet;
 use std::alloc::Global;
-use tso_model::{NoMemory, Test};
+use tso_terms::{NoMemory, Test};
 
 /// What a search has found: each state once, and how each was reached.
 pub struct Found {

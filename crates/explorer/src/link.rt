@@ -8,7 +8,7 @@ ghost use Rattle.explorer.specs.inner.Settled.{GoBack, IsPath};
 use crate::exchange::exchange_choices;
 use std::alloc::Global;
 use tso_laws::{alike_cores_are_exchangeable, dead_registers_change_nothing};
-use tso_model::{Choice, NoMemory};
+use tso_terms::{Choice, NoMemory};
 
 /// What leads on from a state: a choice, or an exchange of two cores that are alike. Both are told in one
 /// list, since as many of these are kept as there are states.

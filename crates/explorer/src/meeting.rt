@@ -1,14 +1,14 @@
 //! Accesses that meet: of two to one location of which one writes, the order matters. Whether a core may still make one that
 //! meets another core's access says whether that one may go first.
 ghost use Rattle.std.specs.Prelude.{◌≡◌, ◌≤◌, ℕ, true, false, Some, slice_get};
-ghost use Rattle.tso_model.specs.Actions.{action_of};
+ghost use Rattle.tso_terms.specs.Actions.{action_of};
 ghost use Rattle.tso_laws.specs.Eager.{meets};
 ghost use Rattle.tso_laws.specs.Stubborn.{HasPending, HasNonePending};
 ghost use Rattle.flat_machine.specs.State.{core_of_processor};
-ghost use Rattle.tso_model.specs.declared.instruction.Instr.{Instr};
+ghost use Rattle.tso_terms.specs.declared.instruction.Instr.{Instr};
 
 use flat_machine::Processor;
-use tso_model::{Action, Instr, Kind, Loc};
+use tso_terms::{Action, Instr, Kind, Loc};
 
 /// The accesses that meet one to this location: those that write it and, where it writes itself, those that load it.
 #[derive(Clone, Copy)]

@@ -5,7 +5,7 @@ ghost use Rattle.explorer.specs.inner.Packed.{Packs, number_bytes, kind_byte, al
 
 use crate::packed::Packed;
 use flat_machine::{Processor, Snapshot};
-use tso_model::{Entry, Kind, NoMemory};
+use tso_terms::{Entry, Kind, NoMemory};
 
 /// Stands before a number that isn't one byte.
 const MARK: u8 = 255;

@@ -10,7 +10,7 @@ use crate::meeting::{Meeting, has_none_coming, has_none_pending};
 use crate::situation::Situation;
 use crate::stubborn::{NOTHING, Picked, is_stubborn};
 use flat_machine::Snapshot;
-use tso_model::{Action, Core, Test};
+use tso_terms::{Action, Core, Test};
 
 /// Every choice. No stubborn set has them all, for some are of cores that aren't there.
 const EVERY: u16 = 0xFFFF;

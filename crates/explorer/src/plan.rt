@@ -7,7 +7,7 @@ ghost use Rattle.explorer.specs.inner.Planned.{AreDead, IsPlan};
 
 use crate::alike::alike_pairs;
 use std::alloc::Global;
-use tso_model::{Action, Core, Instr, NoMemory, Operand, Test};
+use tso_terms::{Action, Core, Instr, NoMemory, Operand, Test};
 
 /// What a search goes by.
 #[derive(Drop)]

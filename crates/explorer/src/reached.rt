@@ -1,7 +1,7 @@
 //! The state that a choice leads to, with the choices after it that need not wait, without what is dead there, and with cores
 //! that are alike in one order. A choice that stalls leads nowhere new.
 ghost use Rattle.std.specs.Prelude.{◌≡◌, ◌<◌, IfOk, OnOk, true, false, length};
-ghost use Rattle.tso_model.specs.FlatMachine.{after_choice, chosen};
+ghost use Rattle.tso_terms.specs.FlatMachine.{after_choice, chosen};
 ghost use Rattle.flat_machine.specs.State.{state_of_snapshot};
 ghost use Rattle.explorer.specs.inner.Planned.{IsPlan};
 ghost use Rattle.explorer.specs.inner.Settled.{IsReachedByChoice};
@@ -12,7 +12,7 @@ use crate::forgetting::forget;
 use crate::plan::Plan;
 use flat_machine::{Snapshot, act, has_stalled, is_idle, overwrite};
 use tso_laws::stalls_change_nothing;
-use tso_model::{Choice, NoMemory};
+use tso_terms::{Choice, NoMemory};
 
 /// A state that was reached from another one, and the choices that lead there. A search has one of
 /// these and reaches each state in it, so that a state that is there already takes no memory.

@@ -1,7 +1,7 @@
 //! The search for all states that choices lead to. One list is queue and visited set at once; each of its states is gone
 //! through, and where there are more than may be kept the search says so and ends there.
 ghost use Rattle.std.specs.Prelude.{◌≡◌, ℕ, ◌<◌, ◌≤◌, true, OnOk, map, length, slice_get, Some};
-ghost use Rattle.tso_model.specs.FlatMachine.{chosen, start};
+ghost use Rattle.tso_terms.specs.FlatMachine.{chosen, start};
 ghost use Rattle.tso_laws.specs.Closed.{IsCovered, IsExpandedEnough, ArePartlyClosed};
 ghost use Rattle.flat_machine.specs.State.{state_of_snapshot};
 ghost use Rattle.explorer.specs.inner.Settled.{Grows, IsCurrent, IsVisited, IsInOrder};
@@ -17,7 +17,7 @@ use crate::stubborn::is_marked;
 use crate::unpacking::unpack;
 use crate::watching::{NOTHING_TOLD, Watcher, tell};
 use std::alloc::Global;
-use tso_model::{Choice, Core, NoMemory};
+use tso_terms::{Choice, Core, NoMemory};
 
 /// Makes a choice in one of the states, if it is picked, and what choices need not wait after it. Where that is a state that
 /// isn't there yet, it is added.

@@ -1,12 +1,12 @@
 //! What a choice is judged by, as it stands: a state of a test, and how deep store buffers are. A core's next action and what
 //! it has pending are looked up here alone.
 ghost use Rattle.std.specs.Prelude.{◌≡◌, ◌<◌, length, IfSome};
-ghost use Rattle.tso_model.specs.FlatMachine.{core_of};
+ghost use Rattle.tso_terms.specs.FlatMachine.{core_of};
 ghost use Rattle.flat_machine.specs.State.{state_of_snapshot, core_of_processor};
 ghost use Rattle.explorer.specs.inner.Picked.{IsNextAction};
 
 use flat_machine::{Processor, Snapshot};
-use tso_model::{Action, Core, Entry, Instr, Test};
+use tso_terms::{Action, Core, Entry, Instr, Test};
 
 /// A state of a test, where each core's store buffer has this depth.
 #[derive(Clone, Copy)]

@@ -1,14 +1,14 @@
 //! Stubborn sets: choices of which one can be made first, whatever else is still to do. In a state a search makes those of
 //! one such set alone. A set that is called stubborn and isn't would lose final states.
 ghost use Rattle.std.specs.Prelude.{◌≡◌, ◌≢◌, ◌<◌, ◌≤◌, ℕ, [], true, false, length, slice_index_or, IfSome};
-ghost use Rattle.tso_model.specs.FlatMachine.{program_of, core_of};
+ghost use Rattle.tso_terms.specs.FlatMachine.{program_of, core_of};
 ghost use Rattle.tso_laws.specs.Stubborn.{has_step, has_drain, has_choice, IsHeldBack, OthersAreHeldBack, IsApartBy, IsApartStep, IsApartDrain, IsStubborn};
 ghost use Rattle.flat_machine.specs.State.{state_of_snapshot};
 ghost use Rattle.explorer.specs.inner.Picked.{set_of, ArePicksApart};
 
 use crate::meeting::{Meeting, has_none_coming, has_none_pending, has_pending};
 use crate::situation::Situation;
-use tso_model::{Action, Core, Entry, Loc};
+use tso_terms::{Action, Core, Entry, Loc};
 
 /// Some of the choices in a state: of which cores the step, and of which the drain.
 #[derive(Clone, Copy)]

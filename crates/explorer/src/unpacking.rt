@@ -5,7 +5,7 @@ ghost use Rattle.explorer.specs.inner.Packed.{read_byte, read_long, read_number,
 
 use crate::packed::Packed;
 use flat_machine::{Processor, Snapshot};
-use tso_model::{Core, Entry, Kind, Loc, NoMemory};
+use tso_terms::{Core, Entry, Kind, Loc, NoMemory};
 
 /// A byte from the front, and the rest.
 #[tactic(auto, unfolding(crate::specs::inner::Packed::read_byte))]

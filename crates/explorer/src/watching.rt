@@ -8,7 +8,7 @@ use crate::plan::Plan;
 use crate::unpacking::unpack;
 use flat_machine::{Snapshot, has_ended};
 use indexmap::IndexSet;
-use tso_model::NoMemory;
+use tso_terms::NoMemory;
 
 /// How many more states are kept before a search is told of again.
 pub const STRIDE: usize = 250_000;

@@ -1,6 +1,6 @@
 -- A choice in a snapshot is the choice in its state.
 use Rattle.flat_machine.proofs.Vocabulary.{◌≡◌, ℕ, ◌<◌, ◌≤◌, zero, suc, List, [], ◌∷◌, length, map, Some, None, slice_get, slice_set, slice_index_or, Result, Ok, Err, OnOk, refl, ap, sym, ◌∙◌, arith, true, false, ◌==◌, slice_get-get_or, action_of, Litmus, CoreState, State, Effect, idle, program_of, core_of, step_of, effect_by, drain_of, effect_of, memory_after, applied, after_choice, chosen, step, drain, stalled, Instr, Action, Choice, Stall, Outcome, Committed, Buffered, Moved, Asked, Stalled, stall_count, core_of_processor, state_of_snapshot, Processor, Snapshot}
-use Rattle.tso_model.specs.declared.choice.Stall.TheVariants as stall
+use Rattle.tso_terms.specs.declared.choice.Stall.TheVariants as stall
 
 pub on-ok : {A E : Type 0} {P Q : Type 0} (r : Result A E) → (P → Q) → OnOk r P → OnOk r Q
 on-ok (Ok a) f h = f h

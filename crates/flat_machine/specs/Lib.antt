@@ -1,4 +1,4 @@
 pub mod State
-pub use Rattle.tso_model.specs.FlatMachine
-pub use Rattle.tso_model.specs.Litmus
-pub use Rattle.tso_model.specs.Runs
+pub use Rattle.tso_terms.specs.FlatMachine
+pub use Rattle.tso_terms.specs.Litmus
+pub use Rattle.tso_terms.specs.Runs

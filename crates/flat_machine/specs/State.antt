@@ -1,7 +1,7 @@
 -- The state of the flat machine that a snapshot has: by it each step of the search is held against the machine's
 -- definition.
 use Rattle.std.specs.Prelude.{map}
-use Rattle.tso_model.specs.FlatMachine.{CoreState, State}
+use Rattle.tso_terms.specs.FlatMachine.{CoreState, State}
 use Rattle.flat_machine.specs.declared.snapshot.Processor.{Processor}
 use Rattle.flat_machine.specs.declared.snapshot.Snapshot.{Snapshot}
 

@@ -2,17 +2,17 @@
 //! reached.
 ghost use Rattle.std.specs.Prelude.{◌≡◌, ◌<◌, ◌≤◌, IfOk, OnOk, length, ℕ, ◌+◌, ◌==◌};
 ghost use Rattle.std.specs.Prelude.{slice_get, slice_set, slice_index, Some, filter, true};
-ghost use Rattle.tso_model.specs.Limits.{most_instructions};
-ghost use Rattle.tso_model.specs.ProgramOrder.{writes_to};
-ghost use Rattle.tso_model.specs.Axioms.{last_value};
-ghost use Rattle.tso_model.specs.Thread.{entry, fence, value_of, with_value, updated, value_in};
-ghost use Rattle.tso_model.specs.FlatMachine.{effect_of, after_choice, effect_by, drain_of, memory_after, chosen, is_none_pending};
-ghost use Rattle.tso_model.specs.FlatMachine.{load_value, loaded, stored, moved, fenced, locked};
-ghost use Rattle.tso_model.specs.Runs.{stall_count};
+ghost use Rattle.tso_terms.specs.Limits.{most_instructions};
+ghost use Rattle.tso_terms.specs.ProgramOrder.{writes_to};
+ghost use Rattle.tso_terms.specs.Axioms.{last_value};
+ghost use Rattle.tso_terms.specs.Thread.{entry, fence, value_of, with_value, updated, value_in};
+ghost use Rattle.tso_terms.specs.FlatMachine.{effect_of, after_choice, effect_by, drain_of, memory_after, chosen, is_none_pending};
+ghost use Rattle.tso_terms.specs.FlatMachine.{load_value, loaded, stored, moved, fenced, locked};
+ghost use Rattle.tso_terms.specs.Runs.{stall_count};
 ghost use Rattle.flat_machine.specs.State.{state_of_snapshot, core_of_processor};
 
 use crate::snapshot::{Processor, Snapshot};
-use tso_model::{
+use tso_terms::{
     Action, Choice, Core, Entry, Kind, Loc, NoMemory, Operand, Outcome, Reg, Stall, Test, Update,
 };
 

@@ -1,6 +1,6 @@
 //! Runs of the flat machine, under choices that come one after the other.
 ghost use Rattle.std.specs.Prelude.{◌≡◌, IfOk, OnOk, length};
-ghost use Rattle.tso_model.specs.Runs.{run_from, CoresExist};
+ghost use Rattle.tso_terms.specs.Runs.{run_from, CoresExist};
 ghost use Rattle.flat_machine.specs.State.{state_of_snapshot};
 
 use crate::acting::{act, has_stalled};
@@ -8,7 +8,7 @@ use crate::ending::has_ended;
 use crate::snapshot::Snapshot;
 use scheduler::Choices;
 use tso_laws::stalls_change_nothing;
-use tso_model::{NoMemory, Test};
+use tso_terms::{NoMemory, Test};
 
 /// Makes the choices one after the other, until the test has ended or none is left, and answers whether it has.
 ///

@@ -1,12 +1,12 @@
 //! Whether a test has ended in a state of the flat machine, and what its registers hold there.
 ghost use Rattle.std.specs.Prelude.{◌≡◌, IfOk, OnOk, length, map};
-ghost use Rattle.tso_model.specs.FlatMachine.{registers_in};
-ghost use Rattle.tso_model.specs.Runs.{is_done, has_ended};
+ghost use Rattle.tso_terms.specs.FlatMachine.{registers_in};
+ghost use Rattle.tso_terms.specs.Runs.{is_done, has_ended};
 ghost use Rattle.flat_machine.specs.State.{state_of_snapshot, core_of_processor};
 
 use crate::snapshot::{Processor, Snapshot};
 use std::alloc::Global;
-use tso_model::{Core, Instr, NoMemory, Test};
+use tso_terms::{Core, Instr, NoMemory, Test};
 
 /// Whether the core is at the end of its program with nothing pending.
 fn is_done(program: &[Instr], processor: &Processor) -> bool

@@ -1,10 +1,10 @@
 //! A state of the flat machine: memory, and each core's place, registers and pending stores.
 ghost use Rattle.std.specs.Prelude.{◌≡◌, IfOk, OnOk, length};
-ghost use Rattle.tso_model.specs.FlatMachine.{start};
+ghost use Rattle.tso_terms.specs.FlatMachine.{start};
 ghost use Rattle.flat_machine.specs.State.{state_of_snapshot, core_of_processor};
 
 use std::alloc::Global;
-use tso_model::{Core, Entry, NoMemory, Test};
+use tso_terms::{Core, Entry, NoMemory, Test};
 
 /// A core: the place in its program, its registers, and its pending stores, oldest first.
 pub struct Processor {

@@ -10,7 +10,7 @@ use Rattle.std.proofs.lemmas.List.Elements.{All-weaker}
 use Rattle.std.proofs.lemmas.List.{length-map, length-append, length-take}
 use Rattle.std.proofs.lemmas.Str.{IsUtf8-from_ascii}
 use Rattle.std.proofs.lemmas.Str.Ascii.{IsAscii-from_all}
-use Rattle.tso_model.specs.Names.{is_printable}
+use Rattle.tso_terms.specs.Names.{is_printable}
 use Rattle.hints.specs.Hint.{IsHint}
 use Rattle.hints.specs.inner.Hint.{most_hint_bytes, shown_byte}
 

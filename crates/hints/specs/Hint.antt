@@ -2,8 +2,8 @@
 -- Nothing else is promised of them.
 use Rattle.std.specs.Prelude.{◌≡◌, ◌++◌, ◌≤◌, ◌∷◌, [], ℕ, List, true, length, codes}
 use Rattle.std.specs.List.{list_all}
-use Rattle.tso_model.specs.Names.{is_printable}
-use Rattle.tso_model.specs.declared.choice.Choice.{Choice}
+use Rattle.tso_terms.specs.Names.{is_printable}
+use Rattle.tso_terms.specs.declared.choice.Choice.{Choice}
 use Rattle.scheduler.specs.Printed.{printed_choices}
 
 -- maximum length of a hint with its line feed, in bytes

@@ -13,7 +13,7 @@ use litmus_tokens::tokens_of;
 use order_builder::OrderFault;
 use scheduler::{ChoiceFault, Stalls};
 use std::alloc::Global;
-use tso_model::{NoMemory, Test};
+use tso_terms::{NoMemory, Test};
 
 /// What an answer knew of which a hint can be made: what was at fault in an input, and where it stands
 /// there; why a run or a search didn't end; or what may mislead in an answer.

@@ -7,8 +7,8 @@ use crate::quotes::{token, up_to, up_to_any};
 use crate::tables::{Alike, said_of, said_of_front};
 use litmus_tokens::{Lexeme, Symbol, Token, after_symbol, is_symbol, tokens_of};
 use std::alloc::Global;
-use tso_model::names::is_location_name;
-use tso_model::{NoMemory, Reg};
+use tso_terms::names::is_location_name;
+use tso_terms::{NoMemory, Reg};
 
 const NO_INSTRUCTION: &str = "{} is not one of MOV, MFENCE, XCHG, LOCK XADD";
 

@@ -13,7 +13,7 @@ use crate::rows::{ROW_OF_CORES, too_large, wrong_cells};
 use crate::tables::{is_exactly_one_of, is_one_of};
 use litmus_reader::Why;
 use std::alloc::Global;
-use tso_model::NoMemory;
+use tso_terms::NoMemory;
 
 /// What is said of a comment of another form.
 pub const COMMENT: &str = "a comment is written (* .. *)";

@@ -18,7 +18,7 @@ use crate::search_end::search_ends;
 use crate::unended::{MORE_CASES, NO_CHOICES, choices_end, never_seen, sweep_ends};
 use crate::unused::{UNUSED, say_named};
 use std::alloc::Global;
-use tso_model::NoMemory;
+use tso_terms::NoMemory;
 
 /// What is said where nothing more is known.
 pub const NOTHING_KNOWN: &str = "standard output tells where the fault is";

@@ -10,7 +10,7 @@ use crate::quotes::up_to;
 use crate::tables::is_exactly_one_of;
 use command_line::{SUBCOMMANDS, Subcommand, Value};
 use std::alloc::Global;
-use tso_model::NoMemory;
+use tso_terms::NoMemory;
 
 /// The hint of a command line that was refused, by its words, the first of which is the program's name.
 /// `None` where nothing more is known of it.

@@ -5,7 +5,7 @@ use crate::body::{body_of, is_name};
 use crate::unused::location_named;
 use litmus_tokens::{Lexeme, Symbol, Token, is_symbol, tokens_of, word};
 use std::alloc::Global;
-use tso_model::{Core, Loc, NoMemory, Reg, Test};
+use tso_terms::{Core, Loc, NoMemory, Reg, Test};
 
 /// A register or a location that a test lists. Its name is so many bytes of the text, after so many others.
 #[derive(Clone, Copy)]

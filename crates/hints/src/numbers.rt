@@ -3,7 +3,7 @@
 use crate::line::Line;
 use litmus_tokens::{Lexeme, Symbol, Token, is_symbol, tokens_of, word};
 use std::alloc::Global;
-use tso_model::NoMemory;
+use tso_terms::NoMemory;
 
 /// Maximum value of a register or a location.
 pub const GREATEST: usize = u32::MAX as usize;

@@ -10,8 +10,8 @@ use crate::place::Place;
 use crate::quotes::{begins_with_letter, is_bare, up_to, word};
 use crate::reader::Reader;
 use crate::tables::{Alike, is_exactly_one_of, is_one_of, said_of, said_of_front};
-use tso_model::limits::MAX_NAME;
-use tso_model::names::{continues_name, is_location_name};
+use tso_terms::limits::MAX_NAME;
+use tso_terms::names::{continues_name, is_location_name};
 
 /// Words that begin a test of another kind.
 static HEADERS: [Alike; 4] = [

@@ -5,8 +5,8 @@ use crate::body::{body_of, ending_of, is_name};
 use crate::place::Place;
 use litmus_tokens::{Symbol, Token, is_symbol, tokens_of};
 use std::alloc::Global;
-use tso_model::NoMemory;
-use tso_model::limits::{MAX_ATOMS, MAX_INSTRUCTIONS};
+use tso_terms::NoMemory;
+use tso_terms::limits::{MAX_ATOMS, MAX_INSTRUCTIONS};
 
 /// A limit of which a test may have one thing too many.
 #[derive(Clone, Copy)]

@@ -7,7 +7,7 @@ ghost use Rattle.hints.specs.Hint.{IsHint, longest_hint};
 ghost use Rattle.hints.specs.inner.Hint.{most_hint_bytes, shown_byte};
 
 use std::alloc::{AllocError, Global};
-use tso_model::NoMemory;
+use tso_terms::NoMemory;
 
 /// Maximum length of a hint with its line feed, in bytes.
 pub const MAX_HINT: usize = 256;

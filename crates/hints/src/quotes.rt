@@ -2,7 +2,7 @@
 //! may be none that a lexer takes.
 
 use crate::tables::is_exactly_one_of;
-use tso_model::names::continues_name;
+use tso_terms::names::continues_name;
 
 /// White space.
 const SPACES: &[u8] = b" \t\r\n";

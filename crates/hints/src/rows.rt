@@ -8,8 +8,8 @@ use crate::tables::is_exactly_one_of;
 use litmus_reader::MAX_TEXT;
 use litmus_tokens::after_gap;
 use std::alloc::Global;
-use tso_model::NoMemory;
-use tso_model::limits::{
+use tso_terms::NoMemory;
+use tso_terms::limits::{
     MAX_ATOMS, MAX_CORES, MAX_INSTRUCTIONS, MAX_LOCATIONS, MAX_OPEN, MAX_TEST_NAME,
 };
 

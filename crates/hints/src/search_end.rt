@@ -8,7 +8,7 @@ use crate::cause::Cause;
 use crate::line::{Line, Piece};
 use scheduler::choices_text;
 use std::alloc::Global;
-use tso_model::{Choice, NoMemory};
+use tso_terms::{Choice, NoMemory};
 
 /// Maximum length of a line that says choices to run, with its line feed, in bytes.
 pub const MAX_RUNS_LINE: usize = 2048;

@@ -3,7 +3,7 @@
 
 use crate::line::{Line, Piece};
 use scheduler::Stalls;
-use tso_model::{Choice, Core, Instr, Stall, Test};
+use tso_terms::{Choice, Core, Instr, Stall, Test};
 
 /// Of a run without choices.
 pub const NO_CHOICES: &str =

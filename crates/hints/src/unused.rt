@@ -7,7 +7,7 @@ use crate::line::{Line, Piece};
 use crate::place::Place;
 use crate::quotes::first_bytes;
 use litmus_tokens::{Symbol, Token, is_symbol};
-use tso_model::{Action, Core, Loc, Test};
+use tso_terms::{Action, Core, Loc, Test};
 
 /// Of a location that nothing but the condition names.
 pub const UNUSED: &str =

@@ -1,7 +1,7 @@
 -- A cell of a row: its instruction, its location's number, and the first fault in it.
 use Rattle.std.specs.Prelude.{ℕ, List, [], ◌∷◌, ◌++◌, count_by, Result, Ok, Err, nat_lt, ◌==◌, if◌then◌else◌}
 use Rattle.basic_laws.specs.Types.{Instr, Loc, StoreImm, StoreReg, Load, SetImm, SetReg, Fence, Xchg, Xadd}
-use Rattle.tso_model.specs.Limits.{most_instructions}
+use Rattle.tso_terms.specs.Limits.{most_instructions}
 use Rattle.litmus_tokens.specs.Pieces.{Piece}
 use Rattle.litmus_tokens.specs.declared.fault.Why.TheVariants.{BadInstruction, TooLarge}
 use Rattle.litmus_tokens.specs.declared.fault.Fault.{Fault}

@@ -9,8 +9,8 @@ ghost use Rattle.litmus_tokens.specs.inner.Forms.{shape_of};
 ghost use Rattle.litmus_cells.specs.Cells as spec;
 
 use litmus_tokens::{Fault, Form, ReadError, Token, Use, Why, form_of, located, word_at};
-use tso_model::Instr;
-use tso_model::limits::MAX_INSTRUCTIONS;
+use tso_terms::Instr;
+use tso_terms::limits::MAX_INSTRUCTIONS;
 
 /// An instruction and the core in whose column it stands.
 #[derive(Clone, Copy)]

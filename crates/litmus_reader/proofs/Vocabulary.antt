@@ -31,7 +31,7 @@ pub use Rattle.litmus_reader.specs.Initial.{Initial, Given, gives, registers_of}
 unfoldable pub use Rattle.litmus_reader.specs.Initial.{item_end, item_in, items_within, initial_at, judged, registers_with}
 pub use Rattle.litmus_reader.specs.Places.{unfit, remaining_of, in_initial, at_stop, part_of, from_place}
 pub use Rattle.std.specs.Str.{bytes_eq, IsUtf8}
-pub use Rattle.tso_model.specs.Registers.{index_of, IsWord, same_letters, AreRegisters, register_named}
+pub use Rattle.tso_terms.specs.Registers.{index_of, IsWord, same_letters, AreRegisters, register_named}
 pub use Rattle.basic_laws.specs.Types.{Reg, Instr, Loc, StoreImm, StoreReg, Load, SetImm, SetReg, Fence, Xchg, Xadd, Quantifier, Exists, NotExists, Forall, Eax, Ebx, Ecx, Edx, Esi, Edi}
 pub use Rattle.litmus_tokens.specs.declared.fault.Why.TheVariants.{TwiceInit, TooLarge, Unclosed, NoSuchCore, WrongCells, BadHeaderRow, BadCondition, BadInstruction, BadNumber, NoMemory}
 pub use Rattle.litmus_tokens.specs.Numbers.{word_at}
@@ -41,7 +41,7 @@ pub use Rattle.litmus_reader.specs.Sections.{Section}
 unfoldable pub use Rattle.litmus_reader.specs.Sections.{section_of}
 pub use Rattle.litmus_tokens.specs.Places.{fault}
 pub use Rattle.litmus_reader.specs.Written.{of_register, Setting, of_location, Phrase, truth, atom, negation, both, either, WrittenCondition, Written}
-pub use Rattle.tso_model.specs.Limits.{most_cores, most_instructions, most_locations, most_open, longest_name}
+pub use Rattle.tso_terms.specs.Limits.{most_cores, most_instructions, most_locations, most_open, longest_name}
 pub use Rattle.litmus_reader.specs.Faults.{or_unfit}
 unfoldable pub use Rattle.litmus_reader.specs.Columns.{columns}
 pub use Rattle.std.proofs.lemmas.List.Splits.{slice_split_first, length-slice_split, slice_split-cons_yes, slice_split-cons_no}
@@ -59,7 +59,7 @@ pub use Rattle.litmus_reader.specs.GrammarTable.{location_in, instr_with, ValueF
 unfoldable pub use Rattle.litmus_reader.specs.GrammarTable.{ends_rows}
 pub use Rattle.litmus_reader.specs.Observed.{square_by}
 unfoldable pub use Rattle.litmus_reader.specs.Observed.{square_within, square_end, ending_tokens, brackets_end}
-pub use Rattle.tso_model.specs.Condition.{Claim, TruthClaim, RegClaim, LocClaim, NotClaim, AndClaim, OrClaim, Condition, NamesExist, atoms_in, negations_in, claim_of}
+pub use Rattle.tso_terms.specs.Condition.{Claim, TruthClaim, RegClaim, LocClaim, NotClaim, AndClaim, OrClaim, Condition, NamesExist, atoms_in, negations_in, claim_of}
 pub use Rattle.litmus_reader.specs.Conditions.{Claimed, Proposition, one_more, disjunction, bracketed, Conditioned}
 pub use Rattle.litmus_reader.specs.inner.Conditions.{claimed, conditioned, conjunction, proposition_at}
 unfoldable pub use Rattle.litmus_reader.specs.Conditions.{chain, chain_of, opens_unit, atom_at, unit_by, unit_at, claim_in, truth_at, setting_atom, negation_at, quantified, condition_at}
@@ -69,17 +69,17 @@ unfoldable pub use Rattle.litmus_tokens.specs.Locations.{located}
 pub use Rattle.litmus_reader.specs.Reading.{program_of, test_of, refusal}
 unfoldable pub use Rattle.litmus_reader.specs.Reading.{end_at, tail_at, body_of, reading_of}
 pub use Rattle.decimals.specs.Decimals.{decimal_value}
-pub use Rattle.tso_model.specs.Names.{is_location_name, is_among, is_name, is_register_word, is_test_name, is_printable, begins_name, continues_name, last_byte, is_keyword}
+pub use Rattle.tso_terms.specs.Names.{is_location_name, is_among, is_name, is_register_word, is_test_name, is_printable, begins_name, continues_name, last_byte, is_keyword}
 pub use Rattle.litmus_tokens.specs.Arguments.{ArgumentTerm, in_memory, in_register, constant, as_constant, memory_at, if_last}
 unfoldable pub use Rattle.litmus_tokens.specs.Arguments.{argument_at, two_arguments}
 pub use Rattle.litmus_tokens.specs.Forms.{mov_of, xchg_of, xadd_of, no_more, locked_by, by_mnemonic}
 unfoldable pub use Rattle.litmus_tokens.specs.Forms.{locked_at, spelled_in}
 pub use Rattle.litmus_tokens.specs.Shapes.{Shape, store_imm, store_reg, load, set_imm, set_reg, fence, xchg, xadd}
 pub use Rattle.std.proofs.lemmas.List.Elements.{All-nil, All-head, All-tail, All-weaker, All-map, All-cons}
-pub use Rattle.tso_model.specs.Litmus.{are_distinct, KnownLocation, ConstantIsWord, IsProgram, Litmus, IsTest}
+pub use Rattle.tso_terms.specs.Litmus.{are_distinct, KnownLocation, ConstantIsWord, IsProgram, Litmus, IsTest}
 pub use Rattle.litmus_tokens.specs.GrammarNames.{number_of, location, with_name}
 unfoldable pub use Rattle.litmus_tokens.specs.GrammarNames.{numbered}
-pub use Rattle.tso_model.specs.Thread.{with_value}
+pub use Rattle.tso_terms.specs.Thread.{with_value}
 pub use Rattle.litmus_reader.specs.Keywords.{is_word}
 unfoldable pub use Rattle.litmus_reader.specs.Keywords.{word_after}
 pub use Rattle.std.proofs.lemmas.Bool.Decides.{nat_tests}

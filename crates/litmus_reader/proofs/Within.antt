@@ -3,7 +3,7 @@ use Rattle.litmus_reader.proofs.Vocabulary.{◌≡◌, ℕ, zero, suc, ◌≤◌
 use Rattle.std.proofs.lemmas.Str.{IsUtf8-from_ascii}
 use Rattle.std.proofs.lemmas.Str.Ascii.{IsAscii-from_all}
 use Rattle.std.specs.Option.{ForSome}
-use Rattle.tso_model.specs.Litmus.{IsCondition as IsConditionOf}
+use Rattle.tso_terms.specs.Litmus.{IsCondition as IsConditionOf}
 use Rattle.litmus_tokens.proofs.Pieces.{begins_in_name}
 use Rattle.litmus_reader.specs.GrammarInitial as initial
 use Rattle.litmus_reader.specs.GrammarConditions as conditions

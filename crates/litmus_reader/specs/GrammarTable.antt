@@ -1,7 +1,7 @@
 -- Which tokens spell which rows, and the instructions that these say: a core's program is its column, from top to bottom.
 use Rattle.std.specs.Prelude.{◌<◌, ◌≤◌, ℕ, ◌^◌, Bool, true, List, [], ◌∷◌, ◌++◌, length, All, IfSome, Option, Some, None, ◌||◌, false, codes, slice_index_or}
 use Rattle.litmus_reader.specs.Vocabulary.{fence, Instr, is_symbol, load, location, most_instructions, most_locations, number_of, numbered, Piece, set_imm, set_reg, Shape, store_imm, store_reg, Tilde, xadd, xchg}
-use Rattle.tso_model.specs.declared.instruction.Instr.TheVariants.{StoreImm, StoreReg, Load, SetImm, SetReg, Fence, Xchg, Xadd}
+use Rattle.tso_terms.specs.declared.instruction.Instr.TheVariants.{StoreImm, StoreReg, Load, SetImm, SetReg, Fence, Xchg, Xadd}
 use Rattle.litmus_tokens.specs.Terms.{Term, name}
 use Rattle.litmus_reader.specs.GrammarRows.{IsRow}
 use Rattle.std.specs.Str.{bytes_eq}

@@ -2,10 +2,10 @@
 -- text.
 use Rattle.std.specs.Prelude.{◌≡◌, Option, Result, IfOk}
 use Rattle.std.specs.Option.{option_map}
-use Rattle.tso_model.specs.Condition.{Condition, condition_of}
+use Rattle.tso_terms.specs.Condition.{Condition, condition_of}
 use Rattle.litmus_reader.specs.Vocabulary.{Cond, Litmus}
 use Rattle.basic_laws.specs.Types.{NoMemory, TestParts}
-use Rattle.tso_model.specs.LitmusParts.{litmus_of}
+use Rattle.tso_terms.specs.LitmusParts.{litmus_of}
 
 -- a condition, if there is one
 abbrev pub asked_of : Option Cond → Option Condition

@@ -1,10 +1,10 @@
 -- The words of the crates below that the definitions of this crate use, in one place: each file takes its own from here.
-pub use Rattle.tso_model.specs.Condition.{AndClaim, Claim, claim_of, Condition, LocClaim, NotClaim, OrClaim, RegClaim, TruthClaim}
-pub use Rattle.tso_model.specs.Limits.{longest_test_name, most_atoms, most_cores, most_instructions, most_locations, most_open}
-pub use Rattle.tso_model.specs.Litmus.{Litmus}
-pub use Rattle.tso_model.specs.Names.{is_location_name, is_printable, is_test_name}
-pub use Rattle.tso_model.specs.Registers.{index_of, register_named, same_letters}
-pub use Rattle.tso_model.specs.Thread.{with_value}
+pub use Rattle.tso_terms.specs.Condition.{AndClaim, Claim, claim_of, Condition, LocClaim, NotClaim, OrClaim, RegClaim, TruthClaim}
+pub use Rattle.tso_terms.specs.Limits.{longest_test_name, most_atoms, most_cores, most_instructions, most_locations, most_open}
+pub use Rattle.tso_terms.specs.Litmus.{Litmus}
+pub use Rattle.tso_terms.specs.Names.{is_location_name, is_printable, is_test_name}
+pub use Rattle.tso_terms.specs.Registers.{index_of, register_named, same_letters}
+pub use Rattle.tso_terms.specs.Thread.{with_value}
 pub use Rattle.basic_laws.specs.Types.{Cond, Quantifier, Exists, Forall, NotExists, Instr, Reg}
 pub use Rattle.decimals.specs.Decimals.{decimal_value}
 pub use Rattle.litmus_tokens.specs.Front.{is_symbol, is_symbol_term, name_at, number_at, symbol_at}

@@ -3,7 +3,7 @@
 ghost use Rattle.std.specs.Prelude.{◌≡◌, IfOk, OnOk, All, map, replicate, string_bytes};
 ghost use Rattle.std.specs.Str.{IsUtf8};
 ghost use Rattle.std.specs.List.{range_with_len};
-ghost use Rattle.tso_model.specs.Names as names;
+ghost use Rattle.tso_terms.specs.Names as names;
 ghost use Rattle.litmus_tokens.specs.Locations.{texts};
 ghost use Rattle.litmus_reader.specs.inner.Initial as initial;
 ghost use Rattle.litmus_reader.specs.Reading as spec;
@@ -13,7 +13,7 @@ use crate::row::Table;
 use litmus_cells::CoreInstr;
 use std::alloc::{AllocError, Global};
 use std::mem::replace;
-use tso_model::{Cond, Instr, NoMemory, TestParts};
+use tso_terms::{Cond, Instr, NoMemory, TestParts};
 
 fn string_of(alloc: Global, bytes: &[u8]) -> Result<String, AllocError>
     requires { IsUtf8 bytes.now }

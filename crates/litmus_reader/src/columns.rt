@@ -3,7 +3,7 @@
 
 ghost use Rattle.std.specs.Prelude.{◌≡◌, ◌≤◌, IfOk};
 ghost use Rattle.std.specs.Option.{option_map};
-ghost use Rattle.tso_model.specs.Limits.{most_cores};
+ghost use Rattle.tso_terms.specs.Limits.{most_cores};
 ghost use Rattle.litmus_tokens.specs.inner.Pieces.{pieces};
 ghost use Rattle.litmus_reader.specs.Columns as spec;
 ghost use Rattle.litmus_reader.specs.GrammarColumns.{core_name};
@@ -13,7 +13,7 @@ use crate::fault::{part_of, remaining_of};
 use crate::keyword::after_word;
 use litmus_cells::{Fault, Why};
 use litmus_tokens::{Stop, Symbol, Token, after_symbol};
-use tso_model::limits::MAX_CORES;
+use tso_terms::limits::MAX_CORES;
 
 /// How many cores the header row of these tokens has.
 ///

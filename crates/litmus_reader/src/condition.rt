@@ -3,8 +3,8 @@
 
 ghost use Rattle.std.specs.Prelude.{◌≡◌, ◌≤◌, ◌<◌, ◌+◌, length, codes, Some, None, Ok, IfOk, IfSome};
 ghost use Rattle.std.specs.Option.{option_map};
-ghost use Rattle.tso_model.specs.Limits.{most_cores};
-ghost use Rattle.tso_model.specs.Condition.{claim_of, condition_of};
+ghost use Rattle.tso_terms.specs.Limits.{most_cores};
+ghost use Rattle.tso_terms.specs.Condition.{claim_of, condition_of};
 ghost use Rattle.litmus_tokens.specs.inner.Pieces.{pieces};
 ghost use Rattle.litmus_tokens.specs.inner.Faults.{Gives};
 ghost use Rattle.litmus_tokens.specs.Locations.{texts};
@@ -23,8 +23,8 @@ use crate::setting::{SpelledSetting, core_of, setting_at};
 use litmus_cells::{Fault, ReadError, Why, located, word_at};
 use litmus_tokens::{Stop, Symbol, Token, after_symbol};
 use std::alloc::Global;
-use tso_model::limits::MAX_ATOMS;
-use tso_model::{Cond, Prop, Quantifier};
+use tso_terms::limits::MAX_ATOMS;
+use tso_terms::{Cond, Prop, Quantifier};
 
 /// The proposition of an atom.
 ///

@@ -4,8 +4,8 @@
 ghost use Rattle.std.specs.Prelude.{◌≡◌, ◌≤◌, ◌==◌, ◌&&◌, nat_lt, length, position, None, IfOk};
 ghost use Rattle.std.specs.Option.{option_map};
 ghost use Rattle.std.specs.List.{prefix_len, suffix_len, list_all};
-ghost use Rattle.tso_model.specs.Limits.{longest_test_name};
-ghost use Rattle.tso_model.specs.Names as names;
+ghost use Rattle.tso_terms.specs.Limits.{longest_test_name};
+ghost use Rattle.tso_terms.specs.Names as names;
 ghost use Rattle.litmus_tokens.specs.Gap.{gap_end};
 ghost use Rattle.litmus_reader.specs.Header as header;
 ghost use Rattle.litmus_tokens.specs.inner.Mapped.{mapped};
@@ -15,7 +15,7 @@ use crate::fault::at_stop;
 use crate::limits::{MAX_TEST_NAME, MAX_TEXT};
 use litmus_cells::{Fault, Why};
 use litmus_tokens::after_gap;
-use tso_model::names::is_test_name;
+use tso_terms::names::is_test_name;
 
 /// The text, if it isn't too large.
 pub fn sized(text: &[u8]) -> Result<&[u8], Fault>

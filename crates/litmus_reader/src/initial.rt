@@ -4,7 +4,7 @@
 ghost use Rattle.litmus_tokens.specs.inner.Pieces.{pieces};
 ghost use Rattle.std.specs.Prelude.{◌≡◌, ◌≤◌, ◌<◌, ◌++◌, ◌∷◌, [], false, length, map, replicate, IfOk, OnOk};
 ghost use Rattle.std.specs.List.{list_any};
-ghost use Rattle.tso_model.specs.Limits.{most_cores};
+ghost use Rattle.tso_terms.specs.Limits.{most_cores};
 ghost use Rattle.litmus_tokens.specs.inner.Faults.{Gives};
 ghost use Rattle.litmus_tokens.specs.Locations.{texts};
 ghost use Rattle.litmus_reader.specs.inner.Settings.{setting_of};
@@ -21,7 +21,7 @@ use indexmap::IndexSet;
 use litmus_cells::{Fault, ReadError, Why, located, word_at};
 use litmus_tokens::{Stop, Symbol, Token, after_symbol};
 use std::alloc::Global;
-use tso_model::{NoMemory, Reg};
+use tso_terms::{NoMemory, Reg};
 
 /// A register's first word, and the place of the item that gives it. The core is its digits: it may
 /// be one that the test hasn't.

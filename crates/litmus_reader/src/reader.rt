@@ -4,12 +4,12 @@
 ghost use Rattle.std.specs.Prelude.{◌≡◌, ◌≢◌, ◌≤◌, [], Ok, Err, IfOk, IfErr, MatchResult, IsTrue};
 ghost use Rattle.std.specs.Option.{option_map};
 ghost use Rattle.std.specs.Str.{IsUtf8};
-ghost use Rattle.tso_model.specs.Limits.{most_cores};
-ghost use Rattle.tso_model.specs.Litmus.{Litmus, IsTest};
+ghost use Rattle.tso_terms.specs.Limits.{most_cores};
+ghost use Rattle.tso_terms.specs.Litmus.{Litmus, IsTest};
 ghost use Rattle.litmus_tokens.specs.declared.fault.Fault.{Fault};
 ghost use Rattle.litmus_reader.specs.declared.fault.TextFault.{TextFault};
-ghost use Rattle.tso_model.specs.Condition.{condition_of};
-ghost use Rattle.tso_model.specs.LitmusParts.{litmus_of};
+ghost use Rattle.tso_terms.specs.Condition.{condition_of};
+ghost use Rattle.tso_terms.specs.LitmusParts.{litmus_of};
 ghost use Rattle.litmus_tokens.specs.inner.Pieces.{pieces};
 ghost use Rattle.litmus_tokens.specs.inner.Faults.{Gives};
 ghost use Rattle.litmus_tokens.specs.inner.Mapped.{mapped};
@@ -33,7 +33,7 @@ use crate::row::read_table;
 use litmus_cells::{Fault, ReadError, Why};
 use litmus_tokens::{Stop, Token, line_of, tokens_of};
 use std::alloc::Global;
-use tso_model::{Cond, NoMemory, Test, TestParts};
+use tso_terms::{Cond, NoMemory, Test, TestParts};
 
 /// The end of the text has to follow.
 #[tactic(auto, unfolding(crate::specs::Reading::end_at))]

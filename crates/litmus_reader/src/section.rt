@@ -12,7 +12,7 @@ ghost use Rattle.litmus_reader.specs.Places as places;
 use crate::fault::at_stop;
 use litmus_cells::{Fault, Why};
 use litmus_tokens::{Stop, Symbol, Token, is_symbol, token_at};
-use tso_model::NoMemory;
+use tso_terms::NoMemory;
 
 /// What stands after a section.
 #[derive(Clone, Copy)]

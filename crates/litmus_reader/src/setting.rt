@@ -2,7 +2,7 @@
 //! refuse alike.
 
 ghost use Rattle.std.specs.Prelude.{◌≡◌, ◌<◌, ◌≤◌, length, IfOk};
-ghost use Rattle.tso_model.specs.Limits.{most_cores};
+ghost use Rattle.tso_terms.specs.Limits.{most_cores};
 ghost use Rattle.decimals.specs.Decimals.{decimal_value};
 ghost use Rattle.litmus_tokens.specs.inner.Pieces.{pieces};
 ghost use Rattle.litmus_tokens.specs.inner.Mapped.{mapped};
@@ -12,7 +12,7 @@ ghost use Rattle.litmus_reader.specs.inner.Settings.{setting_of};
 use crate::fault::Part;
 use litmus_cells::{Fault, Why, location_at, register_at};
 use litmus_tokens::{Symbol, Token, after_symbol, number_at, word};
-use tso_model::{Core, Reg};
+use tso_terms::{Core, Reg};
 
 /// A value of a register or a location, as the initial state and conditions spell it. Cores and
 /// values are digits, of any length.

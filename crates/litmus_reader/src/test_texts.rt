@@ -2,7 +2,7 @@
 //! says. Each law is the contract of a function that does nothing: who calls it knows it.
 
 ghost use Rattle.std.specs.Prelude.{◌≡◌, ◌≤◌, ℕ, List, length};
-ghost use Rattle.tso_model.specs.Litmus.{Litmus, IsTest};
+ghost use Rattle.tso_terms.specs.Litmus.{Litmus, IsTest};
 ghost use Rattle.litmus_reader.specs.declared.fault.TextFault.{TextFault};
 ghost use Rattle.litmus_reader.specs.GrammarTest.{FollowsGrammar};
 ghost use Rattle.litmus_reader.specs.Limits.{longest_text};

@@ -4,7 +4,7 @@ use Rattle.std.specs.List.{prefix_len, slice_get}
 use Rattle.std.specs.Char.{is_ascii_digit}
 use Rattle.std.proofs.lemmas.Bool.{lt-ltb, le-ltb}
 use Rattle.std.proofs.lemmas.List.{length-drop}
-use Rattle.tso_model.specs.Names.{begins_name, continues_name}
+use Rattle.tso_terms.specs.Names.{begins_name, continues_name}
 use Rattle.litmus_tokens.specs.declared.token.Stop.TheVariants.{End, BadToken}
 use Rattle.litmus_tokens.specs.declared.token.Symbol.{Symbol}
 use Rattle.litmus_tokens.specs.Terms.{number, name, run_of, number_term, name_term, symbol_or_bad, symbol_of, without_zeros, term_at}

@@ -6,7 +6,7 @@ use Rattle.litmus_tokens.specs.declared.token.Stop.TheVariants.{End}
 use Rattle.std.proofs.lemmas.Bool.Decides.{nat_tests}
 use Rattle.litmus_tokens.specs.Gap.{gap_end}
 use Rattle.litmus_tokens.specs.Terms.{term_at}
-use Rattle.tso_model.specs.Names.{begins_name, continues_name}
+use Rattle.tso_terms.specs.Names.{begins_name, continues_name}
 use Rattle.litmus_tokens.specs.Pieces.{Piece, piece_at, pieces_within, pieces_of}
 
 abbrev pub before : List Piece → List Piece × Stop → List Piece × Stop

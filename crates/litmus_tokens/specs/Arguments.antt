@@ -1,6 +1,6 @@
 -- Operands of instructions: a register, a number after `$`, or a location in brackets.
 use Rattle.std.specs.Prelude.{ℕ, List, [], ◌∷◌, Option, Some, None}
-use Rattle.tso_model.specs.declared.register.Reg.{Reg}
+use Rattle.tso_terms.specs.declared.register.Reg.{Reg}
 use Rattle.litmus_tokens.specs.declared.token.Symbol.TheVariants.{OpenSquare, CloseSquare, Comma, Dollar}
 use Rattle.decimals.specs.Decimals.{decimal_value}
 use Rattle.litmus_tokens.specs.Pieces.{Piece}

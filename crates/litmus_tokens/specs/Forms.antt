@@ -1,6 +1,6 @@
 -- The instructions as they are spelled in cells: one form for each, by the operands that it takes.
 use Rattle.std.specs.Prelude.{ℕ, List, [], ◌∷◌, codes, Option, Some, None, if◌then◌else◌}
-use Rattle.tso_model.specs.Registers.{same_letters}
+use Rattle.tso_terms.specs.Registers.{same_letters}
 use Rattle.litmus_tokens.specs.Pieces.{Piece}
 use Rattle.litmus_tokens.specs.Front.{name_at}
 use Rattle.litmus_tokens.specs.Faults.{there}

@@ -3,7 +3,7 @@
 use Rattle.std.specs.Prelude.{ℕ, List, [], ◌∷◌, ◌++◌, if◌then◌else◌}
 use Rattle.std.specs.List.{position_or_len, list_any}
 use Rattle.std.specs.Str.{bytes_eq}
-use Rattle.tso_model.specs.declared.instruction.Loc.{Loc}
+use Rattle.tso_terms.specs.declared.instruction.Loc.{Loc}
 
 -- the number of a name: its place among the names so far, or the next
 abbrev pub number_of : List (List ℕ) → List ℕ → ℕ

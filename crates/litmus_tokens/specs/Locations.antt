@@ -1,8 +1,8 @@
 -- Locations numbered by first appearance, as the reader has them: names that are slices of the text.
 use Rattle.std.specs.Prelude.{ℕ, List, map, Result, Ok, Err, nat_lt, if◌then◌else◌}
 use denote.Ref.{Bor}
-use Rattle.tso_model.specs.declared.instruction.Loc.{Loc}
-use Rattle.tso_model.specs.Limits.{most_locations}
+use Rattle.tso_terms.specs.declared.instruction.Loc.{Loc}
+use Rattle.tso_terms.specs.Limits.{most_locations}
 use Rattle.litmus_tokens.specs.declared.fault.Why.TheVariants.{TooLarge}
 use Rattle.litmus_tokens.specs.declared.fault.Fault.{Fault}
 use Rattle.litmus_tokens.specs.Places.{fault}

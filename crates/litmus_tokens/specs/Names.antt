@@ -1,8 +1,8 @@
 -- Names of locations and registers, at the front of some tokens.
 use Rattle.std.specs.Prelude.{ℕ, List, Option, Some, None, if◌then◌else◌}
-use Rattle.tso_model.specs.Names.{is_location_name}
-use Rattle.tso_model.specs.Registers.{register_named}
-use Rattle.tso_model.specs.declared.register.Reg.{Reg}
+use Rattle.tso_terms.specs.Names.{is_location_name}
+use Rattle.tso_terms.specs.Registers.{register_named}
+use Rattle.tso_terms.specs.declared.register.Reg.{Reg}
 use Rattle.litmus_tokens.specs.Pieces.{Piece}
 use Rattle.litmus_tokens.specs.Front.{name_at}
 use Rattle.litmus_tokens.specs.Faults.{there}

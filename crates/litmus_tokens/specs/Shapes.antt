@@ -1,6 +1,6 @@
 -- Instructions as they are written.
 use Rattle.std.specs.Prelude.{ℕ, List}
-use Rattle.tso_model.specs.declared.register.Reg.{Reg}
+use Rattle.tso_terms.specs.declared.register.Reg.{Reg}
 
 -- an instruction with the name of its location; a number of any size
 pub data Shape : Type 0 where

@@ -9,7 +9,7 @@ ghost use Rattle.litmus_tokens.specs.inner.Arguments.{argument_of};
 use crate::front::{after_symbol, number_at};
 use crate::names::{location_at, register_at};
 use crate::token::{Symbol, Token};
-use tso_model::Reg;
+use tso_terms::Reg;
 
 /// What an instruction works on. A number is its digits.
 #[derive(Clone, Copy)]

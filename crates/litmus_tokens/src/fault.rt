@@ -6,7 +6,7 @@ ghost use Rattle.litmus_tokens.specs.declared.fault.ReadError.TheVariants as err
 
 use std::alloc::AllocFailed;
 use std::fmt;
-use tso_model::NoMemory;
+use tso_terms::NoMemory;
 
 /// Why a text spells no test.
 #[derive(Clone, Copy, PartialEq, Eq)]

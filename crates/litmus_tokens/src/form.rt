@@ -3,7 +3,7 @@
 
 ghost use Rattle.std.specs.Prelude.{◌≡◌};
 ghost use Rattle.std.specs.Option.{option_map};
-ghost use Rattle.tso_model.specs.Registers.{same_letters};
+ghost use Rattle.tso_terms.specs.Registers.{same_letters};
 ghost use Rattle.litmus_tokens.specs.inner.Pieces.{pieces};
 ghost use Rattle.litmus_tokens.specs.inner.Arguments.{argument_of};
 ghost use Rattle.litmus_tokens.specs.Forms as spec;
@@ -12,7 +12,7 @@ ghost use Rattle.litmus_tokens.specs.inner.Forms.{shape_of};
 use crate::argument::{Argument, two_arguments};
 use crate::front::name_at;
 use crate::token::Token;
-use tso_model::Reg;
+use tso_terms::Reg;
 
 /// How an instruction with a register uses a location.
 #[derive(Clone, Copy)]

@@ -5,8 +5,8 @@ ghost use Rattle.std.specs.Prelude.{◌≡◌, ◌≤◌, ◌<◌, ◌==◌, len
 ghost use Rattle.std.specs.Option.{option_map};
 ghost use Rattle.std.specs.List.{prefix_len};
 ghost use Rattle.std.specs.Char as char;
-ghost use Rattle.tso_model.specs.Limits.{longest_name};
-ghost use Rattle.tso_model.specs.Names as names;
+ghost use Rattle.tso_terms.specs.Limits.{longest_name};
+ghost use Rattle.tso_terms.specs.Names as names;
 ghost use Rattle.litmus_tokens.specs.inner.Mapped.{mapped};
 ghost use Rattle.litmus_tokens.specs.Terms as terms;
 ghost use Rattle.litmus_tokens.specs.inner.SymbolSteps as steps;
@@ -21,11 +21,11 @@ use crate::gap::after_gap;
 use crate::token::{Lexeme, Stop, Symbol, Token, Tokens};
 use decimals::number_up_to;
 use std::alloc::Global;
-use tso_model::NoMemory;
-use tso_model::names::{begins_name, continues_name};
+use tso_terms::NoMemory;
+use tso_terms::names::{begins_name, continues_name};
 
 /// Maximum length of a name, in bytes.
-pub const MAX_NAME: usize = tso_model::limits::MAX_NAME;
+pub const MAX_NAME: usize = tso_terms::limits::MAX_NAME;
 
 /// The limit is the number that the definitions have: a law, with nothing to run.
 pub fn limits_are_as_defined()

@@ -8,8 +8,8 @@ ghost use Rattle.litmus_tokens.specs.Locations.{texts};
 ghost use Rattle.litmus_tokens.specs.GrammarNames as grammar;
 
 use crate::fault::{Fault, ReadError, Why};
-use tso_model::limits::MAX_LOCATIONS;
-use tso_model::{Loc, NoMemory};
+use tso_terms::limits::MAX_LOCATIONS;
+use tso_terms::{Loc, NoMemory};
 
 /// The number of a name: its own, or the next. The names are few, so each is looked at.
 fn number_of(names: &[&[u8]], name: &[u8]) -> usize

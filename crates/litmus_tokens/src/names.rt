@@ -7,8 +7,8 @@ ghost use Rattle.litmus_tokens.specs.Names as spec;
 
 use crate::front::name_at;
 use crate::token::Token;
-use tso_model::Reg;
-use tso_model::names::is_location_name;
+use tso_terms::Reg;
+use tso_terms::names::is_location_name;
 
 /// The name of a location at the front, and the tokens after it.
 #[tactic(auto, unfolding(crate::specs::Names::location_at))]

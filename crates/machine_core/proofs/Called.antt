@@ -1,6 +1,6 @@
 -- A call of a bus, and memory's words after it: those that are seen, but where a copy is dirty those of before.
 use Rattle.machine_core.proofs.Vocabulary.{◌≡◌, ◌≢◌, ◌∙◌, ◌⊎◌, ◌<◌, ◌/◌, ◌&&◌, ℕ, Bool, true, false, if◌then◌else◌, IfSome, List, length, Option, Some, None, option_map, nat_eq, inl, inr, refl, sym, ap, subst, eqb_tells, Loc, is_dirty, Table, table_of, ProtocolKind, GetS, State, Line, table_of_rows, rows_of, line_in, state_of_copy, may_share, TagSets, tag_in, requested, filled_by, Sets, copy_at, cache_of, tags_of, BusModel, AllCoherent, counted_copies, holder_of, IsFree, written_back, victim_at, tag_at, or_invalid, asked_caches_in, awaiting, awaited_by, awaited_in, Awaited, completed, completed_in, completed_memory, completed_memory_in, contents_of, memory_of, would_hit, line_of_location, awaited_of, AsksFor, CompletesAt, tag_at-copy, IsOwner, is_some, next_in_place, request_for, to_fill, asked_memory, whole_in, whole_access, whole_memory, whole_memory_in, Words}
-use Rattle.tso_model.specs.declared.instruction.Core.{Core}
+use Rattle.tso_terms.specs.declared.instruction.Core.{Core}
 use Rattle.protocol_tables.specs.Transients.{transient_of}
 use Rattle.protocol_tables.specs.declared.requests.Transient.{Transient}
 use Rattle.protocol_tables.specs.declared.requests.Transient.TheVariants.{IsD, ImD, SmD}

@@ -1,12 +1,12 @@
 -- What a choice of the flat machine commits, against the access that it makes.
 use Rattle.machine_core.proofs.Vocabulary.{◌≡◌, ◌↔◌, ℕ, zero, suc, Bool, true, false, if◌then◌else◌, List, [], ◌∷◌, filter, length, Option, Some, None, slice_get, nat_lt, refl, sym, ap, ◌⊎◌, inl, inr, subst, chosen, MemoryAccess, NoAccess, store_access, load_access, locked_access, step_access, drain_access, next_of, access_of, Loc, table_of_rows, IsUseFor, IsHitUse, use_at, access_by, cases_Bool, at_access, Reg, Instr, Action, Entry, W, Choice, Step, Drain, Caches, Used, not_through, whole_by, load_after, use_of, hits_by}
 use Rattle.std.specs.List.{list_any}
-use Rattle.tso_model.specs.Litmus.{Litmus}
-use Rattle.tso_model.specs.Actions.{action_of}
-use Rattle.tso_model.specs.Thread.{entry}
-use Rattle.tso_model.specs.ProgramOrder.{writes_to}
-use Rattle.tso_model.specs.FlatMachine.{CoreState, State, Effect, stored, effect_by, step_of, core_of}
-use Rattle.tso_model.specs.declared.action.Action.TheVariants.{Store, Load, Move, Fence, Lock}
+use Rattle.tso_terms.specs.Litmus.{Litmus}
+use Rattle.tso_terms.specs.Actions.{action_of}
+use Rattle.tso_terms.specs.Thread.{entry}
+use Rattle.tso_terms.specs.ProgramOrder.{writes_to}
+use Rattle.tso_terms.specs.FlatMachine.{CoreState, State, Effect, stored, effect_by, step_of, core_of}
+use Rattle.tso_terms.specs.declared.action.Action.TheVariants.{Store, Load, Move, Fence, Lock}
 use Rattle.tso_laws.specs.inner.Pending.{IsStoreOf, PendingIsOwn}
 use Rattle.multiprocessor.specs.declared.accesses.CacheUse.TheVariants.{Unused, Forwarded}
 use Rattle.basic_laws.proofs.WithPending.{drain_with, fenced_with, locked_with}

@@ -6,21 +6,21 @@ pub use Rattle.std.proofs.lemmas.Option.{slice_get_past, slice_get_read}
 pub use Rattle.multiprocessor.specs.declared.processor.Processor.{Processor}
 pub use Rattle.multiprocessor.specs.Cores.{core_state, core_states}
 pub use Rattle.std.specs.Option.{option_map}
-pub use Rattle.tso_model.specs.ProgramOrder.{same_kind}
-pub use Rattle.tso_model.specs.FlatMachine.{chosen, core_of, start}
+pub use Rattle.tso_terms.specs.ProgramOrder.{same_kind}
+pub use Rattle.tso_terms.specs.FlatMachine.{chosen, core_of, start}
 pub use Rattle.basic_laws.specs.Types.{Reg, Loc, Entry, Committed, Stalled, W, LR, NoMemory, Choice, Bus, Instr, Action, Step, Drain, Kind}
 pub use Rattle.snoop_bus.specs.Bus.{BusModel, words_of, holder_of, IsFree, AllCoherent, counted_copies}
 pub use Rattle.snoop_bus.specs.Accesses.{AsksFor, CompletesAt, awaited_of, contents_of, memory_of, would_hit, line_of_location}
 pub use Rattle.multiprocessor.specs.inner.Cores.{at_start}
 pub use Rattle.multiprocessor.specs.Caches.{Caches, not_through, load_after, use_of, Used, at_access, hits_by, is_awaited, used_between, attempt_of, whole_by}
 pub use Rattle.multiprocessor.specs.Effects.{ChoiceAnswer, HasEffect}
-pub use Rattle.tso_model.specs.MemoryAccess.{MemoryAccess, NoAccess, drain_access, store_access, load_access, locked_access, access_of, access_by, step_access, next_of}
+pub use Rattle.tso_terms.specs.MemoryAccess.{MemoryAccess, NoAccess, drain_access, store_access, load_access, locked_access, access_of, access_by, step_access, next_of}
 pub use Rattle.multiprocessor.specs.inner.Effects.{attempt_in, effect_in}
 pub use Rattle.multiprocessor.specs.inner.OneCore.{SucceedsUnlessCommitting}
 pub use Rattle.std.proofs.lemmas.List.{length-map, with_items_is, get_or_past}
-pub use Rattle.tso_model.specs.Litmus.{Litmus}
-pub use Rattle.tso_model.specs.SplitMachine.{Free, Attempt}
-pub use Rattle.tso_model.specs.EitherBus.{BusState, HitFits, effect_on, unheld, after_on}
+pub use Rattle.tso_terms.specs.Litmus.{Litmus}
+pub use Rattle.tso_terms.specs.SplitMachine.{Free, Attempt}
+pub use Rattle.tso_terms.specs.EitherBus.{BusState, HitFits, effect_on, unheld, after_on}
 pub use Rattle.snoop_bus.specs.declared.holding.Stage.TheVariants.{Locked}
 pub use Rattle.multiprocessor.specs.declared.hardware.Hardware.{Hardware}
 pub use Rattle.multiprocessor.specs.Keeping.{IsHeldForAccess, held_as, state_in, IsCore}

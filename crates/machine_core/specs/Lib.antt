@@ -6,12 +6,12 @@ pub mod Hits
 pub mod Owners
 pub mod Uses
 pub mod inner
-pub use Rattle.tso_model.specs.FlatMachine
-pub use Rattle.tso_model.specs.Runs
-pub use Rattle.tso_model.specs.MemoryAccess
-pub use Rattle.tso_model.specs.SplitMachine
-pub use Rattle.tso_model.specs.EitherBus
-pub use Rattle.tso_model.specs.Together
+pub use Rattle.tso_terms.specs.FlatMachine
+pub use Rattle.tso_terms.specs.Runs
+pub use Rattle.tso_terms.specs.MemoryAccess
+pub use Rattle.tso_terms.specs.SplitMachine
+pub use Rattle.tso_terms.specs.EitherBus
+pub use Rattle.tso_terms.specs.Together
 pub use Rattle.cache_set.specs.Geometry
 pub use Rattle.snoop_bus.specs.Accesses
 pub use Rattle.snoop_bus.specs.inner.Accesses as InnerAccesses

@@ -1,10 +1,10 @@
 -- What a choice asks the caches for, and what is counted of it: the statistics count accesses that were made, each once.
 use Rattle.std.specs.Prelude.{ℕ, ◌≡◌, ◌↔◌, ◌⊎◌, true, false, List}
-use Rattle.tso_model.specs.Litmus.{Litmus}
-use Rattle.tso_model.specs.FlatMachine.{State, chosen, core_of, effect_of}
-use Rattle.tso_model.specs.MemoryAccess.{MemoryAccess, NoAccess, Reads, Writes, Locks, access_of}
-use Rattle.tso_model.specs.EitherBus.{BusState}
-use Rattle.tso_model.specs.declared.choice.Bus as kind
+use Rattle.tso_terms.specs.Litmus.{Litmus}
+use Rattle.tso_terms.specs.FlatMachine.{State, chosen, core_of, effect_of}
+use Rattle.tso_terms.specs.MemoryAccess.{MemoryAccess, NoAccess, Reads, Writes, Locks, access_of}
+use Rattle.tso_terms.specs.EitherBus.{BusState}
+use Rattle.tso_terms.specs.declared.choice.Bus as kind
 use Rattle.basic_laws.specs.Types.{Entry, Choice}
 use Rattle.tso_laws.specs.BusChoices.{IsPossibleOn}
 use Rattle.snoop_bus.specs.declared.access.AccessKind.TheVariants.{Hit}

@@ -2,7 +2,7 @@
 -- by hand. (Primer, chapter 7, for the tables that they go by.)
 use Rattle.std.specs.Prelude.{ℕ, List, [], ◌∷◌, None, codes}
 use Rattle.machine_core.specs.Vocabulary.{drain, Geometry, geometry, Litmus, step}
-use Rattle.tso_model.specs.Examples.{loc_x, loc_y, zeros}
+use Rattle.tso_terms.specs.Examples.{loc_x, loc_y, zeros}
 use Rattle.basic_laws.specs.Types.{Eax, Ebx, Loc, Instr, StoreImm, Load, Xchg, Xadd, Choice}
 use Rattle.multiprocessor.specs.declared.counts.Counts.{Counts}
 use Rattle.multiprocessor.specs.Statistics.{counts}

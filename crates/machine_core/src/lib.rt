@@ -1,6 +1,6 @@
 //! The machine: cores with store buffers and caches on one snooping bus, run one choice at a time.
 //!
-//! Callers see the machine of `tso_model` on either bus: what each choice does, and what it leaves. On
+//! Callers see the machine of `tso_terms` on either bus: what each choice does, and what it leaves. On
 //! the atomic bus the protocol and the shape of the caches have no part in that; on a split bus the
 //! caches answer whether an access hits. Beside it callers see what the accesses of each core's cache
 //! were, which goes by both.
@@ -18,4 +18,4 @@ pub use multiprocessor::{
     CacheUse, Config, Counts, FinalState, MemoryAccess, accesses, config, counts, ending,
 };
 pub use snoop_bus::{CachedLine, Shape};
-pub use tso_model::{Bus, Choice, Outcome, Stall};
+pub use tso_terms::{Bus, Choice, Outcome, Stall};

@@ -2,12 +2,12 @@
 //! have. No call changes anything or takes memory: a run that is looked at stays the same run.
 
 ghost use Rattle.std.specs.Prelude.{◌≡◌, option_copied, option_map, slice_get, ◌<◌, length};
-ghost use Rattle.tso_model.specs.Thread.{value_in};
+ghost use Rattle.tso_terms.specs.Thread.{value_in};
 ghost use Rattle.multiprocessor.specs.Cores.{core_state};
 ghost use Rattle.machine_core.specs.inner.Looking.{core_numbered, pending_at, cached_line};
 ghost use Rattle.machine_core.specs.Looking.{bus_holder_of};
-ghost use Rattle.tso_model.specs.FlatMachine.{chosen};
-ghost use Rattle.tso_model.specs.MemoryAccess.{access_of};
+ghost use Rattle.tso_terms.specs.FlatMachine.{chosen};
+ghost use Rattle.tso_terms.specs.MemoryAccess.{access_of};
 ghost use Rattle.snoop_bus.specs.Asks.{tag_at, awaited_by};
 ghost use Rattle.multiprocessor.specs.inner.Keeping.{memory_access_in};
 
@@ -16,7 +16,7 @@ use multiprocessor::accesses::Next;
 use multiprocessor::{MemoryAccess, Processor, access_of};
 use protocol_tables::{Protocol, State, Transient};
 use snoop_bus::{CachedLine, Transaction};
-use tso_model::{Choice, Core, Entry, Loc, Reg};
+use tso_terms::{Choice, Core, Entry, Loc, Reg};
 
 /// The action that holds a split bus.
 #[derive(Clone, Copy)]

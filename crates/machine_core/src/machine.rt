@@ -3,8 +3,8 @@
 //! for a whole one.
 
 ghost use Rattle.std.specs.Prelude.{◌≡◌, ◌≢◌, ◌<◌, true, false, IsTrue, IsOk, IsErr, IfOk, OnOk, OnErr, length, map};
-ghost use Rattle.tso_model.specs.FlatMachine.{chosen};
-ghost use Rattle.tso_model.specs.Together.{put_together};
+ghost use Rattle.tso_terms.specs.FlatMachine.{chosen};
+ghost use Rattle.tso_terms.specs.Together.{put_together};
 ghost use Rattle.machine_core.specs.Running.{new_machine, restarted, machine_effect, machine_use, machine_after, AnswerFits};
 ghost use Rattle.machine_core.specs.inner.Running.{is_ended};
 ghost use Rattle.machine_core.specs.inner.Running.{IsAloneBetween, HasFailed};
@@ -21,7 +21,7 @@ use tso_laws::{
     attempts_lead_from_state_to_state, stalls_on_either_bus_change_nothing,
     what_holds_so_far_on_either_bus,
 };
-use tso_model::{Choice, Execution, NoMemory, Outcome, Stall, Test};
+use tso_terms::{Choice, Execution, NoMemory, Outcome, Stall, Test};
 
 /// What a machine leaves when its test has ended.
 #[derive(Drop)]
@@ -46,7 +46,7 @@ pub struct Machine<'a, P: Protocol> {
 
 impl<'a, P: Protocol> Model for Machine<'a, P> {
     ghost use Rattle.std.specs.Coded.{codes};
-    ghost use Rattle.tso_model.specs.inner.ConditionCode.{claim_code};
+    ghost use Rattle.tso_terms.specs.inner.ConditionCode.{claim_code};
     ghost use Rattle.machine_core.specs.Running.{Running};
 
     ghost Value = { Running };

@@ -1,8 +1,8 @@
 //! A machine that goes back to the beginning of its test, in the room that it has: many runs, one for each seed, then take
 //! no memory of their own. Whatever isn't set back here would leak into the next run.
 ghost use Rattle.std.specs.Prelude.{◌≡◌, ℕ, All, length, map, replicate};
-ghost use Rattle.tso_model.specs.Litmus.{IsTest};
-ghost use Rattle.tso_model.specs.FlatMachine.{started};
+ghost use Rattle.tso_terms.specs.Litmus.{IsTest};
+ghost use Rattle.tso_terms.specs.FlatMachine.{started};
 ghost use Rattle.snoop_bus.specs.Rows.{table_of_rows};
 ghost use Rattle.multiprocessor.specs.Cores.{core_states};
 ghost use Rattle.multiprocessor.specs.Statistics.{no_counts, no_statistics};
@@ -12,7 +12,7 @@ ghost use Rattle.multiprocessor.specs.inner.OneChoice.{AreAtStart};
 
 use multiprocessor::{Counts, Hardware, Processor};
 use protocol_tables::Protocol;
-use tso_model::{Core, Test};
+use tso_terms::{Core, Test};
 
 /// The hardware goes back to the beginning of the test.
 pub fn restart<P: Protocol>(hardware: &mut Hardware<P>, test: &Test)

@@ -1,8 +1,8 @@
 //! Worked runs, for what their accesses come to. The body is empty: the clauses are what is stated. They are small enough
 //! to be counted by hand from the protocols' tables; code and definitions that are wrong in the same way would show here.
 ghost use Rattle.std.specs.Prelude.{◌≡◌, [], ◌∷◌};
-ghost use Rattle.tso_model.specs.Examples.{sb, sb_choices, n6};
-ghost use Rattle.tso_model.specs.declared.choice.Bus.TheVariants.{Atomic, Split};
+ghost use Rattle.tso_terms.specs.Examples.{sb, sb_choices, n6};
+ghost use Rattle.tso_terms.specs.declared.choice.Bus.TheVariants.{Atomic, Split};
 ghost use Rattle.protocol_tables.specs.Tables.{msi, mesi, moesi};
 ghost use Rattle.multiprocessor.specs.Statistics.{counts, counts_of};
 ghost use Rattle.machine_core.specs.WorkedCounts.{two_lines, one_line, missed, in_turn, sb_steps, own_store_first};

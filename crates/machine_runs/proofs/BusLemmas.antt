@@ -1,6 +1,6 @@
 -- Runs on either bus: the choices with the caches' answers, and what an ended run leaves.
 use Rattle.machine_runs.proofs.Vocabulary.{◌≡◌, ℕ, zero, suc, arith, true, List, [], ◌∷◌, ◌++◌, length, append-nil, refl, sym, ap, subst, ◌∙◌, Litmus, IsTest, IsTsoExecution, KeepsAllOrder, State, start, Run, run, Free, Attempt, BusState, BusRun, unheld, run_on, after_on, choices_in, HitsFit, put_together, together, Bus, Atomic, Split, Choice, Entry, IsExecution, EndOn, waiting, IsFlatRun, Table, Caches, attempt_of, use_on, Configuration, run_by, AnswersFitBy}
-use Rattle.tso_model.specs.FinalState.{final_words, final_registers}
+use Rattle.tso_terms.specs.FinalState.{final_words, final_registers}
 use Rattle.tso_laws.specs.EndedRuns.{registers_in}
 use Rattle.tso_laws.specs.Words.{HoldsWords}
 use Rattle.tso_laws.specs.BusLaws.{AtomicRunsAreFlatRuns}

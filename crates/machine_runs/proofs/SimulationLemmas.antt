@@ -1,8 +1,8 @@
 -- From a machine that was driven to the answer of a simulation.
 use Rattle.machine_runs.proofs.Vocabulary.{◌≡◌, ◌<◌, ◌-◌, ◌+◌, ◌*◌, ℕ, zero, suc, Bool, true, false, List, [], ◌∷◌, length, All, slice_get, slice_index_or, Option, Some, None, is_some, arith, ap, sym, ◌∙◌, refl, subst, Litmus, KeepsAllOrder, Condition, truth_of, State, registers_in, Run, has_ended, Attempt, BusState, run_on, choices_in, put_together, together, Bus, Atomic, Choice, Entry, End, EndOn, StopsAtTheEndOn, Table, Counts, Configuration, Statistics, counts_of, Running, new_machine, ShownRun, run_by, AnswersFitBy, Ending, Ended, Unfinished, shown_of, verdict, IsEndingOf, IsCounted, HasAllOrder, HasEnded, drains, Drives}
 use Rattle.std.specs.Option.{option_map}
-use Rattle.tso_model.specs.Standing.{StandsIn}
-use Rattle.tso_model.specs.Runs as flat
+use Rattle.tso_terms.specs.Standing.{StandsIn}
+use Rattle.tso_terms.specs.Runs as flat
 use Rattle.basic_laws.specs.Types.{Kind, R, W, F, LR, LW}
 use Rattle.tso_laws.specs.Counting.{instructions, stores_of_all}
 use Rattle.tso_laws.specs.Entries.{FitsTest}

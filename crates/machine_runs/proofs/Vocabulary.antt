@@ -1,13 +1,13 @@
 -- The names that the proofs of this crate bring in from definitions and from crates below; each file takes its own from here.
 pub use Rattle.std.proofs.Common.{◌≡◌, ◌<◌, ◌-◌, ◌+◌, ◌*◌, ℕ, zero, suc, Bool, true, false, List, [], ◌∷◌, length, All, slice_get, slice_index_or, Option, Some, None, is_some, Result, Ok, Err, IfOk, OnOk, arith, ap, sym, ◌∙◌, refl, subst, ◌++◌, append-nil, ◌⊎◌, inl, inr, append_assoc, ◌≤◌, cond, length-set}
-pub use Rattle.tso_model.specs.Litmus.{Litmus, IsTest}
-pub use Rattle.tso_model.specs.SequentialConsistency.{KeepsAllOrder}
-pub use Rattle.tso_model.specs.Condition.{Condition, truth_of, NamesExist, claim_of, condition_of}
-pub use Rattle.tso_model.specs.FlatMachine.{State, registers_in, start}
-pub use Rattle.tso_model.specs.Runs.{Run, has_ended, run, stall_count, CoresExist}
-pub use Rattle.tso_model.specs.SplitMachine.{Attempt, Free, Holder}
-pub use Rattle.tso_model.specs.EitherBus.{BusState, run_on, choices_in, BusRun, unheld, after_on, HitsFit, effect_on, then_on, resting_on, HitFits}
-pub use Rattle.tso_model.specs.Together.{put_together, together}
+pub use Rattle.tso_terms.specs.Litmus.{Litmus, IsTest}
+pub use Rattle.tso_terms.specs.SequentialConsistency.{KeepsAllOrder}
+pub use Rattle.tso_terms.specs.Condition.{Condition, truth_of, NamesExist, claim_of, condition_of}
+pub use Rattle.tso_terms.specs.FlatMachine.{State, registers_in, start}
+pub use Rattle.tso_terms.specs.Runs.{Run, has_ended, run, stall_count, CoresExist}
+pub use Rattle.tso_terms.specs.SplitMachine.{Attempt, Free, Holder}
+pub use Rattle.tso_terms.specs.EitherBus.{BusState, run_on, choices_in, BusRun, unheld, after_on, HitsFit, effect_on, then_on, resting_on, HitFits}
+pub use Rattle.tso_terms.specs.Together.{put_together, together}
 pub use Rattle.basic_laws.specs.Types.{Bus, Atomic, Split, Choice, Entry}
 pub use Rattle.tso_laws.specs.EndedRuns.{End, IsExecution}
 pub use Rattle.tso_laws.specs.BusRuns.{EndOn, waiting, IsFlatRun, left_by}
@@ -23,5 +23,5 @@ pub use Rattle.machine_runs.specs.declared.driving.Ending.{Ending}
 pub use Rattle.machine_runs.specs.declared.driving.Ending.TheVariants.{Ended, Unfinished}
 pub use Rattle.machine_runs.specs.Simulation.{shown_of, verdict, IsEndingOf, IsCounted, HasAllOrder, HasEnded, drains, FitsEnding, HasCounts}
 pub use Rattle.machine_runs.specs.inner.Simulation.{Drives, answers_of, bus_run_of, HaveFittingAnswers, IsEndingLeftBy}
-pub use Rattle.tso_model.specs.Axioms.{IsTsoExecution, IsWhole}
+pub use Rattle.tso_terms.specs.Axioms.{IsTsoExecution, IsWhole}
 pub use Rattle.multiprocessor.specs.Caches.{Caches, attempt_of, use_on}

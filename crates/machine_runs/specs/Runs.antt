@@ -1,11 +1,11 @@
 -- The run of a test under choices, on a machine of a protocol and a configuration. (Primer, chapter 4, for the two parts of
 -- a locked instruction, which stand together in the order; the rest is this project's profile.)
 use Rattle.std.specs.Prelude.{List}
-use Rattle.tso_model.specs.Litmus.{Litmus}
-use Rattle.tso_model.specs.FlatMachine.{start}
-use Rattle.tso_model.specs.Runs.{Run, run}
-use Rattle.tso_model.specs.EitherBus.{unheld, run_on, HitsFit}
-use Rattle.tso_model.specs.Together.{together}
+use Rattle.tso_terms.specs.Litmus.{Litmus}
+use Rattle.tso_terms.specs.FlatMachine.{start}
+use Rattle.tso_terms.specs.Runs.{Run, run}
+use Rattle.tso_terms.specs.EitherBus.{unheld, run_on, HitsFit}
+use Rattle.tso_terms.specs.Together.{together}
 use Rattle.basic_laws.specs.Types.{Bus, Atomic, Split, Choice}
 use Rattle.protocol_tables.specs.Tables.{Table, table_of}
 use Rattle.protocol_tables.specs.declared.kind.ProtocolKind.{ProtocolKind}

@@ -2,7 +2,7 @@
 //! and so what is printed, must not depend on those after it.
 
 ghost use Rattle.std.specs.Prelude.{◌≡◌, ◌+◌, ◌^◌, ◌<◌, false, IfOk, OnOk, length};
-ghost use Rattle.tso_model.specs.Runs.{CoresExist};
+ghost use Rattle.tso_terms.specs.Runs.{CoresExist};
 ghost use Rattle.protocol_tables.specs.Tables.{Table, table_of};
 ghost use Rattle.machine_core.specs.Running.{new_machine};
 ghost use Rattle.machine_runs.specs.Runs.{run_by, run_under, counts_by, counts_under, AnswersFit, AnswersFitBy};
@@ -22,8 +22,8 @@ use tso_laws::{
     runs_on_either_bus_stop_where_they_end, stalls_on_either_bus_change_nothing,
     what_holds_so_far_on_either_bus, whole_orders_have_each_entry_once,
 };
-use tso_model::{NoMemory, Test, cond_holds};
 use tso_report::Run;
+use tso_terms::{NoMemory, Test, cond_holds};
 
 /// What a run is asked for: a test, on a machine of this protocol and configuration.
 #[derive(Clone, Copy)]

@@ -1,10 +1,10 @@
 //! What an ended run of a machine leaves: the contract of a function that does nothing, so who calls it knows it.
 
 ghost use Rattle.std.specs.Prelude.{◌≡◌, List};
-ghost use Rattle.tso_model.specs.Litmus.{Litmus, IsTest};
-ghost use Rattle.tso_model.specs.SequentialConsistency.{KeepsAllOrder};
-ghost use Rattle.tso_model.specs.declared.choice.Bus.TheVariants.{Atomic};
-ghost use Rattle.tso_model.specs.declared.choice.Choice.{Choice};
+ghost use Rattle.tso_terms.specs.Litmus.{Litmus, IsTest};
+ghost use Rattle.tso_terms.specs.SequentialConsistency.{KeepsAllOrder};
+ghost use Rattle.tso_terms.specs.declared.choice.Bus.TheVariants.{Atomic};
+ghost use Rattle.tso_terms.specs.declared.choice.Choice.{Choice};
 ghost use Rattle.tso_laws.specs.EndedRuns.{IsExecution};
 ghost use Rattle.tso_laws.specs.Words.{HoldsWords};
 ghost use Rattle.protocol_tables.specs.Tables.{Table};

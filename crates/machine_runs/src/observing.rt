@@ -2,14 +2,14 @@
 //! observer, which makes each choice and sees the machine before it and after it. So a run of which nothing is told pays nothing.
 
 ghost use Rattle.std.specs.Prelude.{◌≡◌, ◌<◌, ℕ, IfOk, OnOk, length};
-ghost use Rattle.tso_model.specs.FlatMachine.{chosen};
-ghost use Rattle.tso_model.specs.declared.choice.Choice.{Choice};
+ghost use Rattle.tso_terms.specs.FlatMachine.{chosen};
+ghost use Rattle.tso_terms.specs.declared.choice.Choice.{Choice};
 ghost use Rattle.machine_core.specs.Running.{Running, machine_effect, machine_after, AnswerFits};
 
 use machine_core::{Choice, Machine, Outcome};
 use protocol_tables::Protocol;
 use scheduler::Stalls;
-use tso_model::NoMemory;
+use tso_terms::NoMemory;
 
 /// Looks at a machine while it is driven, and makes its choices.
 pub trait Observer {

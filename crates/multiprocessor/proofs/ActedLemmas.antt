@@ -1,6 +1,6 @@
 -- What an action of one core does, from what the calls in it say.
 use Rattle.multiprocessor.proofs.Vocabulary.{◌≡◌, ◌++◌, ℕ, List, [], ◌∷◌, map, drop, Some, slice_get, append-nil, refl, sym, ap, ◌∙◌, subst, MemoryAccess, NoAccess, Writes, drain_access, Core, CoreState, Effect, stalled, memory_after, Outcome, Committed, Stalled, Pending, Noted, BusModel, words_of, Processor, Unused, Through, Way, Whole, Asked, Turn, store_of, core_state, pending_in, effect_of_drain, MayMakeBy, MayMake, HasAsked, HasActed, Waits, IsMade, IsStored, drain_with, true}
-use Rattle.tso_model.specs.declared.choice.Stall.{Stall}
+use Rattle.tso_terms.specs.declared.choice.Stall.{Stall}
 use Rattle.store_buffer.specs.Stores.{Stores}
 use Rattle.multiprocessor.proofs.Acting.{writes-oldest}
 use Rattle.multiprocessor.proofs.CacheUses.{rests}

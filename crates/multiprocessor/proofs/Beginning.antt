@@ -1,6 +1,6 @@
 -- The hardware of a machine that goes back to the beginning of its test.
 use Rattle.multiprocessor.proofs.Vocabulary.{◌≡◌, ◌+◌, ℕ, zero, suc, List, [], ◌∷◌, Option, None, length, slice_index_or, map, replicate, All, refl, sym, ap, ◌∙◌, subst, arith, Litmus, started, start, unheld, Instr, IsPossibleOn, stores, table_of_rows, BusModel, cores_of, new_bus, Next, Processor, core_states, core_state, state_of_cores, at_start, Counts, no_counts, no_statistics, caches_of, Hardware, IsCore, state_in}
-use Rattle.tso_model.specs.declared.choice.Bus as kind
+use Rattle.tso_terms.specs.declared.choice.Bus as kind
 use Rattle.snoop_bus.specs.declared.holding.BusAction as bus_action
 use Rattle.multiprocessor.proofs.Overwriting.{written}
 use Rattle.multiprocessor.proofs.CoreLemmas.{IsCore-new}

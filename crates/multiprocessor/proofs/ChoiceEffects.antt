@@ -1,6 +1,6 @@
 -- A choice on the hardware of a machine, from what its core did.
 use Rattle.multiprocessor.proofs.Vocabulary.{◌≡◌, ◌<◌, ℕ, ◌++◌, None, Some, Result, Ok, Err, IfOk, length, slice_get, slice_set, slice_index_or, length-set, refl, sym, ap, ◌∙◌, subst, All, All-set, Litmus, Effect, stalled, step_of, drain_of, chosen, memory_after, program_of, core_of, MemoryAccess, NoAccess, access_of, step_access, drain_access, Free, BusEffect, acts, Core, Instr, NoMemory, Choice, Step, Drain, Outcome, words_of, cores_of, holder_of, Processor, Hardware, core_state, core_states, pending_in, step_by, effect_of_drain, caches_of, completing_by, use_of, IsCore, HardwareFitsTest, core_in, state_in, ChoiceAnswer, HasUsed, HasEffect, MayAct, MayMakeBy, MayMakeIn, flat_effect_in, by_way, HasAsked, Way, Whole, Asked, HasActed, use_by, HasMade, effect_made_in}
-use Rattle.tso_model.specs.declared.choice.Stall.TheVariants as stall
+use Rattle.tso_terms.specs.declared.choice.Stall.TheVariants as stall
 use Rattle.multiprocessor.proofs.CoreLemmas.{core_states-get_or, core_states-set}
 use Rattle.multiprocessor.proofs.ActedLemmas.{whole-none}
 use Rattle.multiprocessor.proofs.Splitting.{flat_use_in, use-acts, use-frees, held-with, held-made}

@@ -1,7 +1,7 @@
 -- The machine's cores as the flat machine has them.
 use Rattle.multiprocessor.proofs.Vocabulary.{◌≡◌, ◌<◌, ℕ, zero, suc, ◌+◌, ◌==◌, Bool, true, false, IsTrue, if◌then◌else◌, List, [], ◌∷◌, ◌++◌, map, filter, Option, None, Some, unwrap_or, length, slice_get, slice_set, slice_index, slice_index_or, take, drop, drop-cons, add-one, append_assoc, refl, sym, ap, ◌∙◌, arith, subst, All, All-append, option_map, last_or, writes_to, is_none_pending, CoreState, stalled, started, idle, Reg, Loc, Instr, Update, Pending, newest_for, Processor, stores, store_of, core_state, core_states, effect_of_lock, IsCore, drain_with, fenced_with, locked_with}
-use Rattle.tso_model.specs.Axioms.{last_value}
-use Rattle.tso_model.specs.declared.choice.Stall.TheVariants as stall
+use Rattle.tso_terms.specs.Axioms.{last_value}
+use Rattle.tso_terms.specs.declared.choice.Stall.TheVariants as stall
 
 -- what a load sees, in the buffer and among the pending stores
 last_value-stores : (core loc word : ℕ) (o : Option Pending) (items : List Pending)

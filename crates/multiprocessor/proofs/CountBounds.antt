@@ -1,6 +1,6 @@
 -- Why counting never overflows: no count is larger than the number of instructions that the cores are done with.
 use Rattle.multiprocessor.proofs.Vocabulary.{◌≡◌, ◌≤◌, ◌<◌, ◌+◌, ◌-◌, ◌⊎◌, inl, inr, ℕ, zero, suc, Bool, true, false, nat_lt, if◌then◌else◌, List, [], ◌∷◌, ◌++◌, length, length-append, length-set, slice_get, slice_index, slice_index_or, Option, Some, None, All, refl, ap, ◌∙◌, arith, All-set, most_instructions, Litmus, IsTest, action_of, entry, value_in, with_value, value_of, updated, CoreState, State, Effect, stalled, stored, effect_by, step_of, effect_of, chosen, core_of, program_of, Reg, Core, Loc, Instr, Action, Store, Fence, Lock, Entry, W, Choice, Step, Drain, Outcome, Buffered, Stalled, Counts, CacheUse, Unused, Forwarded, Through, no_counts, with_access, with_write_back, with_forward, with_flush, counts_at_core, flush_counted, with_use_counted, IsAtMost, HasIssuedItsStores, done_by, drain_with, fenced_with, locked_with, All-head, All-tail, All-weaker}
-use Rattle.tso_model.specs.declared.choice.Stall.TheVariants as stall
+use Rattle.tso_terms.specs.declared.choice.Stall.TheVariants as stall
 use Rattle.snoop_bus.specs.declared.access.AccessKind.{AccessKind}
 use Rattle.snoop_bus.specs.declared.access.AccessKind.TheVariants.{Hit, Upgrade, Miss}
 

@@ -1,6 +1,6 @@
 -- A step of a core, from what the call for its instruction says.
 use Rattle.multiprocessor.proofs.Vocabulary.{◌≡◌, ◌<◌, ℕ, Result, IfOk, List, [], ◌∷◌, length, refl, sym, ap, subst, KnownLocation, action_of, value_of, with_value, NoAccess, store_access, locked_access, Core, Loc, Instr, Reg, Action, Store, Load, Move, Fence, Lock, Update, Entry, Outcome, Moved, NoMemory, Noted, BusModel, words_of, cores_of, Unused, Processor, Way, Whole, Turn, pending_in, own_access, action_by, step_by, effect_of_store, effect_of_fence, effect_of_lock, at_next, ChoiceAnswer, MayMake, MayAccess, whole, Acts, SucceedsUnlessCommitting}
-use Rattle.tso_model.specs.declared.action.Operand.{Operand}
+use Rattle.tso_terms.specs.declared.action.Operand.{Operand}
 use Rattle.multiprocessor.proofs.ActedLemmas.{whole-by, whole-none, acts-waits}
 
 abbrev turn_of : Core → Way → Turn

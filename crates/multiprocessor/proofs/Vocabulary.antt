@@ -6,8 +6,8 @@ pub use Rattle.multiprocessor.specs.declared.processor.Processor.{Processor}
 pub use Rattle.multiprocessor.specs.Cores.{core_state, core_states, store_of, state_of_cores, AreKnown}
 pub use Rattle.std.specs.Option.{option_map, IsSome}
 pub use Rattle.std.specs.List.{last_or, list_any, sum_by}
-pub use Rattle.tso_model.specs.ProgramOrder.{writes_to}
-pub use Rattle.tso_model.specs.FlatMachine.{CoreState, Effect, stalled, memory_after, stored, State, after_choice, chosen, core_of, idle, effect_by, step_of, effect_of, program_of, advanced_with, started, is_none_pending, start, drain_of}
+pub use Rattle.tso_terms.specs.ProgramOrder.{writes_to}
+pub use Rattle.tso_terms.specs.FlatMachine.{CoreState, Effect, stalled, memory_after, stored, State, after_choice, chosen, core_of, idle, effect_by, step_of, effect_of, program_of, advanced_with, started, is_none_pending, start, drain_of}
 pub use Rattle.basic_laws.specs.Types.{Reg, Loc, Update, Entry, Core, Outcome, Committed, Stalled, Buffered, Moved, W, R, F, LR, LW, NoMemory, Split, Atomic, Choice, Bus, Instr, Action, Step, Drain, Kind}
 pub use Rattle.store_buffer.specs.declared.Pending.{Pending}
 pub use Rattle.store_buffer.specs.inner.Newest.{newest_for}
@@ -20,7 +20,7 @@ pub use Rattle.multiprocessor.specs.inner.Cores.{pending_in, effect_of_lock, eff
 pub use Rattle.multiprocessor.specs.Caches.{Caches, caches_of, not_through, load_after, use_of, Used, at_access, ask_by, hits_by, is_awaited, used_between, completing_by, completion_by, use_by_kind, use_with, whole_by, asking_by}
 pub use Rattle.multiprocessor.specs.Effects.{HasUsed, ChoiceAnswer, HasEffect}
 pub use Rattle.basic_laws.proofs.WithPending.{drain_with, fenced_with, locked_with}
-pub use Rattle.tso_model.specs.MemoryAccess.{MemoryAccess, NoAccess, Writes, drain_access, store_access, Reads, load_access, locked_access, Locks, access_of, access_by, step_access}
+pub use Rattle.tso_terms.specs.MemoryAccess.{MemoryAccess, NoAccess, Writes, drain_access, store_access, Reads, load_access, locked_access, Locks, access_of, access_by, step_access}
 pub use Rattle.commit_order.specs.inner.Noted.{Noted}
 pub use Rattle.multiprocessor.specs.declared.turn.Way.{Way}
 pub use Rattle.multiprocessor.specs.declared.turn.Way.TheVariants.{Whole, Asked}
@@ -28,11 +28,11 @@ pub use Rattle.multiprocessor.specs.declared.turn.Turn.{Turn}
 pub use Rattle.multiprocessor.specs.inner.Effects.{MayMakeBy, MayMake, MayAccess, MayAct, attempt_in, flat_effect_in, MayMakeIn, effect_in}
 pub use Rattle.multiprocessor.specs.inner.Turns.{HasAsked, by_way, whole}
 pub use Rattle.multiprocessor.specs.inner.OneCore.{HasActed, Waits, IsMade, IsStored, Acts, SucceedsUnlessCommitting, Notes, AreUnchanged}
-pub use Rattle.tso_model.specs.Thread.{entry, value_in, with_value, value_of, updated}
+pub use Rattle.tso_terms.specs.Thread.{entry, value_in, with_value, value_of, updated}
 pub use Rattle.std.proofs.lemmas.List.{set-get_or, length-map, length-replicate}
-pub use Rattle.tso_model.specs.Litmus.{Litmus, IsTest, KnownLocation}
-pub use Rattle.tso_model.specs.SplitMachine.{Holder, Free, HeldBy, HeldBetween, Attempt, BusEffect, acts, asks, needs_bus, same_choice, begins, completes, writes_last, as_read, split_effect, reads_first, after_first}
-pub use Rattle.tso_model.specs.EitherBus.{BusState, HitFits, effect_on, unheld}
+pub use Rattle.tso_terms.specs.Litmus.{Litmus, IsTest, KnownLocation}
+pub use Rattle.tso_terms.specs.SplitMachine.{Holder, Free, HeldBy, HeldBetween, Attempt, BusEffect, acts, asks, needs_bus, same_choice, begins, completes, writes_last, as_read, split_effect, reads_first, after_first}
+pub use Rattle.tso_terms.specs.EitherBus.{BusState, HitFits, effect_on, unheld}
 pub use Rattle.tso_laws.specs.Holders.{HolderFits, HasRead}
 pub use Rattle.snoop_bus.specs.declared.holding.Stage.TheVariants.{Locked}
 pub use Rattle.multiprocessor.specs.declared.accesses.Next.{Next}
@@ -46,17 +46,17 @@ pub use Rattle.multiprocessor.specs.inner.OneChoice.{effect_made_in}
 pub use Rattle.snoop_bus.specs.Held.{holder_in, transaction_in}
 pub use Rattle.snoop_bus.specs.Asks.{awaited_in, Awaited, asking, asked_for, completed, completed_in, flusher_of, request_for, awaited_as, whole_in}
 unfoldable pub use Rattle.snoop_bus.specs.Asks.{awaiting}
-pub use Rattle.tso_model.specs.Actions.{action_of}
-pub use Rattle.tso_model.specs.declared.action.Action.TheVariants.{Store, Load, Move, Fence, Lock}
+pub use Rattle.tso_terms.specs.Actions.{action_of}
+pub use Rattle.tso_terms.specs.declared.action.Action.TheVariants.{Store, Load, Move, Fence, Lock}
 pub use Rattle.std.proofs.lemmas.List.Elements.{All-set, All-append, All-drop, All-replicate, All-head, All-tail, All-weaker}
-pub use Rattle.tso_model.specs.Limits.{most_instructions}
+pub use Rattle.tso_terms.specs.Limits.{most_instructions}
 pub use Rattle.protocol_tables.specs.Tables.{Table}
 pub use Rattle.snoop_bus.specs.Rows.{table_of_rows}
 pub use Rattle.cache_set.specs.CacheTags.{TagSets, sends_in, flusher_from, tags_at}
 pub use Rattle.multiprocessor.specs.declared.counts.Counts.{Counts}
 pub use Rattle.multiprocessor.specs.Statistics.{no_counts, with_access, with_write_back, with_forward, with_flush, counts_at_core, flush_counted, with_use_counted, Statistics, no_statistics}
 pub use Rattle.multiprocessor.specs.inner.Keeping.{HasIssuedItsStores, IsAmong, IsFlusherAmong, done_by, IsSenderAmong, IsTallied, done_in, half_done, most_counted, statistics_in, memory_access_in}
-pub use Rattle.tso_model.specs.Runs.{is_done, all_done}
+pub use Rattle.tso_terms.specs.Runs.{is_done, all_done}
 pub use Rattle.store_buffer.specs.inner.Stores.{stores}
 pub use Rattle.snoop_bus.specs.inner.Accesses.{MayGoOn, memory_words_of}
 pub use Rattle.tso_laws.specs.BusChoices.{IsPossibleOn}

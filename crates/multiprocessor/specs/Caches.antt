@@ -10,7 +10,7 @@ use Rattle.cache_set.specs.CacheTags.{TagSets}
 use Rattle.snoop_bus.specs.Asks.{Awaited, AskedAccess, hits, request_for, asking, completed, whole_access}
 use Rattle.multiprocessor.specs.declared.accesses.CacheUse.{CacheUse}
 use Rattle.multiprocessor.specs.declared.accesses.CacheUse.TheVariants.{Unused, Forwarded, Through}
-use Rattle.tso_model.specs.declared.choice.Bus as kind
+use Rattle.tso_terms.specs.declared.choice.Bus as kind
 
 -- the caches without their words: the protocol's table row by row, their shape, the lines and states in them, and what an
 -- action that holds the bus awaits

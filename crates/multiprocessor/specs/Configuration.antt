@@ -2,7 +2,7 @@
 -- the atomic bus the shape of the caches has a part in the statistics alone. (This project's profile.)
 use Rattle.std.specs.Prelude.{ℕ, ◌≤◌}
 use Rattle.multiprocessor.specs.Vocabulary.{Geometry, most_depth}
-use Rattle.tso_model.specs.declared.choice.Bus.{Bus}
+use Rattle.tso_terms.specs.declared.choice.Bus.{Bus}
 use Rattle.cache_set.specs.Geometry as shape
 
 -- how many stores each core's buffer holds (0: no core has a buffer), the shape of each core's cache, and the kind of bus

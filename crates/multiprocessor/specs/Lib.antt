@@ -9,10 +9,10 @@ pub mod Effects
 pub mod Split
 pub mod OneChoice
 pub mod inner
-pub use Rattle.tso_model.specs.FlatMachine
-pub use Rattle.tso_model.specs.Runs
-pub use Rattle.tso_model.specs.MemoryAccess
-pub use Rattle.tso_model.specs.SplitMachine
-pub use Rattle.tso_model.specs.EitherBus
+pub use Rattle.tso_terms.specs.FlatMachine
+pub use Rattle.tso_terms.specs.Runs
+pub use Rattle.tso_terms.specs.MemoryAccess
+pub use Rattle.tso_terms.specs.SplitMachine
+pub use Rattle.tso_terms.specs.EitherBus
 pub use Rattle.snoop_bus.specs.Bus
 pub use Rattle.cache_set.specs.Geometry

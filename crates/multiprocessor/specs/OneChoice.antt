@@ -2,13 +2,13 @@
 -- (This project's profile; what a choice does is the machine's on either bus.)
 use Rattle.std.specs.Prelude.{◌≡◌}
 use Rattle.multiprocessor.specs.Vocabulary.{BusEffect, Litmus}
-use Rattle.tso_model.specs.declared.choice.Choice.{Choice}
+use Rattle.tso_terms.specs.declared.choice.Choice.{Choice}
 use Rattle.tso_laws.specs.Holders.{HolderFits}
 use Rattle.multiprocessor.specs.declared.hardware.Hardware.{Hardware}
 use Rattle.multiprocessor.specs.Keeping.{HardwareFitsTest, IsHeldForAccess, state_in}
 use Rattle.multiprocessor.specs.Effects.{ChoiceAnswer, HasUsed, HasEffect}
 use Rattle.multiprocessor.specs.Split.{use_by}
-use Rattle.tso_model.specs.declared.choice.Bus as kind
+use Rattle.tso_terms.specs.declared.choice.Bus as kind
 
 -- the hardware is of this test, and the caches' bus is held for the access that its holder goes on with
 pub record AreOfTest {P : Type 0} (t : Litmus) (m : Hardware P) : Type 0 where

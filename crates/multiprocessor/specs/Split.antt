@@ -1,7 +1,7 @@
 -- A choice made on the hardware of a machine with a split bus. (This project's profile; what a choice does is the split
 -- machine's.)
 use Rattle.multiprocessor.specs.Vocabulary.{access_of, BusEffect, completes, Litmus}
-use Rattle.tso_model.specs.declared.choice.Choice.{Choice}
+use Rattle.tso_terms.specs.declared.choice.Choice.{Choice}
 use Rattle.multiprocessor.specs.declared.hardware.Hardware.{Hardware}
 use Rattle.multiprocessor.specs.Caches.{Used, caches_of, use_with}
 use Rattle.multiprocessor.specs.Keeping.{state_in}

@@ -11,7 +11,7 @@ ghost use Rattle.multiprocessor.specs.Keeping.{next_in};
 use crate::hardware::Hardware;
 use protocol_tables::Protocol;
 use snoop_bus::Access;
-use tso_model::{Choice, Entry, Loc};
+use tso_terms::{Choice, Entry, Loc};
 
 /// What a choice had to do with the caches.
 #[derive(Clone, Copy)]

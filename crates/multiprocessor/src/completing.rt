@@ -3,11 +3,11 @@
 //! the two, it would let another core's write in. (Primer, chapter 7.)
 
 ghost use Rattle.std.specs.Prelude.{◌≡◌, ◌<◌, IfOk, OnErr, length};
-ghost use Rattle.tso_model.specs.Thread.{entry};
-ghost use Rattle.tso_model.specs.FlatMachine.{chosen};
-ghost use Rattle.tso_model.specs.SplitMachine.{HeldBy, HeldBetween};
-ghost use Rattle.tso_model.specs.declared.execution.Kind.TheVariants.{LR};
-ghost use Rattle.tso_model.specs.declared.choice.Bus.TheVariants as Bus;
+ghost use Rattle.tso_terms.specs.Thread.{entry};
+ghost use Rattle.tso_terms.specs.FlatMachine.{chosen};
+ghost use Rattle.tso_terms.specs.SplitMachine.{HeldBy, HeldBetween};
+ghost use Rattle.tso_terms.specs.declared.execution.Kind.TheVariants.{LR};
+ghost use Rattle.tso_terms.specs.declared.choice.Bus.TheVariants as Bus;
 ghost use Rattle.multiprocessor.specs.Keeping.{state_in};
 ghost use Rattle.multiprocessor.specs.Split.{completes_in};
 ghost use Rattle.multiprocessor.specs.inner.Split.{writes_last_in};
@@ -20,7 +20,7 @@ use crate::processor::{Processor, advance};
 use crate::split::access_of;
 use crate::turn::Way;
 use protocol_tables::Protocol;
-use tso_model::{Action, Choice, Entry, Kind, NoMemory, Outcome, Test};
+use tso_terms::{Action, Choice, Entry, Kind, NoMemory, Outcome, Test};
 
 /// Completes the action that has asked, which is this choice; of a locked instruction its load part.
 ///

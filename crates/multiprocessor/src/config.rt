@@ -3,14 +3,14 @@
 
 ghost use Rattle.std.specs.Prelude.{◌≡◌, ◌≤◌, ◌↔◌, IsSome, IfSome};
 ghost use Rattle.cache_set.specs.Geometry.{IsLineSize};
-ghost use Rattle.tso_model.specs.Limits.{most_depth};
+ghost use Rattle.tso_terms.specs.Limits.{most_depth};
 ghost use Rattle.multiprocessor.specs.Configuration.{IsConfigurationWithinLimits};
 
 use snoop_bus::Shape;
 use snoop_bus::shape::{MAX_SETS, MAX_WAYS};
 use std::marker::Model;
-use tso_model::Bus;
-use tso_model::limits::MAX_DEPTH;
+use tso_terms::Bus;
+use tso_terms::limits::MAX_DEPTH;
 
 /// How a machine is built: how many stores each core's buffer holds, the shape of its cache, and the
 /// kind of bus that the caches share. At depth 0 no core has a buffer.

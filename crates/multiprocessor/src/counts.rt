@@ -10,7 +10,7 @@ ghost use Rattle.multiprocessor.specs.inner.Keeping.{IsFlusherAmong, most_counte
 
 use crate::accesses::CacheUse;
 use snoop_bus::{Access, AccessKind};
-use tso_model::Core;
+use tso_terms::Core;
 
 /// What the accesses of one core's cache were, counted over a run. A load that the core's own pending
 /// stores answer is no access; a locked instruction is one write access.

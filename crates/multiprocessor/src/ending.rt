@@ -7,7 +7,7 @@ ghost use Rattle.multiprocessor.specs.Keeping.{HardwareFitsTest};
 use crate::hardware::{Hardware, memory_of, registers_of};
 use protocol_tables::Protocol;
 use std::alloc::Global;
-use tso_model::{NoMemory, Test};
+use tso_terms::{NoMemory, Test};
 
 /// The final state of a test that has ended.
 #[derive(Drop)]

@@ -1,11 +1,11 @@
 //! Entries that a core commits: what a step or a drain puts into memory order. All steps make theirs here, with the core
 //! and the place in its program that they came from.
 ghost use Rattle.std.specs.Prelude.{◌≡◌};
-ghost use Rattle.tso_model.specs.Thread.{entry};
+ghost use Rattle.tso_terms.specs.Thread.{entry};
 ghost use Rattle.multiprocessor.specs.Cores.{store_of};
 
 use store_buffer::Pending;
-use tso_model::{Core, Entry, Kind, Loc};
+use tso_terms::{Core, Entry, Kind, Loc};
 
 /// The entry of this kind that a core commits at this place of its program.
 pub fn entry(core: Core, place: u8, kind: Kind, loc: Loc, value: u32) -> Entry

@@ -4,9 +4,9 @@
 //! else lay out anew in memory what the choice answers.
 
 ghost use Rattle.std.specs.Prelude.{◌≡◌, ℕ, ◌<◌, ◌≤◌, None, IfOk, OnOk, OnErr, All, length, map, replicate, slice_get, take};
-ghost use Rattle.tso_model.specs.Limits.{most_depth};
-ghost use Rattle.tso_model.specs.FlatMachine.{chosen, started};
-ghost use Rattle.tso_model.specs.Runs.{all_done};
+ghost use Rattle.tso_terms.specs.Limits.{most_depth};
+ghost use Rattle.tso_terms.specs.FlatMachine.{chosen, started};
+ghost use Rattle.tso_terms.specs.Runs.{all_done};
 ghost use Rattle.snoop_bus.specs.Bus.{words_of, holder_of};
 ghost use Rattle.snoop_bus.specs.inner.Accesses.{memory_words_of};
 ghost use Rattle.multiprocessor.specs.Cores.{core_states};
@@ -32,7 +32,7 @@ use commit_order::Commits;
 use protocol_tables::Protocol;
 use snoop_bus::SnoopBus;
 use std::alloc::Global;
-use tso_model::{Bus, Choice, Core, Instr, Loc, NoMemory, Outcome, Stall, Test};
+use tso_terms::{Bus, Choice, Core, Instr, Loc, NoMemory, Outcome, Stall, Test};
 
 /// What a machine consists of: its cores, memory after their caches, what the action that holds the bus goes on with, what was
 /// committed and what was counted.

@@ -1,6 +1,6 @@
 //! What a machine is made of: cores with store buffers and caches on one snooping bus, and what one choice does to them.
 //!
-//! A choice does what it does on the machine of `tso_model`, on either bus. Callers see the cores, who holds the bus, what
+//! A choice does what it does on the machine of `tso_terms`, on either bus. Callers see the cores, who holds the bus, what
 //! was committed, and what the accesses of each core's cache were. The test is handed to each call, and so is what a choice
 //! needs: that the hardware is of this test.
 #![tactic(auto)]

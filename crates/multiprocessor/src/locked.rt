@@ -2,8 +2,8 @@
 //! core's store buffer is empty; else its own older stores would come after it in memory order. (x86-TSO, section 3;
 //! Primer, chapter 4.)
 ghost use Rattle.std.specs.Prelude.{◌≡◌, ◌<◌, IfOk, OnErr};
-ghost use Rattle.tso_model.specs.Limits.{most_instructions};
-ghost use Rattle.tso_model.specs.MemoryAccess.{locked_access};
+ghost use Rattle.tso_terms.specs.Limits.{most_instructions};
+ghost use Rattle.tso_terms.specs.MemoryAccess.{locked_access};
 ghost use Rattle.snoop_bus.specs.Bus.{words_of};
 ghost use Rattle.multiprocessor.specs.inner.Cores.{pending_in, effect_of_lock};
 ghost use Rattle.multiprocessor.specs.inner.Effects.{MayAccess};
@@ -16,7 +16,7 @@ use crate::processor::{Processor, advance};
 use commit_order::Commits;
 use protocol_tables::Protocol;
 use snoop_bus::SnoopBus;
-use tso_model::{Core, Kind, Loc, NoMemory, Outcome, Reg, Stall, Update};
+use tso_terms::{Core, Kind, Loc, NoMemory, Outcome, Reg, Stall, Update};
 
 /// A locked instruction: the location that it reads and writes, its register, and what it makes of the word.
 #[derive(Clone, Copy)]

@@ -2,12 +2,12 @@
 //! type for both lets a core take the same steps on either machine.
 
 ghost use Rattle.std.specs.Prelude.{◌≡◌, ◌<◌, ◌≤◌, ◌↔◌, [], ◌∷◌, ◌++◌, IsTrue, IfOk, OnOk, IfErr, length, drop, slice_get};
-ghost use Rattle.tso_model.specs.Limits.{most_depth};
+ghost use Rattle.tso_terms.specs.Limits.{most_depth};
 
 use std::alloc::Global;
 use std::marker::Model;
 use store_buffer::{Pending, StoreBuffer};
-use tso_model::{Loc, NoMemory};
+use tso_terms::{Loc, NoMemory};
 
 /// The stores that a core has issued and that have not reached memory, in a buffer. A machine of depth 0
 /// makes no buffer, and nothing is ever pending there.
@@ -31,7 +31,7 @@ impl PendingStores {
     ghost use Rattle.store_buffer.specs.inner.Stores.{stores};
     ghost use Rattle.store_buffer.specs.inner.Newest.{newest_for};
 
-    /// Nothing pending, with a buffer of this depth, up to `MAX_DEPTH` of `tso_model`; at depth 0 with
+    /// Nothing pending, with a buffer of this depth, up to `MAX_DEPTH` of `tso_terms`; at depth 0 with
     /// none. No other call takes memory.
     ///
     /// Errors: out of memory only.

@@ -3,12 +3,12 @@
 //! pending. (x86-TSO, section 3; Primer, chapter 4.)
 
 ghost use Rattle.std.specs.Prelude.{◌≡◌, ℕ, ◌<◌, List, [], None, true, false, IfOk, OnOk, OnErr, length, filter, slice_get, slice_set};
-ghost use Rattle.tso_model.specs.Limits.{most_instructions};
-ghost use Rattle.tso_model.specs.Actions.{action_of};
-ghost use Rattle.tso_model.specs.Litmus.{KnownLocation};
-ghost use Rattle.tso_model.specs.ProgramOrder.{writes_to};
-ghost use Rattle.tso_model.specs.Thread.{value_in, with_value};
-ghost use Rattle.tso_model.specs.MemoryAccess.{NoAccess, Reads, Writes, store_access, load_access, drain_access};
+ghost use Rattle.tso_terms.specs.Limits.{most_instructions};
+ghost use Rattle.tso_terms.specs.Actions.{action_of};
+ghost use Rattle.tso_terms.specs.Litmus.{KnownLocation};
+ghost use Rattle.tso_terms.specs.ProgramOrder.{writes_to};
+ghost use Rattle.tso_terms.specs.Thread.{value_in, with_value};
+ghost use Rattle.tso_terms.specs.MemoryAccess.{NoAccess, Reads, Writes, store_access, load_access, drain_access};
 ghost use Rattle.snoop_bus.specs.Bus.{BusModel, words_of, cores_of, holder_of};
 ghost use Rattle.snoop_bus.specs.Accesses.{IsCurrentWord};
 ghost use Rattle.multiprocessor.specs.Cores.{AreKnown};
@@ -29,7 +29,7 @@ use commit_order::Commits;
 use protocol_tables::Protocol;
 use snoop_bus::{Access, SnoopBus};
 use store_buffer::Pending;
-use tso_model::{Action, Core, Entry, Instr, Kind, Loc, NoMemory, Outcome, Reg, Stall};
+use tso_terms::{Action, Core, Entry, Instr, Kind, Loc, NoMemory, Outcome, Reg, Stall};
 
 /// A core: the place in its program, its registers, and the stores that it has issued and that
 /// have not reached memory.
@@ -41,7 +41,7 @@ pub struct Processor {
 }
 
 impl Processor {
-    ghost use Rattle.tso_model.specs.Runs.{is_done};
+    ghost use Rattle.tso_terms.specs.Runs.{is_done};
     ghost use Rattle.multiprocessor.specs.Cores.{core_state};
     ghost use Rattle.multiprocessor.specs.inner.Cores.{at_start};
 

@@ -3,12 +3,12 @@
 //! of another core to its location may hit: the instruction would no longer be atomic. (Primer, chapter 7, the
 //! split-transaction bus.)
 ghost use Rattle.std.specs.Prelude.{◌≡◌, ℕ, ◌<◌, IfOk, OnErr, Some, filter, length};
-ghost use Rattle.tso_model.specs.Litmus.{KnownLocation};
-ghost use Rattle.tso_model.specs.FlatMachine.{chosen};
-ghost use Rattle.tso_model.specs.MemoryAccess.{access_of, step_access, store_access, load_access, locked_access, drain_access};
-ghost use Rattle.tso_model.specs.ProgramOrder.{writes_to};
-ghost use Rattle.tso_model.specs.SplitMachine.{same_choice};
-ghost use Rattle.tso_model.specs.declared.choice.Bus.TheVariants as Bus;
+ghost use Rattle.tso_terms.specs.Litmus.{KnownLocation};
+ghost use Rattle.tso_terms.specs.FlatMachine.{chosen};
+ghost use Rattle.tso_terms.specs.MemoryAccess.{access_of, step_access, store_access, load_access, locked_access, drain_access};
+ghost use Rattle.tso_terms.specs.ProgramOrder.{writes_to};
+ghost use Rattle.tso_terms.specs.SplitMachine.{same_choice};
+ghost use Rattle.tso_terms.specs.declared.choice.Bus.TheVariants as Bus;
 ghost use Rattle.snoop_bus.specs.Bus.{words_of, cores_of};
 ghost use Rattle.multiprocessor.specs.Cores.{AreKnown};
 ghost use Rattle.multiprocessor.specs.inner.Cores.{pending_in};
@@ -28,7 +28,7 @@ use crate::turn::Way;
 use protocol_tables::Protocol;
 use snoop_bus::SnoopBus;
 use tso_laws::accesses_wait;
-use tso_model::{Action, Choice, Core, Instr, Loc, NoMemory, Outcome, Stall, Test};
+use tso_terms::{Action, Choice, Core, Instr, Loc, NoMemory, Outcome, Stall, Test};
 
 /// Makes a choice on a split bus, and answers its outcome and what it had to do with the caches.
 // It stays a call of its own: a choice that held it too would be too large to be inlined on the atomic bus.

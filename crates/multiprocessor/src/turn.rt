@@ -1,6 +1,6 @@
 //! Whose access of the bus it is, and how it is made.
 
-use tso_model::Core;
+use tso_terms::Core;
 
 /// How an access of the bus is made.
 #[derive(Clone, Copy)]

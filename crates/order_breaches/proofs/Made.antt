@@ -2,7 +2,7 @@
 -- test. With the order's own values it is what they make with the order.
 use Rattle.order_breaches.proofs.Vocabulary.{◌≡◌, ◌<◌, ◌≤◌, ℕ, ◌+◌, ◌*◌, suc, zero, List, [], ◌∷◌, ◌++◌, length, length-append, Some, IfSome, slice_get, slice_index, slice_index_or, take, drop, if◌then◌else◌, Bool, true, false, All, arith, ap, sym, ◌∙◌, subst, refl, ◌⊎◌, inl, inr, cases_order, action_of, location_of, entries_by, entries_of, is_reading, reads_in, Litmus, KnownLocation, IsProgram, IsTest, values_by, read_values, made_from, made, Instr, Action, Store, Load, Move, Fence, Lock, Entry, rank, Each, each-append, each-at, reads_of_all, made_reading, Precedes, Ascends, IsEntryWithin, EntriesAreWithin}
 use Rattle.std.proofs.Math.Seq.{take-append_seam}
-use Rattle.tso_model.specs.Limits.{most_instructions}
+use Rattle.tso_terms.specs.Limits.{most_instructions}
 use Rattle.order_breaches.proofs.Actions.{same-rank, NoneTwice}
 
 pub all-first : {X : Type 0} (P : X → Type 0) (x : X) (xs : List X) → All P (x ∷ xs) → P x

@@ -4,16 +4,16 @@ pub use Rattle.std.proofs.lemmas.Bool.{cases_Bool, cases_lt, false_from_ne_true,
 pub use Rattle.std.proofs.lemmas.Option.{slice_get_within, slice_get_cases, slice_get-get_or, get_or_from_slice_get}
 pub use Rattle.basic_laws.specs.Types.{Entry, Kind, R, W, F, LR, LW, Instr, Action}
 pub use Rattle.order_breaches.specs.First.{NoneBefore, IsEarliest, IsNowhere, IsFirst}
-pub use Rattle.tso_model.specs.ProgramOrder.{writes_to, is_before, same_kind, is_read, is_write, may_be_passed, IsStorePart, is_load, is_store}
-pub use Rattle.tso_model.specs.Axioms.{last_value, counting, IsWhole, KeepsProgramOrder, IsAdjacent, HasReadValues, due_value, IsTsoExecution}
-pub use Rattle.tso_model.specs.Thread.{entry, fence, entries_by, registers_by, values_after, entries_of, value_in, value_of, updated, is_reading, reads_in}
+pub use Rattle.tso_terms.specs.ProgramOrder.{writes_to, is_before, same_kind, is_read, is_write, may_be_passed, IsStorePart, is_load, is_store}
+pub use Rattle.tso_terms.specs.Axioms.{last_value, counting, IsWhole, KeepsProgramOrder, IsAdjacent, HasReadValues, due_value, IsTsoExecution}
+pub use Rattle.tso_terms.specs.Thread.{entry, fence, entries_by, registers_by, values_after, entries_of, value_in, value_of, updated, is_reading, reads_in}
 pub use Rattle.basic_laws.specs.Ranks.{rank, part_of}
 pub use Rattle.basic_laws.proofs.Ranks.{is_read_kind, is_write_kind, by-rank, is_load_kind}
-pub use Rattle.tso_model.specs.ProgramEntries.{is_at, read_value, values_by, made_by, made_from, made, read_values}
+pub use Rattle.tso_terms.specs.ProgramEntries.{is_at, read_value, values_by, made_by, made_from, made, read_values}
 pub use Rattle.order_breaches.specs.Entries.{same_action, same_but_value, IsExtra, IsStray, IsMissing, IsWrongWrite, written_value, IsTwice}
-pub use Rattle.tso_model.specs.Actions.{action_of, location_of}
-pub use Rattle.tso_model.specs.Litmus.{Litmus, KnownLocation, IsProgram, IsTest}
-pub use Rattle.tso_model.specs.declared.action.Action.TheVariants.{Store, Load, Move, Fence, Lock}
+pub use Rattle.tso_terms.specs.Actions.{action_of, location_of}
+pub use Rattle.tso_terms.specs.Litmus.{Litmus, KnownLocation, IsProgram, IsTest}
+pub use Rattle.tso_terms.specs.declared.action.Action.TheVariants.{Store, Load, Move, Fence, Lock}
 pub use Rattle.basic_laws.proofs.Lists.{Each, each-append, Member, member-at, each-at}
 pub use Rattle.basic_laws.proofs.Basics.{not-itself, max-left, max-right, max-first, max-second, le-cases}
 pub use Rattle.order_breaches.specs.AxiomBreaches.{IsLate, IsSeparated, IsWrongRead, due_at, Overtakes, must_stand_before}

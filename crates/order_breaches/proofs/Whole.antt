@@ -1,6 +1,6 @@
 -- An order is whole exactly where no entry is extra, there twice, missing or a write of a wrong value.
 use Rattle.order_breaches.proofs.Vocabulary.{◌≡◌, ℕ, List, length, Some, slice_get, true, false, arith, ap, sym, ◌∙◌, inl, inr, subst, refl, cases_eq, Litmus, is_read_kind, is_write_kind, made, IsWhole, Entry, Kind, R, W, F, LR, LW, IsNowhere, same_action, same_but_value, IsExtra, IsStray, IsMissing, IsWrongWrite, written_value, Each, each-at, member-at}
-use Rattle.tso_model.specs.Standing.{StandsIn}
+use Rattle.tso_terms.specs.Standing.{StandsIn}
 use Rattle.order_breaches.proofs.Firsts.{passing}
 use Rattle.order_breaches.proofs.Made.{made-once}
 use Rattle.order_breaches.proofs.OwnReads.{ReadsOwn, made-read}

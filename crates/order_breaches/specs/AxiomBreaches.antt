@@ -1,9 +1,9 @@
 -- The ways in which an entry breaks an axiom at its place in the order.
 -- (Primer, chapter 4, the axioms of TSO; x86-TSO, section 3, for locked instructions.)
 use Rattle.std.specs.Prelude.{ℕ, ◌<◌, ◌≡◌, ◌≢◌, ◌&&◌, not, Bool, true, List, Some, slice_get, take, drop, suc}
-use Rattle.tso_model.specs.Litmus.{Litmus}
-use Rattle.tso_model.specs.ProgramOrder.{is_before, may_be_passed, is_read, IsStorePart}
-use Rattle.tso_model.specs.Axioms.{due_value}
+use Rattle.tso_terms.specs.Litmus.{Litmus}
+use Rattle.tso_terms.specs.ProgramOrder.{is_before, may_be_passed, is_read, IsStorePart}
+use Rattle.tso_terms.specs.Axioms.{due_value}
 use Rattle.basic_laws.specs.Types.{Entry, LR}
 
 -- a stands before b in their program, and the axioms keep the two in order: a plain load alone may pass a plain store

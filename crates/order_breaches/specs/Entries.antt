@@ -2,9 +2,9 @@
 -- gives it. Each speaks of `made`: what the programs make with the order's own read values,
 -- core by core and in program order.
 use Rattle.std.specs.Prelude.{ℕ, ◌<◌, ◌≡◌, ◌≢◌, ◌==◌, ◌&&◌, ◌||◌, Bool, true, false, ◌⊎◌, List, Some, slice_get}
-use Rattle.tso_model.specs.ProgramOrder.{is_read, is_write}
-use Rattle.tso_model.specs.ProgramEntries.{is_at, read_value}
-use Rattle.tso_model.specs.declared.execution.Entry.{Entry}
+use Rattle.tso_terms.specs.ProgramOrder.{is_read, is_write}
+use Rattle.tso_terms.specs.ProgramEntries.{is_at, read_value}
+use Rattle.tso_terms.specs.declared.execution.Entry.{Entry}
 
 -- both are of one core, place and kind
 abbrev pub same_action : Entry → Entry → Bool

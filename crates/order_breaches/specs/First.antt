@@ -1,6 +1,6 @@
 -- The earliest entry of a list of which something holds: of several breaches one is told, and everyone must agree on which.
 use Rattle.std.specs.Prelude.{ℕ, ◌<◌, ◌≡◌, List, Some, slice_get}
-use Rattle.tso_model.specs.declared.execution.Entry.{Entry}
+use Rattle.tso_terms.specs.declared.execution.Entry.{Entry}
 
 -- the fact holds of no entry before this place
 abbrev pub NoneBefore : List Entry → (ℕ → Entry → Type 0) → ℕ → Type 0

@@ -2,14 +2,14 @@
 -- Breaches come in the order of the variants of `Breach`, extra and twice together: the first is of the first kind that
 -- occurs, and of that kind it is the earliest.
 use Rattle.std.specs.Prelude.{ℕ, ◌≡◌, ◌≢◌, List, Result, OnOk, IfErr, IsOkUnless}
-use Rattle.tso_model.specs.Litmus.{Litmus}
-use Rattle.tso_model.specs.Thread.{entry}
-use Rattle.tso_model.specs.ProgramEntries.{made}
-use Rattle.tso_model.specs.Axioms.{IsWhole, KeepsProgramOrder, IsAdjacent, IsTsoExecution}
+use Rattle.tso_terms.specs.Litmus.{Litmus}
+use Rattle.tso_terms.specs.Thread.{entry}
+use Rattle.tso_terms.specs.ProgramEntries.{made}
+use Rattle.tso_terms.specs.Axioms.{IsWhole, KeepsProgramOrder, IsAdjacent, IsTsoExecution}
 use Rattle.order_breaches.specs.First.{IsFirst, IsEarliest, IsNowhere}
 use Rattle.order_breaches.specs.Entries.{IsExtra, IsStray, IsMissing, IsWrongWrite, written_value}
 use Rattle.order_breaches.specs.AxiomBreaches.{Overtakes, IsLate, IsSeparated, IsWrongRead, due_at}
-use Rattle.tso_model.specs.declared.execution.Entry.{Entry}
+use Rattle.tso_terms.specs.declared.execution.Entry.{Entry}
 use Rattle.order_breaches.specs.declared.breach.Breach.{Breach}
 use Rattle.order_breaches.specs.declared.breach.Breach.TheVariants.{Extra, Twice, Missing, WrongValue, ProgramOrder, NotAdjacent, ReadValue, NoMemory}
 

@@ -1,7 +1,7 @@
 //! Which of the programs' entries come in an order, and which don't. A memory order has each entry exactly once and nothing
 //! else; one that leaves a store out could keep every other axiom.
 ghost use Rattle.std.specs.Prelude.{◌≡◌, ◌+◌, ◌<◌, ◌≤◌, ℕ, List, length, slice_get, slice_set, Some, None, IfSome, IsNone};
-ghost use Rattle.tso_model.specs.declared.execution.Entry.{Entry};
+ghost use Rattle.tso_terms.specs.declared.execution.Entry.{Entry};
 ghost use Rattle.order_breaches.specs.First.{NoneBefore, IsFirst, IsNowhere};
 ghost use Rattle.order_breaches.specs.Entries.{IsStray};
 ghost use Rattle.order_breaches.specs.inner.Programs.{kept_in};
@@ -10,7 +10,7 @@ ghost use Rattle.order_breaches.specs.inner.Slots.{IsIndex, HasCome, NamesStray,
 use crate::breach::Breach;
 use crate::index::{find, kept};
 use std::sync::ledger::Ledger;
-use tso_model::{Entry, Watched};
+use tso_terms::{Entry, Watched};
 
 /// The earliest entry of the order that is extra or stands twice. `came` has the value with which
 /// each entry of the programs came.

@@ -4,7 +4,7 @@ ghost use Rattle.std.specs.Prelude.{◌≡◌};
 
 use std::error::Error;
 use std::fmt;
-use tso_model::{Core, Entry, Kind, Loc, NoMemory};
+use tso_terms::{Core, Entry, Kind, Loc, NoMemory};
 
 /// Why an order is no TSO execution of a test: the first of its breaches, in the order of the
 /// variants.

@@ -1,13 +1,13 @@
 //! Tests on one entry or two: reads, writes, and what must stand before what. The one pair that may change places is a
 //! plain store and a later plain load. (Primer, chapter 4.)
 ghost use Rattle.std.specs.Prelude.{◌≡◌, ◌≤◌, ◌↔◌, IsTrue};
-ghost use Rattle.tso_model.specs.ProgramOrder as program_order;
-ghost use Rattle.tso_model.specs.ProgramOrder.{IsStorePart};
+ghost use Rattle.tso_terms.specs.ProgramOrder as program_order;
+ghost use Rattle.tso_terms.specs.ProgramOrder.{IsStorePart};
 ghost use Rattle.order_breaches.specs.Entries as entries;
 ghost use Rattle.order_breaches.specs.AxiomBreaches as axioms;
 ghost use Rattle.basic_laws.specs.Ranks as ranks;
 
-use tso_model::{Entry, Kind};
+use tso_terms::{Entry, Kind};
 
 /// Whether e and x differ at most in the value that they read or write. A fence does neither, so
 /// its value counts.

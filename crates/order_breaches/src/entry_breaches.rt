@@ -1,8 +1,8 @@
 //! Whether an entry breaks an axiom: a write of another value than its program's, an entry that comes too late, a load part
 //! that its store part doesn't follow. (Primer, chapter 4.)
 ghost use Rattle.std.specs.Prelude.{◌≡◌, ◌<◌, length, Some, None, if◌then◌else◌, IfSome, IsNone};
-ghost use Rattle.tso_model.specs.ProgramOrder.{IsStorePart};
-ghost use Rattle.tso_model.specs.declared.execution.Kind.TheVariants.{LR};
+ghost use Rattle.tso_terms.specs.ProgramOrder.{IsStorePart};
+ghost use Rattle.tso_terms.specs.declared.execution.Kind.TheVariants.{LR};
 ghost use Rattle.order_breaches.specs.Entries.{IsExtra, IsWrongWrite};
 ghost use Rattle.order_breaches.specs.inner.Slots.{IsIndex};
 ghost use Rattle.order_breaches.specs.inner.Progress as progress;
@@ -11,7 +11,7 @@ ghost use Rattle.order_breaches.specs.inner.Passing.{NamesWrongWrite};
 use crate::entries::{is_store_part, is_write};
 use crate::progress::is_late;
 use crate::sources::program_value;
-use tso_model::{Entry, Kind};
+use tso_terms::{Entry, Kind};
 
 /// What the programs make, with the tables that go with it.
 #[derive(Clone, Copy)]

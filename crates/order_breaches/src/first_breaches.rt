@@ -1,9 +1,9 @@
 //! Laws on breaches, with nothing to run: an order has a first breach exactly where it is no TSO execution, and only one.
 ghost use Rattle.std.specs.Prelude.{◌≡◌, ◌↔◌, ◌⊎◌, List};
-ghost use Rattle.tso_model.specs.Litmus.{Litmus};
-ghost use Rattle.tso_model.specs.ProgramEntries.{made};
-ghost use Rattle.tso_model.specs.Axioms.{IsWhole, KeepsProgramOrder, IsAdjacent, HasReadValues, IsTsoExecution};
-ghost use Rattle.tso_model.specs.declared.execution.Entry.{Entry};
+ghost use Rattle.tso_terms.specs.Litmus.{Litmus};
+ghost use Rattle.tso_terms.specs.ProgramEntries.{made};
+ghost use Rattle.tso_terms.specs.Axioms.{IsWhole, KeepsProgramOrder, IsAdjacent, HasReadValues, IsTsoExecution};
+ghost use Rattle.tso_terms.specs.declared.execution.Entry.{Entry};
 ghost use Rattle.order_breaches.specs.declared.breach.Breach.{Breach};
 ghost use Rattle.order_breaches.specs.First.{IsNowhere};
 ghost use Rattle.order_breaches.specs.Entries.{IsStray, IsMissing, IsWrongWrite};

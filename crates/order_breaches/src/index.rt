@@ -4,14 +4,14 @@ ghost use Rattle.std.specs.Prelude.{◌≡◌, ◌*◌, ◌≤◌, length, IfOk,
 ghost use Rattle.order_breaches.specs.inner.Programs.{kept_in};
 ghost use Rattle.order_breaches.specs.Entries.{same_but_value, IsExtra};
 ghost use Rattle.order_breaches.specs.inner.Slots.{slot_of, Ascends, EntriesAreWithin, IsIndex};
-ghost use Rattle.tso_model.specs.declared.execution.Entry.{Entry};
+ghost use Rattle.tso_terms.specs.declared.execution.Entry.{Entry};
 
 use crate::entries::{is_same_but_value, rank};
 use std::alloc::Global;
-use tso_model::{Entry, NoMemory};
+use tso_terms::{Entry, NoMemory};
 
 /// How many slots a core has: two for each place that a program may have.
-const SLOTS_OF_A_CORE: usize = 2 * tso_model::limits::MAX_INSTRUCTIONS;
+const SLOTS_OF_A_CORE: usize = 2 * tso_terms::limits::MAX_INSTRUCTIONS;
 
 /// The slot of an entry. No two entries that the programs make have the same one.
 fn slot(x: &Entry) -> usize

@@ -1,8 +1,8 @@
 //! The first pass over an order: it finds what is extra, there twice or missing. Where nothing is, the programs' entries are
 //! laid out with the order's own read values, and an entry of the order is found among them at once.
 ghost use Rattle.std.specs.Prelude.{◌≡◌, ◌≢◌, ◌+◌, ◌≤◌, ℕ, List, None, length, IfErr, IfOk};
-ghost use Rattle.tso_model.specs.Litmus.{IsTest};
-ghost use Rattle.tso_model.specs.ProgramEntries as program_entries;
+ghost use Rattle.tso_terms.specs.Litmus.{IsTest};
+ghost use Rattle.tso_terms.specs.ProgramEntries as program_entries;
 ghost use Rattle.order_breaches.specs.FirstBreach.{IsFirstBreach};
 ghost use Rattle.order_breaches.specs.declared.breach.Breach.TheVariants as breaches;
 ghost use Rattle.order_breaches.specs.inner.Laid.{IsLaidOut};
@@ -17,8 +17,8 @@ use crate::programs::{made_entries, reads_in_order};
 use crate::sources::own_writes;
 use std::alloc::Global;
 use std::sync::ledger::Ledger;
-use tso_model::limits::{MAX_CORES, MAX_INSTRUCTIONS};
-use tso_model::{Entry, NoMemory, Test, Watched};
+use tso_terms::limits::{MAX_CORES, MAX_INSTRUCTIONS};
+use tso_terms::{Entry, NoMemory, Test, Watched};
 
 /// Maximum number of reads of a test: each instruction may be one.
 const MAX_READS: usize = MAX_CORES * MAX_INSTRUCTIONS;

@@ -1,7 +1,7 @@
 //! What a pass over an order met, and the breach that it makes the first.
 ghost use Rattle.std.specs.Prelude.{◌≡◌, ◌+◌, ◌≤◌, ◌<◌, length, IfSome, IsNone};
-ghost use Rattle.tso_model.specs.Litmus.{Litmus};
-ghost use Rattle.tso_model.specs.Axioms.{IsTsoExecution};
+ghost use Rattle.tso_terms.specs.Litmus.{Litmus};
+ghost use Rattle.tso_terms.specs.Axioms.{IsTsoExecution};
 ghost use Rattle.order_breaches.specs.First.{IsEarliest};
 ghost use Rattle.order_breaches.specs.AxiomBreaches.{Overtakes, IsLate};
 ghost use Rattle.order_breaches.specs.FirstBreach.{IsFirstBreach};
@@ -11,7 +11,7 @@ ghost use Rattle.order_breaches.specs.inner.Passing.{HasMet, first_of_two};
 use crate::breach::Breach;
 use crate::entries::must_stand_before;
 use std::sync::ledger::Ledger;
-use tso_model::{Entry, Watched};
+use tso_terms::{Entry, Watched};
 
 /// The first of each kind of breach that the second pass met.
 #[derive(Clone, Copy)]

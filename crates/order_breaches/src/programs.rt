@@ -6,7 +6,8 @@ ghost use Rattle.order_breaches.specs.inner.Programs.{reads_that_came, reads_of_
 use crate::entries::is_read;
 use crate::index::kept;
 use std::alloc::Global;
-use tso_model::{Core, Entry, NoMemory, Test, read_count, thread_entries};
+use tso_model::{read_count, thread_entries};
+use tso_terms::{Core, Entry, NoMemory, Test};
 
 /// The values with which the reads among the programs' entries came, in the order of these entries.
 ///

@@ -1,11 +1,11 @@
 //! How far each core has come in an order, once with all entries and once without plain loads: a plain store may be passed
 //! by plain loads and by nothing else.
 ghost use Rattle.std.specs.Prelude.{◌≡◌, ◌+◌, ◌<◌, true, false, length, slice_index, slice_set, nat_lt, if◌then◌else◌};
-ghost use Rattle.tso_model.specs.ProgramOrder as program_order;
+ghost use Rattle.tso_terms.specs.ProgramOrder as program_order;
 ghost use Rattle.order_breaches.specs.inner.Progress as progress;
 
 use crate::entries::{is_write, rank};
-use tso_model::{Entry, Kind};
+use tso_terms::{Entry, Kind};
 
 /// Notes that the entry's core has come as far as the entry.
 pub fn reach(marks: &mut [u32], x: &Entry)

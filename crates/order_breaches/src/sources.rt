@@ -1,8 +1,8 @@
 //! The last write that an entry's own program has before it. A load that passed it in memory order must still return it
 //! (forwarding). (Primer, chapter 4; x86-TSO, section 3.)
 ghost use Rattle.std.specs.Prelude.{◌≡◌, ◌<◌, ℕ, length, slice_get, slice_set, Some, None, true, IfOk};
-ghost use Rattle.tso_model.specs.ProgramOrder as program_order;
-ghost use Rattle.tso_model.specs.declared.execution.Entry.{Entry};
+ghost use Rattle.tso_terms.specs.ProgramOrder as program_order;
+ghost use Rattle.tso_terms.specs.declared.execution.Entry.{Entry};
 ghost use Rattle.order_breaches.specs.Entries.{IsExtra, written_value};
 ghost use Rattle.order_breaches.specs.inner.Programs.{kept_in};
 ghost use Rattle.order_breaches.specs.inner.Slots.{Ascends, EntriesAreWithin, IsIndex};
@@ -11,7 +11,7 @@ ghost use Rattle.order_breaches.specs.inner.Sources.{own_write, IsSource, TellsS
 use crate::entries::is_write;
 use crate::index::{find, kept};
 use std::alloc::Global;
-use tso_model::{Entry, NoMemory};
+use tso_terms::{Entry, NoMemory};
 
 /// For each entry of the programs the last write to its location that its own program has before
 /// it.

@@ -1,7 +1,7 @@
 -- The names that the proofs of this crate bring in from definitions and from crates below; each file takes its own from here.
 pub use Rattle.std.proofs.Common.{◌≡◌, ◌≢◌, ℕ, ◌^◌, ◌<◌, List, length, Some, None, Result, Ok, Err, All, ◌⊎◌, inl, inr, refl, subst, suc, ◌+◌, false, eqb, [], ◌∷◌, ◌++◌, map, ap, ◌∙◌, arith, zero, Bool, true, not, ◌||◌, get_or, sym, ◌≤◌, leb, rules, Option, ◌-◌, ◌/◌, ◌%◌, ltb, take, cond, drop, slice_index_or, string_bytes}
 pub use Rattle.std.specs.Prelude.{IfOk, IfErr, codes}
-pub use Rattle.tso_model.specs.Litmus.{Litmus, IsTest, are_distinct}
+pub use Rattle.tso_terms.specs.Litmus.{Litmus, IsTest, are_distinct}
 pub use Rattle.basic_laws.specs.Types.{Entry, Execution, Kind, R, W, F, LR, LW}
 pub use Rattle.order_builder.specs.Spelling.{HasAccess, IsEntryFor, IsOrderFor, SpellsOrder, HasFault, BeginsOrder, IsNoEntry, IsNoEnd, HasNoCount, IsNotOrderLine, IsLineBeforeOrder}
 pub use Rattle.order_builder.specs.PrintedOrder.{IsLocationFor, HasLocation, printed_entry, printed_end, order_lines, letters_of, printed_access, printed_lines, printed_order, HasWord}
@@ -23,7 +23,7 @@ unfoldable pub use Rattle.std.specs.Fmt.{digits}
 pub use Rattle.std.specs.List.{list_all, list_any, position, position_or_len, slice_split}
 pub use Rattle.std.specs.Str.{bytes_eq}
 pub use Rattle.std.proofs.lemmas.List.Quantifiers.{position-Some}
-pub use Rattle.tso_model.specs.Names.{is_name, is_location_name, begins_name, continues_name, is_among}
+pub use Rattle.tso_terms.specs.Names.{is_name, is_location_name, begins_name, continues_name, is_among}
 pub use Rattle.std.proofs.lemmas.Fmt.{digits_decimal, digits_value-decimal, decimal_nonempty, first_decimal, decimal_digit, decimal-digits_value}
 pub use Rattle.std.proofs.lemmas.Str.Parse.{IsNumeralModel, numerals_by_fold}
 unfoldable pub use Rattle.decimals.specs.inner.Decimals.{number_up_to}

@@ -4,10 +4,10 @@ pub mod Numbers
 pub mod Spelling
 pub mod Reading
 pub mod inner
-pub use Rattle.tso_model.specs.Litmus
-pub use Rattle.tso_model.specs.ProgramEntries
-pub use Rattle.tso_model.specs.Axioms
-pub use Rattle.tso_model.specs.Standing
-pub use Rattle.tso_model.specs.ProgramOrder
-pub use Rattle.tso_model.specs.SequentialConsistency
-pub use Rattle.tso_model.specs.Together
+pub use Rattle.tso_terms.specs.Litmus
+pub use Rattle.tso_terms.specs.ProgramEntries
+pub use Rattle.tso_terms.specs.Axioms
+pub use Rattle.tso_terms.specs.Standing
+pub use Rattle.tso_terms.specs.ProgramOrder
+pub use Rattle.tso_terms.specs.SequentialConsistency
+pub use Rattle.tso_terms.specs.Together

@@ -1,7 +1,7 @@
 -- The printed text of an order, and of one entry. It is the text that is read again: nothing of an entry is left out of it.
 use Rattle.std.specs.Prelude.{ℕ, ◌<◌, ◌^◌, List, [], ◌∷◌, ◌++◌, length, map, slice_index_or, codes}
 use Rattle.std.specs.Fmt.{decimal}
-use Rattle.tso_model.specs.Litmus.{Litmus}
+use Rattle.tso_terms.specs.Litmus.{Litmus}
 use Rattle.basic_laws.specs.Types.{Entry, Kind, R, W, F, LR, LW}
 
 -- the letters that stand for a kind

@@ -1,6 +1,6 @@
 -- Which text spells which order of a test, and which fault a text has that spells none.
 use Rattle.std.specs.Prelude.{ℕ, ◌+◌, ◌<◌, ◌^◌, ◌≡◌, ◌≢◌, true, List, [], ◌∷◌, ◌++◌, length, map, All, codes}
-use Rattle.tso_model.specs.Litmus.{Litmus}
+use Rattle.tso_terms.specs.Litmus.{Litmus}
 use Rattle.basic_laws.specs.Types.{Entry, Kind, F}
 use Rattle.order_builder.specs.Lines.{lines_of, is_line}
 use Rattle.decimals.specs.Decimals.{decimal_value}

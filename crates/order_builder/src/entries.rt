@@ -7,7 +7,7 @@ ghost use Rattle.order_builder.specs.inner.Reading.{kind_of, location_named, pla
 
 use crate::lines::{split_once, without_prefix};
 use crate::numbers::{is_number, number_within};
-use tso_model::{Core, Entry, Kind, Loc, Test};
+use tso_terms::{Core, Entry, Kind, Loc, Test};
 
 /// The entry of a test that a line is, if it is one. Its core and its place needn't be the test's.
 #[tactic(auto, unfolding(crate::specs::inner::Reading::entry_in))]

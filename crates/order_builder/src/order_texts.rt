@@ -2,8 +2,8 @@
 //! function that does nothing: who calls it knows it.
 
 ghost use Rattle.std.specs.Prelude.{◌≡◌, ◌↔◌, ◌<◌, ◌^◌, ◌++◌, ◌⊎◌, ℕ, List, All, Ok, Err, length};
-ghost use Rattle.tso_model.specs.Litmus.{Litmus, IsTest};
-ghost use Rattle.tso_model.specs.declared.execution.Entry.{Entry};
+ghost use Rattle.tso_terms.specs.Litmus.{Litmus, IsTest};
+ghost use Rattle.tso_terms.specs.declared.execution.Entry.{Entry};
 ghost use Rattle.order_builder.specs.PrintedOrder.{HasLocation, printed_lines, printed_order};
 ghost use Rattle.order_builder.specs.inner.Reading.{order_of};
 ghost use Rattle.order_builder.specs.Spelling.{HasFault, IsLineBeforeOrder, IsOrderFor, SpellsOrder};

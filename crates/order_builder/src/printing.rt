@@ -10,7 +10,7 @@ ghost use Rattle.order_builder.specs.PrintedOrder.{letters_of, printed_entry, pr
 ghost use Rattle.order_builder.specs.PrintedOrder.{printed_order, HasLocation, HasWord};
 
 use std::alloc::Global;
-use tso_model::{Entry, Execution, Kind, NoMemory, Test};
+use tso_terms::{Entry, Execution, Kind, NoMemory, Test};
 
 /// An entry as it is printed, as `P0:1 R y=0`, or `P1:2 F` for a fence. But for a fence, its location
 /// is one of the test's.

@@ -6,7 +6,7 @@
 ghost use Rattle.std.specs.Prelude.{◌≡◌, ◌≢◌, ◌+◌, ◌<◌, ◌≤◌, ◌^◌, length, List, Ok, Err, IfSome, IfOk, IfErr};
 ghost use Rattle.std.specs.Option.{option_map};
 ghost use Rattle.order_builder.specs.Lines.{lines_of};
-ghost use Rattle.tso_model.specs.declared.execution.Entry.{Entry};
+ghost use Rattle.tso_terms.specs.declared.execution.Entry.{Entry};
 ghost use Rattle.order_builder.specs.Spelling.{SpellsOrder, HasFault};
 ghost use Rattle.order_builder.specs.declared.fault.OrderFault.{OrderFault};
 ghost use Rattle.order_builder.specs.declared.fault.OrderFault.TheVariants.{NoMemory};
@@ -18,7 +18,7 @@ use crate::fault::OrderFault;
 use crate::lines::next_line;
 use crate::numbers::number_is;
 use std::alloc::Global;
-use tso_model::{Execution, Test};
+use tso_terms::{Execution, Test};
 
 /// The order of a test that a text spells. The text before the first line that is `Order`, and after
 /// the first line `Endorder n` after it, is not judged. Cores and places needn't be the test's.

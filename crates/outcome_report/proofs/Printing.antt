@@ -1,7 +1,7 @@
 -- What is printed of the final states that a search found.
 use Rattle.outcome_report.proofs.Vocabulary.{◌≡◌, ◌∙◌, ℕ, suc, ◌+◌, Bool, List, [], ◌∷◌, length, slice_index_or, All, refl, sym, ap, subst, values_of, slice_get-get_or, Litmus, IsTest, AreReached, FinalState, Named, is_as_claimed, Outcome, outcome_of, is_met_in, outcomes_in, PrintsOutcomes, IsOutcomeOf, kept_after, AreShown}
-use Rattle.tso_model.specs.FinalState.{words_from, registers_from}
-use Rattle.tso_model.specs.Runs.{run}
+use Rattle.tso_terms.specs.FinalState.{words_from, registers_from}
+use Rattle.tso_terms.specs.Runs.{run}
 use Rattle.basic_laws.specs.Types.{Choice, Entry, Instr}
 use Rattle.tso_laws.specs.EndedRuns.{End, IsExecution}
 use Rattle.tso_laws.specs.Outcomes.{LeadToEnd}

@@ -1,7 +1,7 @@
 -- What the condition says of a state shows in the values that are looked at.
 use Rattle.outcome_report.proofs.Vocabulary.{◌≡◌, ◌∙◌, ◌⊎◌, inl, inr, ⊎_elim, ◌<◌, ◌≤◌, ◌+◌, ◌==◌, ◌&&◌, ◌||◌, ℕ, zero, suc, Bool, true, false, not, List, [], ◌∷◌, ◌++◌, map, drop, length, slice_index, slice_index_or, Some, refl, sym, ap, subst, arith, Litmus, Claim, TruthClaim, RegClaim, LocClaim, NotClaim, AndClaim, OrClaim, Condition, truth_of, NamesExist, index_of, Reg, Eax, Ebx, Ecx, Edx, Esi, Edi, claim_names_register, claim_names_location, is_looked_at, named_register, named_location, named_registers, named_locations, shown_value, is_added, is_shown, names_shown, Show, Named, Outcome, shown_values, TruthIsShown}
 use Rattle.std.proofs.lemmas.Bool.Decides.{leb_tells, eqb_tells}
-use Rattle.tso_model.specs.Thread.{value_in}
+use Rattle.tso_terms.specs.Thread.{value_in}
 use Rattle.tso_report.specs.Report.{all_registers}
 use Rattle.outcome_report.proofs.Members.{Member, member-left, member-right, member-filter}
 

@@ -1,6 +1,6 @@
 -- In how many states a claim is true: one state after the other, and no more than there are.
 use Rattle.outcome_report.proofs.Vocabulary.{◌≡◌, ◌∙◌, ℕ, suc, ◌+◌, ◌-◌, Bool, true, false, not, cond, List, [], ◌∷◌, length, Vec, Bor, Some, refl, sym, ap, subst, arith, count_by, values_of, Global, sum_by-cons, All-head, All-tail, All-nil, All-cons, Litmus, IsTest, IsCondition, Claim, NamesExist, truth_of, claim_of, condition_of, FinalState, Named, Outcome, outcome_of, shown_values, held_in, failed_in, IsOutcomeOf, kept_of, outcomes_at, AreShown, AllHave}
-use Rattle.tso_model.specs.declared.condition.Cond.{Cond}
+use Rattle.tso_terms.specs.declared.condition.Cond.{Cond}
 
 abbrev pub Entries : Type 0
 Entries = List (Vec ℕ Global × Bor FinalState)

@@ -13,7 +13,7 @@ pub use Rattle.std.specs.declared.cmp.Ordering.{Ordering}
 pub use Rattle.std.specs.declared.cmp.Ordering.TheVariants.{Greater}
 pub use Rattle.std.proofs.lemmas.List.Elements.{All-from_recursion, recursion_from_All, All-head, All-tail, All-nil, All-cons}
 pub use Rattle.std.proofs.lemmas.List.{get_or-map, length-map, drop_more, map-append, length-append}
-pub use Rattle.tso_model.specs.Litmus.{Litmus, IsTest, IsCondition}
+pub use Rattle.tso_terms.specs.Litmus.{Litmus, IsTest, IsCondition}
 pub use Rattle.explorer.specs.declared.final_states.FinalState.{FinalState}
 pub use Rattle.tso_report.specs.Tally.{shown_value, claim_names_register, claim_names_location, is_looked_at, named_register, named_location, named_registers, named_locations}
 pub use Rattle.tso_report.specs.declared.named.Named.{Named}
@@ -22,7 +22,7 @@ pub use Rattle.outcome_report.specs.Outcomes.{Outcome, outcome_of, shown_values,
 pub use Rattle.outcome_report.specs.inner.Shown.{IsOutcomeOf, is_kept, kept_of, with_outcome, kept_after, AreShown, outcomes_at, AllHave}
 pub use Rattle.std.specs.Prelude.{count_by}
 pub use Rattle.std.proofs.lemmas.List.Sums.{sum_by-cons}
-pub use Rattle.tso_model.specs.Condition.{Claim, NamesExist, truth_of, claim_of, condition_of, Condition, TruthClaim, RegClaim, LocClaim, NotClaim, AndClaim, OrClaim}
+pub use Rattle.tso_terms.specs.Condition.{Claim, NamesExist, truth_of, claim_of, condition_of, Condition, TruthClaim, RegClaim, LocClaim, NotClaim, AndClaim, OrClaim}
 pub use Rattle.serde_json.specs.Data.{array, boolean, Data, string, Members, no_members, member, put, object}
 pub use Rattle.serde_json.specs.View.{view, items_of, members_view}
 pub use Rattle.outcome_report.specs.OutcomesJson.{holds_in, state_value, states_value, key_of, value_members, with_holds, observation_value, outcomes_value}
@@ -32,7 +32,7 @@ pub use Rattle.outcome_report.specs.Verdict.{outcomes_verdict_value, is_as_claim
 pub use Rattle.std.proofs.lemmas.Option.{slice_get-get_or, slice_get_within, get_or_from_slice_get}
 pub use Rattle.explorer.specs.FinalStates.{AreReached, Have}
 pub use Rattle.outcome_report.specs.Printed.{outcomes_in, PrintsOutcomes}
-pub use Rattle.tso_model.specs.Registers.{index_of}
+pub use Rattle.tso_terms.specs.Registers.{index_of}
 pub use Rattle.basic_laws.specs.Types.{Reg, Eax, Ebx, Ecx, Edx, Esi, Edi, Core}
 pub use Rattle.shown_values.specs.Shown.{is_added, is_shown, names_shown, values_at}
 pub use Rattle.shown_values.specs.declared.show.Show.{Show}

@@ -1,8 +1,8 @@
 -- Registers that no printed value shows.
 use Rattle.std.specs.Prelude.{ℕ, ◌<◌, ◌≡◌, Bool, true, false, List, length, slice_index_or}
-use Rattle.tso_model.specs.Litmus.{Litmus}
-use Rattle.tso_model.specs.Registers.{index_of}
-use Rattle.tso_model.specs.declared.register.Reg.{Reg}
+use Rattle.tso_terms.specs.Litmus.{Litmus}
+use Rattle.tso_terms.specs.Registers.{index_of}
+use Rattle.tso_terms.specs.declared.register.Reg.{Reg}
 use Rattle.tso_laws.specs.Dead.{seen, hidden_of}
 use Rattle.tso_report.specs.Tally.{named_register}
 use Rattle.tso_report.specs.declared.named.Named.{Named}

@@ -5,8 +5,8 @@ use Rattle.std.specs.Option.{ForSome}
 use Rattle.std.specs.Ordering.{nat_cmp}
 use Rattle.std.specs.Cmp.Lexicographic.{slice_cmp}
 use Rattle.std.specs.List.Sorted.{IsStrictlySortedBy}
-use Rattle.tso_model.specs.Litmus.{Litmus, IsTest}
-use Rattle.tso_model.specs.Condition.{Condition, truth_of}
+use Rattle.tso_terms.specs.Litmus.{Litmus, IsTest}
+use Rattle.tso_terms.specs.Condition.{Condition, truth_of}
 use Rattle.explorer.specs.FinalStates.{Have}
 use Rattle.explorer.specs.declared.final_states.FinalState.{FinalState}
 use Rattle.tso_report.specs.declared.named.Named.{Named}

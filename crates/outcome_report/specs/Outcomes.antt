@@ -5,9 +5,9 @@ use Rattle.std.specs.Fmt.{decimal}
 use Rattle.std.specs.Ordering.{nat_cmp}
 use Rattle.std.specs.Cmp.Lexicographic.{slice_cmp}
 use Rattle.std.specs.List.Sorted.{IsStrictlySortedBy}
-use Rattle.tso_model.specs.Litmus.{Litmus}
-use Rattle.tso_model.specs.Condition.{Claim, Condition, truth_of}
-use Rattle.tso_model.specs.declared.choice.Choice.{Choice}
+use Rattle.tso_terms.specs.Litmus.{Litmus}
+use Rattle.tso_terms.specs.Condition.{Claim, Condition, truth_of}
+use Rattle.tso_terms.specs.declared.choice.Choice.{Choice}
 use Rattle.scheduler.specs.Printed.{printed_after}
 use Rattle.explorer.specs.declared.final_states.FinalState.{FinalState}
 use Rattle.tso_report.specs.Report.{line, test_line}

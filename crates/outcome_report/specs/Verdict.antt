@@ -1,7 +1,7 @@
 -- Whether a test's condition is as it claims, in herd's words.
 use Rattle.std.specs.Prelude.{ℕ, ◌==◌, Bool, true, false, not, List, [], ◌++◌, Option, Some, None, codes}
 use Rattle.serde_json.specs.Data.{Data, null, string}
-use Rattle.tso_model.specs.Condition.{Condition}
+use Rattle.tso_terms.specs.Condition.{Condition}
 use Rattle.basic_laws.specs.Types.{Quantifier, Exists, NotExists, Forall}
 use Rattle.tso_report.specs.Report.{line}
 

@@ -3,12 +3,12 @@
 
 ghost use Rattle.std.specs.Prelude.{◌≡◌};
 ghost use Rattle.std.specs.Map.{values_of};
-ghost use Rattle.tso_model.specs.Condition.{claim_of};
+ghost use Rattle.tso_terms.specs.Condition.{claim_of};
 ghost use Rattle.outcome_report.specs.Outcomes.{held_in, failed_in};
 ghost use Rattle.outcome_report.specs.inner.Shown.{kept_of, AllHave};
 
 use crate::outcomes::Outcomes;
-use tso_model::{Cond, cond_holds};
+use tso_terms::{Cond, cond_holds};
 
 /// In how many of these states the condition's proposition is true, and in how many it is false.
 pub fn counts_of(cond: &Cond, outcomes: &Outcomes) -> (usize, usize)

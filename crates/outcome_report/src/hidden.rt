@@ -4,15 +4,15 @@
 ghost use Rattle.std.specs.Prelude.{◌≡◌, ◌<◌, IfOk, length};
 ghost use Rattle.outcome_report.specs.Hidden.{IsHidden, AreNotShown, AreAllNotShown};
 ghost use Rattle.outcome_report.specs.inner.Hidden.{IsNotHidden};
-ghost use Rattle.tso_model.specs.declared.instruction.Core.{Core};
-ghost use Rattle.tso_model.specs.declared.register.Reg.{Reg};
+ghost use Rattle.tso_terms.specs.declared.instruction.Core.{Core};
+ghost use Rattle.tso_terms.specs.declared.register.Reg.{Reg};
 ghost use Rattle.tso_report.specs.declared.named.Named.{Named};
 ghost use Rattle.shown_values.specs.Shown as shown;
 
 use shown_values::{Show, names_shown};
 use std::alloc::Global;
-use tso_model::{NoMemory, Test};
 use tso_report::named::Named;
+use tso_terms::{NoMemory, Test};
 
 /// What is named is shown: a register of a core isn't hidden then, and every other one stays hidden that was.
 fn reveal(hidden: &mut [[bool; 6]], named: Named)

@@ -21,13 +21,13 @@ use explorer::FinalState;
 use scheduler::choices_text;
 use serde_json::Value;
 use std::alloc::Global;
-use tso_model::{Choice, NoMemory, Test, cond_holds};
 use tso_report::arrays::Array;
 use tso_report::json::unfinished_search_json;
 use tso_report::members::{Datum, object_of, word_value};
 use tso_report::named::Named;
 use tso_report::objects::Object;
 use tso_report::observation::frequency;
+use tso_terms::{Choice, NoMemory, Test, cond_holds};
 
 /// The final states of a search that are printed.
 #[derive(Clone, Copy)]

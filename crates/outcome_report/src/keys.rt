@@ -4,9 +4,9 @@ ghost use Rattle.std.specs.Prelude.{◌≡◌, ◌++◌, [], IfOk, OnOk, string_
 ghost use Rattle.outcome_report.specs.OutcomesJson.{key_of};
 
 use std::alloc::Global;
-use tso_model::{Loc, NoMemory, Test};
 use tso_report::named::Named;
 use tso_report::pieces::{Piece, write_characters, write_pieces};
+use tso_terms::{Loc, NoMemory, Test};
 
 /// The name of a location; nothing, where the test doesn't have it.
 pub fn name_of(test: &Test, loc: Loc) -> &str

@@ -8,8 +8,8 @@ ghost use Rattle.outcome_report.specs.inner.Shown.{AreNamesOf, IsOutcomeOf, kept
 use explorer::FinalState;
 use std::alloc::Global;
 use std::collections::BTreeMap;
-use tso_model::{NoMemory, Test};
 use tso_report::named::{Named, values_at};
+use tso_terms::{NoMemory, Test};
 
 /// The values of what is shown, in ascending order, each list with a final state that has them.
 pub type Outcomes<'a> = BTreeMap<Vec<u32>, &'a FinalState>;

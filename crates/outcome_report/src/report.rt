@@ -16,8 +16,8 @@ use explorer::FinalState;
 use shown_values::{Show, names_shown};
 use std::alloc::Global;
 use tso_laws::ended_runs_are_executions;
-use tso_model::{NoMemory, Test};
 use tso_report::named::Named;
+use tso_terms::{NoMemory, Test};
 
 /// What is printed of final states, and what they say of the condition.
 #[derive(Drop)]

@@ -3,7 +3,7 @@
 
 ghost use Rattle.std.specs.Prelude.{◌≡◌, ◌++◌, IfOk, OnOk, string_bytes, codes};
 ghost use Rattle.std.specs.Fmt.{decimal};
-ghost use Rattle.tso_model.specs.Condition.{claim_of};
+ghost use Rattle.tso_terms.specs.Condition.{claim_of};
 ghost use Rattle.std.specs.Map.{values_of};
 ghost use Rattle.outcome_report.specs.Outcomes.{outcomes_line, state_line, by_line};
 ghost use Rattle.outcome_report.specs.Outcomes.{printed_numbers, true_in, condition_lines};
@@ -16,12 +16,12 @@ use crate::outcomes::Outcomes;
 use crate::verdict::{is_met, write_verdict};
 use scheduler::write_after;
 use std::alloc::Global;
-use tso_model::{Choice, Cond, NoMemory, Test, cond_holds};
 use tso_report::named::Named;
 use tso_report::observation::write_observed;
 use tso_report::pieces::{Piece, write_pieces};
 use tso_report::printed_values::write_values;
 use tso_report::report::write_test;
+use tso_terms::{Choice, Cond, NoMemory, Test, cond_holds};
 
 /// The final states of a test as lines: the test; the depth and the number of states; two lines for
 /// each state; and, where the test has a condition, in how many of them its proposition is true and

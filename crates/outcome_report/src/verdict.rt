@@ -11,10 +11,10 @@ use crate::counting::counts_of;
 use crate::outcomes::Outcomes;
 use serde_json::Value;
 use std::alloc::Global;
-use tso_model::{NoMemory, Quantifier, Test};
 use tso_report::members::word_value;
 use tso_report::named::Named;
 use tso_report::pieces::{Piece, write_pieces};
+use tso_terms::{NoMemory, Quantifier, Test};
 
 /// Whether what the test's condition asks for is so in one of the states: of `exists` and `~exists` that its proposition
 /// is true, of `forall` that it is false. Without a condition nothing is asked for.

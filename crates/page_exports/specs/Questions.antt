@@ -1,11 +1,11 @@
 -- What the numbers of the page ask for, and what answers them: the same settings and answers as those of the program, so
 -- that its promises hold of the page.
 use Rattle.std.specs.Prelude.{ℕ, ◌≡◌, ◌<◌, ◌≤◌, ◌⊎◌, true, List, Some, length, take}
-use Rattle.tso_model.specs.declared.choice.Bus.{Bus}
+use Rattle.tso_terms.specs.declared.choice.Bus.{Bus}
 use Rattle.cache_set.specs.Geometry.{geometry, IsShapeWithinLimits}
 use Rattle.protocol_tables.specs.declared.kind.ProtocolKind.{ProtocolKind}
 use Rattle.refutation_laws.specs.declared.model.Model.{Model}
-use Rattle.tso_model.specs.Limits.{most_depth}
+use Rattle.tso_terms.specs.Limits.{most_depth}
 use Rattle.multiprocessor.specs.Configuration.{Configuration}
 use Rattle.command_line.specs.Limits.{IsDepth}
 use Rattle.scheduler.specs.Plan.{IsPlanWithinLimits}
@@ -20,7 +20,7 @@ use Rattle.tso_cli.specs.declared.answer.Status.{Status}
 use Rattle.page_exports.specs.declared.question.Numbers.{Numbers}
 use Rattle.page_exports.specs.declared.question.Question.{Question}
 use Rattle.page_exports.specs.declared.AnswerLengths.{AnswerLengths}
-use Rattle.tso_model.specs.declared.choice.Bus.TheVariants as buses
+use Rattle.tso_terms.specs.declared.choice.Bus.TheVariants as buses
 use Rattle.protocol_tables.specs.declared.kind.ProtocolKind.TheVariants as kinds
 use Rattle.refutation_laws.specs.declared.model.Model.TheVariants as models
 use Rattle.shown_values.specs.declared.show.Show.{Show}

@@ -14,7 +14,7 @@ pub use question::Numbers;
 use question::{Question, question_of, status_number};
 use std::alloc::Global;
 use tso_cli::{Answer, Settings, answer_to, hint, step_answer};
-use tso_model::NoMemory;
+use tso_terms::NoMemory;
 
 /// The status where the numbers ask for nothing that there is, as the program's for a command line that is refused.
 pub const NOTHING_ASKED: u8 = 2;

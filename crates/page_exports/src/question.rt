@@ -14,8 +14,8 @@ use refutation_laws::Model;
 use scheduler::SweepPlan;
 use snoop_bus::Shape;
 use tso_cli::{Settings, Status};
-use tso_model::Bus;
-use tso_model::limits::{MAX_DEPTH, MIN_DEPTH};
+use tso_terms::Bus;
+use tso_terms::limits::{MAX_DEPTH, MIN_DEPTH};
 
 /// A command and its options, as numbers; each command looks at its own options alone.
 #[repr(C)]

@@ -1,7 +1,7 @@
 -- The values that the answers of a refutation tell are words, and a fence has none.
 use Rattle.promises.proofs.PrintedVocabulary.{◌≡◌, ℕ, Bool, true, false, List, [], ◌∷◌, refl, ap, ◌∙◌, zero, suc, Option, arith, ◌+◌, slice_index, All, Some, None, cond, map, slice_index_or, IfSome, filter, Litmus, IsTest, ConstantIsWord, All-head, All-tail, All-map, All-cons, All-nil, All-append, IsWord, AreRegisters, index_of, entry, Reg, Entry, Loc, Kind, R, W, F, LR, LW, action_of, is_read, Instr, Operand, Number, Held, Update, Exchange, Add, Action, Store, Load, Move, Fence, Lock, IsValueFor, Known, events_of, same_event, Source, known_in, known_operand, known_update, word_given, write_with, writes_by, registers_left_by, writes_of, left_of, known_first_registers, writes_from, value_among, returned_from, returned, known_writes, all_known, value_read, register_at_end, words_at_end, can_be_last, value_known, same-bare}
 use Rattle.std.specs.Prelude.{slice_set}
-use Rattle.tso_model.specs.declared.instruction.Instr.TheVariants as instr
+use Rattle.tso_terms.specs.declared.instruction.Instr.TheVariants as instr
 use Rattle.promises.proofs.Lists.{word-at}
 
 -- a word, if it is known

@@ -2,10 +2,10 @@
 -- that an order of the test may have, and no core stands past its program.
 use Rattle.promises.proofs.PrintedVocabulary.{◌≡◌, ℕ, ◌<◌, Bool, true, false, List, [], ◌∷◌, ◌++◌, drop, refl, sym, subst, zero, suc, ◌≤◌, Option, arith, inl, inr, ◌+◌, length, slice_index, All, Some, None, slice_index_or, if◌then◌else◌, take, IfSome, nat_lt, slice_get, slice_set, Litmus, IsTest, IsProgram, KnownLocation, ConstantIsWord, Bus, Atomic, Split, All-head, All-tail, All-cons, All-nil, All-push, All-set, All-filter, All-drop, IsWord, AreRegisters, index_of, value_in, entry, fence, value_of, sum_of, updated, Reg, Entry, HasAccess, IsEntryFor, Choice, Drain, chosen, CoreState, State, Effect, is_none_pending, stalled, advanced_with, stored, load_value, effect_by, idle, program_of, core_of, effect_of, memory_after, applied, started, start, Kind, R, W, F, LR, LW, Stall, Committed, Buffered, action_of, is_write, writes_to, MemoryAccess, Locks, access_of, Holder, Free, HeldBy, HeldBetween, Attempt, BusEffect, same_choice, needs_bus, acts, asks, begins, completes, as_read, writes_last, split_effect, Instr, Operand, Number, Held, Update, Exchange, Add, Action, Store, Load, Move, Fence, Lock, ActionKnown, AccessKnown, step_of, next_of}
 use Rattle.std.proofs.Common.{filter}
-use Rattle.tso_model.specs.Axioms.{last_value}
-use Rattle.tso_model.specs.EitherBus.{BusState, effect_on}
+use Rattle.tso_terms.specs.Axioms.{last_value}
+use Rattle.tso_terms.specs.EitherBus.{BusState, effect_on}
 use Rattle.basic_laws.specs.Types.{StoreImm, SetImm, Step}
-use Rattle.tso_model.specs.declared.choice.Stall.TheVariants as stall
+use Rattle.tso_terms.specs.declared.choice.Stall.TheVariants as stall
 use Rattle.basic_laws.proofs.Cores.{starts-idle}
 use Rattle.tso_laws.proofs.Cores.{core-cases}
 use Rattle.promises.proofs.Lists.{word-at}

@@ -1,9 +1,9 @@
 -- What a search finds with store buffers, and what it hides.
 use Rattle.promises.proofs.Vocabulary.{◌≡◌, ◌∙◌, ◌<◌, ℕ, Bool, false, ◌||◌, List, length, IfOk, Ok, Err, Result, Some, None, Vec, ap, Litmus, IsTest, EndsAreWhatTsoAllows, IsAllowedAtDepth, AreReached, HaveEveryEnd, AreWhat}
 use Rattle.std.specs.declared.alloc.Global.{Global}
-use Rattle.tso_model.specs.Condition as conditions
+use Rattle.tso_terms.specs.Condition as conditions
 use Rattle.shown_values.specs.declared.show.Show.TheVariants.{Condition}
-use Rattle.tso_model.specs.declared.register.Reg.{Reg}
+use Rattle.tso_terms.specs.declared.register.Reg.{Reg}
 use Rattle.explorer.specs.declared.final_states.Exploration.{Exploration}
 use Rattle.tso_report.specs.Tally.{is_looked_at, named_register, claim_names_register}
 use Rattle.outcome_report.specs.Hidden.{IsHidden, AreAllNotShown}

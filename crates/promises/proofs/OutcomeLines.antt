@@ -1,6 +1,6 @@
 -- The lines of `outcomes` tell the states, and in which the condition's proposition is true.
 use Rattle.promises.proofs.PrintedVocabulary.{◌≡◌, ℕ, ◌^◌, ◌<◌, true, false, List, [], ◌∷◌, ◌++◌, get_or, drop, refl, sym, ap, ◌∙◌, Option, length, All, Some, None, map, decimal, list_all, append_cancel_left, append_assoc, codes, line, test_line, Litmus, is_printable, Condition, IsStateAt, Named, printed_values, names_shown, Choice, Drain, printed_choice, printed_after, printed_choices, Outcome, shown_values, outcomes_line, outcome_lines, condition_lines, alike, OutcomesTellTheirStates, OutcomesTellTheirTests}
-use Rattle.tso_model.specs.declared.choice.Choice.TheVariants.{Step}
+use Rattle.tso_terms.specs.declared.choice.Choice.TheVariants.{Step}
 use Rattle.promises.proofs.Cutting.{unlike, run-cut, filled-cut}
 use Rattle.promises.proofs.Lists.{Tells, list-cut}
 use Rattle.promises.proofs.Heads.{printable-name}

@@ -18,17 +18,17 @@ pub use Rattle.tso_report.specs.Report.{line, bus_text, machine_line, head, prin
 unfoldable pub use Rattle.tso_report.specs.Report.{all_registers}
 pub use Rattle.tso_report.specs.Json.{unfinished_run_value, count, counts_value, condition_value, with_bus, configuration_members, machine_value, memory_members, registers_value, run_value, run_members, unfinished_members, json_report, json_unfinished, memory_value}
 pub use Rattle.promises.specs.Telling.{UnfinishedRunsAreTold, NameTheSame, ReportsTellTheirRuns, SweepsTellTheirCounts, ReportsTellTheirMachines, SweepsTellTheirMachines}
-pub use Rattle.tso_model.specs.Litmus.{Litmus, IsTest, are_distinct, IsProgram, KnownLocation, ConstantIsWord}
-pub use Rattle.tso_model.specs.Names.{is_printable, is_test_name, is_among, is_name, is_location_name, continues_name}
+pub use Rattle.tso_terms.specs.Litmus.{Litmus, IsTest, are_distinct, IsProgram, KnownLocation, ConstantIsWord}
+pub use Rattle.tso_terms.specs.Names.{is_printable, is_test_name, is_among, is_name, is_location_name, continues_name}
 pub use Rattle.basic_laws.specs.Types.{Bus, Atomic, Split, Reg, Entry, Eax, Ebx, Ecx, Edx, Esi, Edi, Choice, Drain, Core, Loc, Kind, R, W, F, LR, LW, Stall, Committed, Buffered, Moved, Asked, Stalled, Instr, Operand, Number, Held, Update, Exchange, Add, Action, Quantifier, Exists, NotExists, Forall}
 pub use Rattle.protocol_tables.specs.Names.{protocol_name}
 pub use Rattle.protocol_tables.specs.declared.kind.ProtocolKind.{ProtocolKind}
 pub use Rattle.cache_set.specs.Geometry.{IsLineSize}
 pub use Rattle.multiprocessor.specs.Configuration.{Configuration, IsConfigurationWithinLimits}
 pub use Rattle.std.proofs.lemmas.List.Elements.{All-head, All-tail, All-contains, All-weaker, All-map, All-cons, All-nil, All-push, All-set, All-filter, All-drop, All-append, All-take}
-pub use Rattle.tso_model.specs.Condition.{Condition, Claim, truth_of, TruthClaim, RegClaim, LocClaim, NotClaim, AndClaim, OrClaim}
-pub use Rattle.tso_model.specs.Registers.{IsWord, AreRegisters, index_of, name_of}
-pub use Rattle.tso_model.specs.Thread.{value_in, entry, fence, value_of, sum_of, updated, entries_by, registers_by, values_after, entries_of}
+pub use Rattle.tso_terms.specs.Condition.{Condition, Claim, truth_of, TruthClaim, RegClaim, LocClaim, NotClaim, AndClaim, OrClaim}
+pub use Rattle.tso_terms.specs.Registers.{IsWord, AreRegisters, index_of, name_of}
+pub use Rattle.tso_terms.specs.Thread.{value_in, entry, fence, value_of, sum_of, updated, entries_by, registers_by, values_after, entries_of}
 pub use Rattle.multiprocessor.specs.Keeping.{IsAtMost}
 pub use Rattle.multiprocessor.specs.declared.counts.Counts.{Counts}
 pub use Rattle.order_builder.specs.PrintedOrder.{printed_order, printed_entry, printed_end, printed_lines, letters_of, printed_access, HasWord}
@@ -49,7 +49,7 @@ pub use Rattle.std.specs.Str.{bytes_eq}
 pub use Rattle.std.proofs.lemmas.Slice.Eq.{bytes_eq-Decides}
 pub use Rattle.json.specs.Print.{escape, print, quoted, IsNumber}
 unfoldable pub use Rattle.json.specs.Print.{escape_byte}
-pub use Rattle.tso_model.specs.Runs.{Run, run, has_ended, CoresExist}
+pub use Rattle.tso_terms.specs.Runs.{Run, run, has_ended, CoresExist}
 pub use Rattle.tso_cli.specs.RunTexts.{report_in, unfinished_in}
 pub use Rattle.machine_runs.specs.Runs.{run_under, counts_under}
 pub use Rattle.promises.specs.OfRuns.{PrintedRunsAreTold}
@@ -72,8 +72,8 @@ pub use Rattle.refutation_laws.specs.declared.model.Model.{Model}
 pub use Rattle.reason_report.specs.Steps.{ReasonStep, Case, So, Leaf, Endcases, steps_of, leaves_in, Answer, From, Before, Closing, Uniproc, Cycle, Amid, False, event_at, edges_back, edges_of, is_leaf, leaf_steps, replies, with_reply, Part, Branch, branches_with, is_closed, write_of_answer, answer_at, are_alike, groups, known_of_case, closed_case, case_steps, so_steps, rest_steps, question_steps, grown, is_false_source, is_source, is_false, answer_of_case, answer_of_branch, parts_of_nodes}
 pub use Rattle.reason_report.specs.ReasonText.{model_name, truth_asked, asked_line, never_line, reason_step_line, blanks, answer_text, closing_text, from_line, reads_of, coherence_lines, values_left, location_text, entry_text, event_text, relation_text, hop_text, cycle_text, source_text, or_text, sources_text, bar_text, words_text, place_text}
 pub use Rattle.reason_report.specs.ReasonJson.{asked_value, step_value, edge_value, answer_value, place_members, never_value_of, allowed_value, unfinished_reason_json, cycle_value}
-pub use Rattle.tso_model.specs.FinalState.{final_words, final_registers}
-pub use Rattle.tso_model.specs.FlatMachine.{registers_in, chosen, CoreState, State, Effect, is_none_pending, stalled, advanced_with, stored, load_value, effect_by, idle, program_of, core_of, effect_of, memory_after, applied, started, start, step_of}
+pub use Rattle.tso_terms.specs.FinalState.{final_words, final_registers}
+pub use Rattle.tso_terms.specs.FlatMachine.{registers_in, chosen, CoreState, State, Effect, is_none_pending, stalled, advanced_with, stored, load_value, effect_by, idle, program_of, core_of, effect_of, memory_after, applied, started, start, step_of}
 pub use Rattle.tso_laws.specs.Outcomes.{IsEnd, EndsAreWhatTsoAllows}
 pub use Rattle.litmus_reader.specs.Spelling.{SpellsTest}
 pub use Rattle.outcome_report.specs.Laws.{TruthIsShown}
@@ -91,15 +91,15 @@ pub use Rattle.trace_report.specs.declared.step.LineRequest.{LineRequest}
 pub use Rattle.trace_report.specs.declared.step.LineState.{LineState}
 pub use Rattle.trace_report.specs.declared.step.StateChange.{StateChange}
 pub use Rattle.std.specs.Option.{option_map}
-pub use Rattle.tso_model.specs.declared.choice.Stall.TheVariants.{Done, Full, Empty}
+pub use Rattle.tso_terms.specs.declared.choice.Stall.TheVariants.{Done, Full, Empty}
 pub use Rattle.promises.specs.Traces.{bare_store, told_by_line, TraceStepFits, TracesTellTheirSteps, told_by_object, SourceFits, ObjectsTellTheirSteps, IsReadable, TraceValuesTellTheirSteps, PrintedTracesAreTold, PrintedTracesNameTheSame}
 pub use Rattle.trace_json.specs.Values.{text_or_null, array_of_texts}
 pub use Rattle.trace_json.specs.StepJson.{outcome_word, stall_in, step_json}
-pub use Rattle.tso_model.specs.Actions.{action_of, location_of}
-pub use Rattle.tso_model.specs.ProgramOrder.{is_write, writes_to, is_read}
-pub use Rattle.tso_model.specs.MemoryAccess.{MemoryAccess, NoAccess, Writes, Locks, access_of, next_of}
-pub use Rattle.tso_model.specs.SplitMachine.{Holder, Free, HeldBy, HeldBetween, Attempt, BusEffect, same_choice, needs_bus, acts, asks, begins, completes, as_read, writes_last, split_effect}
-pub use Rattle.tso_model.specs.declared.action.Action.TheVariants.{Store, Load, Move, Fence, Lock}
+pub use Rattle.tso_terms.specs.Actions.{action_of, location_of}
+pub use Rattle.tso_terms.specs.ProgramOrder.{is_write, writes_to, is_read}
+pub use Rattle.tso_terms.specs.MemoryAccess.{MemoryAccess, NoAccess, Writes, Locks, access_of, next_of}
+pub use Rattle.tso_terms.specs.SplitMachine.{Holder, Free, HeldBy, HeldBetween, Attempt, BusEffect, same_choice, needs_bus, acts, asks, begins, completes, as_read, writes_last, split_effect}
+pub use Rattle.tso_terms.specs.declared.action.Action.TheVariants.{Store, Load, Move, Fence, Lock}
 pub use Rattle.trace_report.proofs.Places.{ActionKnown, AccessKnown, access-known}
 pub use Rattle.protocol_tables.specs.Tables.{Table, table_of}
 pub use Rattle.snoop_bus.specs.Asks.{Awaited}

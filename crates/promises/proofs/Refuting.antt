@@ -1,6 +1,6 @@
 -- A claim that no tree refutes: what makes it true.
 use Rattle.promises.proofs.Vocabulary.{◌≡◌, true, List, length, ◌⊎◌, inl, inr, Litmus, Claim, truth_of, registers_in, CoresExist, run, Choice, Entry}
-use Rattle.tso_model.specs.FinalState.{final_registers, final_words}
+use Rattle.tso_terms.specs.FinalState.{final_registers, final_words}
 use Rattle.tso_laws.specs.EndedRuns.{End}
 use Rattle.relational_model.specs.Candidates.{Candidate, registers_left, words_left}
 use Rattle.refutation_laws.specs.Models.{HasCandidate, HasExecution, HasRun, IsAllowedBy, IsExecutionOf, IsRefuted, depth_of}

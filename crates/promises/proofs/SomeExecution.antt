@@ -1,7 +1,7 @@
 -- An execution, whatever it needs.
 use Rattle.promises.proofs.Vocabulary.{◌≡◌, ◌≤◌, ℕ, Bool, List, Claim, Litmus, Entry}
 use Rattle.tso_laws.specs.Depth.{needed}
-use Rattle.tso_model.specs.Axioms.{IsTsoExecution}
+use Rattle.tso_terms.specs.Axioms.{IsTsoExecution}
 use Rattle.promises.specs.Observed.{truth_after}
 
 pub needs-no-more : (t : Litmus) (claim : Claim) (truth : Bool) (depth : ℕ)

@@ -1,7 +1,7 @@
 -- The lines of a trace tell its steps.
 use Rattle.promises.proofs.PrintedVocabulary.{◌≡◌, ℕ, ◌^◌, ◌<◌, false, List, [], ◌∷◌, ◌++◌, get_or, refl, sym, ap, subst, ◌∙◌, Option, arith, length, All, Some, None, ◌==◌, map, if◌then◌else◌, IfSome, decimal, is_ascii_digit, append_cancel_left, append_assoc, length-map, codes, Litmus, IsTest, continues_name, All-head, Entry, HasWord, Choice, Drain, printed_choice, chosen, all_of_location, IsLine, IsAt, entries_text, moved_text, forwarded_text, access_text, request_text, flush_text, write_back_text, changes_text, outcome_name, store_text, later_stores, stores_text, buffer_text, step_lines, StateChange, option_map, Stall, Done, Full, Empty, Committed, Buffered, Moved, Asked, Stalled, bare_store, told_by_line, TraceStepFits, TracesTellTheirSteps, trace_step_line, ShownStep}
 use Rattle.basic_laws.specs.Types.{Step, Outcome}
-use Rattle.tso_model.specs.declared.choice.Stall.TheVariants.{Fence, Lock, Bus}
+use Rattle.tso_terms.specs.declared.choice.Stall.TheVariants.{Fence, Lock, Bus}
 use Rattle.protocol_tables.specs.PrintedTable.{line}
 use Rattle.promises.proofs.Cutting.{Stops, unlike, run-cut}
 use Rattle.promises.proofs.Lists.{Tells, list-cut, both-fit}

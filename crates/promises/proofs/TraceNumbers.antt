@@ -1,7 +1,7 @@
 -- The JSON value of a trace is read back from its text.
 use Rattle.promises.proofs.PrintedVocabulary.{ℕ, ◌<◌, Bool, true, false, List, [], ◌∷◌, zero, suc, Option, arith, ◌+◌, length, slice_index, All, Some, None, map, ◌/◌, if◌then◌else◌, ◌*◌, take, IfSome, nat_lt, range_with_len, Data, outline, items_outline, IsNumber-decimal, Litmus, IsTest, ProtocolKind, Configuration, All-head, All-tail, All-cons, All-nil, All-drop, All-take, Condition, IsWord, items_of, has_ended, CoresExist, Choice, chosen, core_of, store_text, names_in_line, transient_name, MemoryAccess, NoAccess, Writes, Locks, access_of, Holder, Free, HeldBy, HeldBetween, table_of, Awaited, at_access, Running, new_machine, machine_after, trace_step_of, Transient, bus_holder, bus_holder_as, bus_holder_of, BusHolder, words_per_line, copy_json, sets_json, core_json, cores_json, words_on_bus, bus_json, machine_json, own_word, own_words_from, own_words, is_newer_in, instruction_text, program_value, programs_value, proposition_text, proposition_value, sourced_by, step_to, steps_json, trace_json}
 use Rattle.std.specs.Prelude.{option_map}
-use Rattle.tso_model.specs.MemoryAccess.{Reads}
+use Rattle.tso_terms.specs.MemoryAccess.{Reads}
 use Rattle.snoop_bus.specs.Accesses.{with_words}
 use Rattle.cache_set.specs.Limits.{most_words}
 use Rattle.cache_set.specs.Lines.{offset_of, line_of_words}

@@ -1,7 +1,7 @@
 -- The object of a step tells the step: each member is read as the part of a line that has the same words.
 use Rattle.promises.proofs.PrintedVocabulary.{◌≡◌, ℕ, List, [], ◌∷◌, ◌++◌, get_or, refl, sym, ap, ◌∙◌, suc, ◌≤◌, Option, arith, Some, None, ◌==◌, map, if◌then◌else◌, IfSome, Data, string, outline, codes, Litmus, IsTest, IsReadable, Entry, printed_entry, printed_choice, Core, AccessKind, access_name, line_name, entries_text, moved_text, access_text, request_text, flush_text, write_back_text, changes_text, stall_name, printed_move, printed_request, printed_core, printed_change, LineRequest, StateChange, option_map, Stall, Done, Committed, Buffered, Moved, Asked, Stalled, TraceStepFits, told_by_object, SourceFits, ObjectsTellTheirSteps, text_or_null, outcome_word, stall_in, step_json, ShownStep}
 use Rattle.json.specs.Json as json
-use Rattle.tso_model.specs.declared.choice.Outcome.{Outcome}
+use Rattle.tso_terms.specs.declared.choice.Outcome.{Outcome}
 use Rattle.trace_report.specs.declared.step.Moved as move
 use Rattle.trace_json.specs.Supplied.{supplier_text}
 use Rattle.trace_json.specs.declared.supplied.Source.{Source}

@@ -1,6 +1,6 @@
 -- The words of a trace: what each begins a text with is told by the text.
 use Rattle.promises.proofs.PrintedVocabulary.{◌≡◌, ℕ, ◌^◌, ◌<◌, true, false, List, [], ◌∷◌, ◌++◌, get_or, refl, sym, ap, subst, ◌∙◌, Option, unwrap_or, arith, length, ◌==◌, if◌then◌else◌, decimal, list_all, is_ascii_digit, append_cancel_left, append_assoc, codes, Litmus, IsTest, continues_name, name_of, Reg, Entry, printed_entry, letters_of, printed_access, HasAccess, IsEntryFor, Eax, Ebx, Ecx, Edx, Esi, Edi, nat_tests, Choice, Drain, printed_choice, Core, Loc, Kind, R, W, F, LR, LW, all_of_location, location_again}
-use Rattle.tso_model.specs.declared.choice.Choice.TheVariants.{Step}
+use Rattle.tso_terms.specs.declared.choice.Choice.TheVariants.{Step}
 use Rattle.order_builder.specs.inner.Reading.{location_named}
 use Rattle.promises.proofs.Cutting.{BeginsWithout, Stops, unlike, run-cut, number-cut, next-cut, same-cut}
 

@@ -1,8 +1,8 @@
 -- The line of a locked instruction that has read and not yet written: a load of its own core hits there, and no access of
 -- another core.
 use Rattle.std.specs.Prelude.{ℕ, ◌/◌, ◌≡◌, ◌≢◌, Bool, true, false}
-use Rattle.tso_model.specs.SplitMachine.{HeldBetween}
-use Rattle.tso_model.specs.declared.execution.Entry.{Entry}
+use Rattle.tso_terms.specs.SplitMachine.{HeldBetween}
+use Rattle.tso_terms.specs.declared.execution.Entry.{Entry}
 use Rattle.multiprocessor.specs.Caches.{Caches, would_hit}
 use Rattle.machine_core.specs.Running.{Running}
 

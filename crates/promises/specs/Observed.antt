@@ -3,9 +3,9 @@
 use Rattle.std.specs.Prelude.{ℕ, ◌≡◌, ◌<◌, ◌≤◌, Bool, true, false, List, ◌++◌, length, Some, codes}
 use Rattle.std.specs.Fmt.{decimal}
 use Rattle.promises.specs.Vocabulary.{Claim, Condition, InputHeadline, line, Litmus, longest_input, parts_of, printed_numbers, registers_in, Search, SpellsTest, truth_of, verdict_word}
-use Rattle.tso_model.specs.Axioms.{IsTsoExecution}
-use Rattle.tso_model.specs.FinalState.{final_words, final_registers}
-use Rattle.tso_model.specs.Runs.{run, CoresExist}
+use Rattle.tso_terms.specs.Axioms.{IsTsoExecution}
+use Rattle.tso_terms.specs.FinalState.{final_words, final_registers}
+use Rattle.tso_terms.specs.Runs.{run, CoresExist}
 use Rattle.basic_laws.specs.Types.{Choice, Entry}
 use Rattle.tso_laws.specs.Depth.{needed}
 use Rattle.tso_laws.specs.Outcomes.{IsSequentiallyConsistent}

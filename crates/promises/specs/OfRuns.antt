@@ -1,7 +1,7 @@
 -- The runs of a machine, and what is printed of them: where the same is printed of two, the same is shown of both.
 use Rattle.std.specs.Prelude.{◌≡◌, ◌≤◌, Bool, true, false, List, length}
 use Rattle.promises.specs.Vocabulary.{AnswersFit, Configuration, IsConfigurationWithinLimits, IsTest, Litmus, most_choices, ProtocolKind, run_under, shown_under}
-use Rattle.tso_model.specs.declared.choice.Choice.{Choice}
+use Rattle.tso_terms.specs.declared.choice.Choice.{Choice}
 use Rattle.tso_cli.specs.CommandAnswers.{text_under}
 
 -- two runs leave the same to be printed: both ended, and the same is shown of them, or neither did, and both used as many

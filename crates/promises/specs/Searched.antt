@@ -1,6 +1,6 @@
 -- The lines of `outcomes`, and what `run` answers to them.
 use Rattle.std.specs.Prelude.{ℕ, ◌≡◌, Bool, List, [], ◌∷◌, ◌++◌, All, Some, codes}
-use Rattle.tso_model.specs.Litmus.{Litmus}
+use Rattle.tso_terms.specs.Litmus.{Litmus}
 use Rattle.litmus_reader.specs.Spelling.{SpellsTest}
 use Rattle.scheduler.specs.Printed.{printed_choices}
 use Rattle.protocol_tables.specs.declared.kind.ProtocolKind.{ProtocolKind}

@@ -1,10 +1,10 @@
 -- The words of the crates below that the definitions of this crate use, in one place: each file takes its own from here.
 pub use Rattle.serde_json.specs.Written.{compact_text, outline}
-pub use Rattle.tso_model.specs.Condition.{Claim, Condition, truth_of}
-pub use Rattle.tso_model.specs.FlatMachine.{chosen, core_of, registers_in}
-pub use Rattle.tso_model.specs.Litmus.{IsTest, Litmus}
-pub use Rattle.tso_model.specs.Registers.{IsWord}
-pub use Rattle.tso_model.specs.Runs.{CoresExist}
+pub use Rattle.tso_terms.specs.Condition.{Claim, Condition, truth_of}
+pub use Rattle.tso_terms.specs.FlatMachine.{chosen, core_of, registers_in}
+pub use Rattle.tso_terms.specs.Litmus.{IsTest, Litmus}
+pub use Rattle.tso_terms.specs.Registers.{IsWord}
+pub use Rattle.tso_terms.specs.Runs.{CoresExist}
 pub use Rattle.basic_laws.specs.Types.{Exists, F, Forall, Kind, NotExists, Quantifier}
 pub use Rattle.refutation_laws.specs.Known.{bare, same_event}
 pub use Rattle.refutation_laws.specs.Refutations.{asked_claim, Between, ComesFirst, FalseClaim, Globally, Node, OnLocation, ReadsFrom, refutes}

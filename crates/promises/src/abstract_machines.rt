@@ -8,10 +8,10 @@ ghost use Rattle.abstract_machine.specs.OneStep.{CanGoOn, IsBlocked, KeepsBuffer
 ghost use Rattle.abstract_machine.specs.Steps.{StandsAt, ThreadStep};
 ghost use Rattle.tso_laws.specs.Counting.{most_stores};
 ghost use Rattle.tso_laws.specs.Reached.{IsReached};
-ghost use Rattle.tso_model.specs.FinalState.{final_registers, final_words};
-ghost use Rattle.tso_model.specs.Litmus.{IsTest, Litmus};
-ghost use Rattle.tso_model.specs.Thread.{fence};
-ghost use Rattle.tso_model.specs.declared.action.Action.TheVariants.{Lock, Move, Store};
+ghost use Rattle.tso_terms.specs.FinalState.{final_registers, final_words};
+ghost use Rattle.tso_terms.specs.Litmus.{IsTest, Litmus};
+ghost use Rattle.tso_terms.specs.Thread.{fence};
+ghost use Rattle.tso_terms.specs.declared.action.Action.TheVariants.{Lock, Move, Store};
 ghost use Rattle.basic_laws.specs.Types.{Operand, Update, Entry, Loc, Reg};
 
 use abstract_machine::{

@@ -13,7 +13,7 @@ use cache_set::Line;
 use protocol_tables::Protocol;
 use snoop_bus::{Access, Shape, SnoopBus};
 use std::alloc::Global;
-use tso_model::{Core, Loc, NoMemory};
+use tso_terms::{Core, Loc, NoMemory};
 
 /// The words that are seen of a new bus are those that it is made with, and its copies are coherent.
 pub fn a_new_bus<P: Protocol>(

@@ -3,9 +3,9 @@
 
 ghost use Rattle.std.specs.Prelude.{ℕ, ◌≡◌, ◌+◌, ◌-◌, ◌^◌, ◌<◌, ◌≤◌, ◌↔◌, ◌⊎◌, List, [], Ok, Err, IfOk, true, false, length, string_bytes};
 ghost use Rattle.std.specs.Io.KnownBytes.{Keeps};
-ghost use Rattle.tso_model.specs.Litmus.{Litmus};
-ghost use Rattle.tso_model.specs.Runs.{run};
-ghost use Rattle.tso_model.specs.declared.choice.Choice.{Choice};
+ghost use Rattle.tso_terms.specs.Litmus.{Litmus};
+ghost use Rattle.tso_terms.specs.Runs.{run};
+ghost use Rattle.tso_terms.specs.declared.choice.Choice.{Choice};
 ghost use Rattle.litmus_reader.specs.Spelling.{SpellsTest};
 ghost use Rattle.scheduler.specs.Grammar.{SpellsChoices};
 ghost use Rattle.scheduler.specs.WordOfChoice.{IsWordOfChoice};
@@ -26,7 +26,7 @@ use protocol_tables::ProtocolKind;
 use std::alloc::Global;
 use std::io::{Read, Write};
 use tso_cli::{Answer, Counted, RunFault, Settings, Status, answer_to, hint, run_command};
-use tso_model::NoMemory;
+use tso_terms::NoMemory;
 
 /// What a command writes is the answer to what its reader has, and keeps the headline.
 ///

@@ -22,15 +22,15 @@ ghost use Rattle.tso_laws.specs.BusRuns.{IsFlatRun, made_for_bus, wait_for_bus, 
 ghost use Rattle.tso_laws.specs.BusSoFar.{SoFarOn};
 ghost use Rattle.tso_laws.specs.Holders.{HolderFits};
 ghost use Rattle.tso_laws.specs.Choices.{IsPossible};
-ghost use Rattle.tso_model.specs.EitherBus.{BusRun, BusState, HitsFit, choices_in, run_on, unheld};
-ghost use Rattle.tso_model.specs.FlatMachine.{chosen, start};
-ghost use Rattle.tso_model.specs.Litmus.{Litmus};
-ghost use Rattle.tso_model.specs.MemoryAccess.{access_of};
-ghost use Rattle.tso_model.specs.Runs.{CoresExist, has_ended, run};
-ghost use Rattle.tso_model.specs.SplitMachine.{Attempt, Free};
-ghost use Rattle.tso_model.specs.Together.{put_together};
+ghost use Rattle.tso_terms.specs.EitherBus.{BusRun, BusState, HitsFit, choices_in, run_on, unheld};
+ghost use Rattle.tso_terms.specs.FlatMachine.{chosen, start};
+ghost use Rattle.tso_terms.specs.Litmus.{Litmus};
+ghost use Rattle.tso_terms.specs.MemoryAccess.{access_of};
+ghost use Rattle.tso_terms.specs.Runs.{CoresExist, has_ended, run};
+ghost use Rattle.tso_terms.specs.SplitMachine.{Attempt, Free};
+ghost use Rattle.tso_terms.specs.Together.{put_together};
 ghost use Rattle.basic_laws.specs.Types.{Bus, Atomic, Choice, Entry, LR, LW, Core, Loc};
-ghost use Rattle.tso_model.specs.declared.choice.Bus as kind;
+ghost use Rattle.tso_terms.specs.declared.choice.Bus as kind;
 
 use machine_core::bus_laws::{accesses_are_what_is_counted, hits_are_told_beforehand};
 use snoop_bus::whole_accesses::halves_leave_what_whole_accesses_do;

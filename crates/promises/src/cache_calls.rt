@@ -12,7 +12,7 @@ ghost use Rattle.snoop_bus.specs.inner.Accesses.{IsClean};
 use cache_set::{CacheSet, Line};
 use protocol_tables::Protocol;
 use snoop_bus::{BusAction, SnoopBus};
-use tso_model::Loc;
+use tso_terms::Loc;
 
 /// A word that is written changes its line alone.
 pub fn a_written_word_changes_its_line_alone(set: &mut CacheSet, line: u8, place: u8, value: u32)

@@ -7,11 +7,11 @@ ghost use Rattle.relational_model.specs.CandidatesOfRuns.{IsCandidateOfRun};
 ghost use Rattle.relational_model.specs.Events.{IsAcyclic};
 ghost use Rattle.relational_model.specs.Model.{HappensBefore, IsAllowed, IsAtomic, IsBeforeOnLocation};
 ghost use Rattle.tso_laws.specs.EndedRuns.{End};
-ghost use Rattle.tso_model.specs.Axioms.{IsTsoExecution};
-ghost use Rattle.tso_model.specs.FinalState.{final_registers, final_words};
-ghost use Rattle.tso_model.specs.Limits.{most_depth};
-ghost use Rattle.tso_model.specs.Litmus.{IsTest, Litmus};
-ghost use Rattle.tso_model.specs.Runs.{CoresExist, run};
+ghost use Rattle.tso_terms.specs.Axioms.{IsTsoExecution};
+ghost use Rattle.tso_terms.specs.FinalState.{final_registers, final_words};
+ghost use Rattle.tso_terms.specs.Limits.{most_depth};
+ghost use Rattle.tso_terms.specs.Litmus.{IsTest, Litmus};
+ghost use Rattle.tso_terms.specs.Runs.{CoresExist, run};
 ghost use Rattle.basic_laws.specs.Types.{Choice, Entry};
 
 use relational_model::{

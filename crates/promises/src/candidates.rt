@@ -6,9 +6,9 @@ ghost use Rattle.relational_model.specs.CandidatesOfOrders.{IsCandidateOf};
 ghost use Rattle.relational_model.specs.CandidatesOfRuns.{IsCandidateOfRun};
 ghost use Rattle.relational_model.specs.Events.{IsAcyclic};
 ghost use Rattle.relational_model.specs.Model.{HappensBefore, IsAllowed, IsAtomic, IsBeforeOnLocation, IsForbidden, IsForbiddenByUniproc};
-ghost use Rattle.tso_model.specs.FlatMachine.{registers_in};
-ghost use Rattle.tso_model.specs.Litmus.{Litmus};
-ghost use Rattle.tso_model.specs.Runs.{Run};
+ghost use Rattle.tso_terms.specs.FlatMachine.{registers_in};
+ghost use Rattle.tso_terms.specs.Litmus.{Litmus};
+ghost use Rattle.tso_terms.specs.Runs.{Run};
 
 /// The candidate of a run is that of its commits, and leaves its memory and registers.
 pub fn a_candidate_of_a_run_leaves_its_state()

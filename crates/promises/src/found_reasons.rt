@@ -1,10 +1,10 @@
 //! What a search for a reason answers, said again in plain terms.
 
 ghost use Rattle.std.specs.Prelude.{◌≡◌, ◌<◌, ℕ, true, List, [], ◌∷◌, Some};
-ghost use Rattle.tso_model.specs.Litmus.{Litmus};
-ghost use Rattle.tso_model.specs.Condition.{Claim, truth_of};
-ghost use Rattle.tso_model.specs.FinalState.{final_registers, final_words};
-ghost use Rattle.tso_model.specs.declared.execution.Entry.{Entry};
+ghost use Rattle.tso_terms.specs.Litmus.{Litmus};
+ghost use Rattle.tso_terms.specs.Condition.{Claim, truth_of};
+ghost use Rattle.tso_terms.specs.FinalState.{final_registers, final_words};
+ghost use Rattle.tso_terms.specs.declared.execution.Entry.{Entry};
 ghost use Rattle.refutation_laws.specs.Known.{Known, nothing};
 ghost use Rattle.refutation_laws.specs.Models.{IsExecutionOf, IsMet};
 ghost use Rattle.refutation_laws.specs.Refutations.{Node, asked_claim};

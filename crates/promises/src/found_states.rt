@@ -5,9 +5,9 @@ ghost use Rattle.explorer.specs.FinalStates.{AreWhatSequentialConsistencyAllows,
 ghost use Rattle.explorer.specs.declared.final_states.FinalState.{FinalState};
 ghost use Rattle.tso_laws.specs.Outcomes.{IsAllowedAtDepth, IsAllowedByTso, IsAllowedSequentially, IsEnd};
 ghost use Rattle.tso_laws.specs.Choices.{state_after};
-ghost use Rattle.tso_model.specs.FlatMachine.{State, start};
-ghost use Rattle.tso_model.specs.Litmus.{IsTest, Litmus};
-ghost use Rattle.tso_model.specs.Runs.{CoresExist};
+ghost use Rattle.tso_terms.specs.FlatMachine.{State, start};
+ghost use Rattle.tso_terms.specs.Litmus.{IsTest, Litmus};
+ghost use Rattle.tso_terms.specs.Runs.{CoresExist};
 
 use tso_laws::ends_are_what_tso_allows;
 

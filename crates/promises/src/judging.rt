@@ -2,13 +2,13 @@
 //! every other.
 
 ghost use Rattle.std.specs.Prelude.{◌≡◌, ◌≢◌, ◌+◌, ◌*◌, ◌<◌, ◌≤◌, IfErr, IsOkUnless, OnOk, length};
-ghost use Rattle.tso_model.specs.Axioms.{IsTsoExecution};
+ghost use Rattle.tso_terms.specs.Axioms.{IsTsoExecution};
 ghost use Rattle.order_breaches.specs.FirstBreach.{IsFirstBreach, IsJudged};
 
 use axiom_checker::{Breach, check_counted, check_order};
 use std::alloc::Global;
 use std::sync::ledger::{Blank, Ledger};
-use tso_model::{Execution, Test, Watched};
+use tso_terms::{Execution, Test, Watched};
 
 /// Judging an order takes at most three looks for each of its entries.
 pub fn three_looks_for_each_entry<L: Ledger>(

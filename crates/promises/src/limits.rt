@@ -12,7 +12,7 @@ use snoop_bus::bus::MAX_CORES as MAX_BUS_CORES;
 use snoop_bus::shape::{MAX_SETS, MAX_WAYS, MAX_WORDS};
 use trace_json::MAX_STEPS;
 use tso_cli::{MAX_INPUT, READ_LIMIT};
-use tso_model::limits::{
+use tso_terms::limits::{
     MAX_ATOMS, MAX_CORES, MAX_DEPTH, MAX_INSTRUCTIONS, MAX_LOCATIONS, MAX_NAME, MAX_OPEN,
     MAX_TEST_NAME, MIN_DEPTH,
 };

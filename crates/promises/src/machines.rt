@@ -2,13 +2,13 @@
 //! changes nothing. And who would hit while a locked instruction has read and not yet written.
 
 ghost use Rattle.std.specs.Prelude.{◌≡◌, ◌≢◌, ◌<◌, true, false, Ok, OnOk, OnErr, length};
-ghost use Rattle.tso_model.specs.FlatMachine.{chosen};
+ghost use Rattle.tso_terms.specs.FlatMachine.{chosen};
 ghost use Rattle.machine_core.specs.Running.{machine_effect};
 ghost use Rattle.promises.specs.Locked.{OwnCoreAloneHits};
 
 use machine_core::{Choice, Machine, Outcome, Stall};
 use protocol_tables::Protocol;
-use tso_model::NoMemory;
+use tso_terms::NoMemory;
 
 /// Memory is refused to a choice only where it commits: every other is answered, as long as memory never was.
 pub fn what_commits_nothing_is_answered<P: Protocol>(

@@ -31,9 +31,9 @@ ghost use Rattle.tso_cli.specs.OneText.{AreOneTrace, ReachOneOrder, ShowOneExecu
 ghost use Rattle.tso_cli.specs.RunHeadline.{PrintsExecution};
 ghost use Rattle.tso_laws.specs.Along.{LeadTo};
 ghost use Rattle.tso_laws.specs.Depth.{needed};
-ghost use Rattle.tso_model.specs.Axioms.{IsTsoExecution};
-ghost use Rattle.tso_model.specs.Litmus.{IsTest, Litmus};
-ghost use Rattle.tso_model.specs.Runs.{Run, run};
+ghost use Rattle.tso_terms.specs.Axioms.{IsTsoExecution};
+ghost use Rattle.tso_terms.specs.Litmus.{IsTest, Litmus};
+ghost use Rattle.tso_terms.specs.Runs.{Run, run};
 ghost use Rattle.basic_laws.specs.Types.{Choice, Entry};
 ghost use Rattle.tso_report.specs.Json.{json_report};
 ghost use Rattle.tso_report.specs.Report.{head};

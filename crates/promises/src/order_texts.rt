@@ -3,9 +3,9 @@
 ghost use Rattle.std.specs.Prelude.{◌+◌, ◌<◌, ◌∷◌, ◌≡◌, ◌≢◌, List, length, true, ℕ};
 ghost use Rattle.order_breaches.specs.AxiomBreaches.{IsWrongRead, Overtakes, due_at, must_stand_before};
 ghost use Rattle.order_builder.specs.Spelling.{BeginsOrder, HasBadCount, HasBadLine, HasNoCount, IsNoEnd, IsNoEntry};
-ghost use Rattle.tso_model.specs.Litmus.{Litmus};
-ghost use Rattle.tso_model.specs.ProgramOrder.{is_read};
-ghost use Rattle.tso_model.specs.declared.execution.Entry.{Entry};
+ghost use Rattle.tso_terms.specs.Litmus.{Litmus};
+ghost use Rattle.tso_terms.specs.ProgramOrder.{is_read};
+ghost use Rattle.tso_terms.specs.declared.execution.Entry.{Entry};
 
 /// A bad line is the first after the entries, is none of them and no end, and has its number.
 pub fn a_bad_line_follows_the_entries()

@@ -1,14 +1,14 @@
 //! What the order of a run's commits keeps: the two parts of each locked instruction are adjacent. (Primer, chapter 4.)
 
 ghost use Rattle.std.specs.Prelude.{◌≡◌, ℕ, ◌+◌, ◌++◌, Some, IfOk, OnOk, All, slice_get, string_bytes};
-ghost use Rattle.tso_model.specs.ProgramOrder.{IsStorePart};
+ghost use Rattle.tso_terms.specs.ProgramOrder.{IsStorePart};
 ghost use Rattle.basic_laws.specs.Types.{Entry, LR};
 ghost use Rattle.commit_order.specs.Pairs.{IsPaired};
 ghost use Rattle.order_builder.specs.PrintedOrder.{printed_order, HasLocation, HasWord};
 
 use order_builder::{Commits, build, order_text};
 use std::alloc::Global;
-use tso_model::{Execution, NoMemory, Test};
+use tso_terms::{Execution, NoMemory, Test};
 
 /// In an order that was built, the load part of a locked instruction is followed at once by its store part.
 pub fn a_built_order_keeps_pairs(alloc: Global, commits: &Commits) -> Result<Execution, NoMemory>

@@ -1,7 +1,7 @@
 //! What is printed of an execution in which what a test asks is so, said again in plain terms.
 
 ghost use Rattle.std.specs.Prelude.{◌≡◌, ℕ, Bool, List};
-ghost use Rattle.tso_model.specs.Litmus.{Litmus};
+ghost use Rattle.tso_terms.specs.Litmus.{Litmus};
 ghost use Rattle.basic_laws.specs.Types.{Choice, Entry};
 ghost use Rattle.relational_model.specs.Candidates.{Candidate};
 ghost use Rattle.relational_model.specs.CandidatesOfOrders.{IsCandidateOf};

@@ -8,8 +8,8 @@ ghost use Rattle.protocol_tables.specs.declared.kind.ProtocolKind.{ProtocolKind}
 ghost use Rattle.scheduler.specs.Limits.{most_choices};
 ghost use Rattle.machine_runs.specs.Runs.{AnswersFit, run_under};
 ghost use Rattle.tso_cli.specs.Fitting.{RunFitsTest, shown_under};
-ghost use Rattle.tso_model.specs.Litmus.{IsTest, Litmus};
-ghost use Rattle.tso_model.specs.declared.choice.Choice.{Choice};
+ghost use Rattle.tso_terms.specs.Litmus.{IsTest, Litmus};
+ghost use Rattle.tso_terms.specs.declared.choice.Choice.{Choice};
 ghost use Rattle.tso_report.specs.Shown.{ShownRun};
 
 use crate::{printed_runs_are_told, reports_tell_their_machines};

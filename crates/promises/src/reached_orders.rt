@@ -2,14 +2,14 @@
 //! reach it.
 
 ghost use Rattle.std.specs.Prelude.{◌≡◌, ◌≢◌, ◌≤◌, true, List, IfOk, IfErr, length};
-ghost use Rattle.tso_model.specs.Axioms.{IsTsoExecution};
-ghost use Rattle.tso_model.specs.Runs.{run, CoresExist};
-ghost use Rattle.tso_model.specs.declared.choice.Choice.{Choice};
+ghost use Rattle.tso_terms.specs.Axioms.{IsTsoExecution};
+ghost use Rattle.tso_terms.specs.Runs.{run, CoresExist};
+ghost use Rattle.tso_terms.specs.declared.choice.Choice.{Choice};
 ghost use Rattle.tso_laws.specs.Counting.{most_stores};
 
 use scheduler::{WitnessFault, witness};
 use std::alloc::Global;
-use tso_model::{Choice, Execution, Test};
+use tso_terms::{Choice, Execution, Test};
 
 /// The choices of a witness end the test with the very order; none stalls, and none is left over. Where it is refused for its
 /// depth, no choices at this depth end with the order. That is never so at a depth of as many stores as any program has.

@@ -1,9 +1,9 @@
 //! What is read of texts: what they spell, and how they are refused, memory aside. Each text has one or the other.
 
 ghost use Rattle.std.specs.Prelude.{◌≡◌, ◌≢◌, ◌<◌, List, Ok, Err, IfOk, IfErr, MatchResult};
-ghost use Rattle.tso_model.specs.Litmus.{Litmus};
-ghost use Rattle.tso_model.specs.declared.choice.Choice.{Choice as ChoiceMade};
-ghost use Rattle.tso_model.specs.declared.execution.Entry.{Entry};
+ghost use Rattle.tso_terms.specs.Litmus.{Litmus};
+ghost use Rattle.tso_terms.specs.declared.choice.Choice.{Choice as ChoiceMade};
+ghost use Rattle.tso_terms.specs.declared.execution.Entry.{Entry};
 ghost use Rattle.litmus_reader.specs.GrammarTest.{FollowsGrammar};
 ghost use Rattle.litmus_reader.specs.Spelling.{SpellsTest, IsFault, IsRefused};
 ghost use Rattle.litmus_tokens.specs.declared.fault.Fault.{Fault as FaultFound};
@@ -21,7 +21,7 @@ use litmus_reader::{ReadError, TextFault, Why, read_test, test_or_fault};
 use order_builder::{OrderFault, read_order};
 use scheduler::{ChoiceFault, read_choices, seeded_choices};
 use std::alloc::Global;
-use tso_model::{Choice, Execution, NoMemory, Test};
+use tso_terms::{Choice, Execution, NoMemory, Test};
 
 /// A test is read exactly where a text spells it, and refused exactly as the text is; where memory ran out, of no line.
 pub fn a_test_is_read(alloc: Global, text: &[u8]) -> Result<Test, TextFault>

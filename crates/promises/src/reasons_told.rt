@@ -2,10 +2,10 @@
 //! and one model both are never printed.
 
 ghost use Rattle.std.specs.Prelude.{◌≡◌, ◌<◌, ◌≤◌, ◌↔◌, ℕ, Bool, true, List, length, IsSome, IfSome};
-ghost use Rattle.tso_model.specs.Litmus.{Litmus, IsTest};
-ghost use Rattle.tso_model.specs.FinalState.{final_registers, final_words};
-ghost use Rattle.tso_model.specs.FlatMachine.{registers_in};
-ghost use Rattle.tso_model.specs.Runs.{run};
+ghost use Rattle.tso_terms.specs.Litmus.{Litmus, IsTest};
+ghost use Rattle.tso_terms.specs.FinalState.{final_registers, final_words};
+ghost use Rattle.tso_terms.specs.FlatMachine.{registers_in};
+ghost use Rattle.tso_terms.specs.Runs.{run};
 ghost use Rattle.basic_laws.specs.Types.{Choice, Entry};
 ghost use Rattle.tso_laws.specs.Along.{LeadTo};
 ghost use Rattle.tso_laws.specs.EndedRuns.{End};

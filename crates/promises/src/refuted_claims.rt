@@ -19,12 +19,12 @@ ghost use Rattle.relational_model.specs.Events.{IsIn};
 ghost use Rattle.relational_model.specs.Model.{IsAllowed};
 ghost use Rattle.relational_model.specs.SequentialModel.{IsSequential};
 ghost use Rattle.tso_laws.specs.EndedRuns.{End};
-ghost use Rattle.tso_model.specs.Condition.{Claim, NamesExist, truth_of};
-ghost use Rattle.tso_model.specs.FinalState.{final_registers, final_words};
-ghost use Rattle.tso_model.specs.FlatMachine.{registers_in};
-ghost use Rattle.tso_model.specs.Litmus.{IsTest, Litmus};
-ghost use Rattle.tso_model.specs.Runs.{CoresExist, run};
-ghost use Rattle.tso_model.specs.Thread.{value_in};
+ghost use Rattle.tso_terms.specs.Condition.{Claim, NamesExist, truth_of};
+ghost use Rattle.tso_terms.specs.FinalState.{final_registers, final_words};
+ghost use Rattle.tso_terms.specs.FlatMachine.{registers_in};
+ghost use Rattle.tso_terms.specs.Litmus.{IsTest, Litmus};
+ghost use Rattle.tso_terms.specs.Runs.{CoresExist, run};
+ghost use Rattle.tso_terms.specs.Thread.{value_in};
 ghost use Rattle.basic_laws.specs.Types.{Choice, Exists, Forall, NotExists, Entry, Reg};
 
 use refutation_laws::{

@@ -8,8 +8,8 @@ ghost use Rattle.protocol_tables.specs.Names.{protocol_name};
 ghost use Rattle.protocol_tables.specs.PrintedTable.{printed_table};
 ghost use Rattle.protocol_tables.specs.Tables.{by_kind, table_of};
 ghost use Rattle.trace_json.specs.TracedRun.{most_steps};
-ghost use Rattle.tso_model.specs.Runs.{CoresExist};
-ghost use Rattle.tso_model.specs.Together.{put_together};
+ghost use Rattle.tso_terms.specs.Runs.{CoresExist};
+ghost use Rattle.tso_terms.specs.Together.{put_together};
 ghost use Rattle.tso_report.specs.Shown.{IsRunOf, shown_run};
 ghost use Rattle.tso_report.specs.Tally.{runs_in};
 ghost use Rattle.tso_report.specs.inner.Tally.{with_run};
@@ -22,8 +22,8 @@ use scheduler::Choices;
 use std::alloc::Global;
 use trace_json::word_beyond;
 use tso_cli::LineFault;
-use tso_model::{NoMemory, Test};
 use tso_report::{Run, Tally, report_text};
+use tso_terms::{NoMemory, Test};
 
 /// Whatever the words are, what comes of them is within the limits.
 pub fn settings_are_within_limits(alloc: Global, words: &[&str]) -> Result<Settings, LineFault>

@@ -2,7 +2,7 @@
 //! a text leads to the line above it.
 
 ghost use Rattle.std.specs.Prelude.{◌≡◌, ◌<◌, ◌≤◌, ℕ, All, Bool, true, false, IfOk, List, length, Some, None};
-ghost use Rattle.tso_model.specs.Condition.{Condition};
+ghost use Rattle.tso_terms.specs.Condition.{Condition};
 ghost use Rattle.basic_laws.specs.Types.{Atomic, Reg};
 ghost use Rattle.tso_laws.specs.Outcomes.{IsAllowedAtDepth};
 ghost use Rattle.explorer.specs.FinalStates.{AreDistinct, AreReached, AreWhat, HaveEveryEnd, HasMoreStates};
@@ -31,8 +31,8 @@ use tso_cli::answers::answers_meet_the_headline;
 use tso_cli::headline_laws::headlines_leave_one_text;
 use tso_cli::round_trips::searches_reach_their_states;
 use tso_laws::ends_are_what_tso_allows;
-use tso_model::{NoMemory, Test};
 use tso_report::named::Named;
+use tso_terms::{NoMemory, Test};
 
 /// With store buffers a search finds the final states of the TSO executions that need no deeper ones, but for registers that nobody
 /// looks at.

@@ -2,11 +2,11 @@
 //! reached.
 
 ghost use Rattle.std.specs.Prelude.{◌≡◌, ◌↔◌, ℕ, Bool, IfErr, IfOk, List, [], Some, slice_get};
-ghost use Rattle.tso_model.specs.Condition.{Condition, truth_of};
-ghost use Rattle.tso_model.specs.Litmus.{Litmus, IsTest};
+ghost use Rattle.tso_terms.specs.Condition.{Condition, truth_of};
+ghost use Rattle.tso_terms.specs.Litmus.{Litmus, IsTest};
 ghost use Rattle.basic_laws.specs.Types.{Atomic, Choice};
 ghost use Rattle.tso_laws.specs.Outcomes.{IsAllowedByTso, IsAllowedSequentially};
-ghost use Rattle.tso_model.specs.FlatMachine.{State};
+ghost use Rattle.tso_terms.specs.FlatMachine.{State};
 ghost use Rattle.tso_laws.specs.Dead as dead;
 ghost use Rattle.explorer.specs.Settled.{LeadsToForgotten, LeadsBy};
 ghost use Rattle.explorer.specs.FinalStates.{AreReached, HaveEveryEnd, HasMoreStates, AreDistinct, AreWhatTsoAllows, AreWhatSequentialConsistencyAllows, AreAmong, Have};
@@ -34,7 +34,7 @@ use std::alloc::Global;
 use tso_cli::answers::inputs_have_one_answer;
 use tso_cli::round_trips::searches_reach_their_states;
 use tso_laws::dead_registers_change_nothing;
-use tso_model::Test;
+use tso_terms::Test;
 
 /// Each state that a search finds is reached, and none that runs end in is missed; or the machine can reach more than may be kept.
 /// With buffers of 32 stores it finds what TSO allows, without buffers what sequential consistency allows, each once, but

@@ -1,7 +1,7 @@
 //! What a simulation says of runs that end: how many choices they took, and how many fair rounds are enough.
 
 ghost use Rattle.std.specs.Prelude.{◌≡◌, ◌*◌, IfOk, OnOk, length};
-ghost use Rattle.tso_model.specs.Runs.{CoresExist};
+ghost use Rattle.tso_terms.specs.Runs.{CoresExist};
 ghost use Rattle.tso_laws.specs.Counting.{instructions, longest};
 ghost use Rattle.machine_runs.specs.Runs.{AnswersFit, counts_under, run_under};
 ghost use Rattle.machine_runs.specs.Simulation.{FitsEnding, HasAllOrder, HasCounts, HasEnded, HasRounds, IsCounted, IsEndingOf};
@@ -12,7 +12,7 @@ use scheduler::Stalls;
 use simulator::simulate_noting;
 use std::alloc::Global;
 use tso_cli::{Ending, SimFault, simulate};
-use tso_model::Test;
+use tso_terms::Test;
 
 /// A simulation is the run of its machine, with such answers as caches may give, and with its counts. On the atomic bus, an
 /// ended run took each instruction once and drained each store once that was pending; and as many fair rounds as the longest

@@ -8,7 +8,7 @@ ghost use Rattle.snoop_bus.specs.inner.Accesses.{IsOutOfMemory};
 
 use protocol_tables::Protocol;
 use snoop_bus::{Access, SnoopBus, Stage};
-use tso_model::{Core, Loc, NoMemory};
+use tso_terms::{Core, Loc, NoMemory};
 
 /// The ask of an access leaves the copies coherent, and memory as the ask leaves it.
 pub fn an_ask<P: Protocol>(bus: &mut SnoopBus<P>, core: Core, loc: Loc, write: bool)

@@ -5,14 +5,14 @@ ghost use Rattle.machine_core.specs.Running.{AnswerFits};
 ghost use Rattle.trace_report.specs.Shown.{shown_step};
 ghost use Rattle.trace_report.specs.Stalls.{stalled_step};
 ghost use Rattle.trace_report.specs.Told.{IsTracedInStates};
-ghost use Rattle.tso_model.specs.FlatMachine.{chosen};
+ghost use Rattle.tso_terms.specs.FlatMachine.{chosen};
 
 use machine_core::{Choice, Config, Machine};
 use protocol_tables::Protocol;
 use std::alloc::Global;
 use trace_report::states::PlacedState;
 use trace_report::{Step, tell};
-use tso_model::{NoMemory, Outcome, Stall, Test};
+use tso_terms::{NoMemory, Outcome, Stall, Test};
 
 /// Of a choice that stalled nothing else is told; and between the parts of a locked instruction no write of another core hits.
 pub fn a_told_stall_tells_nothing_else<P: Protocol>(

@@ -1,13 +1,14 @@
 //! Of which parts a test is made, what it begins with, and what its programs leave by the values that their reads return.
 
 ghost use Rattle.std.specs.Prelude.{◌≡◌, ◌<◌, ◌↔◌, [], IfOk, IfSome, IsSome, length, slice_index, slice_index_or};
-ghost use Rattle.tso_model.specs.Litmus.{IsTest};
-ghost use Rattle.tso_model.specs.LitmusParts.{litmus_of};
-ghost use Rattle.tso_model.specs.Registers.{index_of};
-ghost use Rattle.tso_model.specs.Thread.{reads_in, registers_with};
+ghost use Rattle.tso_terms.specs.Litmus.{IsTest};
+ghost use Rattle.tso_terms.specs.LitmusParts.{litmus_of};
+ghost use Rattle.tso_terms.specs.Registers.{index_of};
+ghost use Rattle.tso_terms.specs.Thread.{reads_in, registers_with};
 
 use std::alloc::Global;
-use tso_model::{Core, Loc, NoMemory, Reg, Test, TestParts, Thread, thread_entries};
+use tso_model::{Thread, thread_entries};
+use tso_terms::{Core, Loc, NoMemory, Reg, Test, TestParts};
 
 /// A test is made of exactly those parts that keep each limit, and is what they say.
 pub fn a_test_within_limits_is_made(parts: TestParts) -> Option<Test>

@@ -4,7 +4,7 @@ ghost use Rattle.std.specs.Prelude.{◌<◌, ◌≡◌, ◌⊎◌, List, ℕ};
 ghost use Rattle.scheduler.specs.Grammar.{SpellsChoices};
 ghost use Rattle.scheduler.specs.Refusals.{IsRefusedAsChoices};
 ghost use Rattle.scheduler.specs.declared.fault.ChoiceFault.{ChoiceFault};
-ghost use Rattle.tso_model.specs.declared.choice.Choice.{Choice};
+ghost use Rattle.tso_terms.specs.declared.choice.Choice.{Choice};
 
 use scheduler::choice_texts::texts_are_decided;
 

@@ -10,8 +10,8 @@ ghost use Rattle.reason_report.specs.declared.steps.Edge.{Edge};
 ghost use Rattle.reason_report.specs.declared.steps.Event.{Event};
 ghost use Rattle.refutation_laws.specs.Refutations.{Node, asked_claim, refutes};
 ghost use Rattle.refutation_laws.specs.declared.model.Model.{Model};
-ghost use Rattle.tso_model.specs.Condition.{Claim};
-ghost use Rattle.tso_model.specs.Litmus.{IsTest, Litmus};
+ghost use Rattle.tso_terms.specs.Condition.{Claim};
+ghost use Rattle.tso_terms.specs.Litmus.{IsTest, Litmus};
 
 use crate::{
     printed_trees_refute, reasons_tell_their_steps, reasons_tell_their_tests,

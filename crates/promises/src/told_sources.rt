@@ -11,7 +11,7 @@ ghost use Rattle.trace_json.specs.OwnWords.{own_words};
 ghost use Rattle.trace_json.specs.Supplied.{found_at, supplies};
 ghost use Rattle.trace_json.specs.SupplyLaws.{NobodySupplies, copy_on};
 ghost use Rattle.trace_json.specs.declared.supplied.Source.TheVariants.{Bus, Cache, Memory, Other};
-ghost use Rattle.tso_model.specs.declared.instruction.Core.{Core};
+ghost use Rattle.tso_terms.specs.declared.instruction.Core.{Core};
 
 use trace_json::memory_words::sources_are_told;
 

@@ -11,8 +11,8 @@ ghost use Rattle.protocol_tables.specs.declared.state.State.TheVariants.{I};
 ghost use Rattle.snoop_bus.specs.declared.access.AccessKind.{AccessKind};
 ghost use Rattle.trace_report.specs.Steps.{states_of, trace_step_of, trace_of};
 ghost use Rattle.trace_report.specs.TraceLaws.{ChangesOne, KeepsNoCopyInI, TellsRun, count_of_accesses, run_traced, steps_that, tells_access, tells_flush, tells_forward, tells_write_back, with_changes};
-ghost use Rattle.tso_model.specs.Litmus.{IsTest, Litmus};
-ghost use Rattle.tso_model.specs.Runs.{CoresExist, run};
+ghost use Rattle.tso_terms.specs.Litmus.{IsTest, Litmus};
+ghost use Rattle.tso_terms.specs.Runs.{CoresExist, run};
 ghost use Rattle.basic_laws.specs.Types.{Atomic, Choice};
 
 use trace_report::told_runs::{

@@ -7,8 +7,8 @@ ghost use Rattle.scheduler.specs.Printed.{printed_choices};
 ghost use Rattle.litmus_reader.specs.Spelling.{IsRefused, SpellsTest};
 ghost use Rattle.litmus_reader.specs.declared.fault.TextFault.{TextFault};
 ghost use Rattle.std.specs.List.{list_all};
-ghost use Rattle.tso_model.specs.Litmus.{Litmus};
-ghost use Rattle.tso_model.specs.Names.{is_printable};
+ghost use Rattle.tso_terms.specs.Litmus.{Litmus};
+ghost use Rattle.tso_terms.specs.Names.{is_printable};
 
 use litmus_reader::test_texts::texts_are_decided;
 

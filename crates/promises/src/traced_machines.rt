@@ -10,10 +10,10 @@ ghost use Rattle.promises.specs.Traces.{bare_store};
 ghost use Rattle.protocol_tables.specs.declared.kind.ProtocolKind.{ProtocolKind};
 ghost use Rattle.serde_json.specs.Written.{compact_text};
 ghost use Rattle.trace_json.specs.MachineJson.{machine_json};
-ghost use Rattle.tso_model.specs.FlatMachine.{core_of};
-ghost use Rattle.tso_model.specs.Litmus.{IsTest, Litmus};
-ghost use Rattle.tso_model.specs.Runs.{CoresExist};
-ghost use Rattle.tso_model.specs.Thread.{value_in};
+ghost use Rattle.tso_terms.specs.FlatMachine.{core_of};
+ghost use Rattle.tso_terms.specs.Litmus.{IsTest, Litmus};
+ghost use Rattle.tso_terms.specs.Runs.{CoresExist};
+ghost use Rattle.tso_terms.specs.Thread.{value_in};
 ghost use Rattle.basic_laws.specs.Types.{Choice, Reg};
 
 use crate::values_of_machines_tell_them;

@@ -17,8 +17,8 @@ ghost use Rattle.trace_json.specs.declared.supplied.Source.{Source};
 ghost use Rattle.trace_report.specs.Lines.{trace_text};
 ghost use Rattle.trace_report.specs.Shown.{ShownStep};
 ghost use Rattle.trace_report.specs.Steps.{trace_under};
-ghost use Rattle.tso_model.specs.Litmus.{IsTest, Litmus};
-ghost use Rattle.tso_model.specs.Runs.{CoresExist};
+ghost use Rattle.tso_terms.specs.Litmus.{IsTest, Litmus};
+ghost use Rattle.tso_terms.specs.Runs.{CoresExist};
 ghost use Rattle.basic_laws.specs.Types.{Choice, Entry};
 
 use crate::{

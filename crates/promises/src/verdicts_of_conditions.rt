@@ -18,9 +18,9 @@ ghost use Rattle.promises.specs.Verdicts.{IsAsClaimed, IsNotAsClaimed, NamesTrue
 ghost use Rattle.promises.specs.Verdicts.{EndsInNumbers, EndsInVerdict, EndsInVerdictMember, PrintsVerdict, StatusTells, VerdictMeans, VerdictsAgree};
 ghost use Rattle.shown_values.specs.Shown.{names_shown, values_at};
 ghost use Rattle.tso_cli.specs.OutcomesHeadline.{PrintsAllOutcomes};
-ghost use Rattle.tso_model.specs.Axioms.{IsTsoExecution};
-ghost use Rattle.tso_model.specs.Condition.{Claim, Condition, truth_of};
-ghost use Rattle.tso_model.specs.Litmus.{IsTest, Litmus};
+ghost use Rattle.tso_terms.specs.Axioms.{IsTsoExecution};
+ghost use Rattle.tso_terms.specs.Condition.{Claim, Condition, truth_of};
+ghost use Rattle.tso_terms.specs.Litmus.{IsTest, Litmus};
 ghost use Rattle.basic_laws.specs.Types.{Exists, Forall, NotExists, Entry};
 ghost use Rattle.tso_report.specs.Report.{line};
 ghost use Rattle.tso_report.specs.declared.named.Named.{Named};

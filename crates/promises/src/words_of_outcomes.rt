@@ -13,10 +13,10 @@ ghost use Rattle.scheduler.specs.Printed.{printed_choices};
 ghost use Rattle.shown_values.specs.Shown.{names_shown};
 ghost use Rattle.tso_cli.specs.OneSearch.{ShowOneSearch, ShowsNoState, without_choices};
 ghost use Rattle.tso_laws.specs.Depth.{needed};
-ghost use Rattle.tso_model.specs.Axioms.{IsTsoExecution};
-ghost use Rattle.tso_model.specs.Condition.{Claim};
-ghost use Rattle.tso_model.specs.Litmus.{IsTest, Litmus};
-ghost use Rattle.tso_model.specs.Runs.{CoresExist, run};
+ghost use Rattle.tso_terms.specs.Axioms.{IsTsoExecution};
+ghost use Rattle.tso_terms.specs.Condition.{Claim};
+ghost use Rattle.tso_terms.specs.Litmus.{IsTest, Litmus};
+ghost use Rattle.tso_terms.specs.Runs.{CoresExist, run};
 ghost use Rattle.basic_laws.specs.Types.{Choice, Entry};
 ghost use Rattle.tso_report.specs.declared.named.Named.{Named};
 

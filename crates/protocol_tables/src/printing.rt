@@ -14,7 +14,7 @@ use crate::state::{Snoop, State};
 use crate::tables::{Mesi, Moesi, Mosi, Msi};
 use std::alloc::Global;
 use std::fmt;
-use tso_model::NoMemory;
+use tso_terms::NoMemory;
 
 /// The protocol's table as text: its name, the states that loads fill in, and a row for each state
 /// that it reaches, M first, then O, E and S.

@@ -1,6 +1,6 @@
 -- What is shown of an execution is its candidate; what is shown of a refutation, its lines.
 use Rattle.reason_report.proofs.Vocabulary.{ℕ, suc, zero, ◌+◌, ◌||◌, ◌≡◌, ◌≤◌, ◌<◌, Bool, true, false, cond, List, [], ◌∷◌, ◌++◌, length, take, take_all, length-drop, ◌-◌, drop, get_or, map, Option, Some, None, refl, sym, ap, ◌∙◌, arith, subst, append_assoc, All, filter, slice_get, slice_index_or, codes, flat_map, list_any, at_drop_more, drop_more, append-nil, drop_all, Data, Members, no_members, member, put, object, array, string, items_of, Litmus, is_read, writes_to, is_before, made, final_words, final_registers, Choice, Entry, IsIn, IsCandidateOf, LeaveTheSame, last_in, IsExecutionOf, Model, value_members, printed_entry, line, test_line, looked_at, verdict_line, outcomes_verdict_value, model_name, asked_line, from_line, reads_of, coherence_lines, coherence_line, allowed_text, asked_value, from_value, coherence_members, with_coherence, allowed_value, Reading, Named, NameExists, allowed_in, ShowsExecution, last_or, ReadsIt, AreIn, AreReadings, IsShown, read_with_source, reading_line, reading_value, coherence_by, coherence_members_by, drop-cons, values_in, shown_value}
-use Rattle.tso_model.specs.Axioms.{counting, IsTsoExecution}
+use Rattle.tso_terms.specs.Axioms.{counting, IsTsoExecution}
 use Rattle.relational_model.specs.Candidates.{Candidate, words_left}
 use Rattle.refutation_laws.specs.declared.model.Model.TheVariants.{Tso, Sequential}
 use Rattle.scheduler.specs.Printed.{printed_after, printed_choices}

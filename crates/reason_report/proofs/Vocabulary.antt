@@ -2,7 +2,7 @@
 pub use Rattle.std.specs.Prelude.{filter, replicate, All, slice_get, codes, slice_index_or}
 pub use Rattle.std.proofs.Common.{IfOk, Bool, true, false, cond, ℕ, suc, zero, ◌+◌, ◌≡◌, ◌≤◌, ◌<◌, List, [], ◌∷◌, ◌++◌, length, drop, map, get_or, slice_index, refl, sym, ap, ◌∙◌, arith, subst, ◌⊎◌, inl, inr, ◌≢◌, set, length-set, get_or-set_same, get_or-set_other, append_assoc, ◌-◌, ◌&&◌, not, take, ◌==◌, Option, Some, None, ◌||◌, string_bytes, vec_len, drop-cons}
 pub use Rattle.std.proofs.lemmas.List.{map_push, drop_all, at_drop_more, take_all, length-drop, drop_more, append-nil}
-pub use Rattle.tso_model.specs.Litmus.{Litmus}
+pub use Rattle.tso_terms.specs.Litmus.{Litmus}
 pub use Rattle.refutation_laws.specs.Known.{Known, nothing}
 pub use Rattle.refutation_laws.specs.Refutations.{asked_claim, sources_of}
 pub use Rattle.refutation_laws.specs.declared.model.Model.{Model}
@@ -12,7 +12,7 @@ pub use Rattle.reason_report.specs.declared.replies.Reply.{Reply}
 pub use Rattle.reason_report.specs.declared.parts.Refutation.{Refutation}
 pub use Rattle.reason_report.specs.inner.Parts.{parts_of_nodes_from, first_part, parts_of_refutation, branch_in, AreNext, IsNextPart, AreBelow, IsLayoutReady, root_at}
 pub use Rattle.std.specs.List.{flat_map, list_any, list_all}
-pub use Rattle.tso_model.specs.Condition.{Claim, Condition}
+pub use Rattle.tso_terms.specs.Condition.{Claim, Condition}
 pub use Rattle.refutations.specs.inner.Trees.{known_of, relations_of}
 pub use Rattle.tso_report.specs.declared.named.Named.{Named}
 pub use Rattle.tso_report.specs.Tally.{looked_at, values_in, shown_value}
@@ -22,7 +22,7 @@ pub use Rattle.reason_report.specs.declared.closed.Closed.{Closed}
 pub use Rattle.reason_report.specs.inner.Closed.{IsClosed, BranchesAreClosed, closed_branch, same_truths, alike, known_alike}
 unfoldable pub use Rattle.reason_report.specs.inner.Closed.{rest_of}
 pub use Rattle.reason_report.specs.inner.Tasks.{Task, Passed, Case, So, Endcases, task_of, tasks_of, branch_task, branch_tasks, end_of, as_branch, emit, depth_below, task_of_answered, task_depth, TasksAreWithin, spec_wanted, with_wanted}
-pub use Rattle.tso_model.specs.ProgramOrder.{writes_to, is_read, is_before}
+pub use Rattle.tso_terms.specs.ProgramOrder.{writes_to, is_read, is_before}
 pub use Rattle.basic_laws.specs.Types.{Choice, Entry}
 pub use Rattle.order_builder.specs.PrintedOrder.{printed_entry}
 pub use Rattle.outcome_report.specs.OutcomesJson.{value_members, key_of}
@@ -35,8 +35,8 @@ pub use Rattle.serde_json.specs.View.{items_of, view, members_view}
 pub use Rattle.serde_json.specs.Written.{has_float, items_have_float, members_have_float, compact_text}
 pub use Rattle.tso_report.specs.Json.{count}
 pub use Rattle.reason_report.specs.ReasonText.{source_text, model_name, asked_line, from_line, reads_of, coherence_lines, coherence_line, allowed_text}
-pub use Rattle.tso_model.specs.ProgramEntries.{made}
-pub use Rattle.tso_model.specs.FinalState.{final_words, final_registers}
+pub use Rattle.tso_terms.specs.ProgramEntries.{made}
+pub use Rattle.tso_terms.specs.FinalState.{final_words, final_registers}
 pub use Rattle.relational_model.specs.Events.{IsIn}
 pub use Rattle.relational_model.specs.CandidatesOfOrders.{IsCandidateOf, LeaveTheSame, last_in}
 pub use Rattle.refutation_laws.specs.Models.{IsExecutionOf}

@@ -1,10 +1,10 @@
 -- The words of the crates below that the definitions of this crate use, in one place: each file takes its own from here.
 pub use Rattle.serde_json.specs.Data.{array, boolean, Data, member, Members, no_members, null, object, put, string}
 pub use Rattle.serde_json.specs.View.{items_of}
-pub use Rattle.tso_model.specs.Condition.{AndClaim, Claim, Condition, LocClaim, NotClaim, OrClaim, RegClaim, TruthClaim}
-pub use Rattle.tso_model.specs.Litmus.{Litmus}
-pub use Rattle.tso_model.specs.ProgramOrder.{is_read, writes_to}
-pub use Rattle.tso_model.specs.Thread.{entry}
+pub use Rattle.tso_terms.specs.Condition.{AndClaim, Claim, Condition, LocClaim, NotClaim, OrClaim, RegClaim, TruthClaim}
+pub use Rattle.tso_terms.specs.Litmus.{Litmus}
+pub use Rattle.tso_terms.specs.ProgramOrder.{is_read, writes_to}
+pub use Rattle.tso_terms.specs.Thread.{entry}
 pub use Rattle.basic_laws.specs.Types.{Choice, Quantifier, Exists, Forall, NotExists, Entry, Kind, F, W}
 pub use Rattle.relational_model.specs.Candidates.{Candidate}
 pub use Rattle.relational_model.specs.CandidatesOfOrders.{IsCandidateOf, last_in}

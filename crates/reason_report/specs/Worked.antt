@@ -1,8 +1,8 @@
 -- Worked reasons: what is printed of the literature's small tests, byte for byte.
 use Rattle.std.specs.Prelude.{List, ℕ, [], ◌∷◌, ◌++◌, Some, codes}
 use Rattle.reason_report.specs.Vocabulary.{Choice, Claim, entry, Exists, Litmus, NotExists, printed_lines, Quantifier, W}
-use Rattle.tso_model.specs.Examples.{sb, n6, loc_x}
-use Rattle.tso_model.specs.FlatMachine.{step, drain}
+use Rattle.tso_terms.specs.Examples.{sb, n6, loc_x}
+use Rattle.tso_terms.specs.FlatMachine.{step, drain}
 use Rattle.relational_model.specs.WorkedCandidates.{passing, between}
 use Rattle.refutation_laws.specs.Refutations.{Node, ComesFirst}
 use Rattle.refutation_laws.specs.Worked.{both_zero, passed, other_first, n6_refuted, lost}

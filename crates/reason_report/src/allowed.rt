@@ -1,8 +1,8 @@
 //! An execution in which what a test asks is so, as it is shown.
 
 use crate::readings::Reading;
-use tso_model::{Choice, Entry};
 use tso_report::named::Named;
+use tso_terms::{Choice, Entry};
 
 /// What is shown of an execution.
 #[derive(Clone, Copy)]

@@ -25,10 +25,10 @@ use outcome_report::verdict::outcomes_verdict_value;
 use refutation_laws::Model;
 use serde_json::Value;
 use std::alloc::Global;
-use tso_model::{Entry, Loc, NoMemory, Test};
 use tso_report::json::unfinished_search_json;
 use tso_report::members::word_value;
 use tso_report::objects::Object;
+use tso_terms::{Entry, Loc, NoMemory, Test};
 
 /// A refutation of what the test asks, as JSON: one line.
 ///

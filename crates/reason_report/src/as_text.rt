@@ -2,7 +2,7 @@
 
 ghost use Rattle.std.specs.Prelude.{◌≡◌, ◌++◌, ◌∷◌, [], All, OnOk, IfOk, string_bytes, length, map};
 ghost use Rattle.std.specs.List.{flat_map, list_any};
-ghost use Rattle.tso_model.specs.ProgramOrder as program_order;
+ghost use Rattle.tso_terms.specs.ProgramOrder as program_order;
 ghost use Rattle.relational_model.specs.Candidates.{Candidate};
 ghost use Rattle.tso_report.specs.Tally.{looked_at};
 ghost use Rattle.tso_report.specs.inner.Tally.{NameExists};
@@ -24,9 +24,9 @@ use refutation_laws::Model;
 use refutations::events::writes_to;
 use scheduler::write_after;
 use std::alloc::Global;
-use tso_model::{Entry, Loc, NoMemory, Test};
 use tso_report::pieces::{Piece as Printed, write_characters, write_pieces};
 use tso_report::printed_values::write_values;
+use tso_terms::{Entry, Loc, NoMemory, Test};
 
 /// A refutation of what the test asks, as lines of text: the test; that it is refuted, and in how many leaves; what is asked; the
 /// steps; and herd's verdict.

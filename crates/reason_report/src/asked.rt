@@ -8,10 +8,10 @@ ghost use Rattle.reason_report.specs.ReasonJson as values;
 use refutation_laws::Model;
 use serde_json::Value;
 use std::alloc::Global;
-use tso_model::{NoMemory, Quantifier, Test};
 use tso_report::members::{Datum, object_of};
 use tso_report::pieces::{Piece, write_pieces};
 use tso_report::report::quantifier_text;
+use tso_terms::{NoMemory, Quantifier, Test};
 
 /// The name of a model.
 pub fn model_name(model: Model) -> &'static str

@@ -19,7 +19,7 @@ use crate::replies::Reply;
 use crate::steps::{Closing, Step};
 use refutations::{Acyclic, Node};
 use std::alloc::Global;
-use tso_model::NoMemory;
+use tso_terms::NoMemory;
 
 /// Adds the line of a leaf, which closes its case, and those of the others that are alike: why it does. A question has none.
 ///

@@ -14,7 +14,7 @@ use crate::places::named_among;
 use crate::replies::{Branch, Reply, with_reply};
 use refutations::{Answers, Facts, Node, known_facts};
 use std::alloc::Global;
-use tso_model::NoMemory;
+use tso_terms::NoMemory;
 
 /// The answers of a case, and what they tell of values.
 pub struct Given {

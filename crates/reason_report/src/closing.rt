@@ -16,8 +16,8 @@ use crate::places::{distinct_words, words_at};
 use crate::replies::Reply;
 use crate::steps::{Answer, Event, Place};
 use std::alloc::Global;
-use tso_model::NoMemory;
 use tso_report::named::Named;
+use tso_terms::NoMemory;
 
 /// What is shown of one answer, or of several to which source a read has, where this is given.
 ///

@@ -3,7 +3,7 @@
 ghost use Rattle.std.specs.Prelude.{◌≡◌, ◌++◌, ◌∷◌, []};
 ghost use Rattle.std.specs.List.{flat_map};
 ghost use Rattle.serde_json.specs.Data.{object, no_members};
-ghost use Rattle.tso_model.specs.Litmus.{Litmus};
+ghost use Rattle.tso_terms.specs.Litmus.{Litmus};
 ghost use Rattle.reason_report.specs.ReasonText as text;
 ghost use Rattle.reason_report.specs.ReasonJson as json;
 ghost use Rattle.reason_report.specs.Views.{answer_of, reason_step_of};

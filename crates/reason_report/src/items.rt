@@ -4,14 +4,14 @@ ghost use Rattle.std.specs.Prelude.{ℕ, ◌≡◌, ◌++◌, List, IfOk, OnOk, 
 ghost use Rattle.std.specs.List.{flat_map};
 ghost use Rattle.serde_json.specs.Data.{Data, array};
 ghost use Rattle.serde_json.specs.View.{items_of, view};
-ghost use Rattle.tso_model.specs.Litmus.{Litmus};
+ghost use Rattle.tso_terms.specs.Litmus.{Litmus};
 ghost use Rattle.reason_report.specs.inner.Views.{separated};
 
 use serde_json::Value;
 use std::alloc::Global;
-use tso_model::{NoMemory, Test};
 use tso_report::arrays::Array;
 use tso_report::pieces::write_characters;
+use tso_terms::{NoMemory, Test};
 
 /// An item of a list in lines of text.
 pub trait Written {

@@ -1,7 +1,7 @@
 //! A refutation laid out in steps: it goes over the nodes as they stand, with a stack of what is still to be laid out.
 
 ghost use Rattle.std.specs.Prelude.{ℕ, ◌≡◌, ◌≤◌, ◌<◌, ◌+◌, ◌^◌, ◌∷◌, ◌++◌, List, [], false, IfOk, OnOk, map, filter, length, drop, replicate, not};
-ghost use Rattle.tso_model.specs.Litmus.{Litmus};
+ghost use Rattle.tso_terms.specs.Litmus.{Litmus};
 ghost use Rattle.refutation_laws.specs.Known.{Known};
 ghost use Rattle.refutation_laws.specs.Refutations.{asked_claim};
 ghost use Rattle.refutations.specs.Trees.{node_of};
@@ -21,8 +21,8 @@ use crate::steps::Step;
 use refutation_laws::Model;
 use refutations::{Answers, Node, make_events, no_answers};
 use std::alloc::Global;
-use tso_model::{NoMemory, Test};
 use tso_report::named::looked_at;
+use tso_terms::{NoMemory, Test};
 
 /// How the next part is to be laid out.
 #[derive(Drop)]

@@ -11,7 +11,7 @@ use crate::parts::Refutation;
 use crate::steps::{Edge, Event};
 use refutations::{Acyclic, Branch, first_relation, value_known};
 use std::alloc::Global;
-use tso_model::{Entry, NoMemory};
+use tso_terms::{Entry, NoMemory};
 
 /// An event, with its value where what is given tells it.
 pub fn event_at(tree: Refutation<'_>, given: &Given, e: &Entry) -> Event

@@ -1,7 +1,7 @@
 //! Where the part of each node ends, and so where the part of each branch of a question begins.
 
 ghost use Rattle.std.specs.Prelude.{ℕ, ◌≡◌, ◌≤◌, ◌+◌, ◌<◌, ◌∷◌, List, length, drop, map, IfOk};
-ghost use Rattle.tso_model.specs.Litmus.{Litmus};
+ghost use Rattle.tso_terms.specs.Litmus.{Litmus};
 ghost use Rattle.refutation_laws.specs.Known.{Known, events_of};
 ghost use Rattle.refutation_laws.specs.declared.model.Model.{Model};
 ghost use Rattle.refutations.specs.Trees.{node_of};
@@ -13,8 +13,8 @@ use crate::replies::{Branch, replies, reply_count};
 use refutation_laws::Model;
 use refutations::Node;
 use std::alloc::Global;
-use tso_model::{Entry, NoMemory, Test};
 use tso_report::named::Named;
+use tso_terms::{Entry, NoMemory, Test};
 
 /// A refutation, with what is needed to lay it out.
 #[derive(Clone, Copy)]

@@ -3,7 +3,7 @@
 ghost use Rattle.std.specs.Prelude.{◌≡◌, IfOk, OnOk, filter, map};
 ghost use Rattle.serde_json.specs.Data.{array, string};
 ghost use Rattle.serde_json.specs.View.{view, members_view, items_of};
-ghost use Rattle.tso_model.specs.ProgramOrder as program_order;
+ghost use Rattle.tso_terms.specs.ProgramOrder as program_order;
 ghost use Rattle.order_builder.specs.PrintedOrder.{printed_entry};
 ghost use Rattle.reason_report.specs.ReasonText as text;
 ghost use Rattle.reason_report.specs.ReasonJson as spec;
@@ -18,10 +18,10 @@ use outcome_report::keys::key_text;
 use refutations::events::writes_to;
 use serde_json::Value;
 use std::alloc::Global;
-use tso_model::{Entry, Loc, NoMemory, Test};
 use tso_report::arrays::Array;
 use tso_report::members::{numbers_value, word_value};
 use tso_report::objects::Object;
+use tso_terms::{Entry, Loc, NoMemory, Test};
 
 /// Whether a piece is nothing.
 pub fn is_nothing(piece: Piece<'_>) -> bool

@@ -3,8 +3,8 @@
 ghost use Rattle.std.specs.Prelude.{◌≡◌, ◌++◌, OnOk, codes, filter, string_bytes};
 ghost use Rattle.std.specs.Fmt.{decimal};
 ghost use Rattle.std.specs.List.{flat_map};
-ghost use Rattle.tso_model.specs.ProgramOrder as program_order;
-ghost use Rattle.tso_model.specs.declared.execution.Entry as declared;
+ghost use Rattle.tso_terms.specs.ProgramOrder as program_order;
+ghost use Rattle.tso_terms.specs.declared.execution.Entry as declared;
 ghost use Rattle.order_builder.specs.PrintedOrder.{printed_entry};
 ghost use Rattle.reason_report.specs.ReasonText as spec;
 ghost use Rattle.reason_report.specs.inner.Pieces.{piece_text};
@@ -18,8 +18,8 @@ use order_builder::letters_of;
 use outcome_report::keys::{name_of, write_key};
 use refutation_laws::Relation;
 use refutations::events::writes_to;
-use tso_model::{Entry, Kind, Loc, NoMemory, Test};
 use tso_report::pieces::{Piece as Printed, write_characters, write_named, write_pieces};
+use tso_terms::{Entry, Kind, Loc, NoMemory, Test};
 
 /// Adds a piece to a line.
 ///

@@ -2,7 +2,7 @@
 
 ghost use Rattle.std.specs.Prelude.{◌≡◌, ◌==◌, IfOk, length, map};
 ghost use Rattle.std.specs.List.{list_any};
-ghost use Rattle.tso_model.specs.Condition.{NamesExist, claim_of};
+ghost use Rattle.tso_terms.specs.Condition.{NamesExist, claim_of};
 ghost use Rattle.refutation_laws.specs.Known.{events_of};
 ghost use Rattle.refutation_laws.specs.Refutations.{asked_claim};
 ghost use Rattle.refutation_laws.specs.Values as values;
@@ -18,8 +18,8 @@ use crate::closed::Given;
 use crate::parts::Refutation;
 use refutations::propositions::{allows, register_at_end, words_at_end};
 use std::alloc::Global;
-use tso_model::{NoMemory, Prop};
 use tso_report::named::Named;
+use tso_terms::{NoMemory, Prop};
 
 /// Whether a proposition can have a truth, as far as the answers tell it, and where it can't, whether a place tells that.
 #[derive(Clone, Copy)]

@@ -2,8 +2,8 @@
 //! program.
 
 ghost use Rattle.std.specs.Prelude.{◌≡◌, ◌↔◌, ◌∷◌, ◌++◌, ◌+◌, ◌<◌, IfOk, IsTrue, filter, take, drop, length};
-ghost use Rattle.tso_model.specs.ProgramEntries.{made};
-ghost use Rattle.tso_model.specs.ProgramOrder as program_order;
+ghost use Rattle.tso_terms.specs.ProgramEntries.{made};
+ghost use Rattle.tso_terms.specs.ProgramOrder as program_order;
 ghost use Rattle.relational_model.specs.Events.{IsIn};
 ghost use Rattle.reason_report.specs.inner.Shown as shown;
 ghost use Rattle.reason_report.specs.inner.Shown.{AreIn, ReadsIt, AreReadings};
@@ -12,7 +12,7 @@ use crate::steps::Event;
 use execution_check::final_state::entries_made;
 use refutations::events::{is_before, is_read, writes_to};
 use std::alloc::Global;
-use tso_model::{Entry, NoMemory, Test};
+use tso_terms::{Entry, NoMemory, Test};
 
 /// A read, and the write that it reads from; none is the initial one.
 #[derive(Clone, Copy)]

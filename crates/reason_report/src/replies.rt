@@ -9,7 +9,7 @@ ghost use Rattle.reason_report.specs.Steps as spec;
 use refutations::events::writes_to;
 use refutations::{Answers, Node, with_pair, with_source};
 use std::alloc::Global;
-use tso_model::{Entry, NoMemory, Test};
+use tso_terms::{Entry, NoMemory, Test};
 
 /// An answer to a question.
 #[derive(Clone, Copy)]

@@ -1,7 +1,7 @@
 //! What is printed of a refutation, of an execution, or of a search that met its limit: lines of text, or a JSON value on one line.
 
 ghost use Rattle.std.specs.Prelude.{◌≡◌, All, IfOk, length, map, string_bytes};
-ghost use Rattle.tso_model.specs.FinalState.{final_registers, final_words};
+ghost use Rattle.tso_terms.specs.FinalState.{final_registers, final_words};
 ghost use Rattle.refutation_laws.specs.Models.{IsExecutionOf};
 ghost use Rattle.refutations.specs.Trees.{node_of};
 ghost use Rattle.tso_report.specs.Tally.{shown_value};
@@ -18,8 +18,8 @@ use refutation_laws::Model;
 use refutations::Node;
 use relational_model::{candidates_of_executions_are_allowed, executions_have_candidates};
 use std::alloc::Global;
-use tso_model::{Choice, Entry, Execution, NoMemory, Test};
 use tso_report::named::{Named, looked_at, values_at};
+use tso_terms::{Choice, Entry, Execution, NoMemory, Test};
 
 /// What is printed of a refutation of what the test asks, as lines of text or with `json` as a JSON value: its cases, step by step,
 /// and what closes each.

@@ -5,8 +5,8 @@ ghost use Rattle.reason_report.specs.Steps as spec;
 ghost use Rattle.reason_report.specs.Views.{reason_step_of};
 
 use refutation_laws::Relation;
-use tso_model::Entry;
 use tso_report::named::Named;
+use tso_terms::Entry;
 
 /// An event as it is printed: an entry, whose own value doesn't count.
 #[derive(Clone, Copy)]

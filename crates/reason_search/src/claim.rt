@@ -3,7 +3,7 @@
 use crate::lists::{List, NONE};
 use crate::problem::{Problem, RELEVANT, STORED, Term, add_reads, register_place};
 use crate::rows::bit;
-use tso_model::Prop;
+use tso_terms::Prop;
 
 /// What a value has to be: this number, or any other one.
 #[derive(Clone, Copy)]

@@ -9,7 +9,7 @@ use refutation_laws::Model;
 use refutations::Node;
 use std::alloc::Global;
 use std::mem::swap;
-use tso_model::{Entry, Execution, NoMemory, Test};
+use tso_terms::{Entry, Execution, NoMemory, Test};
 
 /// How many cases a search looks at before it gives up.
 const MOST_CASES: usize = 100_000;

@@ -1,7 +1,7 @@
 //! Lists that can be asked at any place.
 
 use std::alloc::Global;
-use tso_model::NoMemory;
+use tso_terms::NoMemory;
 
 /// No number.
 pub const NONE: usize = usize::MAX;

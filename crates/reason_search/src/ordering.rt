@@ -6,7 +6,7 @@ use crate::problem::{NO_EVENT, Problem, Relations};
 use crate::rows::{Rows, lowest};
 use crate::values::written;
 use std::alloc::Global;
-use tso_model::{Entry, NoMemory};
+use tso_terms::{Entry, NoMemory};
 
 /// Whether an event waits for one that is still to come, and so stands in `left`, other than its other part: one of the two is a fence
 /// that stands in the same program, or the other one is known to be before it.

@@ -8,7 +8,7 @@ use crate::rows::Rows;
 use refutation_laws::Model;
 use refutations::events::{is_read, is_write};
 use std::alloc::Global;
-use tso_model::{Action, Core, Entry, Kind, Loc, Operand, Quantifier, Reg, Test, Update};
+use tso_terms::{Action, Core, Entry, Kind, Loc, Operand, Quantifier, Reg, Test, Update};
 
 /// A value: a number and what up to two reads return, added up. `NONE` is no read.
 #[derive(Clone, Copy)]

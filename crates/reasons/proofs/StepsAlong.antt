@@ -2,7 +2,7 @@
 use Rattle.reasons.proofs.Vocabulary.{◌≡◌, ℕ, ◌+◌, ◌-◌, suc, Bool, true, false, if◌then◌else◌, List, [], ◌∷◌, ◌++◌, length, ap, ◌∙◌, refl, Litmus, is_store, Entry, steps, drained, choices_for, places_after, last_steps, choices_from, is_step}
 use Rattle.std.proofs.Common.{zero, filter, slice_index}
 use Rattle.basic_laws.proofs.Lists.{append-nil}
-use Rattle.tso_model.specs.FlatMachine.{step}
+use Rattle.tso_terms.specs.FlatMachine.{step}
 use Rattle.basic_laws.specs.Types.{Instr, Choice, Drain}
 
 abbrev pub steps_from : Litmus → List ℕ → List Entry → List Choice

@@ -4,13 +4,13 @@ use Rattle.reasons.proofs.Vocabulary.{◌≡◌, ◌<◌, ◌≤◌, ℕ, ◌+�
 use Rattle.std.proofs.Common.{◌≢◌, max, zero, filter, slice_get, slice_set, slice_index, append_assoc, get_or-set_same, get_or-set_other, set-set}
 use Rattle.basic_laws.proofs.Basics.{decide, max-second}
 use Rattle.basic_laws.proofs.Lists.{append-nil}
-use Rattle.tso_model.specs.Actions.{action_of}
-use Rattle.tso_model.specs.Thread.{entry, fence, value_in, value_of, updated}
-use Rattle.tso_model.specs.FlatMachine.{CoreState, State, Effect, idle, advanced, advanced_with, moved, effect_by, step_of, drain_of, core_of, program_of, effect_of, chosen, memory_after, after_choice, applied, start, started, step, drain}
-use Rattle.tso_model.specs.Runs.{CoresExist, stall_count, all_done, has_ended}
+use Rattle.tso_terms.specs.Actions.{action_of}
+use Rattle.tso_terms.specs.Thread.{entry, fence, value_in, value_of, updated}
+use Rattle.tso_terms.specs.FlatMachine.{CoreState, State, Effect, idle, advanced, advanced_with, moved, effect_by, step_of, drain_of, core_of, program_of, effect_of, chosen, memory_after, after_choice, applied, start, started, step, drain}
+use Rattle.tso_terms.specs.Runs.{CoresExist, stall_count, all_done, has_ended}
 use Rattle.basic_laws.specs.Types.{Instr, Loc, Reg, Action, LR, LW, Choice, Step, Drain, Stall, Committed, Stalled}
-use Rattle.tso_model.specs.declared.action.Action.TheVariants.{Store, Load, Move, Fence, Lock}
-use Rattle.tso_model.specs.declared.choice.Stall.TheVariants as stall
+use Rattle.tso_terms.specs.declared.action.Action.TheVariants.{Store, Load, Move, Fence, Lock}
+use Rattle.tso_terms.specs.declared.choice.Stall.TheVariants as stall
 use Rattle.tso_laws.specs.Choices.{state_after, commits_of}
 use Rattle.tso_laws.specs.Reached.{IsReached}
 use Rattle.tso_laws.specs.inner.Laws.{StallsChangeNothing, RunsStopWhereTheyEnd}

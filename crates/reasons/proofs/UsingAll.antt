@@ -1,8 +1,8 @@
 -- Where each choice of a list takes effect, and the test has ended after them, the run uses them all.
 use Rattle.reasons.proofs.Vocabulary.{◌≡◌, ◌<◌, suc, Bool, true, false, List, [], ◌∷◌, ◌++◌, length, inl, inr, arith, ap, ◌∙◌, refl, length-set, Litmus}
-use Rattle.tso_model.specs.FlatMachine.{State, core_of, program_of, effect_of, chosen, after_choice}
-use Rattle.tso_model.specs.Runs.{CoresExist, stall_count, is_done, has_ended, run_from}
-use Rattle.tso_model.specs.declared.choice.Choice.{Choice}
+use Rattle.tso_terms.specs.FlatMachine.{State, core_of, program_of, effect_of, chosen, after_choice}
+use Rattle.tso_terms.specs.Runs.{CoresExist, stall_count, is_done, has_ended, run_from}
+use Rattle.tso_terms.specs.declared.choice.Choice.{Choice}
 use Rattle.tso_laws.specs.Choices.{state_after, commits_of}
 use Rattle.tso_laws.proofs.OrderSteps.{AllTake}
 use Rattle.basic_laws.proofs.Cores.{done-at}

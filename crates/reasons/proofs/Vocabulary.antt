@@ -13,7 +13,7 @@ pub use Rattle.relational_model.specs.inner.Rows.{Once, Ordered}
 pub use Rattle.refutation_laws.proofs.Tests.{any-in, and-of, or-first, Holds, any-holds, or-second, from-not, clash, pick, pass}
 pub use Rattle.reasons.specs.inner.Precedence.{is_first, IsParted, IsSorted, edge_in}
 pub use Rattle.std.specs.Global.{Vec}
-pub use Rattle.tso_model.specs.Litmus.{Litmus, IsTest, IsCondition}
+pub use Rattle.tso_terms.specs.Litmus.{Litmus, IsTest, IsCondition}
 pub use Rattle.refutation_laws.specs.Known.{bare, same_event, is_event, events_of, Known, nothing, with_source, comes_before, with_pair}
 pub use Rattle.refutation_laws.specs.Edges.{leads_back, is_cycle, on_location, global_in, is_edge, are_parts, is_between}
 pub use Rattle.refutation_laws.proofs.Standing.{same-bare}
@@ -21,14 +21,14 @@ pub use Rattle.refutation_laws.proofs.Soundness.{itself, bare-same}
 pub use Rattle.refutation_laws.proofs.Settling.{is-event, IsOpen}
 pub use Rattle.reasons.specs.inner.Cycles.{up_to, CycleOrRow}
 pub use Rattle.std.proofs.lemmas.Nat.{mul-le}
-pub use Rattle.tso_model.specs.ProgramOrder.{is_read, is_write, writes_to, is_store}
+pub use Rattle.tso_terms.specs.ProgramOrder.{is_read, is_write, writes_to, is_store}
 pub use Rattle.refutation_laws.specs.Refutations.{sources_of, ReadsFrom, ComesFirst, OnLocation, Globally, Between, FalseClaim, branches, asked_claim, is_node, close, refutes, asked_by}
 pub use Rattle.refutation_laws.specs.inner.FullCases.{has_source, are_ordered, may_ask, is_answered, IsFull, IsSound, IsPossibleSource, NoneBetween}
 pub use Rattle.reasons.specs.Reasons.{product, sources_in, orders_in, all_orders, most_cases, open_after, is_leaf, leaves_of, HasMoreCases}
 pub use Rattle.refutations.specs.Trees.{node_of}
 pub use Rattle.refutations.specs.declared.tree.Node.{Node}
 pub use Rattle.reasons.specs.inner.Questions.{is_unread, is_unordered, first_where, first_beside, pair_or, first_pair, question_of, read_or, first_unread, next_question}
-pub use Rattle.tso_model.specs.Condition.{Claim, Condition, NamesExist}
+pub use Rattle.tso_terms.specs.Condition.{Claim, Condition, NamesExist}
 pub use Rattle.refutation_laws.specs.declared.model.Model.{Model}
 pub use Rattle.refutations.specs.inner.Trees.{known_of, relations_of}
 pub use Rattle.refutations.specs.inner.Stack.{cases_of}

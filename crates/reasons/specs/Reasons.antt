@@ -1,10 +1,10 @@
 -- What a search for a reason answers: a refutation of what the test asks, an execution in which it is true, or that more cases had to be
 -- told apart than were allowed.
 use Rattle.std.specs.Prelude.{ℕ, ◌≡◌, ◌<◌, ◌*◌, ◌&&◌, Bool, true, false, if◌then◌else◌, List, [], ◌∷◌, ◌++◌, map, filter, length, Option, Some, None}
-use Rattle.tso_model.specs.Litmus.{Litmus}
-use Rattle.tso_model.specs.Condition.{Claim}
-use Rattle.tso_model.specs.ProgramOrder.{is_read, is_write, writes_to}
-use Rattle.tso_model.specs.declared.execution.Entry.{Entry}
+use Rattle.tso_terms.specs.Litmus.{Litmus}
+use Rattle.tso_terms.specs.Condition.{Claim}
+use Rattle.tso_terms.specs.ProgramOrder.{is_read, is_write, writes_to}
+use Rattle.tso_terms.specs.declared.execution.Entry.{Entry}
 use Rattle.refutation_laws.specs.Known.{Known, events_of, nothing}
 use Rattle.refutation_laws.specs.Refutations.{Node, ReadsFrom, ComesFirst, OnLocation, Globally, Between, FalseClaim, asked_claim, sources_of, is_node, branches, refutes}
 use Rattle.refutation_laws.specs.Models.{IsMet}

@@ -2,8 +2,8 @@
 //! steps among these, since a store that nothing passes is then committed as it is made.
 
 ghost use Rattle.std.specs.Prelude.{◌≡◌, IfOk};
-ghost use Rattle.tso_model.specs.Limits.{most_depth};
-ghost use Rattle.tso_model.specs.Axioms.{IsTsoExecution};
+ghost use Rattle.tso_terms.specs.Limits.{most_depth};
+ghost use Rattle.tso_terms.specs.Axioms.{IsTsoExecution};
 ghost use Rattle.tso_laws.specs.Along.{choices_along, LeadTo};
 ghost use Rattle.tso_laws.specs.Outcomes.{IsSequentiallyConsistent};
 ghost use Rattle.refutation_laws.specs.Models.{IsExecutionOf, depth_of};
@@ -15,8 +15,8 @@ use tso_laws::{
     most_stores_are_depth_enough, runs_stop_where_they_end, stalls_change_nothing,
     unbuffered_runs_reach_exactly_the_sequentially_consistent,
 };
-use tso_model::limits::MAX_DEPTH;
-use tso_model::{Choice, Execution, NoMemory, Test};
+use tso_terms::limits::MAX_DEPTH;
+use tso_terms::{Choice, Execution, NoMemory, Test};
 
 /// Choices under which the flat machine ends with the very order of an execution of the model, with
 /// store buffers of the greatest depth for x86-TSO and with none for sequential consistency. None of

@@ -1,7 +1,7 @@
 //! A cycle of the edges that the answers tell, or a row of the events in which each of these edges goes forward.
 ghost use Rattle.std.specs.Prelude.{◌≡◌, ◌<◌, ◌+◌, true, IfOk, IfSome, length, option_map, take};
 ghost use Rattle.std.specs.List.{list_any};
-ghost use Rattle.tso_model.specs.declared.execution.Entry as declared;
+ghost use Rattle.tso_terms.specs.declared.execution.Entry as declared;
 ghost use Rattle.relational_model.specs.Events.{IsIn};
 ghost use Rattle.refutation_laws.specs.Known.{events_of};
 ghost use Rattle.refutation_laws.specs.Edges as edges;
@@ -12,7 +12,7 @@ use crate::sorting::{Precedence, sort};
 use refutations::events::same_event;
 use refutations::{Acyclic, Branch, leads_to};
 use std::alloc::Global;
-use tso_model::{Entry, NoMemory};
+use tso_terms::{Entry, NoMemory};
 
 /// One of these events that leads to x.
 fn predecessor(branch: Branch<'_>, acyclic: Acyclic, some: &[Entry], x: &Entry) -> Entry

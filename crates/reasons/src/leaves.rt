@@ -12,7 +12,7 @@ use refutations::edges::is_between;
 use refutations::events::are_parts;
 use refutations::{Acyclic, Answers, Branch, Node, can_be_met, known_facts};
 use std::alloc::Global;
-use tso_model::{Entry, NoMemory, Test};
+use tso_terms::{Entry, NoMemory, Test};
 
 /// A write between the two parts of a locked instruction.
 fn find_between(branch: Branch<'_>) -> Option<Node>

@@ -14,7 +14,7 @@ use refutation_laws::Model;
 use refutations::events::{are_parts, is_access};
 use refutations::{Answers, Branch, Facts, known_facts, value_known};
 use std::alloc::Global;
-use tso_model::{Entry, Kind, NoMemory, Test};
+use tso_terms::{Entry, Kind, NoMemory, Test};
 
 /// The event with its value; a fence has 0.
 fn valued(test: &Test, events: &[Entry], answers: &Answers, facts: &Facts, e: &Entry) -> Entry

@@ -10,7 +10,7 @@ use refutations::answers::comes_before;
 use refutations::checking::may_come_first;
 use refutations::events::{is_event, is_read, is_write, same_event, writes_to};
 use refutations::{Answers, Node};
-use tso_model::{Entry, Test};
+use tso_terms::{Entry, Test};
 
 /// Whether an answer says what the read reads from.
 pub fn is_read_known(answers: &Answers, r: &Entry) -> bool

@@ -1,7 +1,7 @@
 //! What a search for a reason answers.
 
 use refutations::Node;
-use tso_model::Execution;
+use tso_terms::Execution;
 
 /// The answer to what a test asks.
 #[derive(Drop)]

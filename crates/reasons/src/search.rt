@@ -17,7 +17,7 @@ use refutation_laws::Model;
 use refutations::checking::{add_case, is_node};
 use refutations::{Answers, Node, add_branches, make_events, no_answers};
 use std::alloc::Global;
-use tso_model::{Entry, Execution, NoMemory, Test};
+use tso_terms::{Entry, Execution, NoMemory, Test};
 
 /// What a search is for: a test, its events, and the model.
 #[derive(Clone, Copy)]

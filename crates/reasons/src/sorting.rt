@@ -12,7 +12,7 @@ use refutations::answers::{comes_before, from_reads, reads_from};
 use refutations::events::{are_parts, is_before};
 use refutations::{Acyclic, Answers, Branch, leads_to};
 use std::alloc::Global;
-use tso_model::{Entry, Kind, NoMemory};
+use tso_terms::{Entry, Kind, NoMemory};
 
 /// What must precede what.
 #[derive(Clone, Copy)]

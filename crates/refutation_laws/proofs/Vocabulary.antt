@@ -5,8 +5,8 @@ pub use Rattle.std.specs.List.{list_any, list_all}
 pub use Rattle.basic_laws.specs.Types.{Entry, F, LR, LW, R, W, Reg, Eax, Ebx, Ecx, Edx, Esi, Edi, Loc, Instr, Operand, Number, Held, Update, Exchange, Add, Action, Kind, Quantifier, Exists, NotExists, Forall}
 pub use Rattle.relational_model.specs.Events.{IsIn, IsEarlier, LeadsTo, at_once, onward, IsAcyclic}
 pub use Rattle.relational_model.proofs.Lists.{in-case, in-none, in-first, in-later, in-filter, filter-in, in-append, in-left, in-right, last-is-in, last-last, Precedes, from-precedes, at-one}
-pub use Rattle.tso_model.specs.Litmus.{Litmus, IsTest, IsCondition}
-pub use Rattle.tso_model.specs.ProgramOrder.{is_before, is_read, is_write, writes_to, same_kind, may_be_passed}
+pub use Rattle.tso_terms.specs.Litmus.{Litmus, IsTest, IsCondition}
+pub use Rattle.tso_terms.specs.ProgramOrder.{is_before, is_read, is_write, writes_to, same_kind, may_be_passed}
 pub use Rattle.relational_model.specs.Candidates.{Candidate, IsCandidate, events, words_left, registers_left, events_from, Returns, last_word, words_left_from, registers_left_from}
 pub use Rattle.relational_model.specs.Relations.{is_access, share_location, ReadsFrom, IsBefore, StandsAfter, FromReads}
 pub use Rattle.relational_model.specs.Model.{IsBeforeOnLocation, po_loc, rf, co, fr, HappensBefore, write_before_write, read_before_access, mfence, implied, rfe, IsAtomic, is_locked, IsAllowed, ArePair}
@@ -27,16 +27,16 @@ pub use Rattle.refutation_laws.specs.declared.model.Model.TheVariants.{Tso, Sequ
 pub use Rattle.refutation_laws.specs.declared.model.Relation.{Relation}
 pub use Rattle.refutation_laws.specs.declared.model.Relation.TheVariants.{Mfence, Po, PoLoc, PoGhb, Implied, Rf, Rfe, Co, Fr}
 pub use Rattle.refutation_laws.specs.inner.FullCases.{IsPossibleSource, NoneBetween, ArePossible, has_source, are_ordered, may_ask, is_answered, IsFull, AreSingle, AreOfReads, ArePairsOfWrites, IsSound}
-pub use Rattle.tso_model.specs.Condition.{Claim, truth_of, NamesExist, TruthClaim, RegClaim, LocClaim, NotClaim, AndClaim, OrClaim, Condition}
+pub use Rattle.tso_terms.specs.Condition.{Claim, truth_of, NamesExist, TruthClaim, RegClaim, LocClaim, NotClaim, AndClaim, OrClaim, Condition}
 pub use Rattle.relational_model.proofs.Uniproc.{writes-at}
 pub use Rattle.relational_model.proofs.SequentialFacts.{tso-allows}
 pub use Rattle.refutation_laws.specs.Values.{allows, known_in, known_operand, known_update, write_with, word_given, writes_by, registers_left_by, writes_of, left_of, known_first_registers, writes_from, value_among, returned_from, returned, known_writes, all_known, value_read, can_be, words_at_end, register_at_end, can_be_last}
 pub use Rattle.refutation_laws.specs.Agreement.{Stands, IsSameSource, Agrees, HasSources, HasPairs}
 pub use Rattle.refutation_laws.specs.Refutations.{Node, ComesFirst, OnLocation, Globally, Between, FalseClaim, sources_of, is_node, branches, close, refutes, asked_claim, asked_by}
-pub use Rattle.tso_model.specs.Registers.{index_of, AreRegisters}
-pub use Rattle.tso_model.specs.Actions.{action_of}
-pub use Rattle.tso_model.specs.Thread.{entry, value_in, value_of, updated, entries_by, registers_by, values_after, entries_of, registers_after, sum_of, fence}
-pub use Rattle.tso_model.specs.declared.action.Action.TheVariants.{Store, Load, Move, Fence, Lock}
+pub use Rattle.tso_terms.specs.Registers.{index_of, AreRegisters}
+pub use Rattle.tso_terms.specs.Actions.{action_of}
+pub use Rattle.tso_terms.specs.Thread.{entry, value_in, value_of, updated, entries_by, registers_by, values_after, entries_of, registers_after, sum_of, fence}
+pub use Rattle.tso_terms.specs.declared.action.Action.TheVariants.{Store, Load, Move, Fence, Lock}
 pub use Rattle.basic_laws.specs.Ranks.{rank, part_of}
 pub use Rattle.basic_laws.proofs.Basics.{part-small}
 pub use Rattle.relational_model.proofs.Ranks.{rank-before, before-trans, order-of}
@@ -44,8 +44,8 @@ pub use Rattle.relational_model.proofs.Same.{only, here-by, from-place}
 pub use Rattle.refutation_laws.specs.declared.known.Pair.{Pair}
 pub use Rattle.basic_laws.proofs.Lists.{Member}
 pub use Rattle.refutation_laws.specs.Shown.{value_known, first_that_relates}
-pub use Rattle.tso_model.specs.ProgramEntries.{is_at}
-pub use Rattle.tso_model.specs.FinalState.{final_words, final_registers}
+pub use Rattle.tso_terms.specs.ProgramEntries.{is_at}
+pub use Rattle.tso_terms.specs.FinalState.{final_words, final_registers}
 pub use Rattle.relational_model.specs.CandidatesOfOrders.{LeaveTheSame, last_in, IsCandidateOf}
 pub use Rattle.relational_model.proofs.Fences.{parts, true-or}
 pub use Rattle.relational_model.proofs.Decisions.{Goes, member, number, is-true}
@@ -54,13 +54,13 @@ pub use Rattle.relational_model.proofs.Converse.{CanBeKept, IsKeptIn, in-order, 
 pub use Rattle.relational_model.proofs.SequentialOrders.{Step, keeps, step-kept}
 pub use Rattle.refutation_laws.specs.inner.Orders.{is_kept_by, must_precede, comes_toward, is_load_part, IsLinearExtension, value_or_zero, value_in_order, valued, with_loads, order_along}
 pub use Rattle.relational_model.proofs.Sorting.{in-a-row, Decided, ordered-or-round}
-pub use Rattle.tso_model.specs.Axioms.{IsTsoExecution}
-pub use Rattle.tso_model.specs.Limits.{most_depth}
-pub use Rattle.tso_model.specs.Runs.{run, Run}
-pub use Rattle.tso_model.specs.FlatMachine.{registers_in}
+pub use Rattle.tso_terms.specs.Axioms.{IsTsoExecution}
+pub use Rattle.tso_terms.specs.Limits.{most_depth}
+pub use Rattle.tso_terms.specs.Runs.{run, Run}
+pub use Rattle.tso_terms.specs.FlatMachine.{registers_in}
 pub use Rattle.relational_model.specs.CandidatesOfRuns.{IsCandidateOfRun}
 pub use Rattle.tso_laws.specs.Outcomes.{IsEnd}
-pub use Rattle.tso_model.specs.Examples.{sb, n6}
+pub use Rattle.tso_terms.specs.Examples.{sb, n6}
 pub use Rattle.relational_model.specs.WorkedCandidates.{sb_candidate, n6_candidate}
 pub use Rattle.refutation_laws.specs.Worked.{both_zero, own_last}
 pub use Rattle.std.proofs.lemmas.List.{map-append, length-set}

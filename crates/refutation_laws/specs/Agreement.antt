@@ -1,9 +1,9 @@
 -- A candidate that gives a branch's answers: each read has the source that is named there, and of two writes the one named first
 -- is before the other in coherence.
 use Rattle.std.specs.Prelude.{◌≡◌, true, List, [], ◌∷◌, Option, Some, None}
-use Rattle.tso_model.specs.Litmus.{Litmus}
-use Rattle.tso_model.specs.ProgramOrder.{is_read}
-use Rattle.tso_model.specs.declared.execution.Entry.{Entry}
+use Rattle.tso_terms.specs.Litmus.{Litmus}
+use Rattle.tso_terms.specs.ProgramOrder.{is_read}
+use Rattle.tso_terms.specs.declared.execution.Entry.{Entry}
 use Rattle.relational_model.specs.Events.{IsIn}
 use Rattle.relational_model.specs.Candidates.{Candidate, events}
 use Rattle.relational_model.specs.Relations.{IsBefore}

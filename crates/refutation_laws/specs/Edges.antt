@@ -3,8 +3,8 @@
 -- (herd's x86tso.cat; for sequential consistency Herding Cats, section 4.)
 use Rattle.std.specs.Prelude.{◌==◌, ◌&&◌, ◌||◌, Bool, false, not, List, [], ◌∷◌}
 use Rattle.std.specs.List.{list_any, list_all}
-use Rattle.tso_model.specs.Litmus.{Litmus}
-use Rattle.tso_model.specs.ProgramOrder.{is_before, is_read, is_write, same_kind}
+use Rattle.tso_terms.specs.Litmus.{Litmus}
+use Rattle.tso_terms.specs.ProgramOrder.{is_before, is_read, is_write, same_kind}
 use Rattle.basic_laws.specs.Types.{Entry, F, LR, LW}
 use Rattle.relational_model.specs.Relations.{is_access, share_location}
 use Rattle.relational_model.specs.Model.{is_locked}

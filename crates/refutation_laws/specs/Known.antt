@@ -3,11 +3,11 @@
 -- (Alglave, Maranget, Tautschnig, "Herding Cats", 2014, section 4: rf, co and fr.)
 use Rattle.std.specs.Prelude.{◌==◌, ◌&&◌, Bool, false, List, [], ◌∷◌, map, Option, Some, None}
 use Rattle.std.specs.List.{list_any}
-use Rattle.tso_model.specs.Litmus.{Litmus}
-use Rattle.tso_model.specs.Thread.{entry}
-use Rattle.tso_model.specs.ProgramOrder.{writes_to}
-use Rattle.tso_model.specs.ProgramEntries.{is_at}
-use Rattle.tso_model.specs.declared.execution.Entry.{Entry}
+use Rattle.tso_terms.specs.Litmus.{Litmus}
+use Rattle.tso_terms.specs.Thread.{entry}
+use Rattle.tso_terms.specs.ProgramOrder.{writes_to}
+use Rattle.tso_terms.specs.ProgramEntries.{is_at}
+use Rattle.tso_terms.specs.declared.execution.Entry.{Entry}
 use Rattle.relational_model.specs.Candidates.{events_from}
 use Rattle.refutation_laws.specs.declared.known.Source.{Source}
 use Rattle.refutation_laws.specs.declared.known.Pair.{Pair}

@@ -1,13 +1,13 @@
 -- What a refutation is held against: the candidates, the executions and the runs of the model that it is of; and that one of these
 -- makes a proposition true.
 use Rattle.std.specs.Prelude.{ℕ, ◌≡◌, true, List, length}
-use Rattle.tso_model.specs.Limits.{most_depth}
-use Rattle.tso_model.specs.Litmus.{Litmus}
-use Rattle.tso_model.specs.Condition.{Claim, truth_of}
-use Rattle.tso_model.specs.Axioms.{IsTsoExecution}
-use Rattle.tso_model.specs.FinalState.{final_words, final_registers}
-use Rattle.tso_model.specs.FlatMachine.{registers_in}
-use Rattle.tso_model.specs.Runs.{run, CoresExist}
+use Rattle.tso_terms.specs.Limits.{most_depth}
+use Rattle.tso_terms.specs.Litmus.{Litmus}
+use Rattle.tso_terms.specs.Condition.{Claim, truth_of}
+use Rattle.tso_terms.specs.Axioms.{IsTsoExecution}
+use Rattle.tso_terms.specs.FinalState.{final_words, final_registers}
+use Rattle.tso_terms.specs.FlatMachine.{registers_in}
+use Rattle.tso_terms.specs.Runs.{run, CoresExist}
 use Rattle.basic_laws.specs.Types.{Choice, Entry}
 use Rattle.tso_laws.specs.EndedRuns.{End}
 use Rattle.tso_laws.specs.Outcomes.{IsAllowedByTso, IsSequentiallyConsistent, IsAllowedSequentially}

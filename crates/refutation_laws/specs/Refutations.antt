@@ -2,9 +2,9 @@
 -- each node before its branches and the first branch first. A question is a node with a branch for each answer that a candidate
 -- may give; a leaf says why no allowed candidate gives the answers on the way to it and makes the proposition true.
 use Rattle.std.specs.Prelude.{◌&&◌, Bool, true, false, not, List, [], ◌∷◌, ◌++◌, map, filter, Option, Some, None}
-use Rattle.tso_model.specs.Litmus.{Litmus}
-use Rattle.tso_model.specs.Condition.{Claim, TruthClaim, NotClaim, Condition}
-use Rattle.tso_model.specs.ProgramOrder.{is_read, is_write, writes_to}
+use Rattle.tso_terms.specs.Litmus.{Litmus}
+use Rattle.tso_terms.specs.Condition.{Claim, TruthClaim, NotClaim, Condition}
+use Rattle.tso_terms.specs.ProgramOrder.{is_read, is_write, writes_to}
 use Rattle.basic_laws.specs.Types.{Quantifier, Exists, NotExists, Forall, Entry}
 use Rattle.refutation_laws.specs.Known.{Known, events_of, same_event, is_event, nothing, with_source, with_pair}
 use Rattle.refutation_laws.specs.Edges.{is_edge, on_location, global_in, is_cycle, is_between}

@@ -1,8 +1,8 @@
 -- What is printed beside the events of a refutation: the relation of an edge, and a value where the answers tell it.
 use Rattle.std.specs.Prelude.{ℕ, if◌then◌else◌, List, [], ◌∷◌, Option, Some, None}
-use Rattle.tso_model.specs.Litmus.{Litmus}
-use Rattle.tso_model.specs.ProgramOrder.{is_read}
-use Rattle.tso_model.specs.declared.execution.Entry.{Entry}
+use Rattle.tso_terms.specs.Litmus.{Litmus}
+use Rattle.tso_terms.specs.ProgramOrder.{is_read}
+use Rattle.tso_terms.specs.declared.execution.Entry.{Entry}
 use Rattle.refutation_laws.specs.Known.{Known}
 use Rattle.refutation_laws.specs.Edges.{relates}
 use Rattle.refutation_laws.specs.Values.{value_among, all_known, value_read}

@@ -3,18 +3,18 @@
 use Rattle.std.specs.Prelude.{ℕ, zero, suc, ◌+◌, ◌==◌, ◌&&◌, ◌||◌, Bool, true, false, not, if◌then◌else◌, List, [], ◌∷◌, ◌++◌, map, filter, length}
 use Rattle.std.specs.Prelude.{Option, Some, None, slice_index, slice_index_or, slice_set}
 use Rattle.std.specs.List.{list_any}
-use Rattle.tso_model.specs.Litmus.{Litmus}
-use Rattle.tso_model.specs.Registers.{index_of}
-use Rattle.tso_model.specs.Actions.{action_of}
-use Rattle.tso_model.specs.Thread.{entry, sum_of}
-use Rattle.tso_model.specs.ProgramOrder.{writes_to}
-use Rattle.tso_model.specs.Condition.{Claim, TruthClaim, RegClaim, LocClaim, NotClaim, AndClaim, OrClaim}
+use Rattle.tso_terms.specs.Litmus.{Litmus}
+use Rattle.tso_terms.specs.Registers.{index_of}
+use Rattle.tso_terms.specs.Actions.{action_of}
+use Rattle.tso_terms.specs.Thread.{entry, sum_of}
+use Rattle.tso_terms.specs.ProgramOrder.{writes_to}
+use Rattle.tso_terms.specs.Condition.{Claim, TruthClaim, RegClaim, LocClaim, NotClaim, AndClaim, OrClaim}
 use Rattle.basic_laws.specs.Types.{Reg, Loc, Instr, Operand, Number, Held, Update, Exchange, Add, Action, Entry, Kind, R, W, LR, LW}
-use Rattle.tso_model.specs.declared.action.Action.TheVariants.{Store, Load, Move, Lock}
+use Rattle.tso_terms.specs.declared.action.Action.TheVariants.{Store, Load, Move, Lock}
 use Rattle.refutation_laws.specs.Known.{Known, events_of, same_event, comes_before}
 use Rattle.refutation_laws.specs.declared.known.Source.{Source}
 
--- ---- a thread (as tso_model's Thread line by line, with None for what isn't known)
+-- ---- a thread (as tso_terms's Thread line by line, with None for what isn't known)
 
 abbrev pub known_in : List (Option ℕ) → Reg → Option ℕ
 known_in registers reg = slice_index_or registers (index_of reg) None

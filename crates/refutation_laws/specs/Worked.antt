@@ -1,8 +1,8 @@
 -- Worked refutations: the literature's small tests, what is asked of each, and why it can't be. (Herding Cats, 2014; x86-TSO, 2010.)
 use Rattle.std.specs.Prelude.{List, [], ◌∷◌}
-use Rattle.tso_model.specs.Thread.{entry}
-use Rattle.tso_model.specs.Condition.{Claim, RegClaim, LocClaim, AndClaim}
-use Rattle.tso_model.specs.Examples.{loc_x, loc_y}
+use Rattle.tso_terms.specs.Thread.{entry}
+use Rattle.tso_terms.specs.Condition.{Claim, RegClaim, LocClaim, AndClaim}
+use Rattle.tso_terms.specs.Examples.{loc_x, loc_y}
 use Rattle.basic_laws.specs.Types.{Eax, Ebx, Entry, R, W, LR, LW}
 use Rattle.refutation_laws.specs.Refutations.{Node, ReadsFrom, ComesFirst, OnLocation, Globally, Between, FalseClaim}
 

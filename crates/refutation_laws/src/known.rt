@@ -1,6 +1,6 @@
 //! What a branch of a refutation knows of a candidate, answer by answer. (Herding Cats, section 4: rf and co.)
 
-use tso_model::Entry;
+use tso_terms::Entry;
 
 /// A read, and the write that it reads from; none is the initial write.
 #[derive(Clone, Copy)]

@@ -4,12 +4,12 @@
 ghost use Rattle.std.specs.Prelude.{ℕ, ◌≡◌, ◌<◌, ◌⊎◌, true, false, List, [], length, Some, None, slice_index};
 ghost use Rattle.std.specs.Prelude.{slice_index_or};
 ghost use Rattle.std.specs.List.{list_any};
-ghost use Rattle.tso_model.specs.Litmus.{Litmus, IsTest};
-ghost use Rattle.tso_model.specs.Thread.{value_in};
-ghost use Rattle.tso_model.specs.Condition.{Claim, truth_of, NamesExist};
-ghost use Rattle.tso_model.specs.FinalState.{final_words, final_registers};
-ghost use Rattle.tso_model.specs.Runs.{run};
-ghost use Rattle.tso_model.specs.FlatMachine.{registers_in};
+ghost use Rattle.tso_terms.specs.Litmus.{Litmus, IsTest};
+ghost use Rattle.tso_terms.specs.Thread.{value_in};
+ghost use Rattle.tso_terms.specs.Condition.{Claim, truth_of, NamesExist};
+ghost use Rattle.tso_terms.specs.FinalState.{final_words, final_registers};
+ghost use Rattle.tso_terms.specs.Runs.{run};
+ghost use Rattle.tso_terms.specs.FlatMachine.{registers_in};
 ghost use Rattle.basic_laws.specs.Types.{Reg, Choice, Exists, NotExists, Forall, Entry};
 ghost use Rattle.tso_laws.specs.EndedRuns.{End};
 ghost use Rattle.tso_laws.specs.Outcomes.{IsEnd};

@@ -1,7 +1,7 @@
 //! Worked refutations, on which the definition can be held against the eye.
 
 ghost use Rattle.std.specs.Prelude.{◌≡◌, true, false, List};
-ghost use Rattle.tso_model.specs.Examples.{sb, n6};
+ghost use Rattle.tso_terms.specs.Examples.{sb, n6};
 ghost use Rattle.relational_model.specs.WorkedCandidates.{passing, fenced, independent, between, unseen};
 ghost use Rattle.refutation_laws.specs.Refutations.{Node, refutes};
 ghost use Rattle.refutation_laws.specs.Worked.{both_zero, sb_refuted, fenced_refuted, passed, passing_refuted};

@@ -7,7 +7,7 @@ ghost use Rattle.refutations.specs.inner.Trees.{known_of};
 use crate::events::{same_event, writes_to};
 use refutation_laws::{Pair, Source};
 use std::alloc::Global;
-use tso_model::{Entry, NoMemory, Test};
+use tso_terms::{Entry, NoMemory, Test};
 
 /// The answers of a branch, the last one first.
 pub struct Answers {

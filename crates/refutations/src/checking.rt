@@ -1,6 +1,6 @@
 //! Whether a list of nodes is a refutation of what a test asks.
 ghost use Rattle.std.specs.Prelude.{◌≡◌, ◌∷◌, ◌&&◌, ◌++◌, not, IfOk, map};
-ghost use Rattle.tso_model.specs.ProgramOrder as program_order;
+ghost use Rattle.tso_terms.specs.ProgramOrder as program_order;
 ghost use Rattle.refutation_laws.specs.Known as known;
 ghost use Rattle.refutation_laws.specs.Refutations as spec;
 ghost use Rattle.refutations.specs.Trees.{node_of};
@@ -15,7 +15,7 @@ use crate::propositions::can_be_met;
 use crate::tree::Node;
 use refutation_laws::Model;
 use std::alloc::Global;
-use tso_model::{Entry, NoMemory, Test};
+use tso_terms::{Entry, NoMemory, Test};
 
 /// Whether a node may stand where these answers are given.
 ///

@@ -11,7 +11,7 @@ use crate::events::{
     share_location,
 };
 use refutation_laws::{Model, Relation};
-use tso_model::{Entry, Kind};
+use tso_terms::{Entry, Kind};
 
 /// Which relations are acyclic together.
 #[derive(Clone, Copy)]

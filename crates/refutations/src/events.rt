@@ -1,14 +1,15 @@
 //! The events of a test: the entries of its programs, whose values are left open. (Herding Cats, section 4.)
 ghost use Rattle.std.specs.Prelude.{◌≡◌, ◌++◌, map, IfOk};
 ghost use Rattle.std.specs.List.{list_all};
-ghost use Rattle.tso_model.specs.ProgramOrder as program_order;
+ghost use Rattle.tso_terms.specs.ProgramOrder as program_order;
 ghost use Rattle.relational_model.specs.Relations as relations;
 ghost use Rattle.relational_model.specs.Model as model;
 ghost use Rattle.refutation_laws.specs.Known as spec;
 ghost use Rattle.refutation_laws.specs.Edges as edges;
 
 use std::alloc::Global;
-use tso_model::{Core, Entry, Kind, NoMemory, Test, read_count, thread_entries};
+use tso_model::{read_count, thread_entries};
+use tso_terms::{Core, Entry, Kind, NoMemory, Test};
 
 /// The events of a test.
 ///

@@ -12,7 +12,7 @@ use crate::events::is_read;
 use crate::values::{Reads, Walk, known_first_registers, returned, run_program, value_among};
 use refutation_laws::Source;
 use std::alloc::Global;
-use tso_model::{Core, Entry, NoMemory, Test};
+use tso_terms::{Core, Entry, NoMemory, Test};
 
 /// What is known of values.
 #[derive(Drop)]

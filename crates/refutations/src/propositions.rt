@@ -1,8 +1,8 @@
 //! What a proposition can be with what the answers tell of the final state.
 ghost use Rattle.std.specs.Prelude.{◌≡◌, ◌<◌, ◌&&◌, IfOk, length, true};
 ghost use Rattle.std.specs.List.{list_any};
-ghost use Rattle.tso_model.specs.ProgramOrder as program_order;
-ghost use Rattle.tso_model.specs.Condition.{NamesExist, claim_of};
+ghost use Rattle.tso_terms.specs.ProgramOrder as program_order;
+ghost use Rattle.tso_terms.specs.Condition.{NamesExist, claim_of};
 ghost use Rattle.refutation_laws.specs.Known.{events_of};
 ghost use Rattle.refutation_laws.specs.Refutations.{asked_claim};
 ghost use Rattle.refutation_laws.specs.Values as spec;
@@ -14,7 +14,7 @@ use crate::events::{is_event, same_event, writes_to};
 use crate::facts::Facts;
 use crate::values::{first_word, value_among};
 use std::alloc::Global;
-use tso_model::{Core, Entry, Loc, NoMemory, Prop, Quantifier, Reg, Test};
+use tso_terms::{Core, Entry, Loc, NoMemory, Prop, Quantifier, Reg, Test};
 
 /// Whether `it is n` can have this truth of a number of which this much is known.
 fn can_be(n: u32, truth: bool, value: Option<u32>) -> bool

@@ -1,6 +1,6 @@
 //! The nodes of a refutation.
 
-use tso_model::Entry;
+use tso_terms::Entry;
 
 /// A node of a refutation. A tree is the list of its nodes: each stands before its branches, and the first branch first.
 pub enum Node {

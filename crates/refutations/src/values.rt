@@ -1,11 +1,11 @@
 //! Values that the answers tell: the programs run with registers that are known or not.
 ghost use Rattle.std.specs.Prelude.{ℕ, ◌≡◌, ◌<◌, ◌+◌, List, [], ◌∷◌, ◌++◌, IfOk, length, slice_index, slice_index_or};
-ghost use Rattle.tso_model.specs.declared.instruction.Instr.{Instr};
+ghost use Rattle.tso_terms.specs.declared.instruction.Instr.{Instr};
 ghost use Rattle.refutation_laws.specs.Values as spec;
 
 use crate::events::same_event;
 use refutation_laws::Source;
-use tso_model::{Action, Core, Entry, Instr, Kind, Loc, NoMemory, Operand, Test, Update};
+use tso_terms::{Action, Core, Entry, Instr, Kind, Loc, NoMemory, Operand, Test, Update};
 
 /// A program that is run with what is known: the writes whose values are, and the registers.
 #[derive(Drop)]

@@ -2,9 +2,9 @@
 -- writes to each location reach memory.
 -- (Alglave, Maranget, Tautschnig, "Herding Cats", 2014, section 4: events, program order, reads-from rf, coherence co.)
 use Rattle.std.specs.Prelude.{ℕ, ◌+◌, ◌≡◌, true, List, [], ◌∷◌, ◌++◌, filter, length, Option, Some, None, slice_index, slice_index_or}
-use Rattle.tso_model.specs.Litmus.{Litmus}
-use Rattle.tso_model.specs.Thread.{entries_of, registers_after}
-use Rattle.tso_model.specs.ProgramOrder.{is_read, writes_to}
+use Rattle.tso_terms.specs.Litmus.{Litmus}
+use Rattle.tso_terms.specs.Thread.{entries_of, registers_after}
+use Rattle.tso_terms.specs.ProgramOrder.{is_read, writes_to}
 use Rattle.basic_laws.specs.Types.{Instr, Entry}
 use Rattle.relational_model.specs.Events.{IsIn}
 

@@ -1,12 +1,12 @@
 -- The candidate of an order of a test's entries: what its reads returned, the last write that counts for each of them, and
 -- the writes to each location as they stand in it.
 use Rattle.std.specs.Prelude.{ℕ, ◌≡◌, true, List, [], ◌∷◌, ◌++◌, filter, Option, Some, None}
-use Rattle.tso_model.specs.Litmus.{Litmus}
-use Rattle.tso_model.specs.ProgramOrder.{is_read, writes_to}
-use Rattle.tso_model.specs.ProgramEntries.{made}
-use Rattle.tso_model.specs.Axioms.{counting, IsTsoExecution}
-use Rattle.tso_model.specs.FinalState.{final_words, final_registers}
-use Rattle.tso_model.specs.declared.execution.Entry.{Entry}
+use Rattle.tso_terms.specs.Litmus.{Litmus}
+use Rattle.tso_terms.specs.ProgramOrder.{is_read, writes_to}
+use Rattle.tso_terms.specs.ProgramEntries.{made}
+use Rattle.tso_terms.specs.Axioms.{counting, IsTsoExecution}
+use Rattle.tso_terms.specs.FinalState.{final_words, final_registers}
+use Rattle.tso_terms.specs.declared.execution.Entry.{Entry}
 use Rattle.tso_laws.specs.Outcomes.{IsSequentiallyConsistent}
 use Rattle.relational_model.specs.Candidates.{Candidate, events, words_left, registers_left}
 

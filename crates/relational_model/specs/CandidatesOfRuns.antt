@@ -1,8 +1,8 @@
 -- Candidates of runs of the flat machine: the order of a run's commits, seen as a relational model sees it.
 use Rattle.std.specs.Prelude.{◌≡◌}
-use Rattle.tso_model.specs.Litmus.{Litmus}
-use Rattle.tso_model.specs.FlatMachine.{registers_in}
-use Rattle.tso_model.specs.Runs.{Run}
+use Rattle.tso_terms.specs.Litmus.{Litmus}
+use Rattle.tso_terms.specs.FlatMachine.{registers_in}
+use Rattle.tso_terms.specs.Runs.{Run}
 use Rattle.relational_model.specs.Candidates.{Candidate, words_left, registers_left}
 use Rattle.relational_model.specs.CandidatesOfOrders.{IsCandidateOf}
 

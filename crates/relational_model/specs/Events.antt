@@ -1,6 +1,6 @@
 -- Events in lists, and relations between events: the vocabulary of herd's models, with no order over all events.
 use Rattle.std.specs.Prelude.{ℕ, ◌<◌, ◌≡◌, List, Some, slice_get}
-use Rattle.tso_model.specs.declared.execution.Entry.{Entry}
+use Rattle.tso_terms.specs.declared.execution.Entry.{Entry}
 
 -- x stands in this list
 abbrev pub IsIn : List Entry → Entry → Type 0

@@ -2,8 +2,8 @@
 -- (Alglave, Maranget, Tautschnig, "Herding Cats", 2014, sections 4 and 5, for the same three as SC PER LOCATION, the
 -- atomicity of read-modify-writes and propagation under TSO.)
 use Rattle.std.specs.Prelude.{◌≡◌, ◌≢◌, ◌||◌, Bool, true, false, List}
-use Rattle.tso_model.specs.Litmus.{Litmus}
-use Rattle.tso_model.specs.ProgramOrder.{is_before, is_read, is_write}
+use Rattle.tso_terms.specs.Litmus.{Litmus}
+use Rattle.tso_terms.specs.ProgramOrder.{is_before, is_read, is_write}
 use Rattle.basic_laws.specs.Types.{Entry, Kind, F, LR, LW}
 use Rattle.relational_model.specs.Events.{IsIn, IsAcyclic}
 use Rattle.relational_model.specs.Candidates.{Candidate, IsCandidate, events}

@@ -1,8 +1,8 @@
 -- The relations between the events of a candidate: reads-from, coherence and from-reads, beside program order.
 -- (Alglave, Maranget, Tautschnig, "Herding Cats", 2014, section 4: rf, co and fr.)
 use Rattle.std.specs.Prelude.{◌≡◌, ◌==◌, ◌&&◌, ◌||◌, Bool, true, Option, Some, None, List}
-use Rattle.tso_model.specs.ProgramOrder.{is_read, is_write}
-use Rattle.tso_model.specs.declared.execution.Entry.{Entry}
+use Rattle.tso_terms.specs.ProgramOrder.{is_read, is_write}
+use Rattle.tso_terms.specs.declared.execution.Entry.{Entry}
 use Rattle.relational_model.specs.Events.{IsIn, IsEarlier}
 use Rattle.relational_model.specs.Candidates.{Candidate}
 

@@ -1,9 +1,9 @@
 -- Sequential consistency as a relational model: program order and the three relations between accesses have no cycle, and locked
 -- instructions are atomic. (Alglave, Maranget, Tautschnig, "Herding Cats", 2014, section 4: SC is acyclic po | rf | co | fr.)
 use Rattle.std.specs.Prelude.{◌≡◌, true}
-use Rattle.tso_model.specs.Litmus.{Litmus}
-use Rattle.tso_model.specs.ProgramOrder.{is_before}
-use Rattle.tso_model.specs.declared.execution.Entry.{Entry}
+use Rattle.tso_terms.specs.Litmus.{Litmus}
+use Rattle.tso_terms.specs.ProgramOrder.{is_before}
+use Rattle.tso_terms.specs.declared.execution.Entry.{Entry}
 use Rattle.relational_model.specs.Events.{IsAcyclic}
 use Rattle.relational_model.specs.Candidates.{Candidate, IsCandidate, events}
 use Rattle.relational_model.specs.Relations.{ReadsFrom, IsBefore, FromReads}

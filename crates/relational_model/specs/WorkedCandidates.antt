@@ -1,8 +1,8 @@
 -- Worked candidates: the literature's small tests, and what the relational model allows of each. (Herding Cats, 2014.)
 use Rattle.std.specs.Prelude.{ℕ, ◌==◌, ◌&&◌, if◌then◌else◌, List, [], ◌∷◌, Option, Some, None, zero, suc, codes}
-use Rattle.tso_model.specs.Litmus.{Litmus}
-use Rattle.tso_model.specs.Thread.{entry}
-use Rattle.tso_model.specs.Examples.{loc_x, loc_y, zeros}
+use Rattle.tso_terms.specs.Litmus.{Litmus}
+use Rattle.tso_terms.specs.Thread.{entry}
+use Rattle.tso_terms.specs.Examples.{loc_x, loc_y, zeros}
 use Rattle.basic_laws.specs.Types.{Eax, Ebx, Instr, StoreImm, Load, Fence, Xchg, Xadd, Entry, W, LW}
 use Rattle.relational_model.specs.Candidates.{Candidate}
 

@@ -12,12 +12,12 @@
 #![tactic(auto)]
 
 ghost use Rattle.std.specs.Prelude.{ℕ, ◌≢◌, List, length};
-ghost use Rattle.tso_model.specs.Limits.{most_depth};
-ghost use Rattle.tso_model.specs.Litmus.{Litmus, IsTest};
-ghost use Rattle.tso_model.specs.Axioms.{IsTsoExecution};
-ghost use Rattle.tso_model.specs.FinalState.{final_registers};
-ghost use Rattle.tso_model.specs.Runs.{run, CoresExist};
-ghost use Rattle.tso_model.specs.Examples.{sb, sb_order, n6, n6_order};
+ghost use Rattle.tso_terms.specs.Limits.{most_depth};
+ghost use Rattle.tso_terms.specs.Litmus.{Litmus, IsTest};
+ghost use Rattle.tso_terms.specs.Axioms.{IsTsoExecution};
+ghost use Rattle.tso_terms.specs.FinalState.{final_registers};
+ghost use Rattle.tso_terms.specs.Runs.{run, CoresExist};
+ghost use Rattle.tso_terms.specs.Examples.{sb, sb_order, n6, n6_order};
 ghost use Rattle.basic_laws.specs.Types.{Entry, Choice};
 ghost use Rattle.tso_laws.specs.EndedRuns.{End};
 ghost use Rattle.relational_model.specs.Candidates.{Candidate};

@@ -2,9 +2,9 @@
 //! order, and those of the runs of a machine without store buffers.
 
 ghost use Rattle.std.specs.Prelude.{ℕ, List, length};
-ghost use Rattle.tso_model.specs.Litmus.{Litmus, IsTest};
-ghost use Rattle.tso_model.specs.Runs.{run, CoresExist};
-ghost use Rattle.tso_model.specs.Examples.{sb, n6};
+ghost use Rattle.tso_terms.specs.Litmus.{Litmus, IsTest};
+ghost use Rattle.tso_terms.specs.Runs.{run, CoresExist};
+ghost use Rattle.tso_terms.specs.Examples.{sb, n6};
 ghost use Rattle.basic_laws.specs.Types.{Entry, Choice};
 ghost use Rattle.tso_laws.specs.EndedRuns.{End};
 ghost use Rattle.tso_laws.specs.Outcomes.{IsSequentiallyConsistent};

@@ -4,7 +4,7 @@ pub use Rattle.std.specs.Str.{bytes_eq}
 pub use Rattle.std.specs.Prelude.{codes, nat_lt, MatchResult, IfOk, IfErr, IfSome, IsSome, is_some}
 pub use Rattle.std.proofs.lemmas.Bool.{le-leb, lt-leb, leb-true, and_parts, eqb-true, cases_lt, false≢true, lt-ltb, ne_eqb}
 pub use Rattle.std.proofs.lemmas.List.{take_more, append-nil, length-append, length-map, length-drop, length-take, take-append-drop, drop-drop, take_at, get_or_at}
-pub use Rattle.tso_model.specs.FlatMachine.{chosen}
+pub use Rattle.tso_terms.specs.FlatMachine.{chosen}
 pub use Rattle.basic_laws.specs.Types.{Choice, Step, Drain}
 pub use Rattle.scheduler.specs.declared.fault.ChoiceFault.TheVariants.{BadWord, NoSuchCore, TooMany, NoMemory}
 pub use Rattle.scheduler.specs.declared.item.ChoiceKind.{ChoiceKind}
@@ -24,7 +24,7 @@ pub use Rattle.std.proofs.lemmas.Bool.Decides.{nat_tests}
 pub use Rattle.std.proofs.lemmas.Fmt.{digits_decimal, digits_value-decimal, decimal_nonempty}
 pub use Rattle.std.proofs.lemmas.List.Splits.{slice_split_none, slice_split_at, slice_split-cons_yes}
 pub use Rattle.std.proofs.lemmas.Str.Parse.{IsNumeralModel, numerals_by_fold}
-pub use Rattle.tso_model.specs.Runs.{CoresExist}
+pub use Rattle.tso_terms.specs.Runs.{CoresExist}
 pub use Rattle.scheduler.specs.Limits.{most_choices}
 pub use Rattle.scheduler.specs.Printed.{printed_choice, printed_after, printed_choices}
 pub use Rattle.std.proofs.lemmas.Slice.Eq.{bytes_eq-Decides}

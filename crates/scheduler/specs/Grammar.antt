@@ -1,7 +1,7 @@
 -- Which text spells which choices: the grammar as it is told to people, apart from how a reader goes about it. (This
 -- project's profile.)
 use Rattle.std.specs.Prelude.{◌<◌, ◌≤◌, ◌^◌, ◌++◌, ℕ, List, [], ◌∷◌, length, codes, IsTrue}
-use Rattle.tso_model.specs.FlatMachine.{chosen}
+use Rattle.tso_terms.specs.FlatMachine.{chosen}
 use Rattle.basic_laws.specs.Types.{Choice, Step, Drain}
 use Rattle.scheduler.specs.Limits.{most_choices}
 use Rattle.decimals.specs.Decimals.{decimal_value}

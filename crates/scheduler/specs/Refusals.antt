@@ -1,7 +1,7 @@
 -- Which refusal a text gets that spells no choices: that of its first item at fault.
 use Rattle.std.specs.Prelude.{◌≡◌, ◌≢◌, ◌⊎◌, ◌<◌, ◌≤◌, ◌^◌, ◌+◌, ◌++◌, ℕ, List, ◌∷◌, length, codes, IsTrue}
-use Rattle.tso_model.specs.FlatMachine.{chosen}
-use Rattle.tso_model.specs.declared.choice.Choice.{Choice}
+use Rattle.tso_terms.specs.FlatMachine.{chosen}
+use Rattle.tso_terms.specs.declared.choice.Choice.{Choice}
 use Rattle.scheduler.specs.declared.fault.ChoiceFault.{ChoiceFault}
 use Rattle.scheduler.specs.declared.fault.ChoiceFault.TheVariants.{BadWord, NoSuchCore, TooMany}
 use Rattle.decimals.specs.Decimals.{decimal_value}

@@ -1,6 +1,6 @@
 -- Which word of a text says a choice, for a refusal that names it: the choices of `seed N M` all have one word.
 use Rattle.std.specs.Prelude.{ℕ, ◌≡◌, ◌<◌, ◌≤◌, ◌+◌, ◌++◌, List, length}
-use Rattle.tso_model.specs.declared.choice.Choice.{Choice}
+use Rattle.tso_terms.specs.declared.choice.Choice.{Choice}
 use Rattle.scheduler.specs.Words.{words_of_text}
 use Rattle.scheduler.specs.Grammar.{IsItem, AreItems}
 

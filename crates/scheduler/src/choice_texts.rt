@@ -3,8 +3,8 @@
 
 ghost use Rattle.std.specs.Prelude.{◌<◌, ◌≤◌, ◌^◌, ◌++◌, ℕ, List, IsTrue, length};
 ghost use Rattle.std.specs.List.{list_all};
-ghost use Rattle.tso_model.specs.Runs.{CoresExist};
-ghost use Rattle.tso_model.specs.declared.choice.Choice.{Choice};
+ghost use Rattle.tso_terms.specs.Runs.{CoresExist};
+ghost use Rattle.tso_terms.specs.declared.choice.Choice.{Choice};
 ghost use Rattle.scheduler.specs.Limits.{most_choices};
 ghost use Rattle.scheduler.specs.Words.{is_space};
 ghost use Rattle.scheduler.specs.Grammar.{SpellsChoices};

@@ -7,13 +7,13 @@ ghost use Rattle.scheduler.specs.Grammar.{WordsSpell, SpellsChoices};
 ghost use Rattle.scheduler.specs.Refusals.{AreRefused, IsRefusedAsChoices};
 ghost use Rattle.scheduler.specs.Words.{words_of_text};
 ghost use Rattle.scheduler.specs.declared.fault.ChoiceFault.{ChoiceFault};
-ghost use Rattle.tso_model.specs.declared.choice.Choice.{Choice};
+ghost use Rattle.tso_terms.specs.declared.choice.Choice.{Choice};
 
 use crate::fault::ChoiceFault;
 use crate::item::{is_seed, read_one, read_seeded};
 use crate::words::first_word;
 use std::alloc::Global;
-use tso_model::Choice;
+use tso_terms::Choice;
 
 /// Maximum number of choices of a text.
 pub const MAX_CHOICES: usize = 100_000;

@@ -2,8 +2,8 @@
 //! keeps no list, and what runs a test needn't know which of the two it has.
 
 ghost use Rattle.std.specs.Prelude.{◌≡◌, ◌<◌, List, length, map};
-ghost use Rattle.tso_model.specs.Runs.{CoresExist};
-ghost use Rattle.tso_model.specs.declared.choice.Choice.{Choice};
+ghost use Rattle.tso_terms.specs.Runs.{CoresExist};
+ghost use Rattle.tso_terms.specs.declared.choice.Choice.{Choice};
 ghost use Rattle.scheduler.specs.inner.Coming.{IsNext};
 ghost use Rattle.scheduler.specs.Seeds.{choice_of_word, drawn_words, seeded_choices};
 
@@ -11,7 +11,7 @@ use crate::seeds::choice_of_word;
 use rand_core::SeedableRng;
 use rand_core::utils::NextWord;
 use rand_pcg::Lcg64Xsh32;
-use tso_model::Choice;
+use tso_terms::Choice;
 
 /// Choices that come one after the other.
 pub trait Choices {

@@ -40,10 +40,10 @@ impl fmt::Debug for ChoiceFault {
 
 impl Error for ChoiceFault {}
 
-impl From<tso_model::NoMemory> for ChoiceFault {
+impl From<tso_terms::NoMemory> for ChoiceFault {
     ghost from_gives = { λ _ e. e ≡ fault.NoMemory };
 
-    fn from(_: tso_model::NoMemory) -> ChoiceFault {
+    fn from(_: tso_terms::NoMemory) -> ChoiceFault {
         ChoiceFault::NoMemory
     }
 }

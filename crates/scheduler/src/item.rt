@@ -12,7 +12,7 @@ use crate::fault::ChoiceFault;
 use crate::seeds::push_seeded;
 use crate::words::{capped_number, first_word, is_numeral};
 use decimals::number_up_to;
-use tso_model::{Choice, Core, NoMemory};
+use tso_terms::{Choice, Core, NoMemory};
 
 /// What a core is to do.
 #[derive(Clone, Copy)]

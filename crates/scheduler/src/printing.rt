@@ -4,7 +4,7 @@ ghost use Rattle.std.specs.Prelude.{◌≡◌, ◌++◌, IfOk, OnOk, string_byte
 ghost use Rattle.scheduler.specs.Printed.{printed_choice, printed_after, printed_choices};
 
 use std::alloc::Global;
-use tso_model::{Choice, NoMemory};
+use tso_terms::{Choice, NoMemory};
 
 /// The text of choices in their order, with single spaces between them: the number of the core, and
 /// `s` for a step or `d` for a drain. The text of no choices is empty.

@@ -7,7 +7,7 @@ ghost use Rattle.scheduler.specs.Seeds.{choice_of_word, seeded_choices};
 
 use crate::coming::{Choices, Seeded};
 use std::alloc::Global;
-use tso_model::{Choice, Core, NoMemory};
+use tso_terms::{Choice, Core, NoMemory};
 
 /// The choice that a word of the generator says in a test with so many cores: modulo twice the cores, it is twice the
 /// core, and 1 more for a drain.

@@ -3,7 +3,7 @@
 
 ghost use Rattle.std.specs.Prelude.{◌<◌};
 
-use tso_model::{Choice, Stall};
+use tso_terms::{Choice, Stall};
 
 /// How many choices of a run stalled, and for each reason the first that did for it.
 #[derive(Clone, Copy)]

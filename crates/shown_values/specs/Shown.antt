@@ -2,11 +2,11 @@
 -- litmus7 tell them apart by what a condition names.
 use Rattle.std.specs.Prelude.{ℕ, ◌==◌, ◌||◌, Bool, true, false, List, [], ◌++◌, length, map, filter, slice_index_or}
 use Rattle.std.specs.List.{list_any}
-use Rattle.tso_model.specs.Litmus.{Litmus}
-use Rattle.tso_model.specs.Registers.{index_of}
-use Rattle.tso_model.specs.Actions.{action_of}
+use Rattle.tso_terms.specs.Litmus.{Litmus}
+use Rattle.tso_terms.specs.Registers.{index_of}
+use Rattle.tso_terms.specs.Actions.{action_of}
 use Rattle.basic_laws.specs.Types.{Reg, Instr, Action}
-use Rattle.tso_model.specs.declared.action.Action.TheVariants.{Store, Load, Move, Fence, Lock}
+use Rattle.tso_terms.specs.declared.action.Action.TheVariants.{Store, Load, Move, Fence, Lock}
 use Rattle.tso_report.specs.Tally.{is_looked_at, named_registers, named_locations, shown_value}
 use Rattle.tso_report.specs.declared.named.Named.{Named}
 use Rattle.tso_report.specs.declared.named.Named.TheVariants.{Register, Location}

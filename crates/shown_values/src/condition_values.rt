@@ -1,7 +1,7 @@
 //! What is shown where nothing more is asked for. It is the contract of a function that does nothing: who calls it knows it.
 
 ghost use Rattle.std.specs.Prelude.{◌≡◌};
-ghost use Rattle.tso_model.specs.Litmus.{Litmus};
+ghost use Rattle.tso_terms.specs.Litmus.{Litmus};
 ghost use Rattle.tso_report.specs.Tally.{looked_at};
 ghost use Rattle.shown_values.specs.Shown.{names_shown};
 ghost use Rattle.shown_values.specs.declared.show.Show.{Show};

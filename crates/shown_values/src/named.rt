@@ -1,7 +1,7 @@
 //! The registers and locations whose values a final state shows.
 
 ghost use Rattle.std.specs.Prelude.{◌≡◌, ◌<◌, ◌∷◌, [], IfOk, OnOk, All, length, map};
-ghost use Rattle.tso_model.specs.Actions.{action_of};
+ghost use Rattle.tso_terms.specs.Actions.{action_of};
 ghost use Rattle.tso_report.specs.Report.{all_registers};
 ghost use Rattle.tso_report.specs.Tally.{named_register, named_registers, named_locations};
 ghost use Rattle.tso_report.specs.inner.Tally.{NameExists};
@@ -10,8 +10,8 @@ ghost use Rattle.shown_values.specs.inner.Shown.{ShownAreNoted};
 
 use crate::show::Show;
 use std::alloc::Global;
-use tso_model::{Action, Core, Instr, Loc, NoMemory, Reg, Test};
 use tso_report::named::{Named, is_looked_at};
+use tso_terms::{Action, Core, Instr, Loc, NoMemory, Reg, Test};
 
 /// What the test's final states show: registers by core and then in their order, and then locations by
 /// number. All of them are cores and locations of the test.

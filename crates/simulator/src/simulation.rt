@@ -1,7 +1,7 @@
 //! A test's run under a list of choices: it is the run of the definitions, and what follows from that for who asks for it.
 
 ghost use Rattle.std.specs.Prelude.{◌≡◌, ◌*◌, IfOk, OnOk, length};
-ghost use Rattle.tso_model.specs.Runs.{CoresExist};
+ghost use Rattle.tso_terms.specs.Runs.{CoresExist};
 ghost use Rattle.machine_runs.specs.Runs.{run_under, counts_under, AnswersFit};
 ghost use Rattle.machine_runs.specs.Simulation.{IsEndingOf, FitsEnding, HasCounts, IsCounted, HasAllOrder, HasRounds, HasEnded};
 ghost use Rattle.tso_laws.specs.Counting.{instructions, longest};
@@ -15,7 +15,7 @@ use thiserror::Error;
 use tso_laws::{
     atomic_runs_are_flat_runs, fair_rounds_end, fair_rounds_end_on_either_bus, runs_are_counted,
 };
-use tso_model::{NoMemory, Test};
+use tso_terms::{NoMemory, Test};
 
 /// Why a simulation came to no answer.
 #[derive(Clone, Copy, Debug, Error)]

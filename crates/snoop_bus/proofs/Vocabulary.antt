@@ -35,7 +35,7 @@ pub use Rattle.std.proofs.Math.Seq.{map-set_same, drop-cons, drop-length}
 pub use Rattle.cache_set.specs.inner.Copies.{ways_of, OnlyAt, AtHome, emptied, copy_state_in}
 pub use Rattle.std.specs.Option.{option_or, option_copied}
 pub use Rattle.basic_laws.specs.Types.{Core, Loc}
-pub use Rattle.tso_model.specs.Limits.{most_cores}
+pub use Rattle.tso_terms.specs.Limits.{most_cores}
 pub use Rattle.snoop_bus.specs.declared.access.AccessKind.TheVariants.{Hit, Miss}
 pub use Rattle.snoop_bus.specs.MemoryAfter.{victim_at, written_back, flushed, sent_words, sent_of}
 pub use Rattle.protocol_tables.specs.declared.requests.Request.{Request}

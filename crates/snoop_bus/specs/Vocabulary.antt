@@ -1,5 +1,5 @@
 -- The words of the crates below that the definitions of this crate use, in one place: each file takes its own from here.
-pub use Rattle.tso_model.specs.Limits.{most_cores, most_locations}
+pub use Rattle.tso_terms.specs.Limits.{most_cores, most_locations}
 pub use Rattle.basic_laws.specs.Types.{Core, Loc}
 pub use Rattle.protocol_tables.specs.Laws.{in_place, is_dirty, WritesInPlace}
 pub use Rattle.protocol_tables.specs.Tables.{snoop, Table}

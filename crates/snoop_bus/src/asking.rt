@@ -20,7 +20,7 @@ use cache_set::Line;
 use cache_set::cache::know_sets;
 use cache_set::finding::find;
 use protocol_tables::{Protocol, Request, State, Transient, transient};
-use tso_model::{Core, Loc};
+use tso_terms::{Core, Loc};
 
 /// What a core asks the bus for: the line of a location, to read the word or to write it.
 #[derive(Clone, Copy)]

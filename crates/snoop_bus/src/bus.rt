@@ -4,9 +4,9 @@
 
 ghost use Rattle.std.specs.Prelude.{◌≡◌, ◌+◌, ◌%◌, ◌^◌, ◌<◌, ◌≤◌, true, false};
 ghost use Rattle.std.specs.Prelude.{Some, IfSome, IfOk, OnOk, OnErr, length, slice_set};
-ghost use Rattle.tso_model.specs.Thread.{updated};
-ghost use Rattle.tso_model.specs.Limits.{most_locations};
-ghost use Rattle.tso_model.specs.Limits.{most_cores};
+ghost use Rattle.tso_terms.specs.Thread.{updated};
+ghost use Rattle.tso_terms.specs.Limits.{most_locations};
+ghost use Rattle.tso_terms.specs.Limits.{most_cores};
 ghost use Rattle.snoop_bus.specs.Bus.{words_of, holder_of, IsFree, cores_of, IsCoherent, IsSameMachine};
 ghost use Rattle.snoop_bus.specs.Held.{holder};
 ghost use Rattle.snoop_bus.specs.Accesses.{new_bus, contents_of, memory_of};
@@ -26,13 +26,13 @@ use cache_set::shape::Target;
 use protocol_tables::Protocol;
 use std::alloc::Global;
 use std::marker::Model;
-use tso_model::{Core, Loc, NoMemory, Update};
+use tso_terms::{Core, Loc, NoMemory, Update};
 
 /// Maximum number of cores of a bus.
 pub const MAX_CORES: u8 = 8;
 
 /// Maximum number of locations of memory.
-pub const MAX_LOCATIONS: usize = tso_model::limits::MAX_LOCATIONS;
+pub const MAX_LOCATIONS: usize = tso_terms::limits::MAX_LOCATIONS;
 
 /// The caches of all cores on one bus, and memory after them. Where a line has so many words, location `l`
 /// lies in line `l / words` at offset `l % words`.

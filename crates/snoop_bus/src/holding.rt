@@ -9,7 +9,7 @@ ghost use Rattle.snoop_bus.specs.inner.Held.{held_by};
 use crate::bus::SnoopBus;
 use cache_set::Line;
 use protocol_tables::{Protocol, Transient};
-use tso_model::{Core, Loc};
+use tso_terms::{Core, Loc};
 
 /// How far an action is that holds the bus.
 #[derive(Clone, Copy)]

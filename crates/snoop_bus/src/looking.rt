@@ -14,7 +14,7 @@ use crate::holding::{HeldBus, Transaction};
 use cache_set::cache::Cache;
 use cache_set::{CacheSet, Line, MAX_WORDS};
 use protocol_tables::{Protocol, State, Transient};
-use tso_model::{Core, Loc};
+use tso_terms::{Core, Loc};
 
 /// A line in a cache: its number, its state, and its words. Those past the line's size are 0.
 #[derive(Clone, Copy)]

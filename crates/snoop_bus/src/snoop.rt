@@ -2,7 +2,7 @@
 //! was asked, or a dirty one that is lost, would break coherence. (Primer, chapters 6 and 7.)
 ghost use Rattle.std.specs.Prelude.{◌≡◌, ◌≢◌, ◌<◌, ◌≤◌, ℕ, None, IfSome, length};
 ghost use Rattle.std.specs.Prelude.{slice_set, slice_index_or, is_some, option_map, if◌then◌else◌};
-ghost use Rattle.tso_model.specs.Limits.{most_cores};
+ghost use Rattle.tso_terms.specs.Limits.{most_cores};
 ghost use Rattle.cache_set.specs.CacheTags.{requested, dirty_in};
 ghost use Rattle.cache_set.specs.Copies.{tags_of, cache_of};
 ghost use Rattle.cache_set.specs.inner.Copies.{ways_of, ways_in, copy_state_in, state_at, OnlyAt};
@@ -16,7 +16,7 @@ use cache_set::cache::Cache;
 use cache_set::finding::answer;
 use cache_set::{MAX_WORDS, Victim};
 use protocol_tables::{Protocol, Request, State};
-use tso_model::Core;
+use tso_terms::Core;
 
 /// A cache, whose copy of the line is in this state, sees another core's request for the line.
 fn snoop_one<P: Protocol>(

@@ -4,12 +4,12 @@
 #![tactic(auto)]
 
 ghost use Rattle.std.specs.Prelude.{◌≡◌, ◌<◌, ◌≤◌, ◌↔◌, [], ◌∷◌, ◌++◌, IsTrue, IfOk, OnOk, IfErr, length, drop, slice_get};
-ghost use Rattle.tso_model.specs.Limits.{least_depth, most_depth};
+ghost use Rattle.tso_terms.specs.Limits.{least_depth, most_depth};
 
 use circular_buffer::HeapCircularBuffer;
 use std::alloc::Global;
 use std::marker::Model;
-use tso_model::{Loc, NoMemory};
+use tso_terms::{Loc, NoMemory};
 
 /// A store that was issued and is not in memory yet: the number of its instruction in its program,
 /// its location and the value that it writes.
@@ -42,7 +42,7 @@ impl StoreBuffer {
     ghost use Rattle.store_buffer.specs.inner.Stores.{stores};
     ghost use Rattle.store_buffer.specs.inner.Newest.{newest_for};
 
-    /// An empty buffer for `depth` stores, from `MIN_DEPTH` to `MAX_DEPTH` of `tso_model`. No other call takes memory.
+    /// An empty buffer for `depth` stores, from `MIN_DEPTH` to `MAX_DEPTH` of `tso_terms`. No other call takes memory.
     ///
     /// Errors: out of memory only.
     pub fn new(alloc: Global, depth: u8) -> Result<Self, NoMemory>

@@ -1,7 +1,7 @@
 -- Runs that are made on the flat machine, one after the other: what is counted of each, and that on the atomic bus it is the run
 -- of every machine with caches.
 use Rattle.sweep_runs.proofs.Vocabulary.{◌≡◌, ℕ, true, List, [], ◌∷◌, map, Option, Bool, refl, sym, ap, ◌∙◌, Litmus, State, chosen, effect_of, applied, registers_in, start, Run, run, unheld, HitsFit, Bus, Atomic, Choice, table_of, ProtocolKind, Configuration, state_of_snapshot, core_of_processor, RunCounts, with_state_counted, with_verdict, values_in, run_by, run_under, AnswersFit, verdict, with_one_run}
-use Rattle.tso_model.specs.SplitMachine.{Attempt}
+use Rattle.tso_terms.specs.SplitMachine.{Attempt}
 use Rattle.multiprocessor.specs.Answered.{answered}
 use Rattle.flat_machine.specs.declared.snapshot.Processor.{Processor}
 use Rattle.flat_machine.specs.declared.snapshot.Snapshot.{Snapshot}

@@ -1,7 +1,7 @@
 -- A machine that makes one run after the other: what it counts of each, and that it goes back to where it began.
 use Rattle.sweep_runs.proofs.Vocabulary.{◌≡◌, ℕ, Bool, true, false, if◌then◌else◌, List, [], ◌∷◌, Option, refl, sym, ap, subst, ◌∙◌, Litmus, State, chosen, core_of, registers_in, Run, has_ended, BusState, effect_on, after_on, Bus, Atomic, Split, Choice, Table, ProtocolKind, Configuration, Running, new_machine, restarted, RunCounts, with_state_counted, with_verdict, with_unfinished, values_in, run_by, run_under, AnswersFit, AnswersFitBy, machine_run, AnswersFitOn, verdict, with_one_run, RunLaws, IsDriven, from-new, ended-as-driven}
-use Rattle.tso_model.specs.MemoryAccess.{access_of}
-use Rattle.tso_model.specs.Together.{together}
+use Rattle.tso_terms.specs.MemoryAccess.{access_of}
+use Rattle.tso_terms.specs.Together.{together}
 use Rattle.protocol_tables.specs.Tables.{table_of as table_of_kind}
 use Rattle.snoop_bus.specs.Rows.{TableColumns, rows_of, table_of_rows}
 use Rattle.cache_set.specs.Geometry.{Geometry}

@@ -2,9 +2,9 @@
 pub use Rattle.std.proofs.Common.{◌≡◌, ◌<◌, ◌≤◌, ◌⊎◌, inl, inr, ◌==◌, ◌&&◌, ◌+◌, ℕ, Bool, true, false, not, cond, List, Option, Some, None, refl, sym, ap, subst, ◌∙◌, arith, if◌then◌else◌, [], ◌∷◌, suc, length, map, zero, slice_index_or, is_some, Ordering, Less, Equal, Greater, All, Contains, add-one, slice_set, Ok, ◌*◌}
 pub use Rattle.std.specs.Prelude.{sum, bytes_eq}
 pub use Rattle.std.specs.Map.{values_of, lookup, keys_of}
-pub use Rattle.tso_model.specs.FlatMachine.{registers_in, State, chosen, core_of, effect_of, applied, start}
-pub use Rattle.tso_model.specs.Litmus.{Litmus}
-pub use Rattle.tso_model.specs.Runs.{Run, has_ended, run, run_from}
+pub use Rattle.tso_terms.specs.FlatMachine.{registers_in, State, chosen, core_of, effect_of, applied, start}
+pub use Rattle.tso_terms.specs.Litmus.{Litmus}
+pub use Rattle.tso_terms.specs.Runs.{Run, has_ended, run, run_from}
 pub use Rattle.protocol_tables.specs.declared.kind.ProtocolKind.{ProtocolKind}
 pub use Rattle.multiprocessor.specs.Configuration.{Configuration}
 pub use Rattle.tso_report.specs.Tally.{RunCounts, with_state_counted, with_verdict, values_in, runs_in, with_unfinished, count_of_runs, with_values, Ascend}
@@ -12,7 +12,7 @@ pub use Rattle.machine_runs.specs.Runs.{AnswersFit, run_by, run_under, AnswersFi
 pub use Rattle.machine_runs.specs.Simulation.{verdict}
 pub use Rattle.sweep_runs.specs.Counting.{choices_of, with_one_run, AnswersFitFrom, seeded_run, counts_from}
 pub use Rattle.std.specs.List.{list_any, AllByRecursion}
-pub use Rattle.tso_model.specs.EitherBus.{BusState, effect_on, after_on, unheld, HitsFit}
+pub use Rattle.tso_terms.specs.EitherBus.{BusState, effect_on, after_on, unheld, HitsFit}
 pub use Rattle.basic_laws.specs.Types.{Bus, Atomic, Split, Choice}
 pub use Rattle.protocol_tables.specs.Tables.{Table, table_of}
 pub use Rattle.machine_core.specs.Running.{Running, new_machine, restarted, table_in, configuration_of}

@@ -1,9 +1,9 @@
 -- The answer of `sweep`: what is counted of the runs under many seeds. Each run is one that `run` makes of `seed N M`.
 use Rattle.std.specs.Prelude.{ℕ, zero, suc, ◌+◌, ◌<◌, if◌then◌else◌, List, length}
-use Rattle.tso_model.specs.Litmus.{Litmus}
-use Rattle.tso_model.specs.FlatMachine.{registers_in}
-use Rattle.tso_model.specs.Runs.{Run}
-use Rattle.tso_model.specs.declared.choice.Choice.{Choice}
+use Rattle.tso_terms.specs.Litmus.{Litmus}
+use Rattle.tso_terms.specs.FlatMachine.{registers_in}
+use Rattle.tso_terms.specs.Runs.{Run}
+use Rattle.tso_terms.specs.declared.choice.Choice.{Choice}
 use Rattle.scheduler.specs.Seeds.{seeded_choices}
 use Rattle.protocol_tables.specs.declared.kind.ProtocolKind.{ProtocolKind}
 use Rattle.multiprocessor.specs.Configuration.{Configuration}

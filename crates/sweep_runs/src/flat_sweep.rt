@@ -2,8 +2,8 @@
 //! shape, and of a run a sweep keeps nothing else: so its runs are made on the flat machine, which has none.
 
 ghost use Rattle.std.specs.Prelude.{◌≡◌, ◌==◌, IfOk, OnOk, length};
-ghost use Rattle.tso_model.specs.FlatMachine.{start};
-ghost use Rattle.tso_model.specs.Runs.{run};
+ghost use Rattle.tso_terms.specs.FlatMachine.{start};
+ghost use Rattle.tso_terms.specs.Runs.{run};
 ghost use Rattle.protocol_tables.specs.declared.kind.ProtocolKind.{ProtocolKind};
 ghost use Rattle.flat_machine.specs.State.{state_of_snapshot};
 ghost use Rattle.tso_report.specs.Tally.{nothing_counted};
@@ -14,8 +14,8 @@ use flat_machine::{Snapshot, drive, overwrite, start, write_registers};
 use machine_core::{Bus, Config};
 use scheduler::{Choices, SweepPlan};
 use std::alloc::Global;
-use tso_model::{NoMemory, Test};
 use tso_report::Tally;
+use tso_terms::{NoMemory, Test};
 
 /// Makes the runs of a plan on the flat machine, counts them in a tally that has counted nothing yet, and answers whether all ended.
 ///

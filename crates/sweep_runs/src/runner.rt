@@ -2,9 +2,9 @@
 //! their number.
 
 ghost use Rattle.std.specs.Prelude.{◌≡◌, ◌<◌, ◌-◌, ◌^◌, ◌==◌, List, IfOk, OnOk, length};
-ghost use Rattle.tso_model.specs.Litmus.{Litmus};
-ghost use Rattle.tso_model.specs.Runs.{Run, CoresExist};
-ghost use Rattle.tso_model.specs.declared.choice.Choice.{Choice};
+ghost use Rattle.tso_terms.specs.Litmus.{Litmus};
+ghost use Rattle.tso_terms.specs.Runs.{Run, CoresExist};
+ghost use Rattle.tso_terms.specs.declared.choice.Choice.{Choice};
 ghost use Rattle.protocol_tables.specs.declared.kind.ProtocolKind.{ProtocolKind};
 ghost use Rattle.multiprocessor.specs.Configuration.{Configuration};
 ghost use Rattle.tso_report.specs.Tally.{nothing_counted, runs_in, values_in, with_state_counted, with_verdict};
@@ -15,8 +15,8 @@ ghost use Rattle.sweep_runs.specs.inner.Counting.{CanRunAgain};
 
 use machine_runs::verdict_of;
 use scheduler::{Choices, Seeded, SweepPlan};
-use tso_model::{NoMemory, Test};
 use tso_report::Tally;
+use tso_terms::{NoMemory, Test};
 
 /// Makes one run after the other, each from the beginning of a test.
 pub(crate) trait Runner {

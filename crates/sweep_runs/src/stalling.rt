@@ -7,8 +7,8 @@ ghost use Rattle.sweep_runs.specs.inner.Stalling.{place_of_choice, reason_at, no
 use machine_core::Machine;
 use machine_runs::Observer;
 use protocol_tables::Protocol;
-use tso_model::limits::MAX_CORES;
-use tso_model::{Choice, NoMemory, Outcome, Stall};
+use tso_terms::limits::MAX_CORES;
+use tso_terms::{Choice, NoMemory, Outcome, Stall};
 
 /// How many choices there are at each moment: a step and a drain of each core.
 const CHOICES: usize = 2 * MAX_CORES;

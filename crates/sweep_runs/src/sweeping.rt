@@ -20,8 +20,8 @@ use tso_laws::{
     atomic_runs_are_flat_runs, attempts_lead_from_state_to_state,
     runs_on_either_bus_stop_where_they_end,
 };
-use tso_model::{NoMemory, Test};
 use tso_report::Tally;
+use tso_terms::{NoMemory, Test};
 
 /// Makes the runs of a plan, counts them in a tally that has counted nothing yet, and answers whether all ended: on the atomic bus by
 /// the flat machine.

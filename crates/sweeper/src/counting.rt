@@ -9,8 +9,8 @@ use protocol_tables::ProtocolKind;
 use scheduler::SweepPlan;
 use std::alloc::Global;
 use sweep_runs::sweep_into;
-use tso_model::{NoMemory, Test};
 use tso_report::Tally;
+use tso_terms::{NoMemory, Test};
 
 /// What a sweep has counted, and whether all of its runs ended.
 #[derive(Drop)]

@@ -1,9 +1,9 @@
 -- Where a word is found: the first core that supplies it, and memory where none does.
 use Rattle.trace_json.proofs.Vocabulary.{arith, rules, ◌≡◌, ◌≢◌, ◌∙◌, ℕ, zero, suc, ◌+◌, ◌-◌, ◌<◌, ◌/◌, ◌||◌, Bool, true, false, if◌then◌else◌, List, [], ◌∷◌, length, Option, Some, None, refl, sym, ap, subst, Choice, table_of, ProtocolKind, bus_holder, bus_holder_as, bus_holder_of, at_access, Running, awaited_at, line_state, state_with, is_newer, is_newer_in, own_word, own_words_from, supplies, supplier_from, supplier_or_memory, copy_on, SourcesAreTold, Source}
 use Rattle.std.specs.Prelude.{is_some, slice_index_or}
-use Rattle.tso_model.specs.MemoryAccess.{MemoryAccess, NoAccess, Reads, Writes, Locks, access_of}
-use Rattle.tso_model.specs.SplitMachine.{Holder, Free, HeldBy, HeldBetween}
-use Rattle.tso_model.specs.declared.instruction.Core.{Core}
+use Rattle.tso_terms.specs.MemoryAccess.{MemoryAccess, NoAccess, Reads, Writes, Locks, access_of}
+use Rattle.tso_terms.specs.SplitMachine.{Holder, Free, HeldBy, HeldBetween}
+use Rattle.tso_terms.specs.declared.instruction.Core.{Core}
 use Rattle.protocol_tables.specs.declared.kind.ProtocolKind.TheVariants.{Msi, Mesi, Moesi, Mosi}
 use Rattle.protocol_tables.specs.declared.requests.Request.{Request}
 use Rattle.protocol_tables.specs.declared.requests.Request.TheVariants.{GetS, GetM}

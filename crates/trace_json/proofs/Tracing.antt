@@ -1,6 +1,6 @@
 -- The steps of a run, one after the other.
 use Rattle.trace_json.proofs.Vocabulary.{◌≡◌, ◌∙◌, ℕ, ◌+◌, Bool, true, false, if◌then◌else◌, List, [], ◌∷◌, ◌++◌, length, map, refl, sym, ap, append_assoc, append-nil, Option, option_map, slice_set, length-set, Data, array, items_of, view, Value, Litmus, memory_after, has_ended, Entry, Choice, Configuration, Running, machine_effect, machine_after, IsTraced, ShownStep, trace_step_of, own_words, machine_json, found_by, supplied_to, Sourced, sourced, sourced_by, alone, last_or, step_to, steps_json, Source, IsMachineOfTest, told_last, trace_with}
-use Rattle.tso_model.specs.ProgramOrder.{is_write}
+use Rattle.tso_terms.specs.ProgramOrder.{is_write}
 use Rattle.machine_runs.specs.inner.Observed.{Watched, none_left, over, next, IsWatched}
 use Rattle.trace_json.specs.inner.Observing.{told_as, told_by, told_from, OpensTrace, MakesStep}
 use Rattle.trace_json.specs.declared.trace.Extent.{Extent}

@@ -4,9 +4,9 @@ pub use Rattle.std.proofs.lemmas.Bool.{or_parts}
 pub use Rattle.serde_json.specs.Data.{Data, boolean, string, Members, no_members, put, array, object}
 pub use Rattle.serde_json.specs.View.{items_of, view, members_view}
 pub use Rattle.serde_json.specs.Written.{has_float, items_have_float, members_have_float}
-pub use Rattle.tso_model.specs.Litmus.{Litmus}
-pub use Rattle.tso_model.specs.FlatMachine.{core_of, CoreState, idle, memory_after, chosen}
-pub use Rattle.tso_model.specs.Runs.{has_ended}
+pub use Rattle.tso_terms.specs.Litmus.{Litmus}
+pub use Rattle.tso_terms.specs.FlatMachine.{core_of, CoreState, idle, memory_after, chosen}
+pub use Rattle.tso_terms.specs.Runs.{has_ended}
 pub use Rattle.basic_laws.specs.Types.{Entry, Choice}
 pub use Rattle.order_builder.specs.PrintedOrder.{printed_entry, HasLocation}
 pub use Rattle.protocol_tables.specs.Tables.{table_of, Table}
@@ -25,7 +25,7 @@ pub use Rattle.trace_json.specs.StepJson.{outcome_word, stall_in, step_json}
 pub use Rattle.trace_json.specs.Supplied.{supplier_text, found_by, supplied_to, supplies, supplier_from, supplier_or_memory}
 pub use Rattle.trace_json.specs.TraceJson.{Sourced, sourced_by, last_or, last_step_json, step_to, steps_json, start_json, trace_json, alone}
 pub use Rattle.trace_json.specs.declared.supplied.Source.{Source}
-pub use Rattle.tso_model.specs.Condition.{Condition, condition_of}
+pub use Rattle.tso_terms.specs.Condition.{Condition, condition_of}
 pub use Rattle.std.proofs.lemmas.Result.{on_ok_weaker}
 pub use Rattle.scheduler.specs.Printed.{printed_choice}
 pub use Rattle.trace_json.specs.Programs.{instruction_text, program_value, programs_value}

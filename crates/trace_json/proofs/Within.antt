@@ -1,7 +1,7 @@
 -- A run within the limit is shown whole to an observer to which its first choices alone are shown.
 use Rattle.trace_json.proofs.Vocabulary.{◌≡◌, ◌∙◌, ℕ, suc, ◌+◌, ◌≤◌, Bool, false, List, ◌∷◌, length, refl, sym, ap, subst, arith, Litmus, Choice, table_of, Table, ProtocolKind, Configuration, Running, new_machine, machine_after}
-use Rattle.tso_model.specs.EitherBus.{run_on}
-use Rattle.tso_model.specs.Together.{together}
+use Rattle.tso_terms.specs.EitherBus.{run_on}
+use Rattle.tso_terms.specs.Together.{together}
 use Rattle.basic_laws.specs.Types.{Bus, Atomic, Split}
 use Rattle.multiprocessor.specs.Answered.{answered}
 use Rattle.machine_runs.specs.Runs.{run_by, run_under}

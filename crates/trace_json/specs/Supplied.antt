@@ -3,7 +3,7 @@
 -- others; which copies supply their line is this project's profile.)
 use Rattle.std.specs.Prelude.{ℕ, zero, suc, ◌+◌, ◌/◌, ◌||◌, Bool, true, false, if◌then◌else◌, List, length, Option, Some, None, is_some, option_map, codes}
 use Rattle.trace_json.specs.Vocabulary.{chosen, E, I, M, O, printed_core, Running, S, ShownStep, State, tag_at, trace_step_of}
-use Rattle.tso_model.specs.MemoryAccess.{MemoryAccess, NoAccess, Reads, Writes, Locks, access_of}
+use Rattle.tso_terms.specs.MemoryAccess.{MemoryAccess, NoAccess, Reads, Writes, Locks, access_of}
 use Rattle.basic_laws.specs.Types.{Core, Choice, Outcome, Committed, Buffered, Moved, Asked, Stalled}
 use Rattle.trace_json.specs.declared.supplied.Source.{Source}
 use Rattle.trace_json.specs.declared.supplied.Source.TheVariants.{Buffer, Cache, Other, Bus, Memory}

@@ -1,7 +1,7 @@
 -- What a trace says of where a word is found, held against the tables of the protocols and the words of the machine before the choice.
 -- (Primer, chapters 6 and 7.)
 use Rattle.std.specs.Prelude.{ℕ, ◌≡◌, ◌≢◌, ◌<◌, ◌/◌, true, List, length, Option, Some, None, slice_index_or, is_some}
-use Rattle.tso_model.specs.declared.instruction.Core.{Core}
+use Rattle.tso_terms.specs.declared.instruction.Core.{Core}
 use Rattle.trace_json.specs.Vocabulary.{ProtocolKind, Running, State, table_of, tag_at}
 use Rattle.protocol_tables.specs.declared.requests.Request.{Request}
 use Rattle.cache_set.specs.Requests.{snoop_column}

@@ -2,8 +2,8 @@
 -- the machine after it. (This project's profile.)
 use Rattle.std.specs.Prelude.{ℕ, if◌then◌else◌, List, [], ◌∷◌, Option, codes}
 use Rattle.trace_json.specs.Vocabulary.{array, Configuration, Data, items_of, Litmus, machine_after, member, new_machine, no_members, object, ProtocolKind, Running, ShownStep, table_of, trace_step_of}
-use Rattle.tso_model.specs.Runs.{has_ended}
-use Rattle.tso_model.specs.declared.choice.Choice.{Choice}
+use Rattle.tso_terms.specs.Runs.{has_ended}
+use Rattle.tso_terms.specs.declared.choice.Choice.{Choice}
 use Rattle.trace_json.specs.OwnWords.{own_words}
 use Rattle.trace_json.specs.MachineJson.{words_per_line, machine_json}
 use Rattle.trace_json.specs.StepJson.{step_json}

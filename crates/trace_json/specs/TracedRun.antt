@@ -3,7 +3,7 @@
 use Rattle.std.specs.Prelude.{ℕ, List, codes}
 use Rattle.trace_json.specs.Vocabulary.{Configuration, Data, Ended, Ending, Litmus, Members, object, ProtocolKind, put, run_members, shown_run, Unfinished, unfinished_members}
 use Rattle.serde_json.specs.Written.{compact_text}
-use Rattle.tso_model.specs.declared.choice.Choice.{Choice}
+use Rattle.tso_terms.specs.declared.choice.Choice.{Choice}
 use Rattle.tso_report.specs.Shown.{ShownRun}
 use Rattle.tso_report.specs.Report.{line}
 use Rattle.trace_json.specs.Programs.{programs_value}

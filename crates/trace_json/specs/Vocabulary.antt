@@ -1,9 +1,9 @@
 -- The words of the crates below that the definitions of this crate use, in one place: each file takes its own from here.
 pub use Rattle.serde_json.specs.Data.{array, boolean, Data, member, Members, no_members, null, object, put, string}
 pub use Rattle.serde_json.specs.View.{items_of, view}
-pub use Rattle.tso_model.specs.FlatMachine.{chosen, core_of}
-pub use Rattle.tso_model.specs.Litmus.{IsTest, Litmus}
-pub use Rattle.tso_model.specs.Registers.{name_of}
+pub use Rattle.tso_terms.specs.FlatMachine.{chosen, core_of}
+pub use Rattle.tso_terms.specs.Litmus.{IsTest, Litmus}
+pub use Rattle.tso_terms.specs.Registers.{name_of}
 pub use Rattle.basic_laws.specs.Types.{Asked, Buffered, Committed, Fence, Instr, Load, Loc, Moved, Outcome, SetImm, SetReg, Stall, Stalled, StoreImm, StoreReg, Xadd, Xchg}
 pub use Rattle.scheduler.specs.Printed.{printed_choice}
 pub use Rattle.protocol_tables.specs.Laws.{is_dirty}

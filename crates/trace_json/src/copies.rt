@@ -15,10 +15,10 @@ use serde_json::Value;
 use std::alloc::Global;
 use trace_report::names::state_name;
 use trace_report::states::line_state;
-use tso_model::{Core, NoMemory, Test};
 use tso_report::arrays::Array;
 use tso_report::members::{numbers_value, push_made, word_value};
 use tso_report::objects::Object;
+use tso_terms::{Core, NoMemory, Test};
 
 /// The lines of a core's cache, by set.
 ///

@@ -3,7 +3,7 @@
 ghost use Rattle.std.specs.Prelude.{◌≡◌, IfOk, length, map};
 ghost use Rattle.serde_json.specs.Data.{array};
 ghost use Rattle.serde_json.specs.View.{view, items_of};
-ghost use Rattle.tso_model.specs.FlatMachine.{core_of};
+ghost use Rattle.tso_terms.specs.FlatMachine.{core_of};
 ghost use Rattle.trace_report.specs.Lines.{store_text};
 ghost use Rattle.trace_json.specs.Values.{array_of_texts};
 ghost use Rattle.trace_json.specs.MachineJson.{cores_json};
@@ -15,11 +15,11 @@ use crate::texts::store_value;
 use protocol_tables::Protocol;
 use serde_json::Value;
 use std::alloc::Global;
-use tso_model::{Core, NoMemory};
 use tso_report::arrays::Array;
 use tso_report::json::registers_value;
 use tso_report::members::push_made;
 use tso_report::objects::Object;
+use tso_terms::{Core, NoMemory};
 
 /// The cores of a machine: of each its pending stores, the lines of its cache, its place and its registers.
 ///

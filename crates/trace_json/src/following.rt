@@ -2,7 +2,7 @@
 
 ghost use Rattle.std.specs.Prelude.{◌≡◌, ◌<◌, IfOk, OnOk, length};
 ghost use Rattle.serde_json.specs.View.{view};
-ghost use Rattle.tso_model.specs.FlatMachine.{chosen};
+ghost use Rattle.tso_terms.specs.FlatMachine.{chosen};
 ghost use Rattle.protocol_tables.specs.Tables.{Table};
 ghost use Rattle.machine_core.specs.Running.{new_machine, machine_effect, machine_after, AnswerFits};
 ghost use Rattle.trace_report.specs.Shown.{shown_step};
@@ -25,7 +25,7 @@ use std::alloc::Global;
 use trace_report::Step;
 use trace_report::states::{PlacedState, states_of};
 use trace_report::telling::tell;
-use tso_model::{NoMemory, Test};
+use tso_terms::{NoMemory, Test};
 
 /// What a choice did, and where the word is found that it read.
 pub(crate) struct SourcedStep {

@@ -9,7 +9,7 @@ use machine_core::{Choice, Machine, Outcome};
 use machine_runs::Observer;
 use protocol_tables::Protocol;
 use scheduler::Stalls;
-use tso_model::NoMemory;
+use tso_terms::NoMemory;
 
 /// Shows an observer as many choices as a trace as JSON may have steps, and makes the others without it. Which choices
 /// stalled is noted of all.

@@ -16,10 +16,10 @@ use serde_json::Value;
 use std::alloc::Global;
 use trace_report::names::transient_name;
 use trace_report::step::core_of;
-use tso_model::{Loc, NoMemory};
 use tso_report::json::memory_value;
 use tso_report::members::{numbers_value, word_value};
 use tso_report::objects::Object;
+use tso_terms::{Loc, NoMemory};
 
 /// A machine at a moment: the bus, the cores, memory, and the words that a program sees.
 ///

@@ -2,7 +2,7 @@
 
 use machine_core::{Config, Machine};
 use protocol_tables::Protocol;
-use tso_model::Test;
+use tso_terms::Test;
 
 /// A machine between two choices, as it is told.
 #[derive(Drop)]

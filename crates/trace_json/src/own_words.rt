@@ -10,7 +10,7 @@ use machine_core::{BusHolder, Machine};
 use protocol_tables::{Protocol, State, Transient};
 use trace_report::LineState;
 use trace_report::states::line_state;
-use tso_model::{Core, Loc, Test};
+use tso_terms::{Core, Loc, Test};
 
 /// Leads memory's own words on a machine from those before a choice to those after it, where lines have so many words. The machine
 /// is the one after the choice.

@@ -3,17 +3,17 @@
 ghost use Rattle.std.specs.Prelude.{◌≡◌, ◌++◌, All, IfOk, codes, length};
 ghost use Rattle.serde_json.specs.Data.{string};
 ghost use Rattle.serde_json.specs.View.{view};
-ghost use Rattle.tso_model.specs.Litmus.{KnownLocation};
-ghost use Rattle.tso_model.specs.Registers.{name_of};
+ghost use Rattle.tso_terms.specs.Litmus.{KnownLocation};
+ghost use Rattle.tso_terms.specs.Registers.{name_of};
 ghost use Rattle.tso_report.specs.inner.Pieces.{line_piece};
 ghost use Rattle.trace_json.specs.Programs.{instruction_text, program_value, programs_value};
 
 use crate::texts::text_value;
 use serde_json::Value;
 use std::alloc::Global;
-use tso_model::{Core, Instr, NoMemory, Reg, Test};
 use tso_report::arrays::Array;
 use tso_report::pieces::Piece;
+use tso_terms::{Core, Instr, NoMemory, Reg, Test};
 
 /// For each core a list of its instructions, each as a text: `MOV [x],$1`.
 ///

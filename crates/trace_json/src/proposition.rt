@@ -2,14 +2,14 @@
 
 ghost use Rattle.std.specs.Prelude.{◌≡◌, ◌<◌, ◌++◌, IfOk, OnOk, length, string_bytes};
 ghost use Rattle.serde_json.specs.View.{view};
-ghost use Rattle.tso_model.specs.Condition.{NamesExist};
-ghost use Rattle.tso_model.specs.Condition.{claim_of};
+ghost use Rattle.tso_terms.specs.Condition.{NamesExist};
+ghost use Rattle.tso_terms.specs.Condition.{claim_of};
 ghost use Rattle.trace_json.specs.Proposition.{is_or, is_joined, bracketed_text, proposition_text, proposition_value};
 
 use serde_json::Value;
 use std::alloc::Global;
-use tso_model::{Core, NoMemory, Prop, Reg, Test};
 use tso_report::pieces::{Piece, write_characters, write_pieces};
+use tso_terms::{Core, NoMemory, Prop, Reg, Test};
 
 /// The proposition of the test's condition as a text, `0:EAX=0 /\ 1:EAX=0`; `null` where it has none.
 ///

@@ -19,12 +19,12 @@ use std::alloc::Global;
 use trace_report::names::{access_name, stall_name};
 use trace_report::text::{write_change, write_line_request};
 use trace_report::{LineRequest, Moved, StateChange, Step};
-use tso_model::{Core, NoMemory, Outcome, Test};
 use tso_report::arrays::Array;
 use tso_report::json::order_value;
 use tso_report::members::word_value;
 use tso_report::objects::Object;
 use tso_report::pieces::Piece;
+use tso_terms::{Core, NoMemory, Outcome, Test};
 
 /// What a choice did, on caches whose lines have so many words, where the word is found that it read, and this machine
 /// after it, if its value could be made.

@@ -3,7 +3,7 @@
 
 ghost use Rattle.std.specs.Prelude.{◌≡◌, ◌<◌, IfOk, length, option_map};
 ghost use Rattle.serde_json.specs.View.{view};
-ghost use Rattle.tso_model.specs.FlatMachine.{chosen};
+ghost use Rattle.tso_terms.specs.FlatMachine.{chosen};
 ghost use Rattle.trace_report.specs.Shown.{shown_step};
 ghost use Rattle.trace_report.specs.inner.Told.{IsLookedAt};
 ghost use Rattle.trace_json.specs.Supplied.{found_by, supplier_text, supplied_to, supplier_from};
@@ -17,8 +17,8 @@ use serde_json::Value;
 use std::alloc::Global;
 use trace_report::Step;
 use trace_report::step::core_of;
-use tso_model::{Choice, Core, NoMemory, Outcome, Test};
 use tso_report::members::word_value;
+use tso_terms::{Choice, Core, NoMemory, Outcome, Test};
 
 /// Where a core finds a word that it reads.
 #[derive(Clone, Copy)]

@@ -11,9 +11,9 @@ ghost use Rattle.trace_report.specs.Lines.{line_name, printed_core, store_text};
 use serde_json::Value;
 use std::alloc::Global;
 use trace_report::text::write_line_name;
-use tso_model::{Choice, Core, Entry, NoMemory, Test};
 use tso_report::members::word_value;
 use tso_report::pieces::{Piece, write_pieces};
+use tso_terms::{Choice, Core, Entry, NoMemory, Test};
 
 /// A text of these pieces, one after the other.
 ///

@@ -3,7 +3,7 @@
 ghost use Rattle.std.specs.Prelude.{◌≡◌, ◌≤◌, IfOk, None, OnOk, length, map, option_map};
 ghost use Rattle.serde_json.specs.Data.{array};
 ghost use Rattle.serde_json.specs.View.{items_of, view};
-ghost use Rattle.tso_model.specs.Runs.{CoresExist};
+ghost use Rattle.tso_terms.specs.Runs.{CoresExist};
 ghost use Rattle.machine_runs.specs.Runs.{run_under, counts_under, AnswersFit};
 ghost use Rattle.machine_runs.specs.Simulation.{IsEndingOf, FitsEnding, HasCounts};
 ghost use Rattle.trace_json.specs.MachineJson.{machine_json};
@@ -23,9 +23,9 @@ use serde_json::Value;
 use std::alloc::Global;
 use std::mem::replace;
 use trace_report::told_runs::traces_tell_their_runs;
-use tso_model::NoMemory;
 use tso_report::members::push_made;
 use tso_report::objects::Object;
+use tso_terms::NoMemory;
 
 /// How a run left its test, what is told of it as a value, and which choices stalled.
 #[derive(Drop)]

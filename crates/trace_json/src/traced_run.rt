@@ -4,7 +4,7 @@
 ghost use Rattle.std.specs.Prelude.{◌≡◌, ◌<◌, ◌≤◌, List, IfOk, IfSome, IsSome, None, false, length, string_bytes};
 ghost use Rattle.serde_json.specs.View.{view, members_view};
 ghost use Rattle.serde_json.specs.Written.{has_float};
-ghost use Rattle.tso_model.specs.declared.choice.Choice.{Choice};
+ghost use Rattle.tso_terms.specs.declared.choice.Choice.{Choice};
 ghost use Rattle.scheduler.specs.Grammar.{SpellsChoices};
 ghost use Rattle.scheduler.specs.WordOfChoice.{IsWordOfChoice};
 ghost use Rattle.machine_runs.specs.Simulation.{FitsEnding};
@@ -16,9 +16,9 @@ use machine_runs::{Ending, Setup};
 use scheduler::word_of_choice;
 use serde_json::{Map, Value};
 use std::alloc::Global;
-use tso_model::NoMemory;
 use tso_report::json::{run_members, unfinished_members};
 use tso_report::objects::Object;
+use tso_terms::NoMemory;
 
 /// Maximum number of steps of a trace as JSON.
 pub const MAX_STEPS: usize = 1_000;

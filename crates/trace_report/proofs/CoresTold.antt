@@ -1,7 +1,7 @@
 -- What a step tells of its core: the register that was moved, the pending stores, and why it stalled.
 use Rattle.trace_report.proofs.Vocabulary.{arith, ◌≡◌, ◌≢◌, ◌∙◌, ◌⊎◌, ◌≤◌, ◌+◌, ◌==◌, ℕ, zero, suc, Bool, true, false, nat_lt, if◌then◌else◌, List, [], ◌∷◌, length, slice_index, slice_set, Option, Some, None, inl, inr, refl, sym, ap, subst, length-append, get_or-set_same, get_or_past, nat_tests, length-set, lt-or, Litmus, action_of, value_of, CoreState, State, Effect, idle, is_none_pending, stalled, stored, effect_by, effect_of, core_of, chosen, applied, access_of, next_of, Holder, Free, HeldBy, Attempt, needs_bus, asks, as_read, split_effect, BusState, effect_on, Bus, Atomic, Split, Core, Instr, Action, Store, Load, Move, Fence, Lock, Entry, Choice, Step, Drain, Outcome, Moved, Stalled, Stall, Running, machine_after, attempt_on, stall_name, moved_by, moved_at, moved_from, buffer_if_changed, with_moved, pending_told, CoresAreTold, IsWordOfStall, done, full, lock, empty, IsHeldByOther, IsWordOfStallOn, flat, bus, StallsAreTold, if-by, effect-by, split-by, begins-by, completes-by, drain_with, IsOther, cases_Bool, step_of, after_choice}
-use Rattle.tso_model.specs.Registers.{index_of}
-use Rattle.tso_model.specs.declared.choice.Stall.TheVariants as stall
+use Rattle.tso_terms.specs.Registers.{index_of}
+use Rattle.tso_terms.specs.declared.choice.Stall.TheVariants as stall
 use Rattle.machine_core.specs.Running.{machine_effect as effect_made}
 use Rattle.trace_report.specs.Steps as steps
 use Rattle.trace_report.specs.declared.step.Moved as move

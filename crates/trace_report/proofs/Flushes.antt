@@ -2,7 +2,7 @@
 -- told already and counted later.
 use Rattle.trace_report.proofs.Vocabulary.{◌≡◌, ◌≢◌, ◌∙◌, ℕ, Bool, true, false, List, Option, Some, None, refl, sym, ap, subst, chosen, MemoryAccess, NoAccess, Holder, Bus, Atomic, Split, Core, Choice, Outcome, Table, transient_of, Request, GetS, GetM, Transient, SmD, table_of_rows, TagSets, Awaited, tag_at, or_invalid, asking, awaiting, completed, completed_in, CacheUse, Unused, Caches, Used, asking_by, is_awaited, nothing_sent, sent_whole, sent_at, sent_on, LineRequest, inl, inr, completing_by, request_for}
 use Rattle.std.specs.Option.{option_map}
-use Rattle.tso_model.specs.declared.choice.Outcome.TheVariants as out
+use Rattle.tso_terms.specs.declared.choice.Outcome.TheVariants as out
 use Rattle.protocol_tables.specs.declared.state.State.TheVariants as tag
 use Rattle.protocol_tables.specs.declared.state.State as protocol
 use Rattle.trace_report.proofs.InPlace.{flush_in, use-still, use-keeps, is_write_access}

@@ -1,6 +1,6 @@
 -- The steps of a trace, summed along its run.
 use Rattle.trace_report.proofs.Vocabulary.{◌≡◌, ◌∙◌, ℕ, suc, ◌+◌, ◌≤◌, Bool, true, false, List, [], ◌∷◌, ◌++◌, length, drop, refl, sym, ap, subst, inl, inr, get_or-set_same, get_or_past, length-set, lt-or, Litmus, CoreState, Effect, idle, core_of, chosen, start, Run, has_ended, stall_count, then_run, run, Attempt, BusState, BusRun, unheld, then_on, resting_on, run_on, run_on_from, choices_in, Bus, Atomic, Choice, Table, Configuration, Caches, use_on, state_after_on, no_statistics, Running, new_machine, attempt_on, machine_after, trace_step_of, steps_from, trace_of, committed_at, committed_in, stalls_in, TellsRun, run_traced, machine_effect}
-use Rattle.tso_model.specs.Together.{put_together}
+use Rattle.tso_terms.specs.Together.{put_together}
 use Rattle.tso_laws.specs.BusLaws.{AtomicRunsAreFlatRuns}
 use Rattle.multiprocessor.specs.Answered.{answered, answered_from}
 use Rattle.trace_report.proofs.Effects.{Form, effect-form, named-is, nothing-new}

@@ -1,7 +1,7 @@
 -- What a choice has to do with the caches on either bus, and who holds the bus after it.
 use Rattle.trace_report.proofs.Vocabulary.{◌≡◌, ◌≢◌, ◌⊎◌, ℕ, Bool, true, false, inl, inr, refl, ap, subst, each-at, Litmus, State, chosen, core_of, effect_of, applied, MemoryAccess, NoAccess, access_of, next_of, Holder, Free, HeldBy, HeldBetween, BusEffect, needs_bus, acts, asks, begins, completes, as_read, writes_last, split_effect, BusState, Bus, Atomic, Split, Choice, Step, Entry, quiet-same, IsStore, AllStores, access-kept, IsOther, HolderWaits, Unused, Caches, Used, not_through, asking_by, completing_by, hits_by, attempt_of, is_awaited, used_between, use_on, state_after_on, IsUseFor, choice-use, zero, suc, nat_lt, List, [], ◌∷◌, length, Option, Some, None, sym, Each, action_of, CoreState, Effect, is_none_pending, stored, effect_by, effect_on, Instr, Action, Store, Fence, Lock, Drain, Outcome, Awaited, nothing_sent, sent_at, LineRequest, slice_index_or, set-get_or, idle, choice-stores, if-by, begins-by, completes-by, split-by, last-unused, drain_with, step_of}
-use Rattle.tso_model.specs.declared.choice.Stall.TheVariants as stall
-use Rattle.tso_model.specs.declared.choice.Outcome.TheVariants as out
+use Rattle.tso_terms.specs.declared.choice.Stall.TheVariants as stall
+use Rattle.tso_terms.specs.declared.choice.Outcome.TheVariants as out
 use Rattle.tso_laws.specs.inner.Pending.{PendingIsOwn}
 
 -- ---- choices on the flat machine

@@ -3,20 +3,20 @@ pub use Rattle.std.proofs.Common.{◌≡◌, ◌∙◌, ℕ, ◌+◌, ◌<◌, �
 pub use Rattle.std.proofs.lemmas.Bool.{cases_Bool}
 pub use Rattle.std.proofs.Math.ListN.{drop_of_length-le, length-set, get_or-map}
 pub use Rattle.std.proofs.lemmas.List.{drop_more, get_or-take, length-take, get_or_past, length-replicate, length-map, set-get_or, get_or-replicate}
-pub use Rattle.tso_model.specs.Litmus.{Litmus, IsTest, IsProgram, KnownLocation}
+pub use Rattle.tso_terms.specs.Litmus.{Litmus, IsTest, IsProgram, KnownLocation}
 pub use Rattle.trace_report.specs.Lines.{after_plus, joined_by_plus, line_name, write_back_text, stall_name, changes_text, entries_text, later_stores}
 pub use Rattle.std.specs.List.{list_any}
-pub use Rattle.tso_model.specs.ProgramOrder.{writes_to}
-pub use Rattle.tso_model.specs.MemoryAccess.{MemoryAccess, NoAccess, Reads, Writes, Locks, access_of, next_of, access_by, step_access, load_access, locked_access, store_access, drain_access}
+pub use Rattle.tso_terms.specs.ProgramOrder.{writes_to}
+pub use Rattle.tso_terms.specs.MemoryAccess.{MemoryAccess, NoAccess, Reads, Writes, Locks, access_of, next_of, access_by, step_access, load_access, locked_access, store_access, drain_access}
 pub use Rattle.basic_laws.specs.Types.{Entry, Kind, R, W, F, LR, LW, Bus, Atomic, Split, Instr, Action, Choice, Step, Drain, Outcome, Committed, Buffered, Moved, Asked, Stalled, Stall, Loc, Core, Reg, Operand}
 pub use Rattle.multiprocessor.specs.Caches.{Caches, not_through, asking_by, completing_by, use_by_kind, use_of, used_between, is_awaited, use_on, state_after_on, Used, load_after, hits_by, would_hit, attempt_of, at_access, through, completion_by, whole_by}
 pub use Rattle.multiprocessor.specs.declared.accesses.CacheUse.TheVariants.{Forwarded, Unused, Through}
-pub use Rattle.tso_model.specs.Actions.{action_of, location_of}
-pub use Rattle.tso_model.specs.FlatMachine.{CoreState, State, Effect, is_none_pending, stalled, stored, effect_by, effect_of, core_of, chosen, program_of, applied, start, idle, step_of, load_value, after_choice}
+pub use Rattle.tso_terms.specs.Actions.{action_of, location_of}
+pub use Rattle.tso_terms.specs.FlatMachine.{CoreState, State, Effect, is_none_pending, stalled, stored, effect_by, effect_of, core_of, chosen, program_of, applied, start, idle, step_of, load_value, after_choice}
 pub use Rattle.basic_laws.proofs.WithPending.{drain_with}
-pub use Rattle.tso_model.specs.SplitMachine.{Holder, Free, HeldBy, HeldBetween, Attempt, same_choice, needs_bus, acts, asks, begins, completes, as_read, after_first, writes_last, split_effect, load_part, BusEffect}
-pub use Rattle.tso_model.specs.EitherBus.{BusState, effect_on, BusRun, unheld, then_on, resting_on, run_on, run_on_from, choices_in, after_on}
-pub use Rattle.tso_model.specs.declared.action.Action.TheVariants.{Store, Load, Move, Fence, Lock}
+pub use Rattle.tso_terms.specs.SplitMachine.{Holder, Free, HeldBy, HeldBetween, Attempt, same_choice, needs_bus, acts, asks, begins, completes, as_read, after_first, writes_last, split_effect, load_part, BusEffect}
+pub use Rattle.tso_terms.specs.EitherBus.{BusState, effect_on, BusRun, unheld, then_on, resting_on, run_on, run_on_from, choices_in, after_on}
+pub use Rattle.tso_terms.specs.declared.action.Action.TheVariants.{Store, Load, Move, Fence, Lock}
 pub use Rattle.tso_laws.proofs.Following.{needs-some}
 pub use Rattle.tso_laws.proofs.BusStopping.{ended-free}
 pub use Rattle.tso_laws.proofs.Ways.{IsOther, if-by, begins-by, completes-by, split-by, effect-by}
@@ -27,7 +27,7 @@ pub use Rattle.std.specs.Int.{div_ceil}
 pub use Rattle.std.proofs.lemmas.Grind.{div_ceil_times}
 pub use Rattle.std.proofs.Math.Nat.{div-mul-le_self, mul-le-mul_right, add-mul}
 pub use Rattle.std.proofs.lemmas.List.Elements.{All-nil, All-cons, All-head, All-tail, All-push, All-drop, All-append, All-weaker}
-pub use Rattle.tso_model.specs.Thread.{entry, fence, value_in, value_of, updated}
+pub use Rattle.tso_terms.specs.Thread.{entry, fence, value_in, value_of, updated}
 pub use Rattle.std.specs.Prelude.{filter, Ok}
 pub use Rattle.order_builder.specs.PrintedOrder.{HasLocation, IsLocationFor}
 pub use Rattle.tso_laws.proofs.Cores.{core-cases, quiet-same}
@@ -54,7 +54,7 @@ pub use Rattle.trace_report.specs.inner.Left.{stores_on, waited_on, IsLeftBy}
 pub use Rattle.trace_report.specs.declared.sending.Sent.{Sent}
 pub use Rattle.trace_report.specs.Stalls.{stalled_step}
 pub use Rattle.protocol_tables.specs.Tables.{Table, filled_shared, filled_by_sharing, written_in_place}
-pub use Rattle.tso_model.specs.Runs.{Run, has_ended, stall_count, then_run, run, CoresExist, is_done}
+pub use Rattle.tso_terms.specs.Runs.{Run, has_ended, stall_count, then_run, run, CoresExist, is_done}
 pub use Rattle.multiprocessor.specs.Statistics.{no_statistics, Statistics, no_counts, with_access, with_forward, with_write_back, with_flush, counts_at_core, flush_counted, with_use_counted, statistics_from}
 pub use Rattle.basic_laws.proofs.Lists.{Each, each-append, each-at}
 pub use Rattle.protocol_tables.specs.declared.requests.Transient.TheVariants.{IsD, ImD, SmD}

@@ -1,8 +1,8 @@
 -- What a step needs to be printed: each of its locations and lines is one of the test's, and so has a name.
 use Rattle.std.specs.Prelude.{ℕ, ◌<◌, ◌*◌, length, All, IfSome}
-use Rattle.tso_model.specs.Litmus.{Litmus}
-use Rattle.tso_model.specs.FlatMachine.{State, core_of}
-use Rattle.tso_model.specs.declared.execution.Entry.{Entry}
+use Rattle.tso_terms.specs.Litmus.{Litmus}
+use Rattle.tso_terms.specs.FlatMachine.{State, core_of}
+use Rattle.tso_terms.specs.declared.execution.Entry.{Entry}
 use Rattle.order_builder.specs.PrintedOrder.{HasLocation}
 use Rattle.trace_report.specs.Shown.{ShownStep}
 

@@ -2,11 +2,11 @@
 -- the Primer, chapter 7.)
 use Rattle.std.specs.Prelude.{ℕ, ◌+◌, ◌*◌, Bool, true, false, List, [], ◌∷◌, ◌++◌, length, take, drop, Option, Some, None, codes, slice_index_or}
 use Rattle.std.specs.Fmt.{decimal}
-use Rattle.tso_model.specs.Litmus.{Litmus}
-use Rattle.tso_model.specs.FlatMachine.{chosen}
-use Rattle.tso_model.specs.Registers.{name_of}
+use Rattle.tso_terms.specs.Litmus.{Litmus}
+use Rattle.tso_terms.specs.FlatMachine.{chosen}
+use Rattle.tso_terms.specs.Registers.{name_of}
 use Rattle.basic_laws.specs.Types.{Core, Choice, Stall, Outcome, Committed, Buffered, Moved, Asked, Stalled, Entry}
-use Rattle.tso_model.specs.declared.choice.Stall.TheVariants.{Done, Full, Fence, Lock, Empty, Bus}
+use Rattle.tso_terms.specs.declared.choice.Stall.TheVariants.{Done, Full, Fence, Lock, Empty, Bus}
 use Rattle.scheduler.specs.Printed.{printed_choice}
 use Rattle.protocol_tables.specs.PrintedTable.{line, letter}
 use Rattle.protocol_tables.specs.declared.requests.Request.{Request}

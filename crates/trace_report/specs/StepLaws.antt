@@ -1,15 +1,15 @@
 -- What a step tells of its choice, held against the machine before it and after it: what becomes of the core and of the other
 -- caches, and why a choice stalls. (x86-TSO, section 3, for the core; Primer, chapter 7, for the caches.)
 use Rattle.std.specs.Prelude.{ℕ, ◌≡◌, ◌≢◌, ◌<◌, ◌≤◌, ◌/◌, true, false, List, [], ◌∷◌, length, Option, Some, None, codes}
-use Rattle.tso_model.specs.Litmus.{Litmus, IsTest}
-use Rattle.tso_model.specs.Actions.{action_of}
-use Rattle.tso_model.specs.Thread.{with_value}
-use Rattle.tso_model.specs.FlatMachine.{State, core_of, chosen, after_choice}
-use Rattle.tso_model.specs.MemoryAccess.{access_of, next_of}
-use Rattle.tso_model.specs.SplitMachine.{Holder, Free, HeldBy, HeldBetween, same_choice, needs_bus}
+use Rattle.tso_terms.specs.Litmus.{Litmus, IsTest}
+use Rattle.tso_terms.specs.Actions.{action_of}
+use Rattle.tso_terms.specs.Thread.{with_value}
+use Rattle.tso_terms.specs.FlatMachine.{State, core_of, chosen, after_choice}
+use Rattle.tso_terms.specs.MemoryAccess.{access_of, next_of}
+use Rattle.tso_terms.specs.SplitMachine.{Holder, Free, HeldBy, HeldBetween, same_choice, needs_bus}
 use Rattle.basic_laws.specs.Types.{Atomic, Split, Core, Loc, Instr, Reg, Operand, Update, Choice, Step, Drain, Stall, Stalled, Entry}
-use Rattle.tso_model.specs.declared.action.Action.TheVariants.{Store, Fence, Lock}
-use Rattle.tso_model.specs.declared.choice.Outcome.TheVariants as out
+use Rattle.tso_terms.specs.declared.action.Action.TheVariants.{Store, Fence, Lock}
+use Rattle.tso_terms.specs.declared.choice.Outcome.TheVariants as out
 use Rattle.protocol_tables.specs.Tables.{Table}
 use Rattle.protocol_tables.specs.declared.state.State as protocol
 use Rattle.snoop_bus.specs.Asks.{tag_at}

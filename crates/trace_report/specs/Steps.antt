@@ -3,12 +3,12 @@
 use Rattle.std.specs.Prelude.{ℕ, zero, suc, ◌+◌, ◌-◌, ◌/◌, ◌%◌, ◌==◌, ◌&&◌, nat_lt, Bool, true, false, if◌then◌else◌, List, [], ◌∷◌, ◌++◌, length, drop, slice_get, slice_index_or, Option, Some, None}
 use Rattle.std.specs.Option.{option_map}
 use Rattle.std.specs.Int.{div_ceil}
-use Rattle.tso_model.specs.Litmus.{Litmus}
-use Rattle.tso_model.specs.Actions.{action_of}
-use Rattle.tso_model.specs.Thread.{value_in}
-use Rattle.tso_model.specs.FlatMachine.{Effect, core_of, program_of, chosen}
-use Rattle.tso_model.specs.MemoryAccess.{MemoryAccess, access_of}
-use Rattle.tso_model.specs.Runs.{has_ended}
+use Rattle.tso_terms.specs.Litmus.{Litmus}
+use Rattle.tso_terms.specs.Actions.{action_of}
+use Rattle.tso_terms.specs.Thread.{value_in}
+use Rattle.tso_terms.specs.FlatMachine.{Effect, core_of, program_of, chosen}
+use Rattle.tso_terms.specs.MemoryAccess.{MemoryAccess, access_of}
+use Rattle.tso_terms.specs.Runs.{has_ended}
 use Rattle.basic_laws.specs.Types.{Action, Bus, Atomic, Split, Instr, Choice, Step, Drain, Outcome, Committed, Buffered, Asked, Stalled, Entry}
 use Rattle.protocol_tables.specs.Tables.{Table, table_of}
 use Rattle.protocol_tables.specs.declared.kind.ProtocolKind.{ProtocolKind}
@@ -34,10 +34,10 @@ use Rattle.trace_report.specs.declared.step.LineState.{LineState}
 use Rattle.trace_report.specs.declared.step.StateChange.{StateChange}
 use Rattle.trace_report.specs.declared.states.PlacedState.{PlacedState}
 use Rattle.trace_report.specs.declared.sending.Sent.{Sent}
-use Rattle.tso_model.specs.declared.action.Action.TheVariants as action
+use Rattle.tso_terms.specs.declared.action.Action.TheVariants as action
 use Rattle.protocol_tables.specs.declared.state.State.TheVariants as tag
 use Rattle.trace_report.specs.declared.step.LineState.TheVariants as state
-use Rattle.tso_model.specs.declared.choice.Outcome.TheVariants as out
+use Rattle.tso_terms.specs.declared.choice.Outcome.TheVariants as out
 
 -- ---- the entries, the register, the buffer
 

@@ -1,6 +1,6 @@
 -- A machine whose choices are told: it runs the test, and was never refused memory, so each choice is the machine's own.
 use Rattle.std.specs.Prelude.{◌≡◌, false, List, length}
-use Rattle.tso_model.specs.Litmus.{Litmus}
+use Rattle.tso_terms.specs.Litmus.{Litmus}
 use Rattle.multiprocessor.specs.Configuration.{Configuration}
 use Rattle.machine_core.specs.Running.{Running, configuration_of}
 use Rattle.trace_report.specs.Known.{AreStoresKnown}

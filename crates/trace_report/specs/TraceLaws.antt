@@ -1,11 +1,11 @@
 -- What a trace says of its run, as laws: its commits are the run's order, its stalls and accesses the run's counts. A trace
 -- that told of another run than the report would break one of them.
 use Rattle.std.specs.Prelude.{ℕ, ◌+◌, ◌≡◌, ◌≢◌, ◌<◌, ◌==◌, ◌&&◌, Bool, true, false, if◌then◌else◌, List, [], ◌∷◌, ◌++◌, length, map, Option, Some, None, is_some, slice_index_or, All, Contains}
-use Rattle.tso_model.specs.Litmus.{Litmus, IsTest}
-use Rattle.tso_model.specs.FlatMachine.{chosen}
-use Rattle.tso_model.specs.Runs.{Run, CoresExist, run, stall_count}
-use Rattle.tso_model.specs.EitherBus.{run_on}
-use Rattle.tso_model.specs.Together.{put_together, together}
+use Rattle.tso_terms.specs.Litmus.{Litmus, IsTest}
+use Rattle.tso_terms.specs.FlatMachine.{chosen}
+use Rattle.tso_terms.specs.Runs.{Run, CoresExist, run, stall_count}
+use Rattle.tso_terms.specs.EitherBus.{run_on}
+use Rattle.tso_terms.specs.Together.{put_together, together}
 use Rattle.basic_laws.specs.Types.{Atomic, Core, Choice, Outcome, Committed, Buffered, Moved, Asked, Stalled, Entry}
 use Rattle.protocol_tables.specs.Tables.{Table, table_of}
 use Rattle.protocol_tables.specs.declared.kind.ProtocolKind.{ProtocolKind}
@@ -22,7 +22,7 @@ use Rattle.trace_report.specs.Shown.{ShownStep}
 use Rattle.trace_report.specs.Steps.{trace_step_of, states_of, number_of_state, trace_of}
 use Rattle.trace_report.specs.declared.step.StateChange.{StateChange}
 use Rattle.trace_report.specs.declared.states.PlacedState.{PlacedState}
-use Rattle.tso_model.specs.declared.choice.Outcome.TheVariants as out
+use Rattle.tso_terms.specs.declared.choice.Outcome.TheVariants as out
 
 -- ---- the run
 

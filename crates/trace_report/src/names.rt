@@ -8,7 +8,7 @@ ghost use Rattle.trace_report.specs.Lines.{stall_name, access_name, request_name
 use crate::step::LineState;
 use protocol_tables::{Request, State, Transient};
 use snoop_bus::AccessKind;
-use tso_model::Stall;
+use tso_terms::Stall;
 
 /// The word for a stall.
 pub fn stall_name(stall: Stall) -> &'static str

@@ -6,7 +6,7 @@ ghost use Rattle.std.specs.List.{flat_map};
 ghost use Rattle.trace_report.specs.inner.Pieces.{trace_piece};
 
 use itoa::Buffer;
-use tso_model::NoMemory;
+use tso_terms::NoMemory;
 
 /// A piece of a line.
 #[derive(Clone, Copy)]

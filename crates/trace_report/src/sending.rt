@@ -10,7 +10,7 @@ use crate::step::LineRequest;
 use machine_core::{CacheUse, MemoryAccess};
 use protocol_tables::Request;
 use snoop_bus::{AccessKind, Transaction};
-use tso_model::{Bus, Core, Outcome};
+use tso_terms::{Bus, Core, Outcome};
 
 /// What goes on the bus and to memory.
 #[derive(Clone, Copy)]

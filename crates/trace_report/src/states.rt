@@ -13,7 +13,7 @@ use machine_core::Machine;
 use machine_core::looking::BusHolder;
 use protocol_tables::{Protocol, State, Transient};
 use std::alloc::Global;
-use tso_model::{Core, NoMemory, Test};
+use tso_terms::{Core, NoMemory, Test};
 
 /// What a core's line is in, by the line's number.
 #[derive(Clone, Copy)]

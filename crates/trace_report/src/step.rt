@@ -1,11 +1,11 @@
 //! What a choice did: a step of a trace. Text and JSON are both made of it, so they can't disagree.
 
 ghost use Rattle.std.specs.Prelude.{◌≡◌};
-ghost use Rattle.tso_model.specs.FlatMachine.{chosen};
+ghost use Rattle.tso_terms.specs.FlatMachine.{chosen};
 
 use protocol_tables::{Request, State, Transient};
 use snoop_bus::AccessKind;
-use tso_model::{Choice, Core, Entry, Outcome, Reg};
+use tso_terms::{Choice, Core, Entry, Outcome, Reg};
 
 /// What a choice did. Of a choice that stalled nothing is told but that.
 pub struct Step {

@@ -3,9 +3,9 @@
 
 ghost use Rattle.std.specs.Prelude.{◌≡◌, ◌<◌, ◌+◌, ◌^◌, ◌++◌, IfOk, OnOk, length, drop};
 ghost use Rattle.std.specs.Option.{option_map};
-ghost use Rattle.tso_model.specs.Actions.{action_of};
-ghost use Rattle.tso_model.specs.FlatMachine.{chosen, core_of};
-ghost use Rattle.tso_model.specs.Runs.{stall_count};
+ghost use Rattle.tso_terms.specs.Actions.{action_of};
+ghost use Rattle.tso_terms.specs.FlatMachine.{chosen, core_of};
+ghost use Rattle.tso_terms.specs.Runs.{stall_count};
 ghost use Rattle.machine_core.specs.Running.{machine_after, AnswerFits};
 ghost use Rattle.trace_report.specs.Shown.{shown_step};
 ghost use Rattle.trace_report.specs.inner.Steps.{waited_before};
@@ -25,7 +25,7 @@ use machine_core::{CacheUse, Config, Machine};
 use protocol_tables::Protocol;
 use snoop_bus::AccessKind;
 use std::alloc::Global;
-use tso_model::{Action, Choice, Core, Entry, Instr, NoMemory, Outcome, Stall, Test};
+use tso_terms::{Action, Choice, Core, Entry, Instr, NoMemory, Outcome, Stall, Test};
 
 /// What is told of a choice: that it stalled and nothing else, or its step.
 #[derive(Drop)]

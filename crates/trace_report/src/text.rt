@@ -18,7 +18,7 @@ use crate::pieces::{Piece, write_number, write_pieces};
 use crate::step::{LineRequest, Moved, StateChange, Step, core_of};
 use order_builder::write_entry;
 use snoop_bus::AccessKind;
-use tso_model::{Choice, Core, Entry, Loc, NoMemory, Outcome, Stall, Test};
+use tso_terms::{Choice, Core, Entry, Loc, NoMemory, Outcome, Stall, Test};
 
 /// Writes the first line of a trace, `Trace`.
 ///

@@ -8,7 +8,7 @@ ghost use Rattle.trace_report.specs.Told.{IsTraced};
 use crate::step::LineRequest;
 use machine_core::{Config, Machine};
 use protocol_tables::Protocol;
-use tso_model::{Core, Test};
+use tso_terms::{Core, Test};
 
 /// The line that gives way where the line that is asked for comes into the core's cache: the last of its set, if that is full.
 pub fn giving_way<P: Protocol>(

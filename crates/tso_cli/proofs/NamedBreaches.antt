@@ -1,7 +1,7 @@
 -- What a breach names can be printed: it names entries of the order, or entries that the programs make.
 use Rattle.tso_cli.proofs.Vocabulary.{◌≡◌, ◌≢◌, ℕ, ◌<◌, List, length, Some, slice_get, All, subst, get_or_from_slice_get, slice_get_within, Litmus}
-use Rattle.tso_model.specs.ProgramEntries.{made}
-use Rattle.tso_model.specs.Standing.{StandsIn}
+use Rattle.tso_terms.specs.ProgramEntries.{made}
+use Rattle.tso_terms.specs.Standing.{StandsIn}
 use Rattle.basic_laws.specs.Types.{Entry, Kind, R, W, F, LR, LW}
 use Rattle.tso_laws.specs.Entries.{FitsTest}
 use Rattle.order_builder.specs.PrintedOrder.{HasLocation, IsLocationFor}

@@ -1,8 +1,8 @@
 -- The report of a run is short, and what `check` answers to it.
 use Rattle.tso_cli.proofs.Vocabulary.{◌≡◌, ◌+◌, ◌-◌, ◌*◌, ◌≤◌, ◌^◌, ℕ, suc, Bool, true, false, cond, List, [], ◌∷◌, ◌++◌, length, All, slice_index, slice_index_or, drop, length-append, codes, refl, sym, ap, subst, ◌∙◌, arith, All-map, All-head, All-tail, All-weaker, SpellsOrder, Litmus, IsTest, IsProgram, AreRegisters, made_by, made_from, IsTsoExecution, read_values, registers_from, start, Run, has_ended, stall_count, Bus, Instr, StoreImm, StoreReg, Load, SetImm, SetReg, Fence, Xchg, Xadd, Entry, Choice, IsExecution, SpellsTest, Table, table_of, ProtocolKind, Configuration, IsConfigurationWithinLimits, report, ShownRun, Parts, parts_of, joined_parts, valid_line, run_by, run_under, AnswersFit, counts_under, shown_of, IsInputAnswer, too_large, answered, run_text, run_status, IsRunAnswer, IsCheckAnswer, ran, Status, Good, Unended, attempts_in, length-in, run-is, RunLaws, counts-each, counts-few, AreReadOneWay}
-use Rattle.tso_model.specs.Thread.{entries_of, with_value, value_in}
-use Rattle.tso_model.specs.SplitMachine.{Attempt}
-use Rattle.tso_model.specs.EitherBus.{BusState, unheld, effect_on, after_on, run_on_from, resting_on, then_on}
+use Rattle.tso_terms.specs.Thread.{entries_of, with_value, value_in}
+use Rattle.tso_terms.specs.SplitMachine.{Attempt}
+use Rattle.tso_terms.specs.EitherBus.{BusState, unheld, effect_on, after_on, run_on_from, resting_on, then_on}
 use Rattle.basic_laws.specs.Types.{Outcome, Committed}
 use Rattle.litmus_reader.specs.Spelling.{IsRefused as IsRefusedTest}
 use Rattle.tso_report.specs.Limits.{longest_report, IsSmall}

@@ -1,7 +1,7 @@
 -- What `witness` prints, and what `run` answers to it.
 use Rattle.tso_cli.proofs.Vocabulary.{◌≡◌, ◌*◌, ◌≤◌, ◌<◌, ℕ, Bool, true, List, [], ◌∷◌, ◌++◌, length, codes, length-append, refl, sym, ap, subst, ◌∙◌, arith, decimal, Litmus, IsTest, IsTsoExecution, chosen, run, CoresExist, Atomic, Entry, Choice, choices_along, LeadTo, needed, SpellsTest, SpellsChoices, printed_choice, printed_after, printed_choices, SpellsOrder, table_of, ProtocolKind, Configuration, IsConfigurationWithinLimits, Parts, parts_of, joined_parts, run_under, counts_under, report_in, shown_of, witness_line, IsWitness, IsWitnessAnswer, reached, too_small, invalid, judged, IsInputAnswer, too_large, answered, IsRunAnswer, ran, Status, Good, atomic-run, AreReadOneWay}
 use Rattle.std.proofs.lemmas.Fmt.{length-decimal-le}
-use Rattle.tso_model.specs.declared.choice.Choice.TheVariants.{Step, Drain}
+use Rattle.tso_terms.specs.declared.choice.Choice.TheVariants.{Step, Drain}
 use Rattle.litmus_reader.specs.Spelling.{IsRefused as IsRefusedTest}
 use Rattle.tso_cli.specs.Witness.{ReportsOrder, refused}
 use Rattle.tso_cli.specs.Answers.{refused}

@@ -1,8 +1,8 @@
 -- How many choices a run uses, and the word that says the first one too many.
 use Rattle.tso_cli.proofs.Vocabulary.{◌≡◌, ◌≤◌, ◌<◌, ℕ, Bool, true, false, ◌⊎◌, inl, inr, suc, List, [], ◌∷◌, length, Result, Option, Some, None, Err, refl, sym, ap, subst, ◌∙◌, arith, Litmus, start, Run, has_ended, Choice, TooMany, Table, table_of, ProtocolKind, Configuration, run_by, run_under, IsEndingOf, FitsForm, IsTooLong, Ended, Unfinished}
 use Rattle.std.specs.Prelude.{IsSome, IfSome, if◌then◌else◌}
-use Rattle.tso_model.specs.EitherBus.{BusState, unheld, effect_on, after_on, resting_on, then_on, run_on_from}
-use Rattle.tso_model.specs.SplitMachine.{Attempt}
+use Rattle.tso_terms.specs.EitherBus.{BusState, unheld, effect_on, after_on, resting_on, then_on, run_on_from}
+use Rattle.tso_terms.specs.SplitMachine.{Attempt}
 use Rattle.basic_laws.specs.Types.{Bus, Atomic, Split}
 use Rattle.tso_laws.proofs.Beginnings.{run-begins}
 use Rattle.scheduler.specs.WordOfChoice.{IsWordOfChoice}

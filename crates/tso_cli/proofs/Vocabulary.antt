@@ -3,13 +3,13 @@ pub use Rattle.std.proofs.Common.{◌≡◌, ◌<◌, ◌≤◌, ◌⊎◌, inl,
 pub use Rattle.std.proofs.lemmas.Slice.Eq.{bytes_eq-Decides, starts_is}
 pub use Rattle.std.specs.Option.{option_map, ForSome, unwrap_or}
 pub use Rattle.std.specs.Map.{keys_of, lookup}
-pub use Rattle.tso_model.specs.FlatMachine.{registers_in, program_of, start, chosen}
-pub use Rattle.tso_model.specs.Litmus.{Litmus, IsTest, IsProgram, IsCondition}
-pub use Rattle.tso_model.specs.Axioms.{IsTsoExecution, IsWhole}
-pub use Rattle.tso_model.specs.SequentialConsistency.{KeepsAllOrder}
-pub use Rattle.tso_model.specs.Condition.{Condition, truth_of, Claim, NamesExist, claim_of, condition_of}
-pub use Rattle.tso_model.specs.FinalState.{final_words, final_registers, registers_from, words_from}
-pub use Rattle.tso_model.specs.Runs.{Run, run, CoresExist, has_ended, stall_count}
+pub use Rattle.tso_terms.specs.FlatMachine.{registers_in, program_of, start, chosen}
+pub use Rattle.tso_terms.specs.Litmus.{Litmus, IsTest, IsProgram, IsCondition}
+pub use Rattle.tso_terms.specs.Axioms.{IsTsoExecution, IsWhole}
+pub use Rattle.tso_terms.specs.SequentialConsistency.{KeepsAllOrder}
+pub use Rattle.tso_terms.specs.Condition.{Condition, truth_of, Claim, NamesExist, claim_of, condition_of}
+pub use Rattle.tso_terms.specs.FinalState.{final_words, final_registers, registers_from, words_from}
+pub use Rattle.tso_terms.specs.Runs.{Run, run, CoresExist, has_ended, stall_count}
 pub use Rattle.basic_laws.specs.Types.{Atomic, Split, Choice, Entry, Instr, StoreImm, StoreReg, Load, SetImm, SetReg, Fence, Xchg, Xadd, Bus}
 pub use Rattle.tso_laws.specs.EndedRuns.{IsExecution, End}
 pub use Rattle.protocol_tables.specs.declared.kind.ProtocolKind.{ProtocolKind}
@@ -38,7 +38,7 @@ pub use Rattle.tso_cli.specs.OneText.{GivesOneAnswer, ShowTheSameStates, ShowOne
 pub use Rattle.tso_cli.specs.inner.ReadOneWay.{AreReadOneWay}
 pub use Rattle.std.specs.List.{list_all, starts_with, AllByRecursion}
 pub use Rattle.std.proofs.lemmas.List.Elements.{All-head, All-tail, All-weaker, All-contains, All-map, All-cons, All-nil}
-pub use Rattle.tso_model.specs.Limits.{most_depth}
+pub use Rattle.tso_terms.specs.Limits.{most_depth}
 pub use Rattle.tso_laws.specs.Along.{choices_along, LeadTo}
 pub use Rattle.tso_laws.specs.Depth.{needed}
 pub use Rattle.scheduler.specs.Grammar.{SpellsChoices}
@@ -63,7 +63,7 @@ pub use Rattle.litmus_reader.specs.Spelling.{SpellsTest}
 pub use Rattle.outcome_report.specs.Verdict.{verdict_line, outcomes_verdict_value}
 pub use Rattle.outcome_report.specs.Printed.{outcomes_in, PrintsOutcomes, unfinished_search_in}
 pub use Rattle.outcome_report.specs.Laws.{OutcomesAreAlike, OutcomesOfTheSameValuesAreAlike}
-pub use Rattle.tso_model.specs.Standing.{StandsIn}
+pub use Rattle.tso_terms.specs.Standing.{StandsIn}
 pub use Rattle.tso_laws.specs.Entries.{FitsTest}
 pub use Rattle.order_builder.specs.Spelling.{IsOrderFor, SpellsOrder, HasAccess, IsEntryFor, HasFault}
 pub use Rattle.protocol_tables.specs.Tables.{Table, table_of}
@@ -79,8 +79,8 @@ pub use Rattle.order_builder.specs.declared.fault.OrderFault.{OrderFault}
 pub use Rattle.order_breaches.specs.FirstBreach.{IsFirstBreach}
 pub use Rattle.order_breaches.specs.declared.breach.Breach.{Breach}
 pub use Rattle.tso_io.specs.Limits.{longest_input}
-pub use Rattle.tso_model.specs.Registers.{AreRegisters, IsWord, index_of}
-pub use Rattle.tso_model.specs.ProgramEntries.{made_by, made_from, read_values}
+pub use Rattle.tso_terms.specs.Registers.{AreRegisters, IsWord, index_of}
+pub use Rattle.tso_terms.specs.ProgramEntries.{made_by, made_from, read_values}
 pub use Rattle.machine_runs.proofs.BusLemmas.{attempts_in, length-in, run-is, atomic-run}
 pub use Rattle.machine_runs.proofs.SimulationLemmas.{RunLaws, choices-counted}
 pub use Rattle.machine_runs.proofs.CountLemmas.{counts-each, counts-few}

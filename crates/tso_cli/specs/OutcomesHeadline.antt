@@ -1,7 +1,7 @@
 -- What `outcomes` prints: every final state that TSO allows, by the values that are shown, and how to get there.
 -- (Primer, chapter 4, for the axioms, and chapter 3 for sequential consistency.)
 use Rattle.std.specs.Prelude.{ℕ, ◌≡◌, ◌↔◌, Bool, List, length, map, All, Contains}
-use Rattle.tso_model.specs.Limits.{most_depth}
+use Rattle.tso_terms.specs.Limits.{most_depth}
 use Rattle.tso_cli.specs.Vocabulary.{Entry, final_registers, final_words, HasMoreStates, IsTsoExecution, Litmus, Named, names_shown, Outcome, outcomes_in, printed_choices, Search, shown_values, SpellsChoices, unfinished_search_in, values_at}
 use Rattle.tso_cli.specs.Outcomes.{AreAllOutcomes}
 use Rattle.tso_laws.specs.Outcomes.{IsSequentiallyConsistent}

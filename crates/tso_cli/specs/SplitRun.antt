@@ -2,8 +2,8 @@
 -- project's profile.)
 use Rattle.std.specs.Prelude.{List}
 use Rattle.tso_cli.specs.Vocabulary.{Choice, Configuration, Litmus, ProtocolKind, Run, Split, table_of}
-use Rattle.tso_model.specs.EitherBus.{run_on}
-use Rattle.tso_model.specs.Together.{together}
+use Rattle.tso_terms.specs.EitherBus.{run_on}
+use Rattle.tso_terms.specs.Together.{together}
 use Rattle.multiprocessor.specs.Answered.{answered}
 
 -- the split machine's run, with the caches' answers whether an access hits; in its order each locked instruction's load part is

@@ -1,10 +1,10 @@
 -- The words of the crates below that the definitions of this crate use, in one place: each file takes its own from here.
-pub use Rattle.tso_model.specs.Axioms.{IsTsoExecution}
-pub use Rattle.tso_model.specs.Condition.{Claim, Condition, truth_of}
-pub use Rattle.tso_model.specs.FinalState.{final_registers, final_words}
-pub use Rattle.tso_model.specs.Litmus.{IsTest, Litmus}
-pub use Rattle.tso_model.specs.Runs.{run, Run}
-pub use Rattle.tso_model.specs.SequentialConsistency.{KeepsAllOrder}
+pub use Rattle.tso_terms.specs.Axioms.{IsTsoExecution}
+pub use Rattle.tso_terms.specs.Condition.{Claim, Condition, truth_of}
+pub use Rattle.tso_terms.specs.FinalState.{final_registers, final_words}
+pub use Rattle.tso_terms.specs.Litmus.{IsTest, Litmus}
+pub use Rattle.tso_terms.specs.Runs.{run, Run}
+pub use Rattle.tso_terms.specs.SequentialConsistency.{KeepsAllOrder}
 pub use Rattle.basic_laws.specs.Types.{Atomic, Split, Choice, Entry}
 pub use Rattle.tso_laws.specs.Along.{choices_along, LeadTo}
 pub use Rattle.tso_laws.specs.Outcomes.{IsEnd, LeadToEnd}

@@ -2,7 +2,7 @@
 -- (Primer, chapter 4, for the axioms of TSO, and chapter 3 for sequential consistency; Herding Cats, section 4, for the refutation.)
 use Rattle.std.specs.Prelude.{ℕ, ◌<◌, ◌≡◌, Bool, true, List, length, Option, Some, None}
 use Rattle.tso_cli.specs.Vocabulary.{Choice, Condition, Entry, Explanation, final_registers, final_words, HasMoreCases, LeadTo, Litmus, Model, most_cases, printed_choices, refutation_in, run, ShowsExecution, SpellsChoices, truth_of, unfinished_cases_in}
-use Rattle.tso_model.specs.FlatMachine.{registers_in}
+use Rattle.tso_terms.specs.FlatMachine.{registers_in}
 use Rattle.tso_laws.specs.EndedRuns.{End}
 use Rattle.refutation_laws.specs.Models.{IsExecutionOf, depth_of}
 use Rattle.refutation_laws.specs.Refutations.{Node, asked_claim, refutes}

@@ -11,7 +11,7 @@ use hints::{Cause, Reader};
 use litmus_reader::{Fault, Why, refusal_for};
 use std::alloc::Global;
 use tso_io::MAX_INPUT;
-use tso_model::NoMemory;
+use tso_terms::NoMemory;
 
 /// How a command ended.
 #[derive(Clone, Copy, PartialEq, Eq)]

@@ -25,7 +25,7 @@ use litmus_reader::{ReadError, test_or_fault};
 use protocol_tables::{ProtocolKind, table_text};
 use std::alloc::Global;
 use tso_io::MAX_INPUT;
-use tso_model::{NoMemory, Test};
+use tso_terms::{NoMemory, Test};
 
 /// The answer of a command to an input: its size is judged first, then the test that is its first part,
 /// then the second part; `tables` looks at none of it. The depth of a witness is 1 to 32.

@@ -2,7 +2,7 @@
 //! function that does nothing: who calls it knows it.
 
 ghost use Rattle.std.specs.Prelude.{◌≡◌, ℕ, Bool, List, Option, Some};
-ghost use Rattle.tso_model.specs.Runs.{run};
+ghost use Rattle.tso_terms.specs.Runs.{run};
 ghost use Rattle.tso_cli.specs.Answers.{IsAnswer, IsPrinted};
 ghost use Rattle.tso_cli.specs.Fitting.{ChoicesAreCounted, EndedRunsFit, SweptCountsFit};
 ghost use Rattle.tso_cli.specs.Headline.{Headline};

@@ -15,7 +15,7 @@ use order_builder::order_texts::order_can_be_printed;
 use order_builder::{OrderFault, letters_of, read_order, write_entry};
 use std::alloc::Global;
 use tso_laws::made_entries_fit_the_test;
-use tso_model::{Core, Entry, Kind, Loc, NoMemory, Test};
+use tso_terms::{Core, Entry, Kind, Loc, NoMemory, Test};
 
 /// The answer of `check` to a test and the text of an order.
 ///

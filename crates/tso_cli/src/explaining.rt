@@ -11,7 +11,7 @@ use outcome_report::verdict::is_as_claimed;
 use reason_report::{allowed_report, refutation_report, unfinished_cases_report};
 use reasons::{Reason, choices_to, explain};
 use std::alloc::Global;
-use tso_model::{NoMemory, Test};
+use tso_terms::{NoMemory, Test};
 
 /// The answer of `why` to a test: a refutation of what it asks, under the plan's model; or an execution
 /// in which it is so, with choices that lead there; or that more cases have to be told apart than may be.

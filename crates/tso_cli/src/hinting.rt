@@ -9,7 +9,7 @@ use crate::answer::{Answer, Status};
 use command_line::Settings;
 use hints::{Cause, hint_of, runs_line};
 use std::alloc::Global;
-use tso_model::NoMemory;
+use tso_terms::NoMemory;
 
 /// One line for standard error: what was expected where an input was refused; where a run or a search
 /// didn't end, what to do; and what may mislead in an answer that people read. Where `outcomes` didn't end, a second

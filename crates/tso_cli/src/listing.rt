@@ -4,8 +4,8 @@
 use hints::{Cause, ListedName, listed_in};
 use shown_values::{Show, names_shown};
 use std::alloc::Global;
-use tso_model::{NoMemory, Test};
 use tso_report::named::Named;
+use tso_terms::{NoMemory, Test};
 
 /// That the states of a test, which `spelling` spells, leave out what it lists and they might show; of more than one the
 /// first. `None` where there is none.

@@ -1,7 +1,7 @@
 //! Whether a run is too long for its trace to be JSON, and how it is refused then.
 
 ghost use Rattle.std.specs.Prelude.{◌≡◌, IfOk, List, length};
-ghost use Rattle.tso_model.specs.declared.choice.Choice.{Choice};
+ghost use Rattle.tso_terms.specs.declared.choice.Choice.{Choice};
 ghost use Rattle.scheduler.specs.Grammar.{SpellsChoices};
 ghost use Rattle.machine_runs.specs.Runs.{run_under};
 ghost use Rattle.machine_runs.specs.Simulation.{IsEndingOf};
@@ -15,7 +15,7 @@ use machine_runs::{Ending, Setup};
 use scheduler::ChoiceFault;
 use std::alloc::Global;
 use trace_json::{MAX_STEPS, word_beyond};
-use tso_model::NoMemory;
+use tso_terms::NoMemory;
 
 /// Where a run of the choices that a text spells left its test so, and used more of them than a trace as JSON may have
 /// steps, the number of the word that says the first one beyond. `None` where it didn't use more.

@@ -14,7 +14,7 @@ use explorer::{Extent, FinalState, Watcher, explore_watched};
 use hints::Cause;
 use outcome_report::{hidden_registers, outcomes_report, unfinished_report};
 use std::alloc::Global;
-use tso_model::{NoMemory, Test};
+use tso_terms::{NoMemory, Test};
 
 /// The answer of `outcomes` to a test: every final state that the machine can reach at the depth of
 /// the search, with choices that lead there; or that it can reach more states than may be kept. The

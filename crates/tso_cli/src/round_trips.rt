@@ -2,13 +2,13 @@
 //! `witness`, `outcomes` and `why` print. Each is the contract of a function that does nothing: who calls it knows it.
 
 ghost use Rattle.std.specs.Prelude.{◌≡◌, ◌<◌, ◌≤◌, ◌^◌, ℕ, Bool, false, List, Some, length};
-ghost use Rattle.tso_model.specs.Limits.{most_depth};
-ghost use Rattle.tso_model.specs.Litmus.{Litmus, IsTest};
-ghost use Rattle.tso_model.specs.Axioms.{IsTsoExecution};
-ghost use Rattle.tso_model.specs.Runs.{Run, run};
-ghost use Rattle.tso_model.specs.declared.choice.Bus.TheVariants.{Atomic};
-ghost use Rattle.tso_model.specs.declared.choice.Choice.{Choice};
-ghost use Rattle.tso_model.specs.declared.execution.Entry.{Entry};
+ghost use Rattle.tso_terms.specs.Limits.{most_depth};
+ghost use Rattle.tso_terms.specs.Litmus.{Litmus, IsTest};
+ghost use Rattle.tso_terms.specs.Axioms.{IsTsoExecution};
+ghost use Rattle.tso_terms.specs.Runs.{Run, run};
+ghost use Rattle.tso_terms.specs.declared.choice.Bus.TheVariants.{Atomic};
+ghost use Rattle.tso_terms.specs.declared.choice.Choice.{Choice};
+ghost use Rattle.tso_terms.specs.declared.execution.Entry.{Entry};
 ghost use Rattle.tso_laws.specs.Along.{choices_along, LeadTo};
 ghost use Rattle.tso_laws.specs.Depth.{needed};
 ghost use Rattle.refutation_laws.specs.Models.{depth_of};

@@ -15,8 +15,8 @@ use machine_runs::{Ending, Setup, simulate_observed};
 use protocol_tables::ProtocolKind;
 use scheduler::{ChoiceFault, Stalls, read_choices, spelled_cores_exist};
 use std::alloc::Global;
-use tso_model::{NoMemory, Test};
 use tso_report::{report_json, report_text, unfinished_json};
+use tso_terms::{NoMemory, Test};
 
 /// The answer of `run` to a test and the text of choices, plain or as JSON.
 ///

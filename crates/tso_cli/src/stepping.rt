@@ -2,7 +2,7 @@
 //! that the page needn't take in again what it has.
 
 ghost use Rattle.std.specs.Prelude.{IfOk, length, string_bytes};
-ghost use Rattle.tso_model.specs.Runs.{CoresExist};
+ghost use Rattle.tso_terms.specs.Runs.{CoresExist};
 ghost use Rattle.scheduler.specs.Grammar.{SpellsChoices};
 ghost use Rattle.tso_cli.specs.Step.{IsStepAnswer};
 ghost use Rattle.tso_cli.specs.inner.Step.{IsLastStep};
@@ -21,8 +21,8 @@ use scheduler::{read_choices, spelled_cores_exist};
 use std::alloc::Global;
 use trace_json::simulate_telling_last;
 use tso_io::MAX_INPUT;
-use tso_model::NoMemory;
 use tso_report::json::line_of;
+use tso_terms::NoMemory;
 
 /// Of the trace that `trace --json` prints of an input the last step alone, with the machine after it; where no choice is
 /// used, the machine before the first choice. What it refuses, how, and the status are those of `trace --json`.

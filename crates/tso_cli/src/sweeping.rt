@@ -10,8 +10,8 @@ use protocol_tables::ProtocolKind;
 use scheduler::SweepPlan;
 use std::alloc::Global;
 use sweeper::{Swept, sweep};
-use tso_model::{NoMemory, Test};
 use tso_report::head_text;
+use tso_terms::{NoMemory, Test};
 
 /// The answer of `sweep` to a test: how many runs of the plan left each final state, in the values of
 /// what the condition names, and how many made the condition's proposition true and false. A run is

@@ -2,7 +2,7 @@
 //! after it.
 
 ghost use Rattle.std.specs.Prelude.{◌≡◌, ◌++◌, false, IfOk, OnOk, length, string_bytes};
-ghost use Rattle.tso_model.specs.Runs.{CoresExist};
+ghost use Rattle.tso_terms.specs.Runs.{CoresExist};
 ghost use Rattle.scheduler.specs.Grammar.{SpellsChoices};
 ghost use Rattle.trace_report.specs.Told.{IsTraced, IsTracedInStates};
 ghost use Rattle.machine_runs.specs.Simulation.{FitsEnding};
@@ -22,8 +22,8 @@ use trace_report::states::PlacedState;
 use trace_report::{
     Told, states_of, tell_or_stall, write_end, write_stall, write_start, write_step,
 };
-use tso_model::{NoMemory, Test};
 use tso_report::{head_text, write_body};
+use tso_terms::{NoMemory, Test};
 
 /// The answer of `trace` as lines. The run is made once: its trace is written as its choices are made, and what stands after it
 /// is what the machine is left with.

@@ -2,7 +2,7 @@
 //! explain another one.
 
 ghost use Rattle.std.specs.Prelude.{◌≡◌, true, IfOk, length, string_bytes};
-ghost use Rattle.tso_model.specs.Runs.{CoresExist};
+ghost use Rattle.tso_terms.specs.Runs.{CoresExist};
 ghost use Rattle.scheduler.specs.Grammar.{SpellsChoices};
 ghost use Rattle.tso_cli.specs.Trace.{IsTraceAnswer};
 ghost use Rattle.tso_cli.specs.inner.Trace.{status_in};
@@ -17,7 +17,7 @@ use protocol_tables::ProtocolKind;
 use scheduler::{read_choices, spelled_cores_exist};
 use std::alloc::Global;
 use trace_json::{TracedRun, simulate_tracing, traced_json};
-use tso_model::{NoMemory, Test};
+use tso_terms::{NoMemory, Test};
 
 /// The answer of `trace` to a test and the text of choices, plain or as JSON: what `run` answers, with what each choice did.
 /// As JSON it is refused where more choices are used than a trace may have steps.

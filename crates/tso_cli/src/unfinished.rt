@@ -2,7 +2,7 @@
 //! takes a part for the whole; but that a state was met is so whatever else there is.
 
 ghost use Rattle.std.specs.Prelude.{◌≡◌, ◌<◌, ◌≤◌, All, Some, length};
-ghost use Rattle.tso_model.specs.Condition.{NamesExist, claim_of};
+ghost use Rattle.tso_terms.specs.Condition.{NamesExist, claim_of};
 ghost use Rattle.explorer.specs.FinalStates.{AreReached};
 
 use command_line::SearchPlan;
@@ -11,7 +11,7 @@ use explorer::FinalState;
 use hints::{Cause, SearchEnd, Sighting};
 use std::alloc::Global;
 use tso_laws::ended_runs_are_executions;
-use tso_model::{Cond, NoMemory, Test, cond_holds};
+use tso_terms::{Cond, NoMemory, Test, cond_holds};
 
 /// Of what the hint is made beside the answer of a search that ended at its limit and had met these final states: how many
 /// they are, and, of the first that makes the condition's proposition true, the choices that lead there.

@@ -2,7 +2,7 @@
 //! very order.
 
 ghost use Rattle.std.specs.Prelude.{IfOk, string_bytes};
-ghost use Rattle.tso_model.specs.Axioms.{IsTsoExecution};
+ghost use Rattle.tso_terms.specs.Axioms.{IsTsoExecution};
 ghost use Rattle.command_line.specs.Limits.{IsDepth};
 ghost use Rattle.tso_cli.specs.Witness.{IsWitness, IsWitnessAnswer};
 
@@ -15,7 +15,7 @@ use order_builder::read_order;
 use scheduler::{WitnessFault, choices_text, witness};
 use std::alloc::Global;
 use tso_laws::made_entries_fit_the_test;
-use tso_model::{Execution, NoMemory, Test};
+use tso_terms::{Execution, NoMemory, Test};
 
 /// The answer of `witness` to a test and the text of an order, for store buffers of this depth (1 to
 /// 32): the order is judged first, as `check` does it.

@@ -11,7 +11,7 @@ use crate::counted::Counted;
 use std::alloc::{AllocError, Global};
 use std::io::{Read, Write};
 use thiserror::Error;
-use tso_model::NoMemory;
+use tso_terms::NoMemory;
 
 /// Maximum length of an input, in bytes.
 pub const MAX_INPUT: usize = 1_048_576;

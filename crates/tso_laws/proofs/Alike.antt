@@ -1,6 +1,6 @@
 -- States that differ in dead registers alone: a choice does the same in both.
 use Rattle.tso_laws.proofs.EagerVocabulary.{◌≡◌, ℕ, ◌+◌, zero, suc, List, [], ◌∷◌, ◌++◌, Bool, true, false, Option, Some, None, length, slice_get, slice_set, slice_index, slice_index_or, drop, arith, ap, sym, ◌∙◌, refl, subst, if◌then◌else◌, nat_lt, drop-at, index_of, action_of, Litmus, entry, value_of, updated, CoreState, State, Effect, idle, program_of, core_of, effect_by, step_of, drain_of, effect_of, applied, after_choice, memory_after, is_none_pending, stored, stalled, when_drained, locked, load_value, chosen, W, LR, LW, Instr, Action, Store, Load, Move, Fence, Lock, Entry, Choice, Step, Drain, Stall, Buffered, Reg, Loc, Update, dead_before, dead_at, cleared, hidden_of, forgotten_core, forgotten_cores, forgotten, AreAlike, cases_Bool, inl, inr}
-use Rattle.tso_model.specs.declared.choice.Stall.TheVariants as stall
+use Rattle.tso_terms.specs.declared.choice.Stall.TheVariants as stall
 use Rattle.tso_laws.proofs.Clearing.{clear-none, write-dead, write-any, read-live, operand-live}
 
 -- ---- one core

@@ -1,7 +1,7 @@
 -- A choice outside a stubborn set beside those of the set: it stalls, or the set stays stubborn and the choice may be made after any of
 -- the set as well as before it.
 use Rattle.tso_laws.proofs.EagerVocabulary.{◌≡◌, ◌≢◌, ◌<◌, ◌≤◌, ℕ, List, [], ◌∷◌, Bool, true, false, Some, length, slice_get, slice_index, ap, sym, ◌∙◌, refl, subst, inl, inr, get_or-set_same, get_or-set_other, action_of, Litmus, CoreState, State, idle, program_of, core_of, effect_by, step_of, drain_of, effect_of, chosen, memory_after, applied, after_choice, Action, Store, Load, Move, Fence, Lock, Entry, Choice, Step, Drain, decide, ChoiceSet, has_step, has_drain, has_choice, IsHeldBack, OthersAreHeldBack, IsApartBy, IsApartStep, IsApartDrain, IsStubborn}
-use Rattle.tso_model.specs.declared.choice.Stall.TheVariants as stall
+use Rattle.tso_terms.specs.declared.choice.Stall.TheVariants as stall
 use Rattle.tso_laws.proofs.Places.{set-set-other, Silent, Only, silent-same, elsewhere, only-elsewhere, commute}
 use Rattle.tso_laws.proofs.Avoiding.{by-wait, by-store}
 use Rattle.tso_laws.proofs.Others.{action-same, step-same, same-all, core-stays}

@@ -1,6 +1,6 @@
 -- What a core's choice writes, reads and leaves to do.
 use Rattle.tso_laws.proofs.EagerVocabulary.{◌≡◌, ◌≢◌, ◌≤◌, ℕ, ◌+◌, zero, suc, List, [], ◌∷◌, ◌++◌, Bool, false, Option, Some, None, length, slice_get, drop, take, arith, ap, ◌∙◌, refl, subst, ◌==◌, if◌then◌else◌, nat_lt, nat_tests, action_of, CoreState, Effect, stored, when_drained, stalled, is_none_pending, effect_by, step_of, drain_of, advanced, Instr, Action, Store, Load, Move, Fence, Lock, Entry, Stall, Committed, Buffered, meets, Avoids, cases_Bool, inl, inr}
-use Rattle.tso_model.specs.declared.choice.Stall.TheVariants as stall
+use Rattle.tso_terms.specs.declared.choice.Stall.TheVariants as stall
 use Rattle.tso_laws.proofs.Places.{NotAt}
 
 pub differ : (a b : ℕ) → (a == b) ≡ false → a ≢ b

@@ -1,6 +1,6 @@
 -- An eager choice beside any other choice.
 use Rattle.tso_laws.proofs.EagerVocabulary.{◌≡◌, ◌<◌, ◌≤◌, ℕ, ◌+◌, zero, suc, List, [], ◌∷◌, Bool, true, false, Option, Some, None, length, slice_get, slice_index_or, arith, ap, sym, ◌∙◌, refl, subst, inl, inr, nat_lt, if◌then◌else◌, get_or-set_same, length-set, nat_tests, action_of, location_of, Litmus, IsTest, KnownLocation, CoreState, State, Effect, idle, program_of, core_of, effect_by, step_of, drain_of, effect_of, chosen, applied, after_choice, started, start, stored, stalled, when_drained, is_none_pending, step, drain, IfSome, Reg, Loc, Instr, Action, Store, Load, Move, Fence, Lock, Entry, Choice, Step, Drain, Stall, decide, lt-or, Avoids, OthersAvoid, IsEagerBy, IsEagerStep, IsEagerDrain, IsEager, IsDead, IsSized, cases_Bool, set-get_or, no-program, no-core, ◌⊎◌}
-use Rattle.tso_model.specs.declared.choice.Stall.TheVariants as stall
+use Rattle.tso_terms.specs.declared.choice.Stall.TheVariants as stall
 use Rattle.tso_laws.proofs.Places.{length-memory}
 use Rattle.tso_laws.proofs.Avoiding.{holding}
 use Rattle.tso_laws.proofs.Waits.{Beside, itself, stalls, commutes}

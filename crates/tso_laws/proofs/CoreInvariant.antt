@@ -1,7 +1,7 @@
 -- What each core's state keeps, and that a choice keeps it.
 use Rattle.tso_laws.proofs.Vocabulary.{◌≡◌, ◌≢◌, ◌<◌, ◌≤◌, ℕ, ◌+◌, zero, suc, List, [], ◌∷◌, ◌++◌, Option, Some, None, IfSome, Bool, true, false, length, slice_get, slice_index, take, drop, arith, ap, sym, ◌∙◌, append_assoc, refl, length-append, subst, nat_lt, if◌then◌else◌, slice_get_within, nat_tests, KnownLocation, action_of, location_of, entry, fence, value_in, with_value, value_of, updated, is_write, is_write_kind, rank, IsStorePart, is_at, read_value, made_by, registers_of, CoreState, effect_by, step_of, drain_of, stalled, stored, advanced, advanced_with, load_value, fenced, locked, Reg, Instr, Loc, Action, Store, Load, Move, Fence, Lock, Entry, R, W, LR, LW, Each, each-map, each-append, each-left, append-nil}
 use Rattle.tso_laws.proofs.Draining.{waits-or-acts, drains}
-use Rattle.tso_model.specs.declared.choice.Stall.TheVariants as stall
+use Rattle.tso_terms.specs.declared.choice.Stall.TheVariants as stall
 use Rattle.tso_laws.proofs.Folds.{last_word, word-is, put}
 use Rattle.tso_laws.proofs.Threads.{makes, leaves, makes-split, makes-next, leaves-next}
 use Rattle.tso_laws.proofs.Entries.{read_value-after}

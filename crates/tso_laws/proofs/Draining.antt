@@ -1,6 +1,6 @@
 -- What waits until nothing is pending, and drains, by cases.
 use Rattle.tso_laws.proofs.Vocabulary.{◌≡◌, List, [], ◌∷◌, take, drop, if◌then◌else◌, refl, CoreState, Effect, is_none_pending, stalled, when_drained, drain_of, Entry, Stall, Committed}
-use Rattle.tso_model.specs.declared.choice.Stall.TheVariants as stall
+use Rattle.tso_terms.specs.declared.choice.Stall.TheVariants as stall
 
 pub waits-or-acts : (P : Effect → Type 0) (why : Stall) (s : CoreState) (f : Effect) → (s.pending ≡ [] → P f) → P (stalled why s) → P (when_drained why s f)
 waits-or-acts P why s f acts waits = go s.pending refl

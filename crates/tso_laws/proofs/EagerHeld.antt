@@ -1,6 +1,6 @@
 -- What a choice outside a stubborn set does beside a location that a choice of the set reads or writes.
 use Rattle.tso_laws.proofs.EagerVocabulary.{◌≡◌, ◌≢◌, ◌<◌, ℕ, zero, suc, List, [], ◌∷◌, ◌++◌, Bool, true, false, Option, None, Some, length, slice_get, slice_index, arith, ap, sym, ◌∙◌, refl, subst, nat_lt, inl, inr, if◌then◌else◌, filter, action_of, Litmus, last_value, writes_to, entry, value_of, CoreState, State, program_of, core_of, effect_by, step_of, drain_of, effect_of, chosen, loaded, stalled, R, W, Instr, Action, Store, Load, Move, Fence, Lock, Entry, Choice, Step, Drain, step, meets, Avoids, ChoiceSet, has_step, has_drain, has_choice, HasPending, HasNonePending, IsHeldBack, away, by_drain, by_step, decide}
-use Rattle.tso_model.specs.declared.choice.Stall.TheVariants as stall
+use Rattle.tso_terms.specs.declared.choice.Stall.TheVariants as stall
 use Rattle.tso_laws.proofs.Places.{NotAt}
 use Rattle.tso_laws.proofs.Avoiding.{buffered, by-wait, by-drain}
 use Rattle.tso_laws.proofs.Others.{step-same, met, choice-avoids, choice-after}

@@ -3,7 +3,7 @@ use Rattle.tso_laws.proofs.BusVocabulary.{◌≡◌, ◌≢◌, ◌≤◌, ℕ, 
 use Rattle.tso_laws.proofs.Cores.{core-cases, quiet, quiet-same}
 use Rattle.tso_laws.proofs.BusWaiting.{access-kept}
 use Rattle.tso_laws.proofs.Following.{needs-some}
-use Rattle.tso_model.specs.declared.instruction.Core.{Core}
+use Rattle.tso_terms.specs.declared.instruction.Core.{Core}
 use Rattle.tso_laws.proofs.Ways.{IsOther, begins-by, completes-by, split-by}
 use Rattle.tso_laws.proofs.Left.{price, price-access, Paid, choice-pays, access-pays, total, paid-total}
 

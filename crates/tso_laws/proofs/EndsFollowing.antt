@@ -1,6 +1,6 @@
 -- The machine without store buffers follows a run of the machine with buffers of one that keeps all of program order.
 use Rattle.tso_laws.proofs.EndsVocabulary.{◌≡◌, ◌<◌, ℕ, zero, suc, Bool, true, false, List, [], ◌∷◌, ◌++◌, Option, Some, None, slice_get, slice_set, slice_index_or, length, inl, inr, if◌then◌else◌, arith, ap, sym, ◌∙◌, subst, refl, get_or-set_same, get_or-set_other, decide, append-nil, action_of, Litmus, entry, value_of, CoreState, State, Effect, idle, advanced, advanced_with, is_none_pending, stalled, stored, when_drained, effect_by, step_of, drain_of, core_of, program_of, effect_of, memory_after, after_choice, applied, step, drain, Instr, Loc, Reg, Action, Store, Load, Move, Fence, Lock, Entry, W, Choice, Stall, Committed, Buffered, Stalled, CoresExist, state_after, commits_of, steps, StallsChangeNothing}
-use Rattle.tso_model.specs.declared.choice.Stall.TheVariants as stall
+use Rattle.tso_terms.specs.declared.choice.Stall.TheVariants as stall
 use Rattle.tso_laws.proofs.Behind.{Moves, moves-more, holding, IsBehind, Trails, Follows, length-set, set-same, set-set, moves-made, steps-exist}
 
 -- ---- one choice is followed

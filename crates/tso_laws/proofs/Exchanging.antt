@@ -1,7 +1,7 @@
 -- Two cores that are alike, exchanged: what the one did the other does.
 use Rattle.tso_laws.proofs.EagerVocabulary.{◌≡◌, ◌<◌, ◌≤◌, ℕ, ◌+◌, zero, suc, List, [], ◌∷◌, ◌++◌, Bool, true, false, Option, Some, None, length, map, slice_get, slice_set, slice_index, slice_index_or, if◌then◌else◌, inl, inr, nat_lt, arith, ap, sym, ◌∙◌, refl, subst, ◌==◌, ◌&&◌, get_or-set_same, get_or-set_other, length-set, length-map, map-append, action_of, last_value, Litmus, writes_to, entry, value_of, with_value, CoreState, State, Effect, idle, program_of, core_of, effect_by, step_of, drain_of, effect_of, chosen, applied, after_choice, memory_after, started, start, is_none_pending, stored, stalled, when_drained, is_done, has_ended, W, Instr, Loc, Action, Store, Load, Move, Fence, Lock, Entry, Choice, Step, Drain, Stall, Buffered, decide, lt-or, hidden_of, forgotten_core, forgotten_cores, forgotten, CoresAreAlike, exchanged_core, exchanged_choice, exchanged_entry, renamed, exchanged, IsExchangeable, cases_Bool, length-starts, all-done, done-at, set_past}
 use Rattle.std.proofs.Common.{filter}
-use Rattle.tso_model.specs.declared.choice.Stall.TheVariants as stall
+use Rattle.tso_terms.specs.declared.choice.Stall.TheVariants as stall
 use Rattle.tso_laws.proofs.Alike.{core-at}
 use Rattle.tso_laws.proofs.Names.{core-twice, same-at, core-within, core-beyond, same-cores, same-state, cores-exchanged, core-exchanged, exchanged-twice}
 

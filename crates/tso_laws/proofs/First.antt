@@ -1,6 +1,6 @@
 -- One of the choices of a stubborn set can be made first: whatever the choices to the end, they lead there after it too, and are one fewer.
 use Rattle.tso_laws.proofs.EagerVocabulary.{◌≡◌, ◌<◌, ◌⊎◌, ℕ, ◌+◌, zero, suc, List, [], ◌∷◌, Bool, true, false, Some, length, slice_get, arith, ap, sym, ◌∙◌, refl, subst, inl, inr, get_or-set_same, action_of, Litmus, IsTest, State, Effect, idle, program_of, core_of, effect_by, step_of, effect_of, chosen, after_choice, step, drain, Instr, Loc, Operand, Action, Store, Load, Move, Fence, Lock, Entry, Choice, Step, Drain, lt-or, IsDead, Reaches, IsSized, ChoiceSet, has_step, has_drain, has_choice, IsApartBy, IsApartDrain, IsStubborn, no-program, no-core}
-use Rattle.tso_model.specs.declared.choice.Stall.TheVariants as stall
+use Rattle.tso_terms.specs.declared.choice.Stall.TheVariants as stall
 use Rattle.tso_laws.proofs.Own.{Goes, drain-is, either-way, core-drained, front-stepped}
 use Rattle.tso_laws.proofs.Beside.{stall-same, drain-empty, acts-when, loads, stalls-or-goes, no-instr, absent-same, sized-after}
 use Rattle.tso_laws.proofs.Apart.{OwnPart, Aside, aside, others-held-after}

@@ -1,7 +1,7 @@
 -- A run on either bus is followed by one of the flat machine, which makes a locked instruction when its store part is
 -- committed.
 use Rattle.tso_laws.proofs.BusVocabulary.{◌≡◌, ◌≢◌, ℕ, ◌+◌, zero, suc, Option, Some, None, length, nat_lt, List, [], ◌∷◌, ◌++◌, Bool, true, false, drop, slice_set, arith, ap, sym, ◌∙◌, refl, inl, inr, append_assoc, subst, if◌then◌else◌, append-nil, set-get_or, Litmus, entry, action_of, CoreState, State, Effect, stored, effect_by, step_of, effect_of, after_choice, chosen, core_of, applied, memory_after, is_none_pending, stall_count, MemoryAccess, NoAccess, Writes, Locks, next_of, access_of, Holder, Free, HeldBy, HeldBetween, Attempt, BusEffect, needs_bus, acts, asks, begins, load_part, reads_first, completes, as_read, after_first, writes_last, split_effect, BusState, effect_on, after_on, HitFits, HitsFit, put_together, Bus, Atomic, Split, Loc, Instr, Action, Store, Fence, Lock, Entry, LW, Choice, Step, Drain, Outcome, Committed, Asked, state_after, commits_of, state_on, commits_on, HasRead, HolderFits, waiting, ask_count, wait_count, load_part_count, bus_count, decide, Each, drain_with}
-use Rattle.tso_model.specs.declared.instruction.Core.{Core}
+use Rattle.tso_terms.specs.declared.instruction.Core.{Core}
 use Rattle.tso_laws.proofs.Cores.{quiet, quiet-same}
 use Rattle.tso_laws.proofs.Steps.{IsPlain, drain-no-lock, choice-plain, choice-pair, Pairs}
 use Rattle.tso_laws.proofs.BusWaiting.{AllStores, choice-stores, access-kept, same-part, reading-kept, reader-writes-nothing, reader-commits-nothing}

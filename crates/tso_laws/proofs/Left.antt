@@ -2,7 +2,7 @@
 -- pending store, which asks and is drained. A locked instruction takes up to three choices (it asks, reads and writes), a
 -- plain store three (it becomes pending, asks and is drained), all else fewer.
 use Rattle.tso_laws.proofs.BusVocabulary.{◌≡◌, ◌≢◌, ◌<◌, ◌≤◌, ℕ, ◌+◌, ◌*◌, zero, suc, List, [], ◌∷◌, Option, Some, None, length, slice_get, slice_set, slice_index_or, drop, arith, ap, refl, ◌⊎◌, inl, inr, length-append, slice_get_within, Litmus, CoreState, State, Effect, idle, stalled, step_of, effect_of, chosen, core_of, program_of, applied, started, stall_count, MemoryAccess, NoAccess, Locks, step_access, drain_access, next_of, access_of, Instr, Entry, Choice, Step, Drain, Stall, instructions, drain_with, lt-or, drop-at, no-program, no-core}
-use Rattle.tso_model.specs.declared.choice.Stall.TheVariants as stall
+use Rattle.tso_terms.specs.declared.choice.Stall.TheVariants as stall
 use Rattle.tso_laws.proofs.Steps.{put, StepForm, stalls, buffers, makes, pairs, step-form}
 
 abbrev pub left : List Instr → CoreState → ℕ

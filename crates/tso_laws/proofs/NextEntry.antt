@@ -1,10 +1,10 @@
 -- What the entry at the head of the back needs, and that it is then committed.
 use Rattle.tso_laws.proofs.Vocabulary.{◌≡◌, ◌≢◌, ◌<◌, ◌≤◌, ℕ, ◌+◌, suc, List, [], ◌∷◌, ◌++◌, Some, Bool, true, false, length, slice_get, slice_index, slice_index_or, drop, arith, ap, sym, ◌∙◌, refl, ◌⊎◌, inl, inr, subst, ◌==◌, ◌&&◌, slice_get-get_or, action_of, entry, value_in, with_value, value_of, updated, entries_by, entries_of, Litmus, le-by, max-left, max-right, and-false, part-small, load-kind, before, core-before, is_write, is_before, may_be_passed, is_store, is_load, is_read_kind, is_store_kind, is_load_kind, rank, read_value, read_values, Entry, Loc, Reg, Kind, R, W, F, LR, LW, Instr, Action, Store, Load, Move, Fence, Lock, core_of, CoreState, State, program_of, advanced, advanced_with, loaded, load_value, fenced, locked, effect_of, after_choice, step, drain, drained, Each, each-map, each-append, Member, drop-at, Committed, false_from_ne_true}
 use Rattle.tso_laws.proofs.Folds.{needs, asks, passed, passes, last_word, last_own, word-is}
-use Rattle.tso_model.specs.declared.instruction.Instr.TheVariants as instr
+use Rattle.tso_terms.specs.declared.instruction.Instr.TheVariants as instr
 use Rattle.tso_laws.proofs.Entries.{Fine}
 use Rattle.tso_laws.proofs.Draining.{acts-when}
-use Rattle.tso_model.specs.declared.choice.Stall.TheVariants as stall
+use Rattle.tso_terms.specs.declared.choice.Stall.TheVariants as stall
 use Rattle.tso_laws.proofs.CoreInvariant.{left, Paired, Next}
 use Rattle.tso_laws.proofs.Held.{member-right, each-of, held, held-same, held-none, held-more, held-passed, own-held}
 use Rattle.tso_laws.proofs.OrderSteps.{first_of, entries-at, Good, Stands, Goes, goes-append, choice-goes}

@@ -1,6 +1,6 @@
 -- An eager choice of one core beside a choice of another.
 use Rattle.tso_laws.proofs.EagerVocabulary.{◌≡◌, ◌≢◌, ◌<◌, ℕ, zero, suc, List, [], ◌∷◌, Bool, true, false, Option, Some, None, length, slice_get, slice_index, arith, ap, sym, ◌∙◌, refl, subst, inl, inr, nat_lt, if◌then◌else◌, get_or-set_same, get_or-set_other, filter, action_of, Litmus, last_value, writes_to, entry, value_in, value_of, updated, CoreState, State, idle, program_of, core_of, effect_by, step_of, drain_of, effect_of, chosen, memory_after, applied, after_choice, loaded, locked, stalled, R, W, Instr, Action, Store, Load, Move, Fence, Lock, Entry, Choice, Step, Drain, decide, meets, Avoids, OthersAvoid, IsEagerBy, IsEager}
-use Rattle.tso_model.specs.declared.choice.Stall.TheVariants as stall
+use Rattle.tso_terms.specs.declared.choice.Stall.TheVariants as stall
 use Rattle.tso_laws.proofs.Places.{set-set-other, Silent, Only, NotAt, silent-same, elsewhere, only-elsewhere, commute}
 use Rattle.tso_laws.proofs.Avoiding.{differ, buffered, by-wait, by-drain, step-avoids, drain-avoids, step-after, drain-after}
 use Rattle.tso_laws.proofs.Waits.{Commutes}

@@ -1,6 +1,6 @@
 -- What a choice of the flat machine does, by the access that it makes. The eight instructions are gone through here alone.
 use Rattle.tso_laws.proofs.BusVocabulary.{◌≡◌, ◌≢◌, ℕ, ◌+◌, zero, suc, List, [], ◌∷◌, ◌++◌, Option, Some, None, Bool, true, false, length, slice_index, arith, ap, sym, refl, ◌⊎◌, inl, inr, subst, nat_lt, if◌then◌else◌, nat_tests, filter, Litmus, action_of, entry, value_in, value_of, updated, same_kind, is_write, writes_to, CoreState, State, Effect, stalled, stored, effect_by, step_of, core_of, chosen, effect_of, stall_count, MemoryAccess, NoAccess, Writes, Locks, store_access, load_access, locked_access, access_by, step_access, drain_access, next_of, access_of, Reg, Loc, Instr, Action, Store, Load, Move, Fence, Lock, Entry, W, LR, LW, Choice, Step, Drain, Stall, Committed, Buffered, drain_with, fenced_with, locked_with, Each}
-use Rattle.tso_model.specs.declared.choice.Stall.TheVariants as stall
+use Rattle.tso_terms.specs.declared.choice.Stall.TheVariants as stall
 
 -- a plain store of this core, as all that it has pending is
 pub record IsStore (core : ℕ) (e : Entry) : Type 0 where

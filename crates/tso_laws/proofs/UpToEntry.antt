@@ -1,6 +1,6 @@
 -- The steps of a core up to an entry of the order.
 use Rattle.tso_laws.proofs.Vocabulary.{◌≡◌, ◌<◌, ◌≤◌, ℕ, ◌+◌, zero, suc, List, [], ◌∷◌, ◌++◌, Some, Bool, true, false, length, slice_get, slice_index_or, drop, arith, ap, sym, ◌∙◌, refl, inl, inr, subst, ◌==◌, ◌&&◌, nat_lt, length-append, slice_get-get_or, nat_tests, action_of, entry, fence, with_value, value_of, entries_of, Litmus, is_store, read_value, made_by, read_values, Entry, Reg, R, W, LR, Instr, Action, Store, Load, Move, Fence, Lock, core_of, CoreState, State, Effect, program_of, stored, moved, effect_by, step_of, effect_of, after_choice, step, drain, steps, stall_count, Member, drop-at, append-nil}
-use Rattle.tso_model.specs.declared.instruction.Instr.TheVariants as instr
+use Rattle.tso_terms.specs.declared.instruction.Instr.TheVariants as instr
 use Rattle.tso_laws.proofs.Entries.{Ordered}
 use Rattle.tso_laws.proofs.OneList.{Precedes}
 use Rattle.tso_laws.proofs.CoreInvariant.{left, trace}

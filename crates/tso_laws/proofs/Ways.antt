@@ -2,8 +2,8 @@
 use Rattle.tso_laws.proofs.BusVocabulary.{◌≡◌, ◌≢◌, ℕ, Bool, true, false, if◌then◌else◌, refl, ap, subst, nat_tests, arith, test-true, Litmus, Effect, State, effect_of, chosen, core_of, MemoryAccess, NoAccess, Reads, Writes, Locks, access_of, Holder, Free, HeldBy, HeldBetween, Attempt, BusEffect, same_choice, needs_bus, acts, asks, begins, load_part, reads_first, completes, as_read, after_first, writes_last, split_effect, BusState, effect_on, Bus, Atomic, Split, Loc, Entry, Choice, Step, Drain, Asked, stalled}
 use Rattle.tso_laws.proofs.Cores.{quiet}
 use Rattle.tso_laws.proofs.Steps.{drain-no-lock}
-use Rattle.tso_model.specs.declared.instruction.Core.{Core}
-use Rattle.tso_model.specs.declared.choice.Stall.TheVariants as stall
+use Rattle.tso_terms.specs.declared.instruction.Core.{Core}
+use Rattle.tso_terms.specs.declared.choice.Stall.TheVariants as stall
 
 -- the same action is the same choice
 pub same-is : (a b : Choice) → same_choice a b ≡ true → a ≡ b

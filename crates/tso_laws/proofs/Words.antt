@@ -2,7 +2,7 @@
 use Rattle.tso_laws.proofs.Vocabulary.{◌≡◌, ℕ, ◌+◌, ◌<◌, ◌≤◌, zero, suc, Bool, true, false, cond, ltb, List, [], ◌∷◌, ◌++◌, length, All, Option, Some, None, IfSome, slice_get, slice_index, slice_index_or, slice_set, refl, ◌∙◌, arith, subst, All-nil, All-cons, All-head, All-tail, All-append, All-push, All-set, All-filter, Litmus, IsTest, HasWords, ConstantIsWord, IsWord, AreRegisters, index_of, action_of, entry, fence, value_in, value_of, sum_of, updated, is_write, writes_to, last_value, CoreState, State, Effect, stalled, advanced_with, stored, load_value, loaded, moved, fenced, locked, effect_by, step_of, drain_of, idle, program_of, core_of, chosen, effect_of, memory_after, after_choice, started, start, Run, has_ended, run_from, run, Reg, Loc, Instr, StoreImm, SetImm, Operand, Number, Held, Update, Exchange, Add, Action, Store, Load, Move, Fence, Lock, Entry, R, W, LR, LW, Choice, Step, Drain, Stall, Buffered, HasWord, HoldsWords, cases_Bool, inl, inr}
 use Rattle.std.proofs.Common.{filter}
 use Rattle.std.proofs.lemmas.List.{length-set}
-use Rattle.tso_model.specs.declared.choice.Stall.TheVariants as stall
+use Rattle.tso_terms.specs.declared.choice.Stall.TheVariants as stall
 use Rattle.tso_laws.proofs.Draining.{waits-or-acts, drains}
 
 no-word : IsWord 0

@@ -1,6 +1,6 @@
 -- What is left to do, and that each choice that takes effect does one part of it.
 use Rattle.tso_laws.proofs.Vocabulary.{◌≡◌, ◌<◌, ◌≤◌, ℕ, ◌+◌, zero, suc, List, [], ◌∷◌, Option, Some, None, true, false, length, slice_get, slice_set, slice_index_or, drop, arith, ap, sym, ◌∙◌, refl, ◌⊎◌, inl, inr, ◌==◌, nat_lt, if◌then◌else◌, length-append, length-set, slice_get_within, nat_tests, Litmus, Entry, Instr, Action, Store, Fence, Lock, Choice, Step, Drain, Stall, Committed, action_of, is_none_pending, core_of, stalled, advanced, CoreState, State, Effect, idle, program_of, stored, when_drained, effect_by, step_of, drain_of, effect_of, chosen, after_choice, started, start, lt-or, and-left, and-right, is_done, all_done, has_ended, stall_count, run, run_from, store_count, stores_in, instructions, stores_of_all, drop-at, drop-end, cases_Bool, length-starts, set-get_or, no-program, no-core}
-use Rattle.tso_model.specs.declared.choice.Stall.TheVariants as stall
+use Rattle.tso_terms.specs.declared.choice.Stall.TheVariants as stall
 use Rattle.tso_laws.proofs.Draining.{waits-or-acts, drains}
 use Rattle.tso_laws.proofs.Folds.{put}
 

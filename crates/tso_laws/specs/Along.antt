@@ -1,10 +1,10 @@
 -- Choices made along an order, and what it is that choices lead to an order: with these, what TSO allows is shown to be in
 -- reach.
 use Rattle.std.specs.Prelude.{max, ℕ, ◌+◌, ◌-◌, ◌≡◌, true, if◌then◌else◌, List, [], ◌∷◌, ◌++◌, length, slice_index, slice_set, zero, suc}
-use Rattle.tso_model.specs.FlatMachine.{step, drain}
-use Rattle.tso_model.specs.Litmus.{Litmus}
-use Rattle.tso_model.specs.ProgramOrder.{is_store}
-use Rattle.tso_model.specs.Runs.{run, CoresExist}
+use Rattle.tso_terms.specs.FlatMachine.{step, drain}
+use Rattle.tso_terms.specs.Litmus.{Litmus}
+use Rattle.tso_terms.specs.ProgramOrder.{is_store}
+use Rattle.tso_terms.specs.Runs.{run, CoresExist}
 use Rattle.basic_laws.specs.Types.{Instr, Entry, Choice}
 
 abbrev pub steps : ℕ → ℕ → List Choice

@@ -1,8 +1,8 @@
 -- What is committed between the two parts of a locked instruction: entries of other cores, and no part of another locked
 -- instruction; so the two can be put side by side in the order. (Primer, chapter 4, for the axiom; chapter 7, for the bus.)
 use Rattle.std.specs.Prelude.{◌≡◌, ◌≢◌, List, [], ◌∷◌, ◌⊎◌}
-use Rattle.tso_model.specs.ProgramOrder.{IsStorePart}
-use Rattle.tso_model.specs.SplitMachine.{Holder, HeldBetween}
+use Rattle.tso_terms.specs.ProgramOrder.{IsStorePart}
+use Rattle.tso_terms.specs.SplitMachine.{Holder, HeldBetween}
 use Rattle.basic_laws.specs.Types.{Entry, LR, LW}
 
 -- an entry of another core than x's, and no part of a locked instruction

@@ -1,9 +1,9 @@
 -- The machine on either bus under a list of choices, each made in its turn, whether the test has ended or not.
 use Rattle.std.specs.Prelude.{ℕ, ◌≡◌, List, [], ◌∷◌, ◌++◌}
-use Rattle.tso_model.specs.Litmus.{Litmus}
-use Rattle.tso_model.specs.FlatMachine.{start}
-use Rattle.tso_model.specs.SplitMachine.{Attempt}
-use Rattle.tso_model.specs.EitherBus.{BusState, unheld, effect_on, after_on, HitsFit}
+use Rattle.tso_terms.specs.Litmus.{Litmus}
+use Rattle.tso_terms.specs.FlatMachine.{start}
+use Rattle.tso_terms.specs.SplitMachine.{Attempt}
+use Rattle.tso_terms.specs.EitherBus.{BusState, unheld, effect_on, after_on, HitsFit}
 use Rattle.basic_laws.specs.Types.{Bus, Entry}
 
 -- the state after these choices

@@ -1,12 +1,12 @@
 -- What the laws say that are too long for a line: each is the contract of the function of the same name. (Primer, chapter
 -- 7, for the split bus; what asks, waits and acts at once is this project's profile.)
 use Rattle.std.specs.Prelude.{ℕ, ◌*◌, ◌≡◌, true, List, length}
-use Rattle.tso_model.specs.Litmus.{Litmus, IsTest}
-use Rattle.tso_model.specs.FlatMachine.{start}
-use Rattle.tso_model.specs.Runs.{run, has_ended}
-use Rattle.tso_model.specs.SplitMachine.{Free, Attempt}
-use Rattle.tso_model.specs.EitherBus.{BusState, unheld, run_on, choices_in, HitsFit}
-use Rattle.tso_model.specs.Together.{put_together, together}
+use Rattle.tso_terms.specs.Litmus.{Litmus, IsTest}
+use Rattle.tso_terms.specs.FlatMachine.{start}
+use Rattle.tso_terms.specs.Runs.{run, has_ended}
+use Rattle.tso_terms.specs.SplitMachine.{Free, Attempt}
+use Rattle.tso_terms.specs.EitherBus.{BusState, unheld, run_on, choices_in, HitsFit}
+use Rattle.tso_terms.specs.Together.{put_together, together}
 use Rattle.basic_laws.specs.Types.{Bus, Atomic, Entry, Choice}
 use Rattle.tso_laws.specs.EndedRuns.{IsExecution}
 use Rattle.tso_laws.specs.Counting.{instructions}

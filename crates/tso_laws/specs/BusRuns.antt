@@ -1,15 +1,15 @@
 -- What runs on either bus leave, and where they stop: an order, once each locked instruction's parts are put together, and
 -- its final state.
 use Rattle.std.specs.Prelude.{ℕ, ◌+◌, ◌≡◌, true, if◌then◌else◌, List, [], ◌∷◌, ◌++◌, length, take}
-use Rattle.tso_model.specs.Litmus.{Litmus}
-use Rattle.tso_model.specs.ProgramOrder.{same_kind}
-use Rattle.tso_model.specs.FlatMachine.{Effect, start}
-use Rattle.tso_model.specs.Runs.{run, CoresExist}
-use Rattle.tso_model.specs.SplitMachine.{Holder, Free, HeldBy, HeldBetween, Attempt}
-use Rattle.tso_model.specs.EitherBus.{BusState, BusRun, unheld, run_on, effect_on, after_on, choices_in}
-use Rattle.tso_model.specs.Together.{put_together}
+use Rattle.tso_terms.specs.Litmus.{Litmus}
+use Rattle.tso_terms.specs.ProgramOrder.{same_kind}
+use Rattle.tso_terms.specs.FlatMachine.{Effect, start}
+use Rattle.tso_terms.specs.Runs.{run, CoresExist}
+use Rattle.tso_terms.specs.SplitMachine.{Holder, Free, HeldBy, HeldBetween, Attempt}
+use Rattle.tso_terms.specs.EitherBus.{BusState, BusRun, unheld, run_on, effect_on, after_on, choices_in}
+use Rattle.tso_terms.specs.Together.{put_together}
 use Rattle.basic_laws.specs.Types.{Bus, Entry, LR, Choice, Stall, Outcome, Asked, Stalled}
-use Rattle.tso_model.specs.declared.choice.Stall.TheVariants as stall
+use Rattle.tso_terms.specs.declared.choice.Stall.TheVariants as stall
 
 -- the choices end the test
 abbrev pub EndOn : Bus → Litmus → ℕ → List Attempt → Type 0

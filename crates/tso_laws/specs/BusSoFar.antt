@@ -1,9 +1,9 @@
 -- What holds of the commits and the state after any list of choices, whether the test has ended or not: the flat machine
 -- comes to the same state, with the parts of locked instructions put together.
 use Rattle.std.specs.Prelude.{ℕ, ◌≡◌, List, ◌++◌}
-use Rattle.tso_model.specs.Litmus.{Litmus}
-use Rattle.tso_model.specs.EitherBus.{BusState}
-use Rattle.tso_model.specs.Together.{put_together}
+use Rattle.tso_terms.specs.Litmus.{Litmus}
+use Rattle.tso_terms.specs.EitherBus.{BusState}
+use Rattle.tso_terms.specs.Together.{put_together}
 use Rattle.basic_laws.specs.Types.{Bus, Entry}
 use Rattle.tso_laws.specs.Choices.{IsPossible}
 use Rattle.tso_laws.specs.Holders.{HolderFits}

@@ -1,8 +1,8 @@
 -- The flat machine under a list of choices, each made in its turn, whether the test has ended or not. What holds after any
 -- list is proved by going along it; that a run stops where it ends is said apart.
 use Rattle.std.specs.Prelude.{ℕ, ◌≡◌, List, [], ◌∷◌, ◌++◌}
-use Rattle.tso_model.specs.Litmus.{Litmus}
-use Rattle.tso_model.specs.FlatMachine.{State, start, effect_of, after_choice}
+use Rattle.tso_terms.specs.Litmus.{Litmus}
+use Rattle.tso_terms.specs.FlatMachine.{State, start, effect_of, after_choice}
 use Rattle.basic_laws.specs.Types.{Entry, Choice}
 
 -- the state after these choices

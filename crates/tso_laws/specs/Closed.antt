@@ -1,10 +1,10 @@
 -- Lists of states that miss none of the ended ones, but for dead registers and exchanges of cores that are alike: whatever a choice
 -- makes of a state of the list is in it again, once eager choices are made, dead registers are forgotten, and such cores exchanged.
 use Rattle.std.specs.Prelude.{ℕ, ◌≡◌, ◌<◌, Bool, true, List, [], ◌∷◌, length, Some, slice_get, ◌⊎◌}
-use Rattle.tso_model.specs.Litmus.{Litmus, IsTest}
-use Rattle.tso_model.specs.FlatMachine.{State, start, chosen, after_choice}
-use Rattle.tso_model.specs.Runs.{run}
-use Rattle.tso_model.specs.declared.choice.Choice.{Choice}
+use Rattle.tso_terms.specs.Litmus.{Litmus, IsTest}
+use Rattle.tso_terms.specs.FlatMachine.{State, start, chosen, after_choice}
+use Rattle.tso_terms.specs.Runs.{run}
+use Rattle.tso_terms.specs.declared.choice.Choice.{Choice}
 use Rattle.tso_laws.specs.Eager.{IsEager}
 use Rattle.tso_laws.specs.Stubborn.{ChoiceSet, has_choice, IsStubborn}
 use Rattle.tso_laws.specs.Dead.{forgotten, AreAlike}

@@ -1,9 +1,9 @@
 -- How much there is to do in a test: its instructions, and its plain stores, each of which is also drained. By these
 -- numbers the choices of a run are counted, and the rounds that end it.
 use Rattle.std.specs.Prelude.{max, ℕ, ◌+◌, List, [], ◌∷◌, length}
-use Rattle.tso_model.specs.Actions.{action_of}
+use Rattle.tso_terms.specs.Actions.{action_of}
 use Rattle.basic_laws.specs.Types.{Instr, Action}
-use Rattle.tso_model.specs.declared.action.Action.TheVariants.{Store}
+use Rattle.tso_terms.specs.declared.action.Action.TheVariants.{Store}
 
 -- 1 for a plain store, else 0
 abbrev pub store_count : Action → ℕ

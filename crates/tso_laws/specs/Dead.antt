@@ -2,13 +2,13 @@
 -- test has ended. What they hold changes nothing that is looked at, so states that differ in them alone may be taken for one.
 -- (The equations are those of live-variable analysis in compilers.)
 use Rattle.std.specs.Prelude.{ℕ, ◌+◌, ◌≡◌, Bool, true, false, if◌then◌else◌, List, [], ◌∷◌, slice_set, slice_index_or, drop}
-use Rattle.tso_model.specs.Registers.{index_of}
-use Rattle.tso_model.specs.Actions.{action_of}
-use Rattle.tso_model.specs.Litmus.{Litmus}
-use Rattle.tso_model.specs.FlatMachine.{CoreState, State, program_of, effect_of, after_choice, registers_in}
-use Rattle.tso_model.specs.Runs.{has_ended}
+use Rattle.tso_terms.specs.Registers.{index_of}
+use Rattle.tso_terms.specs.Actions.{action_of}
+use Rattle.tso_terms.specs.Litmus.{Litmus}
+use Rattle.tso_terms.specs.FlatMachine.{CoreState, State, program_of, effect_of, after_choice, registers_in}
+use Rattle.tso_terms.specs.Runs.{has_ended}
 use Rattle.basic_laws.specs.Types.{Instr, Operand, Number, Held, Action, Choice}
-use Rattle.tso_model.specs.declared.action.Action.TheVariants.{Store, Load, Move, Fence, Lock}
+use Rattle.tso_terms.specs.declared.action.Action.TheVariants.{Store, Load, Move, Fence, Lock}
 
 -- ---- which registers are dead
 

@@ -1,8 +1,8 @@
 -- How deep a store buffer an order needs: as many places as the stores that a load passes. (This project's profile; the
 -- store buffers of x86-TSO, section 3, have no bound.)
 use Rattle.std.specs.Prelude.{max, ℕ, ◌&&◌, if◌then◌else◌, List, [], ◌∷◌, filter, length}
-use Rattle.tso_model.specs.ProgramOrder.{is_before, is_load, is_store}
-use Rattle.tso_model.specs.declared.execution.Entry.{Entry}
+use Rattle.tso_terms.specs.ProgramOrder.{is_before, is_load, is_store}
+use Rattle.tso_terms.specs.declared.execution.Entry.{Entry}
 
 -- the plain stores of a list that stand before x in its program
 abbrev pub stores_before : Entry → List Entry → List Entry

@@ -1,12 +1,12 @@
 -- Choices that need not wait: no other choice that comes before them can change what they do, or be changed by them.
 -- (This project's profile; the reduction is known of model checkers as a persistent set of one choice.)
 use Rattle.std.specs.Prelude.{ℕ, ◌<◌, ◌≤◌, ◌≡◌, ◌≢◌, ◌==◌, ◌&&◌, Bool, true, false, List, [], ◌∷◌, length, Some, slice_get}
-use Rattle.tso_model.specs.Actions.{action_of}
-use Rattle.tso_model.specs.Litmus.{Litmus}
-use Rattle.tso_model.specs.FlatMachine.{CoreState, State, program_of, core_of, effect_of}
-use Rattle.tso_model.specs.Runs.{stall_count}
+use Rattle.tso_terms.specs.Actions.{action_of}
+use Rattle.tso_terms.specs.Litmus.{Litmus}
+use Rattle.tso_terms.specs.FlatMachine.{CoreState, State, program_of, core_of, effect_of}
+use Rattle.tso_terms.specs.Runs.{stall_count}
 use Rattle.basic_laws.specs.Types.{Instr, Action, Entry, Choice, Step, Drain}
-use Rattle.tso_model.specs.declared.action.Action.TheVariants.{Store, Load, Move, Fence, Lock}
+use Rattle.tso_terms.specs.declared.action.Action.TheVariants.{Store, Load, Move, Fence, Lock}
 
 -- whether an action writes this location or, where loads count, loads it
 abbrev pub meets : Bool → ℕ → Action → Bool

@@ -1,11 +1,11 @@
 -- Runs that have ended, and what they leave: the order of their commits, and the final state of that order.
 use Rattle.std.specs.Prelude.{ℕ, ◌≡◌, true, List}
-use Rattle.tso_model.specs.Litmus.{Litmus}
-use Rattle.tso_model.specs.Axioms.{IsTsoExecution}
-use Rattle.tso_model.specs.FinalState.{final_words, final_registers}
-pub use Rattle.tso_model.specs.FlatMachine.{registers_in}
-use Rattle.tso_model.specs.Runs.{Run, run}
-use Rattle.tso_model.specs.declared.choice.Choice.{Choice}
+use Rattle.tso_terms.specs.Litmus.{Litmus}
+use Rattle.tso_terms.specs.Axioms.{IsTsoExecution}
+use Rattle.tso_terms.specs.FinalState.{final_words, final_registers}
+pub use Rattle.tso_terms.specs.FlatMachine.{registers_in}
+use Rattle.tso_terms.specs.Runs.{Run, run}
+use Rattle.tso_terms.specs.declared.choice.Choice.{Choice}
 
 -- the choices end the test
 abbrev pub End : Litmus → ℕ → List Choice → Type 0

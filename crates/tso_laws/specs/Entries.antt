@@ -1,8 +1,8 @@
 -- What every entry of a test's programs is: of a core, a place and a location of the test, whatever values its reads
 -- return.
 use Rattle.std.specs.Prelude.{◌<◌, ◌≡◌, ◌≢◌, length}
-use Rattle.tso_model.specs.Litmus.{Litmus}
-use Rattle.tso_model.specs.FlatMachine.{program_of}
+use Rattle.tso_terms.specs.Litmus.{Litmus}
+use Rattle.tso_terms.specs.FlatMachine.{program_of}
 use Rattle.basic_laws.specs.Types.{Entry, F}
 
 -- its core is one of the test's, its place is one of that core's program, and its location is one of the test's; but a

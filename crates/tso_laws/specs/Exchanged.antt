@@ -2,9 +2,9 @@
 -- in a state and in a choice, do the same with each other's names. So of states that differ by such exchanges a search may keep one.
 -- (Model checkers know this as symmetry reduction.)
 use Rattle.std.specs.Prelude.{ℕ, ◌<◌, ◌≡◌, ◌==◌, Bool, if◌then◌else◌, List, [], ◌∷◌, length, map, swap, Some, slice_get, slice_index_or}
-use Rattle.tso_model.specs.Litmus.{Litmus}
-use Rattle.tso_model.specs.FlatMachine.{CoreState, State, program_of, effect_of, after_choice, start, step, drain}
-use Rattle.tso_model.specs.Runs.{has_ended}
+use Rattle.tso_terms.specs.Litmus.{Litmus}
+use Rattle.tso_terms.specs.FlatMachine.{CoreState, State, program_of, effect_of, after_choice, start, step, drain}
+use Rattle.tso_terms.specs.Runs.{has_ended}
 use Rattle.basic_laws.specs.Types.{Entry, Choice, Step, Drain}
 use Rattle.tso_laws.specs.Dead.{hidden_of, forgotten}
 

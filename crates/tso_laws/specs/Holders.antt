@@ -1,10 +1,10 @@
 -- What is known of who holds the bus: its action still has its access to make, and a locked instruction's word is still
 -- memory's.
 use Rattle.std.specs.Prelude.{ℕ, ◌≡◌, ◌≢◌, slice_index}
-use Rattle.tso_model.specs.Litmus.{Litmus}
-use Rattle.tso_model.specs.FlatMachine.{State, core_of}
-use Rattle.tso_model.specs.MemoryAccess.{NoAccess, Locks, access_of}
-use Rattle.tso_model.specs.SplitMachine.{Holder, Free, HeldBy, HeldBetween}
+use Rattle.tso_terms.specs.Litmus.{Litmus}
+use Rattle.tso_terms.specs.FlatMachine.{State, core_of}
+use Rattle.tso_terms.specs.MemoryAccess.{NoAccess, Locks, access_of}
+use Rattle.tso_terms.specs.SplitMachine.{Holder, Free, HeldBy, HeldBetween}
 use Rattle.basic_laws.specs.Types.{Bus, Atomic, Split, Entry, LR, Step}
 
 -- the locked instruction with this load part has read and not yet written: its core stands where it stood, its step still

@@ -1,11 +1,11 @@
 -- What the laws say that are too long for a line: each is the contract of the function of the same name. (Primer, chapter
 -- 4; x86-TSO, section 3.)
 use Rattle.std.specs.Prelude.{ℕ, ◌+◌, ◌*◌, ◌<◌, ◌≤◌, ◌≡◌, ◌≢◌, ◌↔◌, List, length, All}
-use Rattle.tso_model.specs.Limits.{most_depth}
-use Rattle.tso_model.specs.Litmus.{Litmus, IsTest}
-use Rattle.tso_model.specs.Axioms.{IsTsoExecution}
-use Rattle.tso_model.specs.FlatMachine.{State, start}
-use Rattle.tso_model.specs.Runs.{run}
+use Rattle.tso_terms.specs.Limits.{most_depth}
+use Rattle.tso_terms.specs.Litmus.{Litmus, IsTest}
+use Rattle.tso_terms.specs.Axioms.{IsTsoExecution}
+use Rattle.tso_terms.specs.FlatMachine.{State, start}
+use Rattle.tso_terms.specs.Runs.{run}
 use Rattle.basic_laws.specs.Types.{Entry, Choice}
 use Rattle.tso_laws.specs.Choices.{state_after, commits_of, IsPossible}
 use Rattle.tso_laws.specs.SoFar.{SoFar}

@@ -1,13 +1,13 @@
 -- The final states of a test: of the machine's runs, and of the TSO executions. That these are the same makes a search of
 -- the machine an answer about TSO. (Primer, chapter 4; chapter 3 for runs without store buffers.)
 use Rattle.std.specs.Prelude.{ℕ, ◌+◌, ◌≡◌, ◌≤◌, ◌<◌, ◌↔◌, true, List, length}
-use Rattle.tso_model.specs.Limits.{most_depth}
-use Rattle.tso_model.specs.Litmus.{Litmus, IsTest}
-use Rattle.tso_model.specs.Axioms.{IsTsoExecution}
-use Rattle.tso_model.specs.SequentialConsistency.{KeepsAllOrder}
-use Rattle.tso_model.specs.FinalState.{final_words, final_registers}
-use Rattle.tso_model.specs.FlatMachine.{registers_in}
-use Rattle.tso_model.specs.Runs.{run, CoresExist}
+use Rattle.tso_terms.specs.Limits.{most_depth}
+use Rattle.tso_terms.specs.Litmus.{Litmus, IsTest}
+use Rattle.tso_terms.specs.Axioms.{IsTsoExecution}
+use Rattle.tso_terms.specs.SequentialConsistency.{KeepsAllOrder}
+use Rattle.tso_terms.specs.FinalState.{final_words, final_registers}
+use Rattle.tso_terms.specs.FlatMachine.{registers_in}
+use Rattle.tso_terms.specs.Runs.{run, CoresExist}
 use Rattle.basic_laws.specs.Types.{Choice, Entry}
 use Rattle.tso_laws.specs.Counting.{instructions, stores_of_all}
 use Rattle.tso_laws.specs.Depth.{needed}

@@ -1,7 +1,7 @@
 -- Orders that runs end with: that these are exactly the TSO executions is the law that makes the machine a machine for TSO.
 use Rattle.std.specs.Prelude.{ℕ, ◌≡◌, true, List, length}
-use Rattle.tso_model.specs.Litmus.{Litmus}
-use Rattle.tso_model.specs.Runs.{run, CoresExist}
+use Rattle.tso_terms.specs.Litmus.{Litmus}
+use Rattle.tso_terms.specs.Runs.{run, CoresExist}
 use Rattle.basic_laws.specs.Types.{Entry, Choice}
 
 -- at this depth some choices of the test's cores end the test with this very order

@@ -1,8 +1,8 @@
 -- Rounds of choices, in which each core has its turn to step and to drain: a fair schedule, under which no test goes on for
 -- ever.
 use Rattle.std.specs.Prelude.{ℕ, ◌<◌, ◌≡◌, List, [], ◌∷◌, ◌++◌, ◌⊎◌, zero, suc}
-use Rattle.tso_model.specs.FlatMachine.{step, drain}
-use Rattle.tso_model.specs.declared.choice.Choice.{Choice}
+use Rattle.tso_terms.specs.FlatMachine.{step, drain}
+use Rattle.tso_terms.specs.declared.choice.Choice.{Choice}
 
 abbrev pub Among : Choice → List Choice → Type 0
 Among a [] = ⊥

@@ -1,14 +1,14 @@
 -- What holds of the commits and the state after any list of choices, whether the test has ended or not: the invariant from
 -- which it follows that an ended run is a TSO execution. (Primer, chapter 4; x86-TSO, section 3.)
 use Rattle.std.specs.Prelude.{ℕ, ◌<◌, ◌≤◌, ◌≡◌, ◌&&◌, ◌||◌, not, Bool, true, false, List, [], ◌∷◌, ◌++◌, filter, length, take, slice_index_or, All}
-use Rattle.tso_model.specs.Litmus.{Litmus}
-use Rattle.tso_model.specs.ProgramOrder.{is_read, is_store}
-use Rattle.tso_model.specs.ProgramEntries.{is_at, made_by}
-use Rattle.tso_model.specs.Axioms.{KeepsProgramOrder, IsAdjacent, due_value}
-use Rattle.tso_model.specs.Standing.{StandsIn}
-use Rattle.tso_model.specs.FinalState.{final_words, registers_of}
-use Rattle.tso_model.specs.FlatMachine.{CoreState, State, program_of, core_of}
-use Rattle.tso_model.specs.declared.execution.Entry.{Entry}
+use Rattle.tso_terms.specs.Litmus.{Litmus}
+use Rattle.tso_terms.specs.ProgramOrder.{is_read, is_store}
+use Rattle.tso_terms.specs.ProgramEntries.{is_at, made_by}
+use Rattle.tso_terms.specs.Axioms.{KeepsProgramOrder, IsAdjacent, due_value}
+use Rattle.tso_terms.specs.Standing.{StandsIn}
+use Rattle.tso_terms.specs.FinalState.{final_words, registers_of}
+use Rattle.tso_terms.specs.FlatMachine.{CoreState, State, program_of, core_of}
+use Rattle.tso_terms.specs.declared.execution.Entry.{Entry}
 use Rattle.tso_laws.specs.Entries.{FitsTest}
 
 -- the entries that a core has issued when it stands at this place: those of its program up to there, with the

@@ -2,12 +2,12 @@
 -- meet it can only come after another choice of the set. So a search may leave all choices outside the set for later.
 -- (Valmari's stubborn sets; which choices meet is this project's profile.)
 use Rattle.std.specs.Prelude.{ℕ, ◌<◌, ◌≤◌, ◌≡◌, ◌≢◌, Bool, true, false, List, [], ◌∷◌, length, Some, slice_get, slice_index_or, ◌⊎◌}
-use Rattle.tso_model.specs.Actions.{action_of}
-use Rattle.tso_model.specs.Litmus.{Litmus}
-use Rattle.tso_model.specs.FlatMachine.{CoreState, State, program_of, core_of}
-use Rattle.tso_model.specs.ProgramOrder.{writes_to}
+use Rattle.tso_terms.specs.Actions.{action_of}
+use Rattle.tso_terms.specs.Litmus.{Litmus}
+use Rattle.tso_terms.specs.FlatMachine.{CoreState, State, program_of, core_of}
+use Rattle.tso_terms.specs.ProgramOrder.{writes_to}
 use Rattle.basic_laws.specs.Types.{Instr, Action, Entry, Choice, Step, Drain}
-use Rattle.tso_model.specs.declared.action.Action.TheVariants.{Store, Load, Move, Fence, Lock}
+use Rattle.tso_terms.specs.declared.action.Action.TheVariants.{Store, Load, Move, Fence, Lock}
 use Rattle.tso_laws.specs.Eager.{Avoids}
 
 -- a set of choices: of each core whether its step is one, and whether its drain is; of a core of which nothing is said neither is

@@ -1,8 +1,8 @@
 -- Values are words: of 32 bits, in all that a run commits and leaves. Sums are taken modulo 2^32, so none gets larger.
 use Rattle.std.specs.Prelude.{List, All}
-use Rattle.tso_model.specs.Registers.{IsWord, AreRegisters}
-use Rattle.tso_model.specs.FlatMachine.{State}
-use Rattle.tso_model.specs.declared.execution.Entry.{Entry}
+use Rattle.tso_terms.specs.Registers.{IsWord, AreRegisters}
+use Rattle.tso_terms.specs.FlatMachine.{State}
+use Rattle.tso_terms.specs.declared.execution.Entry.{Entry}
 
 -- the value of the entry is a word
 abbrev pub HasWord : Entry → Type 0

@@ -1,8 +1,8 @@
 -- Orders that TSO doesn't allow, each spoiled for one part of what makes an execution: so none of these parts could be left
 -- out. (Primer, chapter 4.)
 use Rattle.std.specs.Prelude.{List, [], ◌∷◌}
-use Rattle.tso_model.specs.Thread.{entry}
-use Rattle.tso_model.specs.Examples.{loc_x, loc_y}
+use Rattle.tso_terms.specs.Thread.{entry}
+use Rattle.tso_terms.specs.Examples.{loc_x, loc_y}
 use Rattle.basic_laws.specs.Types.{Entry, R, W}
 
 -- ---- orders that TSO doesn't allow, one for each part of an execution

@@ -1,11 +1,11 @@
 -- Worked runs on the split bus: asks, waits and hits beside a held bus, each to be followed by eye. (Primer, chapter 7.)
 use Rattle.std.specs.Prelude.{ℕ, true, false, List, [], ◌∷◌, None, codes}
-use Rattle.tso_model.specs.FlatMachine.{step, drain}
-use Rattle.tso_model.specs.Litmus.{Litmus}
-use Rattle.tso_model.specs.Thread.{entry}
-use Rattle.tso_model.specs.Examples.{loc_x, loc_y, zeros, n6}
-use Rattle.tso_model.specs.SplitMachine.{Attempt}
-use Rattle.tso_model.specs.EitherBus.{BusState, BusRun, run_on}
+use Rattle.tso_terms.specs.FlatMachine.{step, drain}
+use Rattle.tso_terms.specs.Litmus.{Litmus}
+use Rattle.tso_terms.specs.Thread.{entry}
+use Rattle.tso_terms.specs.Examples.{loc_x, loc_y, zeros, n6}
+use Rattle.tso_terms.specs.SplitMachine.{Attempt}
+use Rattle.tso_terms.specs.EitherBus.{BusState, BusRun, run_on}
 use Rattle.basic_laws.specs.Types.{Split, Eax, Ebx, Instr, StoreImm, Load, Xchg, Xadd, Entry, R, W, LR, LW, Choice}
 use Rattle.tso_laws.specs.BusRuns.{left_by}
 

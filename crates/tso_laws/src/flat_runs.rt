@@ -3,13 +3,13 @@
 //! (Primer, chapter 4; x86-TSO, section 3.)
 
 ghost use Rattle.std.specs.Prelude.{ℕ, max, ◌≤◌, ◌≡◌, List, [], ◌∷◌};
-ghost use Rattle.tso_model.specs.Limits.{most_depth};
-ghost use Rattle.tso_model.specs.Litmus.{Litmus, IsTest};
-ghost use Rattle.tso_model.specs.ProgramEntries.{made};
-ghost use Rattle.tso_model.specs.Axioms.{IsTsoExecution};
-ghost use Rattle.tso_model.specs.Standing.{StandsIn};
-ghost use Rattle.tso_model.specs.SequentialConsistency.{KeepsAllOrder};
-ghost use Rattle.tso_model.specs.Runs.{run};
+ghost use Rattle.tso_terms.specs.Limits.{most_depth};
+ghost use Rattle.tso_terms.specs.Litmus.{Litmus, IsTest};
+ghost use Rattle.tso_terms.specs.ProgramEntries.{made};
+ghost use Rattle.tso_terms.specs.Axioms.{IsTsoExecution};
+ghost use Rattle.tso_terms.specs.Standing.{StandsIn};
+ghost use Rattle.tso_terms.specs.SequentialConsistency.{KeepsAllOrder};
+ghost use Rattle.tso_terms.specs.Runs.{run};
 ghost use Rattle.basic_laws.specs.Types.{Entry, Choice};
 ghost use Rattle.tso_laws.specs.Entries.{FitsTest};
 ghost use Rattle.tso_laws.specs.EndedRuns.{End, IsExecution};

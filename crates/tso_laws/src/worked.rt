@@ -2,12 +2,12 @@
 //! premises are met, and what fails without them.
 
 ghost use Rattle.std.specs.Prelude.{ℕ, ◌*◌, ◌≡◌, false, [], ◌∷◌, length};
-ghost use Rattle.tso_model.specs.Litmus.{IsTest};
-ghost use Rattle.tso_model.specs.Axioms.{IsTsoExecution};
-ghost use Rattle.tso_model.specs.SequentialConsistency.{KeepsAllOrder};
-ghost use Rattle.tso_model.specs.Runs.{run};
-ghost use Rattle.tso_model.specs.Examples.{sb, sb_order, sb_choices, n6, n6_order, added, separated_order, zeros};
-ghost use Rattle.tso_model.specs.FinalState.{final_words, final_registers};
+ghost use Rattle.tso_terms.specs.Litmus.{IsTest};
+ghost use Rattle.tso_terms.specs.Axioms.{IsTsoExecution};
+ghost use Rattle.tso_terms.specs.SequentialConsistency.{KeepsAllOrder};
+ghost use Rattle.tso_terms.specs.Runs.{run};
+ghost use Rattle.tso_terms.specs.Examples.{sb, sb_order, sb_choices, n6, n6_order, added, separated_order, zeros};
+ghost use Rattle.tso_terms.specs.FinalState.{final_words, final_registers};
 ghost use Rattle.tso_laws.specs.EndedRuns.{End};
 ghost use Rattle.tso_laws.specs.Counting.{most_stores, longest};
 ghost use Rattle.tso_laws.specs.Rounds.{CanBeCutIntoRounds};

@@ -2,16 +2,16 @@
 //! fails without them.
 
 ghost use Rattle.std.specs.Prelude.{ℕ, ◌*◌, ◌≡◌, true, false, [], ◌∷◌, length};
-ghost use Rattle.tso_model.specs.Litmus.{IsTest};
-ghost use Rattle.tso_model.specs.Thread.{entry};
-ghost use Rattle.tso_model.specs.Axioms.{IsTsoExecution};
-ghost use Rattle.tso_model.specs.SequentialConsistency.{KeepsAllOrder};
-ghost use Rattle.tso_model.specs.FlatMachine.{start, drain, registers_in};
-ghost use Rattle.tso_model.specs.EitherBus.{unheld, effect_on, run_on, choices_in, HitsFit};
-ghost use Rattle.tso_model.specs.Together.{put_together, together};
-ghost use Rattle.tso_model.specs.Examples.{loc_x, zeros, sb, sb_order, n6};
+ghost use Rattle.tso_terms.specs.Litmus.{IsTest};
+ghost use Rattle.tso_terms.specs.Thread.{entry};
+ghost use Rattle.tso_terms.specs.Axioms.{IsTsoExecution};
+ghost use Rattle.tso_terms.specs.SequentialConsistency.{KeepsAllOrder};
+ghost use Rattle.tso_terms.specs.FlatMachine.{start, drain, registers_in};
+ghost use Rattle.tso_terms.specs.EitherBus.{unheld, effect_on, run_on, choices_in, HitsFit};
+ghost use Rattle.tso_terms.specs.Together.{put_together, together};
+ghost use Rattle.tso_terms.specs.Examples.{loc_x, zeros, sb, sb_order, n6};
 ghost use Rattle.basic_laws.specs.Types.{Split, R, W, Stalled};
-ghost use Rattle.tso_model.specs.declared.choice.Stall.TheVariants as stall;
+ghost use Rattle.tso_terms.specs.declared.choice.Stall.TheVariants as stall;
 ghost use Rattle.tso_laws.specs.Counting.{instructions};
 ghost use Rattle.tso_laws.specs.Rounds.{CanBeCutIntoRounds};
 ghost use Rattle.tso_laws.specs.BusRuns.{EndOn, made_for_bus, wait_for_bus};

@@ -1,3 +1,1 @@
-pub mod LitmusLemmas
-pub mod ListLemmas
 pub mod ThreadLemmas

@@ -1,13 +1,13 @@
 -- The walk over a core's program: what is done after one more instruction, and at the end.
 use Rattle.std.proofs.Common.{◌≡◌, ◌<◌, ◌≤◌, ℕ, ◌+◌, ◌-◌, suc, Bool, true, false, if◌then◌else◌, List, [], ◌∷◌, ◌++◌, length, get_or, slice_index, slice_set, take, drop, append-nil, append_assoc, arith, refl, sym, ap, ◌∙◌}
 use Rattle.std.proofs.lemmas.List.{at_drop_more, at_drop_all, take_all}
-use Rattle.tso_model.specs.Registers.{index_of}
-use Rattle.tso_model.specs.Actions.{action_of}
-use Rattle.tso_model.specs.Thread.{entries_of, registers_after, reads_in, is_reading, entries_by, registers_by, values_after, with_value}
-use Rattle.tso_model.specs.declared.register.Reg.{Reg}
-use Rattle.tso_model.specs.declared.instruction.Instr.{Instr}
-use Rattle.tso_model.specs.declared.action.Action.{Action}
-use Rattle.tso_model.specs.declared.execution.Entry.{Entry}
+use Rattle.tso_terms.specs.Registers.{index_of}
+use Rattle.tso_terms.specs.Actions.{action_of}
+use Rattle.tso_terms.specs.Thread.{entries_of, registers_after, reads_in, is_reading, entries_by, registers_by, values_after, with_value}
+use Rattle.tso_terms.specs.declared.register.Reg.{Reg}
+use Rattle.tso_terms.specs.declared.instruction.Instr.{Instr}
+use Rattle.tso_terms.specs.declared.action.Action.{Action}
+use Rattle.tso_terms.specs.declared.execution.Entry.{Entry}
 
 one-by-one : (reads : Bool) (behind : ℕ) → (if reads then suc behind else behind) ≡ (if reads then 1 else 0) + behind
 one-by-one true behind = omega arith

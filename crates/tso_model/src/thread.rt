@@ -1,15 +1,11 @@
 //! What a core's program does, given the values that its reads return: its entries in program order, and its registers at
 //! the end. No memory has a part in it; which values those are is the memory model's to say. (x86-TSO, section 3.)
 ghost use Rattle.std.specs.Prelude.{◌≡◌, ◌<◌, ◌≤◌, ◌+◌, List, [], ◌∷◌, ◌++◌, length, IfOk, slice_index_or};
-ghost use Rattle.tso_model.specs.declared.instruction.Instr.{Instr};
-ghost use Rattle.tso_model.specs.Thread.{entry, entries_of, registers_after, reads_in, entries_with, registers_with};
+ghost use Rattle.tso_terms.specs.declared.instruction.Instr.{Instr};
+ghost use Rattle.tso_terms.specs.Thread.{entry, entries_of, registers_after, reads_in, entries_with, registers_with};
 
-use crate::action::Action;
-use crate::execution::{Entry, Kind};
-use crate::instruction::{Core, Instr, Loc};
-use crate::litmus::Test;
-use crate::out_of_memory::NoMemory;
 use std::alloc::Global;
+use tso_terms::{Action, Core, Entry, Instr, Kind, Loc, NoMemory, Test};
 
 /// What a core's program does: its entries in program order, and its registers at the end.
 #[derive(Drop)]

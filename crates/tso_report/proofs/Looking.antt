@@ -1,7 +1,7 @@
 -- What is looked at, one core and one location at a time.
 use Rattle.tso_report.proofs.Vocabulary.{◌≡◌, ◌∙◌, ℕ, zero, suc, ◌+◌, ◌-◌, ◌<◌, ◌≤◌, Bool, List, [], ◌∷◌, ◌++◌, length, map, filter, All, ap, sym, subst, append_assoc, append-nil, arith, filter-append, All-filter, All-append, All-cons, All-nil, slice_index, slice_index_or, shown_value, Litmus, Reg, Named, all_registers, is_looked_at, named_register, named_location, named_registers, named_locations, looked_at, NameExists}
 use Rattle.basic_laws.specs.Types.{Core, Loc}
-use Rattle.tso_model.specs.Registers.{index_of}
+use Rattle.tso_terms.specs.Registers.{index_of}
 use Rattle.tso_report.specs.declared.named.Named.TheVariants.{Register, Location}
 
 count-next : (i n : ℕ) → i < n → n - i ≡ suc (n - (i + 1))

@@ -1,8 +1,8 @@
 -- The maximum length of each line of a report.
 use Rattle.tso_report.proofs.Vocabulary.{inl, inr, ◌≡◌, ℕ, ◌+◌, ◌-◌, ◌*◌, ◌≤◌, ◌<◌, ◌^◌, zero, suc, Bool, true, false, not, nat_le, ◌&&◌, List, [], ◌∷◌, ◌++◌, length, map, slice_index, slice_index_or, All, Option, Some, None, length-append, refl, arith, decimal, list_all, length-decimal-le, and_parts, nat_tests, All-head, All-tail, Litmus, IsTest, Condition, begins_name, continues_name, is_name, is_register_word, is_location_name, is_test_name, Bus, Atomic, Split, Reg, Entry, letters_of, printed_access, printed_entry, printed_end, printed_lines, printed_order, HasAccess, IsEntryFor, IsOrderFor, protocol_name, ProtocolKind, Msi, Geometry, IsLineSize, Configuration, IsConfigurationWithinLimits, Counts, ShownRun, report, line, test_line, machine_line, shape_text, bus_text, printed_register, printed_registers, all_registers, register_line, register_lines, printed_words, memory_line, printed_quantifier, printed_truth, printed_verdict, condition_line, choices_line, traffic_text, cache_line, cache_lines}
 use Rattle.std.specs.Prelude.{codes}
-use Rattle.tso_model.specs.Registers.{IsWord, AreRegisters, index_of, name_of}
-use Rattle.tso_model.specs.Thread.{value_in}
+use Rattle.tso_terms.specs.Registers.{IsWord, AreRegisters, index_of, name_of}
+use Rattle.tso_terms.specs.Thread.{value_in}
 use Rattle.basic_laws.specs.Types.{Eax, Quantifier, Exists, Kind, R, F}
 use Rattle.cache_set.specs.Geometry.{IsShapeWithinLimits as IsShape}
 use Rattle.multiprocessor.specs.Keeping.{IsAtMost}

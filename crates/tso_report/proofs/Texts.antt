@@ -1,6 +1,6 @@
 -- Texts made piece by piece.
 use Rattle.tso_report.proofs.Vocabulary.{◌≡◌, ℕ, List, [], ◌∷◌, ◌++◌, zero, suc, ◌≤◌, arith, drop, length, min, codes, append-nil, refl, sym, ap, ◌∙◌, Litmus, Named, Counts, ◌+◌, decimal, all_registers, register_line, register_lines, cache_line, cache_lines, printed_values}
-use Rattle.tso_model.specs.Thread.{value_in}
+use Rattle.tso_terms.specs.Thread.{value_in}
 use Rattle.basic_laws.specs.Types.{Eax, Ebx, Ecx, Edx, Esi, Edi}
 use Rattle.std.proofs.lemmas.List.{append_assoc}
 

@@ -6,9 +6,9 @@ pub use Rattle.std.proofs.lemmas.Bool.{and_parts, and_from, or_parts}
 pub use Rattle.std.proofs.lemmas.Bool.Decides.{nat_tests}
 pub use Rattle.std.proofs.lemmas.Fmt.{digits_decimal, length-decimal-le}
 pub use Rattle.std.proofs.lemmas.List.Elements.{All-cons, All-nil, All-head, All-tail, filter-append, All-filter, All-append}
-pub use Rattle.tso_model.specs.Litmus.{Litmus, IsTest}
+pub use Rattle.tso_terms.specs.Litmus.{Litmus, IsTest}
 pub use Rattle.basic_laws.specs.Types.{Bus, Atomic, Split, Entry, Reg}
-pub use Rattle.tso_model.specs.Names.{is_printable, is_test_name, begins_name, continues_name, is_name, is_register_word, is_location_name}
+pub use Rattle.tso_terms.specs.Names.{is_printable, is_test_name, begins_name, continues_name, is_name, is_register_word, is_location_name}
 pub use Rattle.order_builder.specs.PrintedOrder.{printed_lines, printed_order, letters_of, printed_access, printed_entry, printed_end}
 pub use Rattle.order_builder.specs.Spelling.{IsLineBeforeOrder, IsOrderFor, SpellsOrder, HasAccess, IsEntryFor}
 pub use Rattle.tso_report.specs.Shown.{ShownRun, shown_run}
@@ -19,7 +19,7 @@ pub use Rattle.cache_set.specs.Geometry.{Geometry, IsLineSize, IsShapeWithinLimi
 pub use Rattle.multiprocessor.specs.Configuration.{Configuration, IsConfigurationWithinLimits}
 pub use Rattle.tso_report.specs.Report.{report, line, test_line, shape_text, bus_text, register_lines, memory_line, condition_line, choices_line, cache_lines, machine_line, printed_register, printed_registers, register_line, printed_words, printed_quantifier, printed_truth, printed_verdict, traffic_text, cache_line}
 unfoldable pub use Rattle.tso_report.specs.Report.{all_registers}
-pub use Rattle.tso_model.specs.Condition.{Condition}
+pub use Rattle.tso_terms.specs.Condition.{Condition}
 pub use Rattle.multiprocessor.specs.declared.counts.Counts.{Counts}
 pub use Rattle.tso_report.specs.declared.named.Named.{Named}
 pub use Rattle.tso_report.specs.Tally.{printed_value, printed_values, is_looked_at, named_register, named_location, named_registers, named_locations, looked_at, count_of_runs, with_values, sweep_line, counted_state_lines, observation, tally_text, Ascend, shown_value, frequency_text, ends_text}

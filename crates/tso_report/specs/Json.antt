@@ -4,9 +4,9 @@ use Rattle.std.specs.Prelude.{ℕ, Bool, List, [], ◌∷◌, map, Option, Some,
 use Rattle.serde_json.specs.Data.{Data, unsigned, null, boolean, number, string, array, object, Members, no_members, member, put}
 use Rattle.serde_json.specs.View.{items_of}
 use Rattle.serde_json.specs.Written.{compact_text}
-use Rattle.tso_model.specs.Litmus.{Litmus}
-use Rattle.tso_model.specs.Condition.{Condition}
-use Rattle.tso_model.specs.Thread.{value_in}
+use Rattle.tso_terms.specs.Litmus.{Litmus}
+use Rattle.tso_terms.specs.Condition.{Condition}
+use Rattle.tso_terms.specs.Thread.{value_in}
 use Rattle.basic_laws.specs.Types.{Bus, Atomic, Split, Eax, Ebx, Ecx, Edx, Esi, Edi, Entry}
 use Rattle.order_builder.specs.PrintedOrder.{printed_entry}
 use Rattle.protocol_tables.specs.Names.{protocol_name}

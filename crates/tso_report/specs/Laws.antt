@@ -1,7 +1,7 @@
 -- What the laws say that are too long for a line: each is the contract of the function of the same name. So a printed order
 -- is read back, and a report has a bound.
 use Rattle.std.specs.Prelude.{ℕ, ◌≡◌, ◌≢◌, ◌+◌, ◌<◌, ◌≤◌, ◌^◌, List, length}
-use Rattle.tso_model.specs.Litmus.{Litmus, IsTest}
+use Rattle.tso_terms.specs.Litmus.{Litmus, IsTest}
 use Rattle.order_builder.specs.Spelling.{IsOrderFor, SpellsOrder}
 use Rattle.protocol_tables.specs.declared.kind.ProtocolKind.{ProtocolKind}
 use Rattle.cache_set.specs.Geometry as shape

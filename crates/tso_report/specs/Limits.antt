@@ -1,8 +1,8 @@
 -- How long a report may be: whatever a run of the largest test can leave has room in it.
 use Rattle.std.specs.Prelude.{ℕ, ◌*◌, ◌-◌, ◌<◌, ◌≤◌, ◌^◌, length, All}
-use Rattle.tso_model.specs.Limits.{most_cores, most_instructions}
-use Rattle.tso_model.specs.Litmus.{Litmus}
-use Rattle.tso_model.specs.Registers.{IsWord, AreRegisters}
+use Rattle.tso_terms.specs.Limits.{most_cores, most_instructions}
+use Rattle.tso_terms.specs.Litmus.{Litmus}
+use Rattle.tso_terms.specs.Registers.{IsWord, AreRegisters}
 use Rattle.order_builder.specs.Spelling.{IsOrderFor}
 use Rattle.multiprocessor.specs.Keeping.{IsAtMost}
 use Rattle.tso_report.specs.Shown.{ShownRun}

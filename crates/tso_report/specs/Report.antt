@@ -2,10 +2,10 @@
 -- word.
 use Rattle.std.specs.Prelude.{ℕ, ◌+◌, Bool, true, false, List, [], ◌∷◌, ◌++◌, Option, Some, None, codes}
 use Rattle.std.specs.Fmt.{decimal}
-use Rattle.tso_model.specs.Litmus.{Litmus}
-use Rattle.tso_model.specs.Condition.{Condition}
-use Rattle.tso_model.specs.Registers.{name_of}
-use Rattle.tso_model.specs.Thread.{value_in}
+use Rattle.tso_terms.specs.Litmus.{Litmus}
+use Rattle.tso_terms.specs.Condition.{Condition}
+use Rattle.tso_terms.specs.Registers.{name_of}
+use Rattle.tso_terms.specs.Thread.{value_in}
 use Rattle.basic_laws.specs.Types.{Reg, Eax, Ebx, Ecx, Edx, Esi, Edi, Bus, Atomic, Split, Quantifier, Exists, NotExists, Forall}
 use Rattle.order_builder.specs.PrintedOrder.{printed_order}
 use Rattle.protocol_tables.specs.Names.{protocol_name}

@@ -1,7 +1,7 @@
 -- What a report shows of a run. Both forms, lines and JSON, are functions of this, so they can't disagree.
 use Rattle.std.specs.Prelude.{ℕ, ◌≡◌, Bool, List, length, Option, is_some, All}
-use Rattle.tso_model.specs.Litmus.{Litmus}
-use Rattle.tso_model.specs.declared.execution.Entry.{Entry}
+use Rattle.tso_terms.specs.Litmus.{Litmus}
+use Rattle.tso_terms.specs.declared.execution.Entry.{Entry}
 use Rattle.order_builder.specs.PrintedOrder.{HasLocation}
 use Rattle.multiprocessor.specs.declared.counts.Counts.{Counts}
 use Rattle.tso_report.specs.declared.run.Run.{Run}

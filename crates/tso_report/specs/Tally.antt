@@ -9,11 +9,11 @@ use Rattle.std.specs.Cmp.Lexicographic.{slice_cmp}
 use Rattle.std.specs.BTreeMap.{insert_entry, is_at}
 use Rattle.std.specs.List.Sorted.{IsStrictlySortedBy}
 use Rattle.std.specs.Map.{lookup, keys_of, values_of}
-use Rattle.tso_model.specs.Litmus.{Litmus}
-use Rattle.tso_model.specs.Condition.{Claim, TruthClaim, RegClaim, LocClaim, NotClaim, AndClaim, OrClaim, Condition}
-use Rattle.tso_model.specs.Registers.{index_of, name_of}
-use Rattle.tso_model.specs.Thread.{value_in}
-use Rattle.tso_model.specs.declared.register.Reg.{Reg}
+use Rattle.tso_terms.specs.Litmus.{Litmus}
+use Rattle.tso_terms.specs.Condition.{Claim, TruthClaim, RegClaim, LocClaim, NotClaim, AndClaim, OrClaim, Condition}
+use Rattle.tso_terms.specs.Registers.{index_of, name_of}
+use Rattle.tso_terms.specs.Thread.{value_in}
+use Rattle.tso_terms.specs.declared.register.Reg.{Reg}
 use Rattle.tso_report.specs.declared.named.Named.{Named}
 use Rattle.tso_report.specs.declared.named.Named.TheVariants.{Register, Location}
 use Rattle.tso_report.specs.Report.{line, all_registers}

@@ -9,7 +9,7 @@ ghost use Rattle.tso_report.specs.inner.Arrays.{IsBegun};
 use crate::members::push_made;
 use serde_json::Value;
 use std::alloc::Global;
-use tso_model::NoMemory;
+use tso_terms::NoMemory;
 
 /// A JSON array in the making.
 #[derive(Drop)]

@@ -7,7 +7,7 @@ ghost use Rattle.tso_report.specs.Tally.{with_values, with_state_counted, with_v
 ghost use Rattle.tso_report.specs.inner.Counted.{counted_states, counts_in, IsKept};
 
 use std::collections::BTreeMap;
-use tso_model::NoMemory;
+use tso_terms::NoMemory;
 
 /// How many runs ended in each state, how many of these made the condition's proposition true and false,
 /// and how many runs didn't end.

@@ -22,7 +22,7 @@ use order_builder::entry_text;
 use protocol_tables::ProtocolKind;
 use serde_json::{Map, Value};
 use std::alloc::Global;
-use tso_model::{Entry, Loc, NoMemory, Reg, Test};
+use tso_terms::{Entry, Loc, NoMemory, Reg, Test};
 
 /// The report of a run as JSON: an object of the cache counts, the choices, the condition, the machine, the
 /// memory, the order, the registers and the test, printed compact, and a line feed.

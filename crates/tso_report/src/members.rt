@@ -10,7 +10,7 @@ use crate::arrays::Array;
 use crate::objects::Object;
 use serde_json::{Map, Value, put};
 use std::alloc::Global;
-use tso_model::NoMemory;
+use tso_terms::NoMemory;
 
 /// What stands under a key.
 #[derive(Clone, Copy)]

@@ -2,13 +2,13 @@
 //! condition names, or of all locations where there is no condition.
 
 ghost use Rattle.std.specs.Prelude.{◌≡◌, ◌<◌, ◌∷◌, [], IfOk, OnOk, All, length, map};
-ghost use Rattle.tso_model.specs.Condition.{claim_of};
+ghost use Rattle.tso_terms.specs.Condition.{claim_of};
 ghost use Rattle.tso_report.specs.Tally.{is_looked_at, named_register};
 ghost use Rattle.tso_report.specs.inner.Tally.{AreNoted, NameExists, claim_names};
 ghost use Rattle.tso_report.specs.Tally.{named_registers, looked_at, shown_value};
 
 use std::alloc::Global;
-use tso_model::{Core, Loc, NoMemory, Prop, Reg, Test};
+use tso_terms::{Core, Loc, NoMemory, Prop, Reg, Test};
 
 /// What an atom of a condition names in a final state.
 #[derive(Clone, Copy)]

@@ -12,7 +12,7 @@ use crate::json::line_of;
 use crate::members::put_made;
 use serde_json::{Map, Value};
 use std::alloc::Global;
-use tso_model::NoMemory;
+use tso_terms::NoMemory;
 
 /// An object in the making.
 pub struct Object {

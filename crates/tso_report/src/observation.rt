@@ -5,7 +5,7 @@ ghost use Rattle.std.specs.Prelude.{◌≡◌, ◌++◌, OnOk, string_bytes};
 ghost use Rattle.tso_report.specs.Tally.{frequency, observed_line};
 
 use crate::pieces::{Piece, write_pieces};
-use tso_model::NoMemory;
+use tso_terms::NoMemory;
 
 /// `Observation NAME Sometimes P Q`, the line of a test of this name whose proposition was true in
 /// `held` of them and false in `failed`.

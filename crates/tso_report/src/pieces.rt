@@ -5,7 +5,7 @@ ghost use Rattle.std.specs.Fmt.{decimal};
 ghost use Rattle.std.specs.List.{flat_map};
 ghost use Rattle.tso_report.specs.inner.Pieces.{line_piece};
 
-use tso_model::NoMemory;
+use tso_terms::NoMemory;
 
 /// A piece of a line.
 #[derive(Clone, Copy)]

@@ -7,7 +7,7 @@ ghost use Rattle.tso_report.specs.inner.Tally.{NameExists};
 
 use crate::named::Named;
 use crate::pieces::{Piece, write_named, write_pieces};
-use tso_model::{NoMemory, Test};
+use tso_terms::{NoMemory, Test};
 
 /// ` 0:EAX=v x=v ..`: for each of the names its value; a name or a value that stands alone is left out.
 ///

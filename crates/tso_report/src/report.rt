@@ -13,7 +13,7 @@ use machine_core::{Bus, Config, Counts};
 use order_builder::write_order;
 use protocol_tables::ProtocolKind;
 use std::alloc::Global;
-use tso_model::{Loc, NoMemory, Quantifier, Reg, Test};
+use tso_terms::{Loc, NoMemory, Quantifier, Reg, Test};
 
 /// The report of a run: the test, the machine with its protocol, the order in which memory saw the run, the final
 /// state, the verdict, the counts of choices and those of each core's cache, each on lines of its own.

@@ -13,7 +13,7 @@ use crate::tally_text::{write_observation, write_states, write_sweep};
 use std::alloc::Global;
 use std::collections::BTreeMap;
 use std::marker::Model;
-use tso_model::{NoMemory, Test};
+use tso_terms::{NoMemory, Test};
 
 /// What is counted of the runs of one test, which it borrows: how many ended with each list of values of
 /// what the condition names (or of all locations, where there is no condition), how many of these made
@@ -28,7 +28,7 @@ pub struct Tally<'a> {
 
 impl<'a> Model for Tally<'a> {
     ghost use Rattle.std.specs.Coded.{codes};
-    ghost use Rattle.tso_model.specs.inner.ConditionCode.{claim_code};
+    ghost use Rattle.tso_terms.specs.inner.ConditionCode.{claim_code};
     ghost use Rattle.tso_report.specs.inner.Tally.{Tallied};
 
     ghost Value = { Tallied };

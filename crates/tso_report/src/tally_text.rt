@@ -10,7 +10,7 @@ use crate::named::Named;
 use crate::observation::write_observed;
 use crate::pieces::{Piece, write_characters, write_pieces};
 use crate::printed_values::write_values;
-use tso_model::{NoMemory, Test};
+use tso_terms::{NoMemory, Test};
 
 /// `Sweep from=F seeds=N length=L ended=E unfinished=U`. Errors: out of memory only.
 pub fn write_sweep(

@@ -6,7 +6,7 @@ ghost use Rattle.std.specs.Prelude.{◌≡◌, true};
 use litmus_reader::read_test;
 use std::alloc::Global;
 use std::process::Abort;
-use tso_model::{Core, Loc, Test};
+use tso_terms::{Core, Loc, Test};
 
 /// What a test takes for granted.
 pub const MEMORY: &str = "memory is ample";

@@ -6,7 +6,7 @@ use axiom_checker::{Breach, check_order};
 use order_builder::order_text;
 use std::alloc::Global;
 use std::process::Abort;
-use tso_model::{Entry, Execution, Kind, Test};
+use tso_terms::{Entry, Execution, Kind, Test};
 
 /// The one with a value, the other with a location.
 const FENCES: [Entry; 2] = [

@@ -5,7 +5,7 @@ use refutation_laws::Model;
 use refutations::{Node, refutes};
 use std::alloc::Global;
 use std::process::Abort;
-use tso_model::{Entry, Kind};
+use tso_terms::{Entry, Kind};
 
 /// Message passing.
 const MP: &[u8] =

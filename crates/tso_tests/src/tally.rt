@@ -5,8 +5,8 @@ use crate::named::{MEMORY, holds, test_of};
 use machine_core::{Final, FinalState};
 use std::alloc::Global;
 use std::process::Abort;
-use tso_model::{Execution, Test};
 use tso_report::{Run, Tally};
+use tso_terms::{Execution, Test};
 
 const SB: &[u8] = b"\
 X86 SB\n\

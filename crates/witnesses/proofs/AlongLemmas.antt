@@ -1,7 +1,7 @@
 -- The choices along an order, made one entry after the other.
 use Rattle.witnesses.proofs.Vocabulary.{◌≡◌, ℕ, ◌+◌, ◌-◌, ◌<◌, ◌≤◌, zero, suc, List, [], ◌∷◌, ◌++◌, length, get_or, drop, take, replicate, arith, refl, ap, sym, ◌∙◌, add-one, append_assoc, All, length-set, append-nil, drop_more, drop_all, All-get_or, Litmus, Entry, Instr, Choice, steps, beginnings, choices_for, places_after, last_steps, choices_from}
 use Rattle.std.proofs.Common.{Result, Ok, Err, OnOk}
-use Rattle.tso_model.specs.FlatMachine.{step}
+use Rattle.tso_terms.specs.FlatMachine.{step}
 
 -- one step more goes last
 pub steps-more : (core n : ℕ) → steps core n ++ step core ∷ [] ≡ steps core (n + 1)

@@ -4,15 +4,15 @@ pub use Rattle.std.proofs.lemmas.List.{append-nil, length-take, drop_all, length
 pub use Rattle.basic_laws.specs.Types.{Choice, Entry, Kind, R, W, F, LR, LW, Instr}
 pub use Rattle.std.proofs.lemmas.Option.{slice_get-get_or}
 pub use Rattle.std.proofs.lemmas.List.Elements.{All-get_or}
-pub use Rattle.tso_model.specs.Litmus.{Litmus, IsTest, IsProgram}
-pub use Rattle.tso_model.specs.Axioms.{IsWhole}
-pub use Rattle.tso_model.specs.Standing.{StandsIn}
+pub use Rattle.tso_terms.specs.Litmus.{Litmus, IsTest, IsProgram}
+pub use Rattle.tso_terms.specs.Axioms.{IsWhole}
+pub use Rattle.tso_terms.specs.Standing.{StandsIn}
 pub use Rattle.tso_laws.specs.Entries.{FitsTest}
 pub use Rattle.std.proofs.Math.Seq.{take-set-lt}
 pub use Rattle.std.proofs.Math.ListN.{set, length-set}
 pub use Rattle.std.proofs.lemmas.List.Sums.{sum_by-set, get_or-le-sum_by}
 pub use Rattle.std.specs.Ordering.{ord_max, nat_cmp}
-pub use Rattle.tso_model.specs.ProgramOrder.{same_kind, is_store, is_load, is_before}
+pub use Rattle.tso_terms.specs.ProgramOrder.{same_kind, is_store, is_load, is_before}
 pub use Rattle.tso_laws.specs.Depth.{needed}
 pub use Rattle.tso_laws.specs.inner.Depth.{asked}
 pub use Rattle.witnesses.specs.inner.Passed.{HaveCounted, stores_below}

@@ -1,8 +1,8 @@
 -- Which orders no choices reach at a depth. An order in which many stores stand after a later load needs a store buffer for
 -- as many. (This project's profile.)
 use Rattle.std.specs.Prelude.{ℕ, ◌≡◌, ◌≢◌, ◌<◌, List}
-use Rattle.tso_model.specs.Litmus.{Litmus}
-use Rattle.tso_model.specs.Runs.{run}
+use Rattle.tso_terms.specs.Litmus.{Litmus}
+use Rattle.tso_terms.specs.Runs.{run}
 use Rattle.basic_laws.specs.Types.{Entry, Choice}
 use Rattle.tso_laws.specs.Depth.{needed}
 use Rattle.witnesses.specs.declared.fault.WitnessFault.{WitnessFault}

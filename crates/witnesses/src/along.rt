@@ -5,8 +5,8 @@ ghost use Rattle.std.specs.Prelude.{◌≡◌, ◌<◌, ◌++◌, IfOk, OnOk, Al
 ghost use Rattle.tso_laws.specs.Along.{steps, choices_for, places_after, last_steps, choices_along};
 
 use std::alloc::Global;
-use tso_model::limits::MAX_CORES;
-use tso_model::{Choice, Core, Entry, Kind, NoMemory, Test};
+use tso_terms::limits::MAX_CORES;
+use tso_terms::{Choice, Core, Entry, Kind, NoMemory, Test};
 
 /// The choices along an order: for each entry the steps of its core up to and over its instruction, as far as they aren't
 /// done yet, and for a plain store its drain; at the end the steps that are left, core by core.

@@ -2,16 +2,16 @@
 //! depth no choices reach the order.
 
 ghost use Rattle.std.specs.Prelude.{◌≡◌, ◌<◌, ◌^◌, ℕ, IfOk, All, Some, [], length, sum};
-ghost use Rattle.tso_model.specs.Limits.{most_instructions};
+ghost use Rattle.tso_terms.specs.Limits.{most_instructions};
 ghost use Rattle.tso_laws.specs.Depth.{needed};
 ghost use Rattle.witnesses.specs.inner.Passed.{HaveCounted};
 
 use std::alloc::Global;
 use tso_laws::needed_is_the_most_that_is_asked;
-use tso_model::{Entry, Kind, NoMemory};
+use tso_terms::{Entry, Kind, NoMemory};
 
 /// Maximum number of places of a program.
-const PLACES: usize = tso_model::limits::MAX_INSTRUCTIONS;
+const PLACES: usize = tso_terms::limits::MAX_INSTRUCTIONS;
 
 /// The depth that an order needs: the greatest number of plain stores that stand before one load in its program and
 /// after it in the order, and 1 where there is a plain store at all. The order is gone through once, from its end on.

@@ -32,10 +32,10 @@ impl fmt::Debug for WitnessFault {
 
 impl Error for WitnessFault {}
 
-impl From<tso_model::NoMemory> for WitnessFault {
+impl From<tso_terms::NoMemory> for WitnessFault {
     ghost from_gives = { λ _ e. e ≡ fault.NoMemory };
 
-    fn from(_: tso_model::NoMemory) -> WitnessFault {
+    fn from(_: tso_terms::NoMemory) -> WitnessFault {
         WitnessFault::NoMemory
     }
 }

@@ -2,8 +2,8 @@
 //! out nothing that TSO allows, if its store buffers are deep enough.
 
 ghost use Rattle.std.specs.Prelude.{◌≡◌, ◌≢◌, ◌≤◌, IfOk, IfErr, MatchResult};
-ghost use Rattle.tso_model.specs.Limits.{least_depth, most_depth};
-ghost use Rattle.tso_model.specs.Axioms.{IsTsoExecution};
+ghost use Rattle.tso_terms.specs.Limits.{least_depth, most_depth};
+ghost use Rattle.tso_terms.specs.Axioms.{IsTsoExecution};
 ghost use Rattle.tso_laws.specs.Along.{choices_along, LeadTo};
 ghost use Rattle.tso_laws.specs.Depth.{needed};
 ghost use Rattle.tso_laws.specs.Counting.{most_stores};
@@ -17,7 +17,7 @@ use tso_laws::{
     every_execution_is_reached, most_stores_are_depth_enough, smaller_depths_never_reach,
     whole_orders_have_each_entry_once,
 };
-use tso_model::{Choice, Execution, Test};
+use tso_terms::{Choice, Execution, Test};
 
 /// The choices under which the flat machine at this depth ends with the very order of a TSO execution of the test; none
 /// stalls and none is left over. Going along the order, each entry steps its core only as far as it needs, and a plain

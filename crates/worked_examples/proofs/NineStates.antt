@@ -6,8 +6,8 @@ use Rattle.std.proofs.lemmas.Bool.{ne_eqb, eqb-true}
 use Rattle.std.proofs.lemmas.List.{length-map}
 use Rattle.std.proofs.lemmas.Map.Keys.{IsDistinct-cons}
 use Rattle.std.proofs.lemmas.Map.Steps.{length-le_from_distinct_below}
-use Rattle.tso_model.specs.Runs.{CoresExist}
-use Rattle.tso_model.specs.FlatMachine.{CoreState, State, start, after_choice, chosen, core_of}
+use Rattle.tso_terms.specs.Runs.{CoresExist}
+use Rattle.tso_terms.specs.FlatMachine.{CoreState, State, start, after_choice, chosen, core_of}
 use Rattle.basic_laws.specs.Types.{Choice, Step, Drain, W}
 use Rattle.tso_laws.specs.Choices.{state_after}
 use Rattle.explorer.specs.FinalStates.{IsReachable, HasMoreStates}

@@ -3,7 +3,7 @@ use Rattle.std.proofs.Common.{◌≡◌, ◌<◌, ◌-◌, ℕ, List, Result, le
 use Rattle.std.proofs.lemmas.Bool.{lt-ltb}
 use Rattle.litmus_tokens.specs.declared.fault.Why.TheVariants.{TooLarge}
 use Rattle.worked_examples.specs.RefusedTexts.{told, refused}
-use Rattle.tso_model.specs.Litmus.{Litmus}
+use Rattle.tso_terms.specs.Litmus.{Litmus}
 use Rattle.litmus_tokens.specs.declared.fault.Fault.{Fault}
 use Rattle.litmus_tokens.specs.Front.{is_symbol, symbol_at, name_at, number_at}
 use Rattle.litmus_tokens.specs.Gap.{is_space, gap_end}

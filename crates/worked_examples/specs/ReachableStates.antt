@@ -1,7 +1,7 @@
 -- Two cores that store to a location each.
 use Rattle.std.specs.Prelude.{[], ◌∷◌}
 use Rattle.worked_examples.specs.Vocabulary.{Litmus}
-use Rattle.tso_model.specs.declared.instruction.Instr.TheVariants.{StoreImm}
+use Rattle.tso_terms.specs.declared.instruction.Instr.TheVariants.{StoreImm}
 use Rattle.worked_examples.specs.Written.{loc_x, loc_y}
 use Rattle.worked_examples.specs.SharedBus.{shared}
 

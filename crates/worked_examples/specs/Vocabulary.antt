@@ -1,10 +1,10 @@
 -- The words of the crates below that the definitions of this crate use, in one place: each file takes its own from here.
-pub use Rattle.tso_model.specs.Condition.{AndClaim, Claim, LocClaim, NotClaim, OrClaim, RegClaim, truth_of, TruthClaim}
-pub use Rattle.tso_model.specs.EitherBus.{after_on, BusRun, BusState, effect_on, run_on, unheld}
-pub use Rattle.tso_model.specs.FlatMachine.{CoreState, Effect, effect_of, start}
-pub use Rattle.tso_model.specs.Litmus.{Litmus}
-pub use Rattle.tso_model.specs.Runs.{run}
-pub use Rattle.tso_model.specs.SplitMachine.{Attempt, BusEffect, Holder}
+pub use Rattle.tso_terms.specs.Condition.{AndClaim, Claim, LocClaim, NotClaim, OrClaim, RegClaim, truth_of, TruthClaim}
+pub use Rattle.tso_terms.specs.EitherBus.{after_on, BusRun, BusState, effect_on, run_on, unheld}
+pub use Rattle.tso_terms.specs.FlatMachine.{CoreState, Effect, effect_of, start}
+pub use Rattle.tso_terms.specs.Litmus.{Litmus}
+pub use Rattle.tso_terms.specs.Runs.{run}
+pub use Rattle.tso_terms.specs.SplitMachine.{Attempt, BusEffect, Holder}
 pub use Rattle.basic_laws.specs.Types.{Entry, LR, LW, R, W, Core}
 pub use Rattle.protocol_tables.specs.Tables.{msi, Table}
 pub use Rattle.protocol_tables.specs.declared.state.State.{State}

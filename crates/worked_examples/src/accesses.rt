@@ -1,10 +1,10 @@
 //! The access that each choice makes, and which accesses need the bus: a forwarded load makes none, a hit needs none.
 
 ghost use Rattle.std.specs.Prelude.{◌≡◌, true, false, [], ◌∷◌};
-ghost use Rattle.tso_model.specs.MemoryAccess.{NoAccess, Reads, Writes, Locks};
-ghost use Rattle.tso_model.specs.SplitMachine.{needs_bus};
-ghost use Rattle.tso_model.specs.declared.register.Reg.TheVariants.{Ebx};
-ghost use Rattle.tso_model.specs.declared.instruction.Instr.TheVariants as instr;
+ghost use Rattle.tso_terms.specs.MemoryAccess.{NoAccess, Reads, Writes, Locks};
+ghost use Rattle.tso_terms.specs.SplitMachine.{needs_bus};
+ghost use Rattle.tso_terms.specs.declared.register.Reg.TheVariants.{Ebx};
+ghost use Rattle.tso_terms.specs.declared.instruction.Instr.TheVariants as instr;
 ghost use Rattle.worked_examples.specs.Written.{loc_x, loc_y, step, drain};
 ghost use Rattle.worked_examples.specs.SmallPrograms.{three_stores, moves};
 ghost use Rattle.worked_examples.specs.inner.SmallPrograms.{access_after, load_of_own, load_of_other, drained};

@@ -2,8 +2,8 @@
 //! by chance.
 
 ghost use Rattle.std.specs.Prelude.{◌≡◌, true, false};
-ghost use Rattle.tso_model.specs.Condition.{RegClaim, LocClaim, NotClaim, AndClaim, OrClaim, atoms_in, negations_in};
-ghost use Rattle.tso_model.specs.declared.register.Reg.TheVariants.{Eax, Ebx, Ecx, Edx, Esi, Edi};
+ghost use Rattle.tso_terms.specs.Condition.{RegClaim, LocClaim, NotClaim, AndClaim, OrClaim, atoms_in, negations_in};
+ghost use Rattle.tso_terms.specs.declared.register.Reg.TheVariants.{Eax, Ebx, Ecx, Edx, Esi, Edi};
 ghost use Rattle.worked_examples.specs.inner.Claims.{holds, true_atom, false_atom, nested};
 
 /// Atoms: each register of a core and each location, by its value.

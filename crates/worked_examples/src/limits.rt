@@ -2,9 +2,9 @@
 //! crate, `limits_are_as_defined`; here it is said which number it is.
 
 ghost use Rattle.std.specs.Prelude.{ℕ, ◌≡◌, ◌⊎◌, ◌↔◌};
-ghost use Rattle.tso_model.specs.Registers.{IsWord};
-ghost use Rattle.tso_model.specs.Limits.{most_cores, most_locations, most_instructions, most_atoms, most_open};
-ghost use Rattle.tso_model.specs.Limits.{longest_name, longest_test_name, least_depth, most_depth};
+ghost use Rattle.tso_terms.specs.Registers.{IsWord};
+ghost use Rattle.tso_terms.specs.Limits.{most_cores, most_locations, most_instructions, most_atoms, most_open};
+ghost use Rattle.tso_terms.specs.Limits.{longest_name, longest_test_name, least_depth, most_depth};
 ghost use Rattle.cache_set.specs.Limits.{most_sets, most_ways, most_words};
 ghost use Rattle.cache_set.specs.Geometry.{IsLineSize};
 ghost use Rattle.scheduler.specs.Limits.{most_choices};

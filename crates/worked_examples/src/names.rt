@@ -2,9 +2,9 @@
 //! each of them.
 
 ghost use Rattle.std.specs.Prelude.{◌≡◌, true, false, codes, replicate, Some, None, [], ◌∷◌};
-ghost use Rattle.tso_model.specs.Names.{is_test_name, is_location_name, is_among};
-ghost use Rattle.tso_model.specs.Registers.{register_named, name_of};
-ghost use Rattle.tso_model.specs.declared.register.Reg.TheVariants.{Eax, Ebx, Ecx, Edx, Esi, Edi};
+ghost use Rattle.tso_terms.specs.Names.{is_test_name, is_location_name, is_among};
+ghost use Rattle.tso_terms.specs.Registers.{register_named, name_of};
+ghost use Rattle.tso_terms.specs.declared.register.Reg.TheVariants.{Eax, Ebx, Ecx, Edx, Esi, Edi};
 
 /// Locations: a letter or an underscore first, then letters, digits and underscores, 32 bytes at most; and no word that means
 /// something else.

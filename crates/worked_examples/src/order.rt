@@ -2,11 +2,11 @@
 //! chapter 4.)
 
 ghost use Rattle.std.specs.Prelude.{◌≡◌, true, false, [], ◌∷◌};
-ghost use Rattle.tso_model.specs.ProgramEntries.{read_value};
-ghost use Rattle.tso_model.specs.Axioms.{due_value};
-ghost use Rattle.tso_model.specs.Together.{put_together};
-ghost use Rattle.tso_model.specs.ProgramOrder.{is_before, may_be_passed, is_read, is_write, writes_to};
-ghost use Rattle.tso_model.specs.declared.execution.Kind.TheVariants.{R, W, F, LR, LW};
+ghost use Rattle.tso_terms.specs.ProgramEntries.{read_value};
+ghost use Rattle.tso_terms.specs.Axioms.{due_value};
+ghost use Rattle.tso_terms.specs.Together.{put_together};
+ghost use Rattle.tso_terms.specs.ProgramOrder.{is_before, may_be_passed, is_read, is_write, writes_to};
+ghost use Rattle.tso_terms.specs.declared.execution.Kind.TheVariants.{R, W, F, LR, LW};
 ghost use Rattle.worked_examples.specs.Written.{loc_x, loc_y, memory_action};
 ghost use Rattle.worked_examples.specs.inner.Orders.{some_test, read_of_x, writes_before, writes_after, separated_pairs, pairs_together};
 

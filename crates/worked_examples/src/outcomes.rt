@@ -1,10 +1,10 @@
 //! Each outcome and each stall of the flat machine, by name: what one choice comes to after others. (x86-TSO, section 3.)
 
 ghost use Rattle.std.specs.Prelude.{◌≡◌, true, false, [], ◌∷◌};
-ghost use Rattle.tso_model.specs.Runs.{run};
+ghost use Rattle.tso_terms.specs.Runs.{run};
 ghost use Rattle.basic_laws.specs.Types.{Ebx, R, W, F, LR, LW, Committed, Buffered, Moved, Stalled};
-ghost use Rattle.tso_model.specs.declared.instruction.Instr.TheVariants as instr;
-ghost use Rattle.tso_model.specs.declared.choice.Stall.TheVariants as stall;
+ghost use Rattle.tso_terms.specs.declared.instruction.Instr.TheVariants as instr;
+ghost use Rattle.tso_terms.specs.declared.choice.Stall.TheVariants as stall;
 ghost use Rattle.worked_examples.specs.Written.{loc_x, loc_y, step, drain, six, memory_action, core_at, comes};
 ghost use Rattle.worked_examples.specs.SmallPrograms.{alone, comes_of, first, three_stores, two_pending};
 ghost use Rattle.worked_examples.specs.inner.SmallPrograms.{load_of_own, load_of_other, drained};

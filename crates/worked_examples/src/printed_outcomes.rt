@@ -4,7 +4,7 @@
 ghost use Rattle.std.specs.Prelude.{◌≡◌, ◌++◌, [], ◌∷◌, codes};
 ghost use Rattle.shown_values.specs.Shown.{names_shown};
 ghost use Rattle.shown_values.specs.declared.show.Show.TheVariants.{Condition, Registers, All};
-ghost use Rattle.tso_model.specs.Condition.{NotClaim};
+ghost use Rattle.tso_terms.specs.Condition.{NotClaim};
 ghost use Rattle.basic_laws.specs.Types.{Exists, NotExists, Forall, Ebx};
 ghost use Rattle.worked_examples.specs.PrintedOutcomes.{both_zero, one_is_two, said_of, three_lines, register};
 ghost use Rattle.worked_examples.specs.PrintedOutcomes.{printed, printed_lines_of_it, printed_json, printed_object};

@@ -2,10 +2,10 @@
 //! bus then.
 
 ghost use Rattle.std.specs.Prelude.{◌≡◌, [], ◌∷◌};
-ghost use Rattle.tso_model.specs.SplitMachine.{Free, HeldBy, HeldBetween};
+ghost use Rattle.tso_terms.specs.SplitMachine.{Free, HeldBy, HeldBetween};
 ghost use Rattle.basic_laws.specs.Types.{Ebx, R, W, LR, LW, Committed, Buffered, Asked, Stalled};
-ghost use Rattle.tso_model.specs.declared.instruction.Instr.TheVariants as instr;
-ghost use Rattle.tso_model.specs.declared.choice.Stall.TheVariants as stall;
+ghost use Rattle.tso_terms.specs.declared.instruction.Instr.TheVariants as instr;
+ghost use Rattle.tso_terms.specs.declared.choice.Stall.TheVariants as stall;
 ghost use Rattle.worked_examples.specs.Written.{loc_x, loc_y, step, drain, six, memory_action, core_at};
 ghost use Rattle.worked_examples.specs.inner.Written.{comes_with};
 ghost use Rattle.worked_examples.specs.SharedBus.{missing, hitting};

@@ -2,15 +2,15 @@
 //! entries the thread makes, and what it leaves.
 
 ghost use Rattle.std.specs.Prelude.{◌≡◌, true};
-ghost use Rattle.tso_model.specs.Litmus.{IsTest};
-ghost use Rattle.tso_model.specs.Actions.{action_of};
-ghost use Rattle.tso_model.specs.Thread.{entries_with, registers_with, reads_in};
-ghost use Rattle.tso_model.specs.FinalState.{final_words, final_registers};
-ghost use Rattle.tso_model.specs.FlatMachine.{registers_in};
-ghost use Rattle.tso_model.specs.Runs.{run};
+ghost use Rattle.tso_terms.specs.Litmus.{IsTest};
+ghost use Rattle.tso_terms.specs.Actions.{action_of};
+ghost use Rattle.tso_terms.specs.Thread.{entries_with, registers_with, reads_in};
+ghost use Rattle.tso_terms.specs.FinalState.{final_words, final_registers};
+ghost use Rattle.tso_terms.specs.FlatMachine.{registers_in};
+ghost use Rattle.tso_terms.specs.Runs.{run};
 ghost use Rattle.basic_laws.specs.Types.{Eax, Ebx, Ecx, Edx, Esi, Edi, Number, Held, Exchange, Add};
-ghost use Rattle.tso_model.specs.declared.instruction.Instr.TheVariants as instr;
-ghost use Rattle.tso_model.specs.declared.action.Action.TheVariants.{Store, Load, Move, Fence, Lock};
+ghost use Rattle.tso_terms.specs.declared.instruction.Instr.TheVariants as instr;
+ghost use Rattle.tso_terms.specs.declared.action.Action.TheVariants.{Store, Load, Move, Fence, Lock};
 ghost use Rattle.worked_examples.specs.Written.{loc_x, loc_y, loc_z, six};
 ghost use Rattle.worked_examples.specs.EightInstructions.{eight, eight_program, eight_read, eight_entries};
 ghost use Rattle.worked_examples.specs.EightInstructions.{eight_order, eight_registers, eight_memory};

@@ -1,8 +1,8 @@
 //! Writes on the split bus that hit: on a line in E and on one in M, each is committed at once.
 
 ghost use Rattle.std.specs.Prelude.{◌≡◌, true, [], ◌∷◌};
-ghost use Rattle.tso_model.specs.EitherBus.{run_on};
-ghost use Rattle.tso_model.specs.declared.choice.Bus.TheVariants.{Split};
+ghost use Rattle.tso_terms.specs.EitherBus.{run_on};
+ghost use Rattle.tso_terms.specs.declared.choice.Bus.TheVariants.{Split};
 ghost use Rattle.protocol_tables.specs.Tables.{msi, mesi};
 ghost use Rattle.multiprocessor.specs.Statistics.{counts_of};
 ghost use Rattle.multiprocessor.specs.Answered.{answered};

@@ -2,7 +2,7 @@
 -- words are taken, which is as good as any, since all copies are equal.
 use Rattle.std.specs.Prelude.{ℕ, true, false, replicate, slice_set, Some, None, if◌then◌else◌}
 use Rattle.std.specs.Option.{option_or}
-use Rattle.tso_model.specs.Limits.{most_cores}
+use Rattle.tso_terms.specs.Limits.{most_cores}
 use Rattle.protocol_tables.specs.declared.state.Snoop.{Snoop}
 use Rattle.cache_set.specs.declared.Line.{Line}
 use Rattle.cache_set.specs.declared.finding.Found.{Found}

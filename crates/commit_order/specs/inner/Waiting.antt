@@ -1,6 +1,6 @@
 -- Load parts that wait for their store parts: on a split bus entries of other cores may be committed between the two.
 use Rattle.std.specs.Prelude.{ℕ, ◌≡◌, ◌≢◌, ◌==◌, if◌then◌else◌, IsTrue, List, [], ◌∷◌, ◌++◌, Option, None, Some}
-use Rattle.tso_model.specs.Together.{put_before, put_together}
+use Rattle.tso_terms.specs.Together.{put_before, put_together}
 use Rattle.basic_laws.specs.Types.{Entry, LR}
 use Rattle.commit_order.specs.Pairs.{has_its_store_part, are_answered}
 

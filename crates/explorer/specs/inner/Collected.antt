@@ -1,9 +1,9 @@
 -- The final states that are collected from the packed states of a search, as far as it has come: each once, with what it was
 -- made of.
 use Rattle.std.specs.Prelude.{ℕ, ◌≡◌, ◌<◌, true, Bool, List, Some, length, map, slice_get}
-use Rattle.tso_model.specs.Litmus.{Litmus}
-use Rattle.tso_model.specs.FlatMachine.{State, start, registers_in}
-use Rattle.tso_model.specs.Runs.{has_ended}
+use Rattle.tso_terms.specs.Litmus.{Litmus}
+use Rattle.tso_terms.specs.FlatMachine.{State, start, registers_in}
+use Rattle.tso_terms.specs.Runs.{has_ended}
 use Rattle.tso_laws.specs.Closed.{ArePartlyClosed}
 use Rattle.tso_laws.specs.Dead.{forgotten}
 use Rattle.explorer.specs.inner.Packed.{state_of_packed}

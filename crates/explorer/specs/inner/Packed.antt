@@ -2,7 +2,7 @@
 -- would lead the search astray.
 use Rattle.std.specs.Prelude.{ℕ, ◌≡◌, nat_lt, nat_le, if◌then◌else◌, List, [], ◌∷◌, ◌++◌, length, take, drop, zero, suc}
 use Rattle.std.specs.Int.{w64, to_le_bytes, from_le_bytes}
-use Rattle.tso_model.specs.FlatMachine.{State, CoreState}
+use Rattle.tso_terms.specs.FlatMachine.{State, CoreState}
 use Rattle.basic_laws.specs.Types.{Entry, Kind, R, W, F, LR, LW}
 use Rattle.explorer.specs.declared.packed.Packed.{Packed}
 

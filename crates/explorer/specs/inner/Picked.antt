@@ -1,8 +1,8 @@
 -- The choices that a search makes in a state, as the set of choices that they are.
 use Rattle.std.specs.Prelude.{ℕ, ◌<◌, ◌≡◌, true, Some, slice_get}
-use Rattle.tso_model.specs.Actions.{action_of}
-use Rattle.tso_model.specs.Litmus.{Litmus}
-use Rattle.tso_model.specs.FlatMachine.{State, program_of, core_of}
+use Rattle.tso_terms.specs.Actions.{action_of}
+use Rattle.tso_terms.specs.Litmus.{Litmus}
+use Rattle.tso_terms.specs.FlatMachine.{State, program_of, core_of}
 use Rattle.basic_laws.specs.Types.{Action, Instr}
 use Rattle.tso_laws.specs.Stubborn.{ChoiceSet, has_step, has_drain, IsApartStep, IsApartDrain}
 use Rattle.explorer.specs.declared.stubborn.Picked.{Picked}

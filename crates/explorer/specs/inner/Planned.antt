@@ -2,8 +2,8 @@
 use Rattle.std.specs.Prelude.{ℕ, ◌≡◌, ◌+◌, Bool, List, length, Some, slice_get, drop}
 use Rattle.std.specs.declared.vec.Vec.{Vec}
 use Rattle.std.specs.declared.alloc.Global.{Global}
-use Rattle.tso_model.specs.FlatMachine.{program_of}
-use Rattle.tso_model.specs.declared.instruction.Instr.{Instr}
+use Rattle.tso_terms.specs.FlatMachine.{program_of}
+use Rattle.tso_terms.specs.declared.instruction.Instr.{Instr}
 use Rattle.tso_laws.specs.Dead.{dead_at, hidden_of}
 use Rattle.tso_laws.specs.Exchanged.{AreAllAlike}
 use Rattle.explorer.specs.declared.plan.Plan.{Plan}

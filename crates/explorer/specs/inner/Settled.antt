@@ -1,9 +1,9 @@
 -- What the search keeps from step to step: whatever a choice leads to from a state that was gone through is covered by a
 -- state that is kept. Nothing else shows that no end is missed.
 use Rattle.std.specs.Prelude.{ℕ, ◌≡◌, ◌≤◌, ◌++◌, Bool, true, List, [], length, map, Some, slice_get, ◌⊎◌, All, zero, suc}
-use Rattle.tso_model.specs.Litmus.{Litmus}
-use Rattle.tso_model.specs.FlatMachine.{State, start, after_choice, step, drain}
-use Rattle.tso_model.specs.declared.choice.Choice.{Choice}
+use Rattle.tso_terms.specs.Litmus.{Litmus}
+use Rattle.tso_terms.specs.FlatMachine.{State, start, after_choice, step, drain}
+use Rattle.tso_terms.specs.declared.choice.Choice.{Choice}
 use Rattle.tso_laws.specs.Closed.{IsCovered, LeadsEagerly}
 use Rattle.tso_laws.specs.Stubborn.{ChoiceSet, has_step, has_drain}
 use Rattle.tso_laws.specs.Dead.{forgotten}

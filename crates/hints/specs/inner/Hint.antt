@@ -1,6 +1,6 @@
 -- How the words of a hint are shown: a byte that a terminal could take for a command is shown as a question mark.
 use Rattle.std.specs.Prelude.{ℕ, ◌==◌, ◌||◌, if◌then◌else◌}
-use Rattle.tso_model.specs.Names.{is_printable}
+use Rattle.tso_terms.specs.Names.{is_printable}
 
 -- maximum length of its words, in bytes: six stand before them, and one after
 abbrev pub most_hint_bytes : ℕ

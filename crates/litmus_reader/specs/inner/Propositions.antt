@@ -2,7 +2,7 @@
 use Rattle.std.specs.Prelude.{◌<◌, ℕ, List, length, Option, Some, None, Result, Ok, IfOk}
 use denote.Ref.{Bor}
 use Rattle.litmus_reader.specs.Vocabulary.{BadCondition, Claim, claim_of, CloseRound, Fault, NotClaim, OpenRound, Piece, pieces, Stop, symbol_at, there, Token, ◌>>=◌}
-use Rattle.tso_model.specs.declared.condition.Prop.{Prop}
+use Rattle.tso_terms.specs.declared.condition.Prop.{Prop}
 use Rattle.litmus_tokens.specs.declared.fault.ReadError.{ReadError}
 use Rattle.litmus_tokens.specs.inner.Faults.{Gives}
 use Rattle.litmus_reader.specs.Faults.{or_unfit}

@@ -2,7 +2,7 @@
 use Rattle.std.specs.Prelude.{◌≡◌, ◌≢◌, ℕ, Bool, List, map, Option, Result}
 use denote.Ref.{Bor}
 use Rattle.litmus_reader.specs.Vocabulary.{claim_of, Cond, Condition, Fault, Piece, pieces, Token}
-use Rattle.tso_model.specs.declared.condition.Prop.{Prop}
+use Rattle.tso_terms.specs.declared.condition.Prop.{Prop}
 use Rattle.litmus_tokens.specs.declared.fault.ReadError.{ReadError}
 use Rattle.litmus_reader.specs.declared.fault.TextFault.{TextFault}
 use Rattle.litmus_reader.specs.Conditions.{Proposition, Conditioned}

@@ -3,7 +3,7 @@
 use Rattle.std.specs.Prelude.{ℕ, Option, option_map, slice_get}
 use Rattle.std.specs.Option.{option_and_then}
 use Rattle.machine_core.specs.Vocabulary.{CoreState, with_words}
-use Rattle.tso_model.specs.declared.execution.Entry.{Entry}
+use Rattle.tso_terms.specs.declared.execution.Entry.{Entry}
 use Rattle.snoop_bus.specs.declared.looking.CachedLine.{CachedLine}
 use Rattle.snoop_bus.specs.inner.Accesses.{ranked_in}
 use Rattle.machine_core.specs.Running.{Running}

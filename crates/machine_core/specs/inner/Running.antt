@@ -1,7 +1,7 @@
 -- A choice on a machine, and what it leaves where memory is refused: all as it was, and a machine that has failed.
 use Rattle.std.specs.Prelude.{◌≡◌, ◌&&◌, Bool, true, not}
 use Rattle.machine_core.specs.Vocabulary.{has_ended, HeldBetween}
-use Rattle.tso_model.specs.declared.execution.Entry.{Entry}
+use Rattle.tso_terms.specs.declared.execution.Entry.{Entry}
 use Rattle.multiprocessor.specs.inner.Caches.{HasLineAlone}
 use Rattle.machine_core.specs.Running.{Running}
 

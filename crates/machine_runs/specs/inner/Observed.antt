@@ -1,8 +1,8 @@
 -- What becomes of an observer while a machine is driven: one step for each choice that is made, up to the first moment at which the
 -- test has ended.
 use Rattle.std.specs.Prelude.{ℕ, ◌≡◌, ◌+◌, true, false, List, [], ◌∷◌}
-use Rattle.tso_model.specs.Runs.{has_ended}
-use Rattle.tso_model.specs.declared.choice.Choice.{Choice}
+use Rattle.tso_terms.specs.Runs.{has_ended}
+use Rattle.tso_terms.specs.declared.choice.Choice.{Choice}
 use Rattle.machine_core.specs.Running.{Running, machine_after}
 
 -- by such steps one observer becomes the other, and one machine the other, along these choices, the first of which has this number

@@ -1,8 +1,8 @@
 -- A run as the machine makes it, with the answers of its caches, beside the run of the definitions: they are the same run.
 use Rattle.std.specs.Prelude.{◌≡◌, true, List}
-use Rattle.tso_model.specs.Litmus.{Litmus}
-use Rattle.tso_model.specs.Runs.{Run}
-use Rattle.tso_model.specs.declared.choice.Choice.{Choice}
+use Rattle.tso_terms.specs.Litmus.{Litmus}
+use Rattle.tso_terms.specs.Runs.{Run}
+use Rattle.tso_terms.specs.declared.choice.Choice.{Choice}
 use Rattle.protocol_tables.specs.Tables.{Table}
 use Rattle.multiprocessor.specs.Configuration.{Configuration}
 use Rattle.machine_core.specs.Running.{Running, table_in, configuration_of}

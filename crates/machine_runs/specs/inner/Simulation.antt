@@ -1,12 +1,12 @@
 -- What drives a machine along choices, and what is known of it after them: state, commits and statistics are those of the
 -- run under these choices.
 use Rattle.std.specs.Prelude.{ℕ, ◌≡◌, true, false, List, ◌++◌, length}
-use Rattle.tso_model.specs.Litmus.{Litmus}
-use Rattle.tso_model.specs.FlatMachine.{registers_in}
-use Rattle.tso_model.specs.Together.{put_together}
-use Rattle.tso_model.specs.EitherBus.{BusRun, run_on_from, HitsFit}
-use Rattle.tso_model.specs.SplitMachine.{Attempt}
-use Rattle.tso_model.specs.declared.choice.Choice.{Choice}
+use Rattle.tso_terms.specs.Litmus.{Litmus}
+use Rattle.tso_terms.specs.FlatMachine.{registers_in}
+use Rattle.tso_terms.specs.Together.{put_together}
+use Rattle.tso_terms.specs.EitherBus.{BusRun, run_on_from, HitsFit}
+use Rattle.tso_terms.specs.SplitMachine.{Attempt}
+use Rattle.tso_terms.specs.declared.choice.Choice.{Choice}
 use Rattle.tso_laws.specs.BusRuns.{left_by}
 use Rattle.multiprocessor.specs.Statistics.{statistics_from}
 use Rattle.multiprocessor.specs.Answered.{answered_from}

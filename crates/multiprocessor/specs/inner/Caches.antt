@@ -1,7 +1,7 @@
 -- What the caches hold between the two parts of a locked instruction: its core has the line in M, and nobody else has it.
 -- So a write of another core can't hit there, which is what keeps the two parts adjacent for that location.
 use Rattle.std.specs.Prelude.{ℕ, ◌/◌, ◌≡◌, ◌≢◌, Some, None}
-use Rattle.tso_model.specs.declared.execution.Entry.{Entry}
+use Rattle.tso_terms.specs.declared.execution.Entry.{Entry}
 use Rattle.protocol_tables.specs.declared.state.State.TheVariants.{M}
 use Rattle.multiprocessor.specs.Vocabulary.{tag_at}
 use Rattle.multiprocessor.specs.Caches.{Caches}

@@ -1,11 +1,11 @@
 -- A core of the code as the flat machine has it, and what each of its calls does: an action of the flat machine, at the
 -- depth of the core's own buffer, with memory as the words that the bus shows.
 use Rattle.std.specs.Prelude.{ℕ, ◌+◌, List, [], ◌∷◌, map, filter, slice_index}
-use Rattle.tso_model.specs.Actions.{action_of}
+use Rattle.tso_terms.specs.Actions.{action_of}
 use Rattle.multiprocessor.specs.Vocabulary.{access_by, BusModel, drain_of, Effect, effect_by, entry, fenced, MemoryAccess, stored, Stores, stores, words_of, writes_to}
-use Rattle.tso_model.specs.Axioms.{last_value}
+use Rattle.tso_terms.specs.Axioms.{last_value}
 use Rattle.basic_laws.specs.Types.{Loc, Instr, Reg, Update, Action, Entry, W, LR, LW}
-use Rattle.tso_model.specs.declared.action.Action.TheVariants.{Load, Lock}
+use Rattle.tso_terms.specs.declared.action.Action.TheVariants.{Load, Lock}
 use Rattle.multiprocessor.specs.declared.processor.Processor.{Processor}
 use Rattle.multiprocessor.specs.Cores.{core_state, store_of}
 

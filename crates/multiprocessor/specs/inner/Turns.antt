@@ -1,7 +1,7 @@
 -- How a core's access comes to the bus: whole, or as the second half of what the core has asked for.
 use Rattle.std.specs.Prelude.{◌≡◌}
 use Rattle.multiprocessor.specs.Vocabulary.{BusModel, holder_of, Locks, MemoryAccess, NoAccess, Reads, Writes}
-use Rattle.tso_model.specs.declared.instruction.Core.{Core}
+use Rattle.tso_terms.specs.declared.instruction.Core.{Core}
 use Rattle.multiprocessor.specs.declared.turn.Way.{Way}
 use Rattle.multiprocessor.specs.declared.turn.Way.TheVariants.{Whole, Asked}
 use Rattle.multiprocessor.specs.declared.turn.Turn.{Turn}

@@ -1,9 +1,9 @@
 -- What the steps of the check tell each other of the first breach: it is found, or there is none and the order is a TSO
 -- execution.
 use Rattle.std.specs.Prelude.{List, Option, IfSome, IsNone}
-use Rattle.tso_model.specs.Litmus.{Litmus}
-use Rattle.tso_model.specs.Axioms.{IsTsoExecution}
-use Rattle.tso_model.specs.declared.execution.Entry.{Entry}
+use Rattle.tso_terms.specs.Litmus.{Litmus}
+use Rattle.tso_terms.specs.Axioms.{IsTsoExecution}
+use Rattle.tso_terms.specs.declared.execution.Entry.{Entry}
 use Rattle.order_breaches.specs.declared.breach.Breach.{Breach}
 use Rattle.order_breaches.specs.FirstBreach.{IsFirstBreach}
 

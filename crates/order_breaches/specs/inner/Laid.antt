@@ -1,8 +1,8 @@
 -- What the second pass over an order goes by: the programs' entries with the order's own read values, and their tables.
 use Rattle.std.specs.Prelude.{◌≡◌, List}
-use Rattle.tso_model.specs.Litmus.{Litmus, IsTest}
-use Rattle.tso_model.specs.ProgramEntries.{made}
-use Rattle.tso_model.specs.declared.execution.Entry.{Entry}
+use Rattle.tso_terms.specs.Litmus.{Litmus, IsTest}
+use Rattle.tso_terms.specs.ProgramEntries.{made}
+use Rattle.tso_terms.specs.declared.execution.Entry.{Entry}
 use Rattle.order_breaches.specs.inner.Matched.{IsMatched}
 use Rattle.order_breaches.specs.inner.Slots.{IsIndex}
 use Rattle.order_breaches.specs.inner.Sources.{TellsSources}

@@ -1,9 +1,9 @@
 -- An order that holds each action of the programs once: what its values are is still to be judged.
 use Rattle.std.specs.Prelude.{ℕ, ◌<◌, ◌≡◌, true, List, Some, slice_get}
-use Rattle.tso_model.specs.Litmus.{Litmus}
-use Rattle.tso_model.specs.ProgramOrder.{is_write}
-use Rattle.tso_model.specs.ProgramEntries.{made}
-use Rattle.tso_model.specs.declared.execution.Entry.{Entry}
+use Rattle.tso_terms.specs.Litmus.{Litmus}
+use Rattle.tso_terms.specs.ProgramOrder.{is_write}
+use Rattle.tso_terms.specs.ProgramEntries.{made}
+use Rattle.tso_terms.specs.declared.execution.Entry.{Entry}
 use Rattle.order_breaches.specs.First.{IsNowhere}
 use Rattle.order_breaches.specs.Entries.{IsExtra, IsStray, IsMissing}
 

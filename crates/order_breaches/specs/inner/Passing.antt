@@ -1,11 +1,11 @@
 -- What the second pass over an order goes by: each action stands there once, so how far each core has come is enough to
 -- judge an entry.
 use Rattle.std.specs.Prelude.{ℕ, ◌≡◌, ◌≢◌, true, List, length, Option, Some, None, IfSome, IsNone}
-use Rattle.tso_model.specs.Litmus.{Litmus}
-use Rattle.tso_model.specs.ProgramOrder.{is_read}
-use Rattle.tso_model.specs.declared.execution.Entry.{Entry}
-use Rattle.tso_model.specs.ProgramEntries.{made}
-use Rattle.tso_model.specs.Axioms.{IsWhole, KeepsProgramOrder}
+use Rattle.tso_terms.specs.Litmus.{Litmus}
+use Rattle.tso_terms.specs.ProgramOrder.{is_read}
+use Rattle.tso_terms.specs.declared.execution.Entry.{Entry}
+use Rattle.tso_terms.specs.ProgramEntries.{made}
+use Rattle.tso_terms.specs.Axioms.{IsWhole, KeepsProgramOrder}
 use Rattle.order_breaches.specs.First.{NoneBefore, IsFirst, IsEarliest}
 use Rattle.order_breaches.specs.Entries.{IsWrongWrite, written_value}
 use Rattle.order_breaches.specs.AxiomBreaches.{IsLate, IsSeparated, IsWrongRead, due_at}

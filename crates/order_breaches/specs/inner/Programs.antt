@@ -2,8 +2,8 @@
 -- order's own.
 use Rattle.std.specs.Prelude.{ℕ, ◌+◌, List, [], ◌∷◌, ◌++◌, Option, None, if◌then◌else◌, slice_index_or, take, drop}
 use Rattle.std.specs.Option.{unwrap_or}
-use Rattle.tso_model.specs.Thread.{entries_of, reads_in}
-use Rattle.tso_model.specs.ProgramOrder.{is_read}
+use Rattle.tso_terms.specs.Thread.{entries_of, reads_in}
+use Rattle.tso_terms.specs.ProgramOrder.{is_read}
 use Rattle.basic_laws.specs.Types.{Instr, Entry}
 
 -- how many values all programs read

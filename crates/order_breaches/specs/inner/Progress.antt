@@ -1,9 +1,9 @@
 -- How far the entries of each core have come: one more than the greatest rank among them. An entry of a smaller rank comes
 -- too late.
 use Rattle.std.specs.Prelude.{ℕ, ◌+◌, Bool, nat_lt, if◌then◌else◌, List, max, slice_index, slice_set}
-use Rattle.tso_model.specs.ProgramOrder.{is_load, is_store, is_write}
+use Rattle.tso_terms.specs.ProgramOrder.{is_load, is_store, is_write}
 use Rattle.basic_laws.specs.Ranks.{rank}
-use Rattle.tso_model.specs.declared.execution.Entry.{Entry}
+use Rattle.tso_terms.specs.declared.execution.Entry.{Entry}
 
 -- once this entry has come
 abbrev pub reached : List ℕ → Entry → List ℕ

@@ -1,10 +1,10 @@
 -- How the checker finds the program's entry of an entry of the order: no two have one slot, so one look in a table is
 -- enough.
 use Rattle.std.specs.Prelude.{ℕ, ◌+◌, ◌*◌, ◌<◌, ◌≡◌, ◌⊎◌, true, List, Option, Some, None, slice_get}
-use Rattle.tso_model.specs.Limits.{most_instructions}
-use Rattle.tso_model.specs.ProgramOrder.{is_write}
+use Rattle.tso_terms.specs.Limits.{most_instructions}
+use Rattle.tso_terms.specs.ProgramOrder.{is_write}
 use Rattle.basic_laws.specs.Ranks.{rank}
-use Rattle.tso_model.specs.declared.execution.Entry.{Entry}
+use Rattle.tso_terms.specs.declared.execution.Entry.{Entry}
 use Rattle.order_breaches.specs.First.{IsEarliest}
 use Rattle.order_breaches.specs.Entries.{same_action, same_but_value, IsExtra, IsStray}
 use Rattle.order_breaches.specs.declared.breach.Breach.{Breach}

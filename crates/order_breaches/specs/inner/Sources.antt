@@ -1,9 +1,9 @@
 -- The write of its own program that an entry comes after: a load may return it while it is still pending, before memory
 -- order has it.
 use Rattle.std.specs.Prelude.{ℕ, ◌≡◌, ◌≤◌, ◌==◌, nat_le, true, if◌then◌else◌, List, Option, Some, None, slice_get, slice_index, slice_set}
-use Rattle.tso_model.specs.ProgramOrder.{is_before, is_write, writes_to}
+use Rattle.tso_terms.specs.ProgramOrder.{is_before, is_write, writes_to}
 use Rattle.basic_laws.specs.Ranks.{rank}
-use Rattle.tso_model.specs.declared.execution.Entry.{Entry}
+use Rattle.tso_terms.specs.declared.execution.Entry.{Entry}
 use Rattle.order_breaches.specs.inner.Programs.{kept_in}
 
 -- the latest write if it is of this core

@@ -3,7 +3,7 @@ use Rattle.std.specs.Prelude.{ℕ, ◌+◌, ◌-◌, ◌^◌, ◌==◌, List, []
 use Rattle.std.specs.List.{position}
 use Rattle.std.specs.Option.{option_map}
 use Rattle.std.specs.Str.{bytes_eq}
-use Rattle.tso_model.specs.Litmus.{Litmus}
+use Rattle.tso_terms.specs.Litmus.{Litmus}
 use Rattle.basic_laws.specs.Types.{Entry, Kind, R, W, F, LR, LW}
 use Rattle.order_builder.specs.Lines.{lines_of}
 use Rattle.decimals.specs.Decimals.{decimal_value}

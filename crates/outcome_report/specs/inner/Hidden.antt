@@ -1,6 +1,6 @@
 -- What is shown isn't hidden.
 use Rattle.std.specs.Prelude.{◌≡◌, Bool, false, List, slice_index_or}
-use Rattle.tso_model.specs.Registers.{index_of}
+use Rattle.tso_terms.specs.Registers.{index_of}
 use Rattle.tso_laws.specs.Dead.{hidden_of}
 use Rattle.tso_report.specs.declared.named.Named.{Named}
 use Rattle.tso_report.specs.declared.named.Named.TheVariants.{Register, Location}

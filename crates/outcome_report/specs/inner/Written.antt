@@ -1,7 +1,7 @@
 -- What is written of the states that are kept: their values stand beside them, and aren't looked up again.
 use Rattle.std.specs.Prelude.{ℕ, List, [], ◌∷◌, ◌++◌, map}
 use Rattle.serde_json.specs.Data.{Data}
-use Rattle.tso_model.specs.Litmus.{Litmus}
+use Rattle.tso_terms.specs.Litmus.{Litmus}
 use Rattle.tso_report.specs.declared.named.Named.{Named}
 use Rattle.outcome_report.specs.Outcomes.{Outcome, state_line, by_line}
 use Rattle.outcome_report.specs.OutcomesJson.{state_value, holds_in}

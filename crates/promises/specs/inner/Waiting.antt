@@ -1,10 +1,10 @@
 -- The line of a locked instruction that has read and not yet written: each access of another core waits for the bus.
 use Rattle.std.specs.Prelude.{ℕ, ◌≡◌, ◌≢◌}
-use Rattle.tso_model.specs.FlatMachine.{chosen}
-use Rattle.tso_model.specs.MemoryAccess.{MemoryAccess, NoAccess, Reads, Writes, Locks, access_of}
-use Rattle.tso_model.specs.SplitMachine.{HeldBetween}
+use Rattle.tso_terms.specs.FlatMachine.{chosen}
+use Rattle.tso_terms.specs.MemoryAccess.{MemoryAccess, NoAccess, Reads, Writes, Locks, access_of}
+use Rattle.tso_terms.specs.SplitMachine.{HeldBetween}
 use Rattle.basic_laws.specs.Types.{Split, Choice, Stalled, Entry}
-use Rattle.tso_model.specs.declared.choice.Stall.TheVariants.{Bus}
+use Rattle.tso_terms.specs.declared.choice.Stall.TheVariants.{Bus}
 use Rattle.multiprocessor.specs.Caches.{Caches}
 use Rattle.machine_core.specs.Running.{Running, machine_effect}
 use Rattle.promises.specs.Locked.{ShareLine}

@@ -1,7 +1,7 @@
 -- An execution as the code shows it: what its reads read from, by its order.
 use Rattle.std.specs.Prelude.{ℕ, ◌+◌, ◌≡◌, List, [], ◌∷◌, ◌++◌, map, filter, Option, Some, None, codes}
 use Rattle.reason_report.specs.Vocabulary.{Candidate, Data, Entry, last_in, line, Litmus, member, Members, no_members, object, string, writes_to}
-use Rattle.tso_model.specs.Axioms.{counting}
+use Rattle.tso_terms.specs.Axioms.{counting}
 use Rattle.relational_model.specs.Events.{IsIn}
 use Rattle.reason_report.specs.ReasonText.{event_text, source_text, reads_of, coherence_line, values_left}
 use Rattle.reason_report.specs.ReasonJson.{event_value, with_coherence}

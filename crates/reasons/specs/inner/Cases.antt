@@ -1,8 +1,8 @@
 -- What is done with an open case.
 use Rattle.std.specs.Prelude.{◌≡◌, true, false, if◌then◌else◌, List, [], ◌∷◌, Option, Some, None}
 use Rattle.std.specs.Global.{Vec}
-use Rattle.tso_model.specs.Litmus.{Litmus}
-use Rattle.tso_model.specs.declared.execution.Entry.{Entry}
+use Rattle.tso_terms.specs.Litmus.{Litmus}
+use Rattle.tso_terms.specs.declared.execution.Entry.{Entry}
 use Rattle.refutation_laws.specs.Known.{Known, events_of}
 use Rattle.refutation_laws.specs.Edges.{on_location, global_in, is_edge, are_parts, is_between}
 use Rattle.refutation_laws.specs.Values.{allows}

@@ -1,8 +1,8 @@
 -- A cycle, or a row.
 use Rattle.std.specs.Prelude.{◌≡◌, true, if◌then◌else◌, List, [], ◌∷◌, Option, Some, None, option_map}
 use Rattle.std.specs.Global.{Vec}
-use Rattle.tso_model.specs.Litmus.{Litmus}
-use Rattle.tso_model.specs.declared.execution.Entry.{Entry}
+use Rattle.tso_terms.specs.Litmus.{Litmus}
+use Rattle.tso_terms.specs.declared.execution.Entry.{Entry}
 use Rattle.relational_model.specs.inner.Rows.{Ordered}
 use Rattle.refutation_laws.specs.Known.{Known, same_event, events_of}
 use Rattle.refutation_laws.specs.Edges.{is_edge, is_cycle}

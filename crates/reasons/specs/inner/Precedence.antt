@@ -1,8 +1,8 @@
 -- Events in a row in which nothing stands before what must precede it, as far as that is possible.
 use Rattle.std.specs.Prelude.{◌≡◌, ◌+◌, ◌⊎◌, Bool, true, not, List, length}
 use Rattle.std.specs.List.{list_any}
-use Rattle.tso_model.specs.Litmus.{Litmus}
-use Rattle.tso_model.specs.declared.execution.Entry.{Entry}
+use Rattle.tso_terms.specs.Litmus.{Litmus}
+use Rattle.tso_terms.specs.declared.execution.Entry.{Entry}
 use Rattle.relational_model.specs.Events.{IsIn}
 use Rattle.relational_model.specs.inner.Rows.{GoesForward, Once}
 use Rattle.refutation_laws.specs.Known.{Known}

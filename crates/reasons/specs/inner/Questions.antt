@@ -1,7 +1,7 @@
 -- Questions that are still open in a case: the first one among the events.
 use Rattle.std.specs.Prelude.{◌&&◌, Bool, not, if◌then◌else◌, List, [], ◌∷◌, Option, Some, None}
-use Rattle.tso_model.specs.ProgramOrder.{is_read, is_write, writes_to}
-use Rattle.tso_model.specs.declared.execution.Entry.{Entry}
+use Rattle.tso_terms.specs.ProgramOrder.{is_read, is_write, writes_to}
+use Rattle.tso_terms.specs.declared.execution.Entry.{Entry}
 use Rattle.refutation_laws.specs.Known.{Known, same_event}
 use Rattle.refutation_laws.specs.declared.known.Pair.{Pair}
 use Rattle.refutation_laws.specs.inner.FullCases.{has_source, are_ordered}

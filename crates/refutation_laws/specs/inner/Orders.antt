@@ -2,9 +2,9 @@
 -- part of a locked instruction directly before its store part.
 use Rattle.std.specs.Prelude.{ℕ, ◌≡◌, ◌==◌, ◌&&◌, ◌||◌, Bool, true, false, not, if◌then◌else◌, List, [], ◌∷◌, ◌++◌, map, filter, Option, Some, None}
 use Rattle.std.specs.List.{list_any}
-use Rattle.tso_model.specs.Litmus.{Litmus}
-use Rattle.tso_model.specs.Thread.{entry}
-use Rattle.tso_model.specs.ProgramOrder.{is_before, may_be_passed, same_kind}
+use Rattle.tso_terms.specs.Litmus.{Litmus}
+use Rattle.tso_terms.specs.Thread.{entry}
+use Rattle.tso_terms.specs.ProgramOrder.{is_before, may_be_passed, same_kind}
 use Rattle.basic_laws.specs.Types.{Entry, LR}
 use Rattle.relational_model.specs.Events.{IsIn}
 use Rattle.relational_model.specs.Relations.{is_access}

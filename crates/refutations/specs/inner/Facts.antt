@@ -1,6 +1,6 @@
 -- What the answers tell of values, as the code keeps it.
 use Rattle.std.specs.Prelude.{ℕ, ◌≡◌, ◌<◌, [], length, slice_index_or}
-use Rattle.tso_model.specs.Litmus.{Litmus}
+use Rattle.tso_terms.specs.Litmus.{Litmus}
 use Rattle.refutation_laws.specs.Known.{Known}
 use Rattle.refutation_laws.specs.Values.{returned, all_known, left_of, known_first_registers}
 use Rattle.refutations.specs.declared.facts.Facts.{Facts}

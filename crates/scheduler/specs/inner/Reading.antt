@@ -1,7 +1,7 @@
 -- How the reader goes about one item: the grammar and the refusals as functions of its words, with the room that is left.
 use Rattle.std.specs.Prelude.{◌-◌, ◌+◌, ℕ, List, [], ◌∷◌, length, take, codes, slice_index, Option, Some, None, Result, Ok, Err, ◌==◌, if◌then◌else◌}
 use Rattle.std.specs.Str.{bytes_eq}
-use Rattle.tso_model.specs.declared.choice.Choice.{Choice}
+use Rattle.tso_terms.specs.declared.choice.Choice.{Choice}
 use Rattle.scheduler.specs.declared.fault.ChoiceFault.{ChoiceFault}
 use Rattle.scheduler.specs.declared.fault.ChoiceFault.TheVariants.{BadWord, NoSuchCore, TooMany}
 use Rattle.scheduler.specs.declared.item.ChoiceKind.{ChoiceKind}
@@ -11,7 +11,7 @@ use Rattle.scheduler.specs.declared.item.ChoiceItem.TheVariants.{One, Seeded}
 use Rattle.decimals.specs.inner.Decimals.{number_up_to}
 use Rattle.scheduler.specs.Words.{is_numeral}
 use Rattle.scheduler.specs.Seeds.{seeded_choices}
-use Rattle.tso_model.specs.declared.choice.Choice.TheVariants as choice
+use Rattle.tso_terms.specs.declared.choice.Choice.TheVariants as choice
 
 -- the choices of an item
 abbrev pub made_of : ℕ → ChoiceItem → List Choice

@@ -1,6 +1,6 @@
 -- What is shown, as far as the names were gone through.
 use Rattle.std.specs.Prelude.{◌≡◌, List, ◌++◌, filter}
-use Rattle.tso_model.specs.Litmus.{Litmus}
+use Rattle.tso_terms.specs.Litmus.{Litmus}
 use Rattle.tso_report.specs.declared.named.Named.{Named}
 use Rattle.shown_values.specs.Shown.{is_shown}
 use Rattle.shown_values.specs.declared.show.Show.{Show}

@@ -1,9 +1,9 @@
 -- What is said of each protocol with the same table: a machine knows its table, and an answer names its protocol. And one who makes
 -- one run after the other.
 use Rattle.std.specs.Prelude.{◌≡◌, List}
-use Rattle.tso_model.specs.Litmus.{Litmus}
-use Rattle.tso_model.specs.Runs.{Run}
-use Rattle.tso_model.specs.declared.choice.Choice.{Choice}
+use Rattle.tso_terms.specs.Litmus.{Litmus}
+use Rattle.tso_terms.specs.Runs.{Run}
+use Rattle.tso_terms.specs.declared.choice.Choice.{Choice}
 use Rattle.protocol_tables.specs.Tables.{Table, table_of}
 use Rattle.protocol_tables.specs.declared.kind.ProtocolKind.{ProtocolKind}
 

@@ -1,6 +1,6 @@
 -- What becomes of an observer to which the first choices of a run alone are shown: as many as a trace as JSON may have steps.
 use Rattle.std.specs.Prelude.{ℕ, ◌≡◌, ◌≤◌, Bool, false}
-use Rattle.tso_model.specs.declared.choice.Choice.{Choice}
+use Rattle.tso_terms.specs.declared.choice.Choice.{Choice}
 use Rattle.trace_json.specs.Vocabulary.{Running}
 use Rattle.trace_json.specs.TracedRun.{most_steps}
 

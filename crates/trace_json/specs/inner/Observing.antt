@@ -2,7 +2,7 @@
 use Rattle.std.specs.Prelude.{ℕ, ◌≡◌, List, [], ◌∷◌, ◌++◌, map, Some, None, IfSome, option_map}
 use Rattle.trace_json.specs.Vocabulary.{array, Configuration, Data, items_of, Litmus, machine_after, new_machine, ProtocolKind, Running, shown_step, table_of, view}
 use Rattle.serde_json.specs.declared.value.Value.{Value}
-use Rattle.tso_model.specs.declared.choice.Choice.{Choice}
+use Rattle.tso_terms.specs.declared.choice.Choice.{Choice}
 use Rattle.trace_report.specs.Known.{StepNamesExist}
 use Rattle.trace_json.specs.MachineJson.{machine_json}
 use Rattle.trace_json.specs.OwnWords.{own_words}

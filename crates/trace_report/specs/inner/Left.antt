@@ -1,7 +1,7 @@
 -- What a choice left, as it is looked at after the choice: what is new there, beside how many entries there were before.
 use Rattle.std.specs.Prelude.{ℕ, ◌≡◌, List, ◌++◌, length, drop}
 use Rattle.std.specs.Option.{option_map}
-use Rattle.tso_model.specs.FlatMachine.{core_of, chosen}
+use Rattle.tso_terms.specs.FlatMachine.{core_of, chosen}
 use Rattle.basic_laws.specs.Types.{Choice, Outcome, Entry}
 use Rattle.machine_core.specs.Running.{Running}
 use Rattle.trace_report.specs.inner.Steps.{waited_before}

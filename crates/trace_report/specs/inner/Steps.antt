@@ -1,7 +1,7 @@
 -- How many stores were pending before a choice, told from after it: so no copy of a buffer has to be kept.
 use Rattle.std.specs.Prelude.{ℕ, ◌+◌, ◌-◌}
 use Rattle.basic_laws.specs.Types.{Choice, Step, Drain, Outcome, Committed, Buffered, Asked, Stalled}
-use Rattle.tso_model.specs.declared.choice.Outcome.TheVariants as out
+use Rattle.tso_terms.specs.declared.choice.Outcome.TheVariants as out
 
 -- of a choice with this outcome that left so many stores pending, how many waited before it
 abbrev pub waited_before : Outcome → Choice → ℕ → ℕ

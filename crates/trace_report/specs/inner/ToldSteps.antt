@@ -1,6 +1,6 @@
 -- What is shown of what is told of a choice.
 use Rattle.std.specs.Prelude.{ℕ}
-use Rattle.tso_model.specs.declared.choice.Choice.{Choice}
+use Rattle.tso_terms.specs.declared.choice.Choice.{Choice}
 use Rattle.trace_report.specs.Shown.{ShownStep, shown_step}
 use Rattle.trace_report.specs.Stalls.{stalled_step}
 use Rattle.trace_report.specs.declared.telling.Told.{Told}

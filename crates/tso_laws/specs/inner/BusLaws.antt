@@ -1,13 +1,13 @@
 -- What those laws say that the steps of a proof need, and no public promise names.
 use Rattle.std.specs.Prelude.{ℕ, ◌≡◌, ◌≢◌, false, List, [], ◌++◌}
-use Rattle.tso_model.specs.Litmus.{Litmus, IsTest}
-use Rattle.tso_model.specs.SequentialConsistency.{KeepsAllOrder}
-use Rattle.tso_model.specs.FlatMachine.{State, start, after_choice}
-use Rattle.tso_model.specs.Runs.{run}
-use Rattle.tso_model.specs.MemoryAccess.{NoAccess, access_of}
-use Rattle.tso_model.specs.SplitMachine.{Free, Attempt, same_choice}
-use Rattle.tso_model.specs.EitherBus.{BusState, unheld, effect_on, after_on, run_on, HitFits, HitsFit}
-use Rattle.tso_model.specs.Together.{put_together}
+use Rattle.tso_terms.specs.Litmus.{Litmus, IsTest}
+use Rattle.tso_terms.specs.SequentialConsistency.{KeepsAllOrder}
+use Rattle.tso_terms.specs.FlatMachine.{State, start, after_choice}
+use Rattle.tso_terms.specs.Runs.{run}
+use Rattle.tso_terms.specs.MemoryAccess.{NoAccess, access_of}
+use Rattle.tso_terms.specs.SplitMachine.{Free, Attempt, same_choice}
+use Rattle.tso_terms.specs.EitherBus.{BusState, unheld, effect_on, after_on, run_on, HitFits, HitsFit}
+use Rattle.tso_terms.specs.Together.{put_together}
 use Rattle.basic_laws.specs.Types.{Bus, Entry, Choice, Stall, Stalled}
 use Rattle.tso_laws.specs.BusChoices.{IsPossibleOn}
 use Rattle.tso_laws.specs.inner.Pending.{PendingIsOwn}

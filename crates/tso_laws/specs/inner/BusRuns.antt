@@ -1,11 +1,11 @@
 -- Where runs on either bus stop, and what a stall changes: nothing, not even who holds the bus.
 use Rattle.std.specs.Prelude.{ℕ, ◌+◌, ◌<◌, ◌≡◌, true, false, List, [], length, take}
-use Rattle.tso_model.specs.Litmus.{Litmus}
-use Rattle.tso_model.specs.FlatMachine.{start}
-use Rattle.tso_model.specs.Runs.{has_ended, run}
-use Rattle.tso_model.specs.SplitMachine.{Attempt}
-use Rattle.tso_model.specs.EitherBus.{BusState, BusRun, unheld, effect_on, after_on}
-use Rattle.tso_model.specs.declared.choice.Bus.{Bus}
+use Rattle.tso_terms.specs.Litmus.{Litmus}
+use Rattle.tso_terms.specs.FlatMachine.{start}
+use Rattle.tso_terms.specs.Runs.{has_ended, run}
+use Rattle.tso_terms.specs.SplitMachine.{Attempt}
+use Rattle.tso_terms.specs.EitherBus.{BusState, BusRun, unheld, effect_on, after_on}
+use Rattle.tso_terms.specs.declared.choice.Bus.{Bus}
 use Rattle.tso_laws.specs.BusChoices.{state_on, commits_on}
 use Rattle.tso_laws.specs.BusRuns.{left_by}
 

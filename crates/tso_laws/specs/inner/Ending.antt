@@ -1,8 +1,8 @@
 -- States at which nothing is left to do, and how far they are: by the number of choices that lead there.
 use Rattle.std.specs.Prelude.{ℕ, ◌≡◌, ◌⊎◌, zero, suc, length}
-use Rattle.tso_model.specs.Litmus.{Litmus}
-use Rattle.tso_model.specs.FlatMachine.{State, after_choice}
-use Rattle.tso_model.specs.declared.choice.Choice.{Choice}
+use Rattle.tso_terms.specs.Litmus.{Litmus}
+use Rattle.tso_terms.specs.FlatMachine.{State, after_choice}
+use Rattle.tso_terms.specs.declared.choice.Choice.{Choice}
 
 -- no choice changes the state
 abbrev pub IsDead : ℕ → Litmus → State → Type 0

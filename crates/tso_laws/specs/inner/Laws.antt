@@ -1,11 +1,11 @@
 -- What those laws say that the steps of a proof need, and no public promise names.
 use Rattle.std.specs.Prelude.{ℕ, ◌≡◌, List, [], ◌++◌, slice_get, Some}
-use Rattle.tso_model.specs.Litmus.{Litmus, IsTest}
-use Rattle.tso_model.specs.ProgramEntries.{made}
-use Rattle.tso_model.specs.Axioms.{IsWhole}
-use Rattle.tso_model.specs.Standing.{StandsIn}
-use Rattle.tso_model.specs.FlatMachine.{State, start, effect_of, after_choice}
-use Rattle.tso_model.specs.Runs.{run}
+use Rattle.tso_terms.specs.Litmus.{Litmus, IsTest}
+use Rattle.tso_terms.specs.ProgramEntries.{made}
+use Rattle.tso_terms.specs.Axioms.{IsWhole}
+use Rattle.tso_terms.specs.Standing.{StandsIn}
+use Rattle.tso_terms.specs.FlatMachine.{State, start, effect_of, after_choice}
+use Rattle.tso_terms.specs.Runs.{run}
 use Rattle.basic_laws.specs.Types.{Entry, Choice, Stall, Stalled}
 use Rattle.tso_laws.specs.Choices.{IsPossible}
 use Rattle.tso_laws.specs.Entries.{FitsTest}

@@ -1,6 +1,6 @@
 -- What is pending at a core: plain stores of its own, and nothing else.
 use Rattle.std.specs.Prelude.{ℕ, ◌≡◌, Some, slice_get}
-use Rattle.tso_model.specs.FlatMachine.{State, core_of}
+use Rattle.tso_terms.specs.FlatMachine.{State, core_of}
 use Rattle.basic_laws.specs.Types.{Entry, W}
 
 -- a plain store of this core

@@ -1,9 +1,9 @@
 -- Where a run stops: at the first moment at which the test has ended, so choices after that one have no part in it.
 use Rattle.std.specs.Prelude.{ℕ, ◌+◌, ◌<◌, ◌≡◌, true, false, List, [], length, take}
-use Rattle.tso_model.specs.Litmus.{Litmus}
-use Rattle.tso_model.specs.FlatMachine.{State, start, effect_of, after_choice}
-use Rattle.tso_model.specs.Runs.{Run, has_ended}
-use Rattle.tso_model.specs.declared.choice.Choice.{Choice}
+use Rattle.tso_terms.specs.Litmus.{Litmus}
+use Rattle.tso_terms.specs.FlatMachine.{State, start, effect_of, after_choice}
+use Rattle.tso_terms.specs.Runs.{Run, has_ended}
+use Rattle.tso_terms.specs.declared.choice.Choice.{Choice}
 use Rattle.tso_laws.specs.Choices.{state_after, commits_of}
 
 -- the choice leaves the state as it is, and commits nothing

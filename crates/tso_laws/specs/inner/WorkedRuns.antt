@@ -1,9 +1,9 @@
 -- Choices along worked orders, and small tests with theirs, some of which break a premise on purpose.
 use Rattle.std.specs.Prelude.{List, [], ◌∷◌, ◌++◌, None, codes}
-use Rattle.tso_model.specs.FlatMachine.{step, drain}
-use Rattle.tso_model.specs.Litmus.{Litmus}
-use Rattle.tso_model.specs.Thread.{entry}
-use Rattle.tso_model.specs.Examples.{loc_x, loc_y, zeros}
+use Rattle.tso_terms.specs.FlatMachine.{step, drain}
+use Rattle.tso_terms.specs.Litmus.{Litmus}
+use Rattle.tso_terms.specs.Thread.{entry}
+use Rattle.tso_terms.specs.Examples.{loc_x, loc_y, zeros}
 use Rattle.basic_laws.specs.Types.{Eax, Loc, StoreImm, Load, SetImm, Entry, R, W, Choice}
 
 -- along the order of n6: 0s 0s 0s 1s 1d 1s 1d 0d

@@ -1,10 +1,10 @@
 -- Choices and orders of the worked runs on the split bus, some of which break a premise on purpose.
 use Rattle.std.specs.Prelude.{List, [], ◌∷◌, ◌++◌}
-use Rattle.tso_model.specs.FlatMachine.{step, drain}
-use Rattle.tso_model.specs.Litmus.{Litmus}
-use Rattle.tso_model.specs.Thread.{entry}
-use Rattle.tso_model.specs.Examples.{loc_x}
-use Rattle.tso_model.specs.SplitMachine.{Attempt}
+use Rattle.tso_terms.specs.FlatMachine.{step, drain}
+use Rattle.tso_terms.specs.Litmus.{Litmus}
+use Rattle.tso_terms.specs.Thread.{entry}
+use Rattle.tso_terms.specs.Examples.{loc_x}
+use Rattle.tso_terms.specs.SplitMachine.{Attempt}
 use Rattle.basic_laws.specs.Types.{Eax, StoreImm, Xadd, Entry, W, LR, LW}
 use Rattle.tso_laws.specs.WorkedSplitRuns.{added_beside, alone, hitting, missing, one}
 

@@ -1,7 +1,7 @@
 -- What is printed of searches.
 use Rattle.std.specs.Prelude.{ℕ, List, codes}
 use Rattle.serde_json.specs.Data.{Data, member, no_members, object, string}
-use Rattle.tso_model.specs.Litmus.{Litmus}
+use Rattle.tso_terms.specs.Litmus.{Litmus}
 use Rattle.tso_report.specs.Json.{count}
 
 -- a search that met its limit: the test, and under this key how many of them it was

@@ -1,6 +1,6 @@
 -- The members of a report that the caches have no part in: two machines on the atomic bus have these alike.
 use Rattle.serde_json.specs.Data.{string}
-use Rattle.tso_model.specs.Litmus.{Litmus}
+use Rattle.tso_terms.specs.Litmus.{Litmus}
 use Rattle.tso_report.specs.Shown.{ShownRun}
 use Rattle.tso_report.specs.Json.{choices_value, condition_value, memory_value, order_value, cores_value}
 use Rattle.tso_report.specs.JsonFrame.{OtherMembers}

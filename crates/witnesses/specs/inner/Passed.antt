@@ -1,9 +1,9 @@
 -- Counting the plain stores of a list, by their core and their place in its program: as the walk over an order that finds
 -- the needed depth keeps them.
 use Rattle.std.specs.Prelude.{ℕ, ◌≡◌, ◌<◌, ◌≤◌, ◌==◌, ◌&&◌, nat_lt, List, take, filter, length, sum, slice_index_or, []}
-use Rattle.tso_model.specs.Limits.{most_instructions}
-use Rattle.tso_model.specs.ProgramOrder.{is_store}
-use Rattle.tso_model.specs.declared.execution.Entry.{Entry}
+use Rattle.tso_terms.specs.Limits.{most_instructions}
+use Rattle.tso_terms.specs.ProgramOrder.{is_store}
+use Rattle.tso_terms.specs.declared.execution.Entry.{Entry}
 
 -- how many plain stores of a core stand before this place of its program
 abbrev pub stores_below : ℕ → ℕ → List Entry → ℕ

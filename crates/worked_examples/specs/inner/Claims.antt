@@ -4,7 +4,7 @@
 --   Memory x=3 y=4
 use Rattle.std.specs.Prelude.{Bool, true, false, [], ◌∷◌}
 use Rattle.worked_examples.specs.Vocabulary.{AndClaim, Claim, LocClaim, NotClaim, OrClaim, RegClaim, truth_of, TruthClaim}
-use Rattle.tso_model.specs.declared.register.Reg.TheVariants.{Ecx, Esi}
+use Rattle.tso_terms.specs.declared.register.Reg.TheVariants.{Ecx, Esi}
 use Rattle.worked_examples.specs.Written.{six}
 
 -- whether a proposition is true in that state

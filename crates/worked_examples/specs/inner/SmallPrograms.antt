@@ -1,7 +1,7 @@
 -- The examples of one choice of one core.
 use Rattle.std.specs.Prelude.{ℕ, List, [], ◌∷◌}
 use Rattle.worked_examples.specs.Vocabulary.{run}
-use Rattle.tso_model.specs.MemoryAccess.{MemoryAccess, access_of}
+use Rattle.tso_terms.specs.MemoryAccess.{MemoryAccess, access_of}
 use Rattle.basic_laws.specs.Types.{Ebx, Instr, StoreImm, Load, Choice}
 use Rattle.worked_examples.specs.Written.{loc_x, loc_y, step, drain}
 use Rattle.worked_examples.specs.SmallPrograms.{alone}

@@ -1,5 +1,5 @@
 use Rattle.std.proofs.Common.{◌≤◌, refl, subst}
-use Rattle.tso_model.specs.ProgramEntries.{made_from}
+use Rattle.tso_terms.specs.ProgramEntries.{made_from}
 use Rattle.execution_check.proofs.Growing.{all-made}
 use Rattle.execution_check.proofs.final_state.entries_made.Goals as goal
 

@@ -1,5 +1,5 @@
 use Rattle.std.proofs.Common.{◌≡◌, ◌++◌, drop}
-use Rattle.tso_model.specs.ProgramEntries.{made, made_from}
+use Rattle.tso_terms.specs.ProgramEntries.{made, made_from}
 use Rattle.execution_check.proofs.final_state.entries_made.Given as goal
 
 abbrev pub invariant-loop-number : goal.invariant-loop-number

@@ -1,5 +1,5 @@
 use Rattle.std.proofs.Common.{◌≡◌, drop}
-use Rattle.tso_model.specs.ProgramEntries.{read_value}
+use Rattle.tso_terms.specs.ProgramEntries.{read_value}
 use Rattle.execution_check.proofs.final_state.read_value.Given as goal
 
 abbrev pub invariant-loop-e : goal.invariant-loop-e

@@ -1,5 +1,5 @@
 use Rattle.std.proofs.Common.{refl, ap, ◌∙◌}
-use Rattle.tso_model.specs.ProgramEntries.{read_values}
+use Rattle.tso_terms.specs.ProgramEntries.{read_values}
 use Rattle.execution_check.proofs.Growing.{all-made}
 use Rattle.execution_check.proofs.final_state.read_values.Goals as goal
 

@@ -1,5 +1,5 @@
 use Rattle.std.proofs.Common.{◌≡◌, ◌++◌, drop}
-use Rattle.tso_model.specs.ProgramEntries.{read_values}
+use Rattle.tso_terms.specs.ProgramEntries.{read_values}
 use Rattle.execution_check.proofs.final_state.read_values.Given as goal
 
 -- what is done and what is left are the whole

@@ -1,5 +1,5 @@
 use Rattle.std.proofs.Common.{◌≤◌, refl, subst}
-use Rattle.tso_model.specs.FinalState.{registers_from}
+use Rattle.tso_terms.specs.FinalState.{registers_from}
 use Rattle.execution_check.proofs.Growing.{all-made}
 use Rattle.execution_check.proofs.final_state.registers_left.Goals as goal
 

@@ -1,5 +1,5 @@
 use Rattle.std.proofs.Common.{◌≡◌, ◌++◌, drop}
-use Rattle.tso_model.specs.FinalState.{registers_from}
+use Rattle.tso_terms.specs.FinalState.{registers_from}
 use Rattle.execution_check.proofs.final_state.registers_left.Given as goal
 
 abbrev pub invariant-loop-number : goal.invariant-loop-number

@@ -1,5 +1,5 @@
 use Rattle.std.proofs.Common.{◌≡◌, drop}
-use Rattle.tso_model.specs.FinalState.{word_after}
+use Rattle.tso_terms.specs.FinalState.{word_after}
 use Rattle.execution_check.proofs.final_state.word_left.Given as goal
 
 abbrev pub invariant-loop-e : goal.invariant-loop-e

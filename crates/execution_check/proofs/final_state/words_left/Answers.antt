@@ -1,5 +1,5 @@
 use Rattle.std.proofs.Common.{refl, ap, ◌∙◌}
-use Rattle.tso_model.specs.FinalState.{words_from}
+use Rattle.tso_terms.specs.FinalState.{words_from}
 use Rattle.execution_check.proofs.Growing.{all-made}
 use Rattle.execution_check.proofs.final_state.words_left.Goals as goal
 

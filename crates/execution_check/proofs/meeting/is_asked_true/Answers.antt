@@ -1,5 +1,5 @@
 use Rattle.std.proofs.Common.{length, sym, subst}
-use Rattle.tso_model.specs.Condition.{NamesExist, claim_of}
+use Rattle.tso_terms.specs.Condition.{NamesExist, claim_of}
 use Rattle.refutations.proofs.Asked.{condition-names}
 use Rattle.execution_check.proofs.meeting.is_asked_true.Goals as goal
 

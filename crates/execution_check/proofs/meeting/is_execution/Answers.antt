@@ -1,6 +1,6 @@
 use Rattle.std.proofs.Common.{◌↔◌, IfOk, IsTrue, ap, sym, ◌∙◌, subst}
 use Rattle.std.proofs.lemmas.Result.{IfOk-weaker}
-use Rattle.tso_model.specs.Axioms.{IsTsoExecution}
+use Rattle.tso_terms.specs.Axioms.{IsTsoExecution}
 use Rattle.refutation_laws.specs.Models.{IsExecutionOf}
 use Rattle.execution_check.specs.inner.Orders.{keeps}
 use Rattle.execution_check.proofs.Keeping.{keeps_all}

@@ -1,5 +1,5 @@
 use Rattle.explorer.proofs.Vocabulary.{◌≡◌, true, state_of_snapshot, set_of, ArePicksApart}
-use Rattle.tso_model.specs.declared.choice.Choice.{Choice}
+use Rattle.tso_terms.specs.declared.choice.Choice.{Choice}
 use Rattle.tso_laws.specs.Stubborn.{has_choice}
 use Rattle.explorer.proofs.stubborn.is_stubborn.Given as goal
 

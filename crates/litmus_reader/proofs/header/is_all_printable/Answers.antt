@@ -1,5 +1,5 @@
 use Rattle.litmus_reader.proofs.Vocabulary.{sym, ◌∙◌, true}
-use Rattle.tso_model.specs.Names.{is_printable}
+use Rattle.tso_terms.specs.Names.{is_printable}
 use Rattle.litmus_reader.proofs.Scans.{all_on, all_ends}
 use Rattle.litmus_reader.proofs.header.is_all_printable.Goals as goal
 

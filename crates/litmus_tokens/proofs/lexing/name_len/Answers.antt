@@ -1,6 +1,6 @@
 use Rattle.std.proofs.Common.{sym, ◌∙◌, arith}
 use Rattle.litmus_tokens.proofs.Prefixes.{prefix_begins, prefix_on, prefix_is, prefix_all}
-use Rattle.tso_model.specs.Names as names
+use Rattle.tso_terms.specs.Names as names
 use Rattle.litmus_tokens.proofs.lexing.name_len.Goals as goal
 
 pub loop-at-init : goal.loop-at-init

@@ -1,6 +1,6 @@
 use Rattle.std.proofs.Common.{◌≡◌, ◌<◌, ◌+◌, drop}
 use Rattle.std.specs.List.{prefix_len}
-use Rattle.tso_model.specs.Names as names
+use Rattle.tso_terms.specs.Names as names
 use Rattle.litmus_tokens.proofs.lexing.name_len.Given as goal
 
 abbrev pub invariant-loop-at : goal.invariant-loop-at

@@ -1,5 +1,5 @@
 use Rattle.machine_runs.proofs.Vocabulary.{arith, ◌≡◌, ◌+◌, List, length, refl, false, sym, ap, subst, ◌∙◌, has_ended, stall_count, CoresExist, Choice, machine_effect}
-use Rattle.tso_model.specs.declared.choice.Outcome.TheVariants.{Stalled}
+use Rattle.tso_terms.specs.declared.choice.Outcome.TheVariants.{Stalled}
 use Rattle.machine_runs.specs.inner.Observed.{Watched, none_left, over}
 use Rattle.machine_runs.proofs.DriveLemmas.{Laws, SoFar, at-first, one-more, watched-more, driven-to-end, driven-through, no-stall, still-going}
 use Rattle.machine_runs.proofs.driving.drive_machine.Goals as goal

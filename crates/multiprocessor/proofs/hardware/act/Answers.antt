@@ -1,5 +1,5 @@
 use Rattle.multiprocessor.proofs.Vocabulary.{◌≡◌, ap, sym, length, ◌∙◌, refl, subst, slice_get, None, Some, Ok, program_of, stalled, NoAccess, step_access, drain_access, Step, Drain, Stalled, words_of, Unused, core_state, pending_in, own_access, step_by, effect_of_drain, SucceedsUnlessCommitting, KnownLocation, action_of}
-use Rattle.tso_model.specs.declared.choice.Stall.TheVariants as stall
+use Rattle.tso_terms.specs.declared.choice.Stall.TheVariants as stall
 use Rattle.multiprocessor.proofs.ActedLemmas.{acts-stalls}
 use Rattle.multiprocessor.proofs.ChoiceEffects.{access_of-step, access_of-done, access_of-drain, effect_in-step, effect_in-done, effect_in-drain, may-make, whole-done, IfOk-Makes, PartsFitTest-next, IsCore-at, within-cores}
 use Rattle.multiprocessor.proofs.Finishing.{All-got}

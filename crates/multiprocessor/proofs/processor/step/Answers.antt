@@ -1,6 +1,6 @@
 use Rattle.multiprocessor.proofs.Vocabulary.{refl, sym, ap, ◌∙◌, words_of, Fence, Lock}
 use Rattle.multiprocessor.proofs.Stepping.{access-store, access-load, access-lock, known-store, acts-store, acts-load, acts-set, acts-fence, acts-lock, succeeds-store, succeeds-load, succeeds-by}
-use Rattle.tso_model.specs.declared.choice.Outcome.TheVariants.{Moved}
+use Rattle.tso_terms.specs.declared.choice.Outcome.TheVariants.{Moved}
 use Rattle.multiprocessor.proofs.processor.step.Goals as goal
 
 pub store-requires-clause-access : goal.store-requires-clause-access

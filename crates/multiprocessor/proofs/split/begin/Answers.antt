@@ -1,5 +1,5 @@
 use Rattle.multiprocessor.proofs.Vocabulary.{◌≡◌, ◌∙◌, refl, None, Some, Unused, Used, caches_of, not_through, ask_by, hits_by, sym, ap, subst, IfOk, false, true, chosen, core_of, stalled, words_of, state_of_cores, Complete, state_in, held_as, holder_by, memory_access_in, SucceedsUnlessCommitting, HasMade}
-use Rattle.tso_model.specs.declared.choice.Stall.TheVariants as stall
+use Rattle.tso_terms.specs.declared.choice.Stall.TheVariants as stall
 use Rattle.multiprocessor.proofs.Splitting.{needs-none, needs-some, needed-at, needed-among, needed-misses, asked-caches, needs-is, may-act, begins-acts, begins-asks, asks-taken, asks-hold, held-with, held-next, held-ask, fits-ask, fits-by, performs-stall, use-rests, performs-ask, use-ask}
 use Rattle.snoop_bus.specs.Held as bus
 use Rattle.multiprocessor.specs.Caches.{would_hit}

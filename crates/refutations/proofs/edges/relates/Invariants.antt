@@ -1,6 +1,6 @@
 use Rattle.refutations.proofs.Vocabulary.{◌≡◌, ◌&&◌, drop, list_any, Entry}
-use Rattle.tso_model.specs.declared.execution.Kind.TheVariants.{F}
-use Rattle.tso_model.specs.ProgramOrder.{same_kind, is_before}
+use Rattle.tso_terms.specs.declared.execution.Kind.TheVariants.{F}
+use Rattle.tso_terms.specs.ProgramOrder.{same_kind, is_before}
 use Rattle.refutations.proofs.edges.relates.Given as goal
 
 abbrev pub invariant-loop-f : goal.invariant-loop-f

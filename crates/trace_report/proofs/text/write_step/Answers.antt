@@ -1,5 +1,5 @@
 use Rattle.std.proofs.lemmas.Result.{on_ok_weaker}
-use Rattle.tso_model.specs.FlatMachine.{chosen}
+use Rattle.tso_terms.specs.FlatMachine.{chosen}
 use Rattle.trace_report.specs.Lines.{outcome_text, done_text, bus_traffic_text, buffer_text}
 use Rattle.trace_report.specs.Shown.{shown_step}
 use Rattle.trace_report.proofs.Vocabulary.{◌∙◌, ◌++◌, ap, string_bytes, changes_text}

@@ -1,5 +1,5 @@
 use Rattle.std.proofs.Common.{◌≡◌, ◌≤◌, ◌+◌, drop}
-use Rattle.tso_model.specs.Thread.{reads_in}
+use Rattle.tso_terms.specs.Thread.{reads_in}
 use Rattle.tso_model.proofs.thread.read_count.Given as goal
 
 -- the reads of what is done and of what is left

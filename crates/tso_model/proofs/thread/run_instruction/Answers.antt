@@ -1,8 +1,8 @@
 use Rattle.std.proofs.Common.{[], ◌∷◌, ◌++◌, slice_index, append-nil, ap, sym, ◌∙◌, refl}
 use Rattle.std.proofs.lemmas.Result.{IfOk-from_err}
-use Rattle.tso_model.specs.Thread.{entry, updated, with_value}
-use Rattle.tso_model.specs.declared.action.Action.TheVariants.{Store, Load, Move, Fence, Lock}
-use Rattle.tso_model.specs.declared.execution.Kind.TheVariants.{W, LR, LW}
+use Rattle.tso_terms.specs.Thread.{entry, updated, with_value}
+use Rattle.tso_terms.specs.declared.action.Action.TheVariants.{Store, Load, Move, Fence, Lock}
+use Rattle.tso_terms.specs.declared.execution.Kind.TheVariants.{W, LR, LW}
 use Rattle.tso_model.proofs.ThreadLemmas.{entries-by, registers-by, with-register, values-behind, noted-twice}
 use Rattle.tso_model.proofs.thread.run_instruction.Goals as goal
 

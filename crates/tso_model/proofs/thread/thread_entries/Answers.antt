@@ -1,6 +1,6 @@
 use Rattle.std.proofs.Common.{◌+◌, [], ◌++◌, length, slice_index_or, ap, sym, ◌∙◌, refl}
 use Rattle.std.proofs.lemmas.Result.{IfOk-from_err}
-use Rattle.tso_model.specs.Thread.{entries_of, registers_after, reads_in}
+use Rattle.tso_terms.specs.Thread.{entries_of, registers_after, reads_in}
 use Rattle.tso_model.proofs.ThreadLemmas.{entries-more, registers-more, reads-here, reads-more, entries-all, registers-all}
 use Rattle.tso_model.proofs.thread.thread_entries.Goals as goal
 

@@ -1,5 +1,5 @@
 use Rattle.std.proofs.Common.{◌≡◌, ◌++◌, length, drop, slice_index_or, []}
-use Rattle.tso_model.specs.Thread.{entries_of, registers_after, reads_in}
+use Rattle.tso_terms.specs.Thread.{entries_of, registers_after, reads_in}
 use Rattle.tso_model.proofs.thread.thread_entries.Given as goal
 
 -- what is done and what is left make the whole thread

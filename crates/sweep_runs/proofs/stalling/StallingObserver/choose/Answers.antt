@@ -1,5 +1,5 @@
 use Rattle.sweep_runs.proofs.Vocabulary.{sym, subst, ap, ◌∙◌, Ok, Running}
-use Rattle.tso_model.specs.declared.choice.Outcome.{Outcome}
+use Rattle.tso_terms.specs.declared.choice.Outcome.{Outcome}
 use Rattle.sweep_runs.specs.declared.stalling.Stalling.{Stalling}
 use Rattle.sweep_runs.specs.inner.Stalling.{AllStall, Stalls}
 use Rattle.sweep_runs.proofs.StallsAgain.{none-noted, noted-stall}

@@ -1,5 +1,5 @@
 use Rattle.sweep_runs.proofs.Vocabulary.{ℕ, List, length, ap, sym, subst, ◌∙◌, refl, Litmus, Running, table_in, configuration_of, RunCounts, with_state_counted, with_verdict, values_in, machine_run, verdict, with_one_run, RunLaws, from-new, unfinished-is}
-use Rattle.tso_model.specs.Runs.{CoresExist}
+use Rattle.tso_terms.specs.Runs.{CoresExist}
 use Rattle.tso_laws.specs.BusChoices.{IsPossibleOn}
 use Rattle.sweep_runs.proofs.SweptRuns.{goes-back, as-before, counted-ended, counted-unfinished}
 use Rattle.sweep_runs.proofs.StallsAgain.{none-noted}

@@ -1,8 +1,0 @@
-use Rattle.std.proofs.Common.{◌≡◌, drop, map, string_bytes}
-use Rattle.std.specs.List.{list_all}
-use Rattle.tso_model.specs.Names as names
-use Rattle.tso_model.proofs.validity.names_fit.Given as goal
-
-abbrev pub invariant-loop-name : goal.invariant-loop-name
-invariant-loop-name l =
-    list_all names.is_location_name (map string_bytes l.locations) ≡ list_all names.is_location_name (map string_bytes (drop l.name-index l.locations))

@@ -1,6 +1,0 @@
-use Rattle.std.specs.List.{AllWithin}
-use Rattle.tso_model.specs.Litmus.{IsProgram}
-use Rattle.tso_model.proofs.validity.programs_fit.Given as goal
-
-abbrev pub invariant-loop-program : goal.invariant-loop-program
-invariant-loop-program l = AllWithin (λ program. IsProgram l.locations program.items) l.programs 0 l.program-index

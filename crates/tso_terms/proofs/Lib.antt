@@ -1,0 +1,2 @@
+pub mod LitmusLemmas
+pub mod ListLemmas
