@@ -1,12 +1,9 @@
 -- The walk over a core's program: what is done after one more instruction, and at the end.
-use Rattle.std.proofs.Common.{◌≡◌, ◌<◌, ◌≤◌, ℕ, ◌+◌, ◌-◌, suc, Bool, true, false, if◌then◌else◌, List, [], ◌∷◌, ◌++◌, length, get_or, slice_index, slice_set, take, drop, append-nil, append_assoc, arith, refl, sym, ap, ◌∙◌}
-use Rattle.std.proofs.lemmas.List.{at_drop_more, at_drop_all, take_all}
-use Rattle.tso_terms.specs.Registers.{index_of}
+use Rattle.std.proofs.Common.{◌≡◌, ◌<◌, ◌≤◌, ℕ, ◌+◌, suc, Bool, true, false, if◌then◌else◌, List, [], ◌∷◌, ◌++◌, length, get_or, drop, append-nil, arith, sym, ap, ◌∙◌}
+use Rattle.std.proofs.lemmas.List.{at_drop_more, at_drop_all}
 use Rattle.tso_terms.specs.Actions.{action_of}
-use Rattle.tso_terms.specs.Thread.{entries_of, registers_after, reads_in, is_reading, entries_by, registers_by, values_after, with_value}
-use Rattle.tso_terms.specs.declared.register.Reg.{Reg}
+use Rattle.tso_terms.specs.Thread.{entries_of, registers_after, reads_in, is_reading}
 use Rattle.tso_terms.specs.declared.instruction.Instr.{Instr}
-use Rattle.tso_terms.specs.declared.action.Action.{Action}
 use Rattle.tso_terms.specs.declared.execution.Entry.{Entry}
 
 one-by-one : (reads : Bool) (behind : ℕ) → (if reads then suc behind else behind) ≡ (if reads then 1 else 0) + behind
@@ -43,32 +40,3 @@ module _ (program : List Instr) (i : ℕ) (all : length program ≤ i) where
 
   pub registers-all : (registers values whole : List ℕ) → whole ≡ registers_after (drop i program) registers values → registers ≡ whole
   registers-all registers values whole so = sym (so ∙ at_drop_all (λ p. registers_after p registers values) program i all)
-
--- what one instruction does, once it is known which action it is
-module _ (core place : ℕ) (instr : Instr) (action : Action) (is : action_of instr ≡ action) (registers values later left : List ℕ)
-    (later_is : later ≡ registers_by action registers (slice_index values 0)) (left_is : left ≡ values_after action values) where
-  pub entries-by : (done after : List Entry) → after ≡ done ++ entries_by core place action registers (slice_index values 0)
-      → (rest : List Instr) → done ++ entries_of core place (instr ∷ rest) registers values ≡ after ++ entries_of core (place + 1) rest later left
-  entries-by done after after_is rest =
-      ap (λ a. done ++ (entries_by core place a registers (slice_index values 0) ++ entries_of core (place + 1) rest (registers_by a registers (slice_index values 0)) (values_after a values))) is
-      ∙ sym (append_assoc done (entries_by core place action registers (slice_index values 0)) _)
-      ∙ ap (λ es. es ++ entries_of core (place + 1) rest (registers_by action registers (slice_index values 0)) (values_after action values)) (sym after_is)
-      ∙ ap (λ r. after ++ entries_of core (place + 1) rest r (values_after action values)) (sym later_is) ∙ ap (λ vs. after ++ entries_of core (place + 1) rest later vs) (sym left_is)
-
-  pub registers-by : (rest : List Instr) → registers_after (instr ∷ rest) registers values ≡ registers_after rest later left
-  registers-by rest =
-      ap (λ a. registers_after rest (registers_by a registers (slice_index values 0)) (values_after a values)) is
-      ∙ ap (λ r. registers_after rest r (values_after action values)) (sym later_is) ∙ ap (λ vs. registers_after rest later vs) (sym left_is)
-
--- a register that was written, whose place in the array is known
-pub with-register : (registers before : List ℕ) (reg : Reg) (at word : ℕ) → at ≡ index_of reg → registers ≡ before → slice_set registers at word ≡ with_value before reg word
-with-register registers before reg at word at_is same = ap (λ i. slice_set registers i word) at_is ∙ ap (λ r. with_value r reg word) same
-
--- the values behind the first
-pub values-behind : (values : List ℕ) → take (length values - 1) (drop 1 values) ≡ drop 1 values
-values-behind [] = refl
-values-behind (v ∷ vs) = take_all (length (v ∷ vs) - 1) vs (omega arith)
-
--- both parts of a locked instruction
-pub noted-twice : (done once twice : List Entry) (first second : Entry) → once ≡ done ++ first ∷ [] → twice ≡ once ++ second ∷ [] → twice ≡ done ++ first ∷ (second ∷ [])
-noted-twice done once twice first second a b = b ∙ ap (λ es. es ++ second ∷ []) a ∙ append_assoc done (first ∷ []) (second ∷ [])

@@ -50,55 +50,51 @@ pub fn thread_entries(
     let mut place = 0;
     let mut left = reads;
     for instr in test.program(core) {
-        left = run_instruction(&mut thread, core, place, *instr, left)?;
+        run_instruction(&mut thread, core, place, *instr, &mut left)?;
         place += 1;
     }
     Ok(thread)
 }
 
-/// Adds what an instruction does, and hands back the values that are left for later reads.
-fn run_instruction<'a>(
+/// Adds what an instruction does, and takes from the reads' values what it reads.
+fn run_instruction(
     thread: &mut Thread,
     core: Core,
     place: u8,
     instr: Instr,
-    reads: &'a [u32],
-) -> Result<&'a [u32], NoMemory>
-    requires { reads_in (instr ∷ []) ≤ length reads.now }
-    ensures entries { IfOk result (λ left. (rest : List Instr)
-        → thread.old.entries.items ++ entries_of core.0 place (instr ∷ rest) thread.old.registers reads.now
-        ≡ thread.new.entries.items ++ entries_of core.0 (place + 1) rest thread.new.registers left.now) }
-    ensures registers { IfOk result (λ left. (rest : List Instr)
-        → registers_after (instr ∷ rest) thread.old.registers reads.now ≡ registers_after rest thread.new.registers left.now) }
-    ensures left { IfOk result (λ left. length left.now + reads_in (instr ∷ []) ≡ length reads.now) }
+    reads: &mut &[u32],
+) -> Result<(), NoMemory>
+    requires { reads_in (instr ∷ []) ≤ length reads.now.now }
+    ensures entries { IfOk result (λ _. (rest : List Instr)
+        → thread.old.entries.items ++ entries_of core.0 place (instr ∷ rest) thread.old.registers reads.old.now
+        ≡ thread.new.entries.items ++ entries_of core.0 (place + 1) rest thread.new.registers reads.new.now) }
+    ensures registers { IfOk result (λ _. (rest : List Instr)
+        → registers_after (instr ∷ rest) thread.old.registers reads.old.now ≡ registers_after rest thread.new.registers reads.new.now) }
+    ensures left { IfOk result (λ _. length reads.new.now + reads_in (instr ∷ []) ≡ length reads.old.now) }
 {
     match instr.action() {
         Action::Store(loc, operand) => {
             let value = operand.value(&thread.registers);
-            note(thread, core, place, Kind::W, loc, value)?;
-            Ok(reads)
+            note(thread, core, place, Kind::W, loc, value)
         }
         Action::Load(reg, loc) => {
             let loaded = reads[0];
-            note(thread, core, place, Kind::R, loc, loaded)?;
+            *reads = &reads[1..];
             thread.registers[reg.index()] = loaded;
-            Ok(&reads[1..])
+            note(thread, core, place, Kind::R, loc, loaded)
         }
         Action::Move(reg, operand) => {
             thread.registers[reg.index()] = operand.value(&thread.registers);
-            Ok(reads)
+            Ok(())
         }
-        Action::Fence => {
-            note(thread, core, place, Kind::F, Loc(0), 0)?;
-            Ok(reads)
-        }
+        Action::Fence => note(thread, core, place, Kind::F, Loc(0), 0),
         Action::Lock(loc, reg, update) => {
             let word = reads[0];
+            *reads = &reads[1..];
             let written = update.apply(word, thread.registers[reg.index()]);
-            note(thread, core, place, Kind::LR, loc, word)?;
-            note(thread, core, place, Kind::LW, loc, written)?;
             thread.registers[reg.index()] = word;
-            Ok(&reads[1..])
+            note(thread, core, place, Kind::LR, loc, word)?;
+            note(thread, core, place, Kind::LW, loc, written)
         }
     }
 }

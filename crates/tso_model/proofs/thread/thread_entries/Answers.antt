@@ -1,5 +1,4 @@
 use Rattle.std.proofs.Common.{◌+◌, [], ◌++◌, length, slice_index_or, ap, sym, ◌∙◌, refl}
-use Rattle.std.proofs.lemmas.Result.{IfOk-from_err}
 use Rattle.tso_terms.specs.Thread.{entries_of, registers_after, reads_in}
 use Rattle.tso_model.proofs.ThreadLemmas.{entries-more, registers-more, reads-here, reads-more, entries-all, registers-all}
 use Rattle.tso_model.proofs.thread.thread_entries.Goals as goal
@@ -18,22 +17,19 @@ loop-instr-init c =
 pub run_instruction-requires : goal.run_instruction-requires
 run_instruction-requires c = reads-here c.program-instr-items.result.now c.loop-instr.instr-index _ c.loop-instr-test.true (length c.loop-instr.left.now) c.loop-instr.invariant.reads
 
-pub returns-in_err-left : goal.returns-in_err-left
-returns-in_err-left c = record { entries = IfOk-from_err c.from_residual.result _ c.from_residual.ensures.0; registers = IfOk-from_err c.from_residual.result _ c.from_residual.ensures.0 }
-
 pub loop-instr-preserved : goal.loop-instr-preserved
 loop-instr-preserved c =
     let program = c.program-instr-items.result.now in
     let i = c.loop-instr.instr-index in
     let now = c.loop-instr.thread in
     let new = c.run_instruction.new.thread in
-    let left = c.in_ok-left.left.now in
+    let left = c.run_instruction.new.reads.now in
     record {
       place = ap (λ n. n + 1) c.loop-instr.invariant.place;
-      reads = reads-more program i _ c.loop-instr-test.true (length c.loop-instr.left.now) (length left) c.in_ok-left.ensures.left c.loop-instr.invariant.reads;
+      reads = reads-more program i _ c.loop-instr-test.true (length c.loop-instr.left.now) (length left) c.in_ok-run_instruction.ensures.left c.loop-instr.invariant.reads;
       entries = entries-more program i _ c.loop-instr-test.true c.args.core.0 c.loop-instr.place now.registers c.loop-instr.left.now new.registers left
-          _ now.entries.items new.entries.items c.in_ok-left.ensures.entries c.loop-instr.invariant.entries;
-      registers = registers-more program i _ c.loop-instr-test.true now.registers c.loop-instr.left.now new.registers left _ c.in_ok-left.ensures.registers c.loop-instr.invariant.registers;
+          _ now.entries.items new.entries.items c.in_ok-run_instruction.ensures.entries c.loop-instr.invariant.entries;
+      registers = registers-more program i _ c.loop-instr-test.true now.registers c.loop-instr.left.now new.registers left _ c.in_ok-run_instruction.ensures.registers c.loop-instr.invariant.registers;
     }
 
 pub returns-clause-entries : goal.returns-clause-entries
