@@ -13,3 +13,15 @@ pub mod Snooped
 pub mod Unowned
 pub mod Stale
 pub mod Called
+pub mod Beginning
+pub mod ChoiceEffects
+pub mod Completions
+pub mod EitherBus
+pub mod LastWrites
+pub mod NextChoices
+pub mod Splitting
+pub mod StepCompletions
+pub mod TallyLemmas
+pub mod Undoing
+pub mod DoneCores
+pub mod Overwriting

@@ -1,6 +1,6 @@
 -- What a contract sees of a machine, part by part.
 use Rattle.machine_core.proofs.Vocabulary.{◌≡◌, ◌&&◌, ℕ, Bool, true, false, not, IsTrue, List, [], ◌++◌, Result, Ok, Err, IfOk, OnOk, OnErr, sym, ap, ◌∙◌, subst, Litmus, chosen, core_of, access_of, Free, Attempt, BusState, effect_on, after_on, HitFits, NoMemory, IsPossibleOn, Hardware, IsFree, IsHeldForAccess, held_as, state_in, ChoiceAnswer, HasEffect, attempt_in, effect_in, Bus, Entry, Choice, attempt_of, is_awaited, used_between, use_of, Running, Statistics, statistics_with, statistics_after}
-use Rattle.multiprocessor.proofs.Splitting.{used-same}
+use Rattle.machine_core.proofs.Splitting.{used-same}
 
 pub Running-same : (now : Running) (t : Litmus) (bus bus' : Bus) (d d' : ℕ) (s s' : BusState) (xs xs' : List Entry) (n n' : Statistics) (f f' : Bool)
     → record { test = t; bus = bus; depth = d; state = s; commits = xs; statistics = n; failed = f } ≡ now → bus' ≡ bus → d' ≡ d → s' ≡ s → xs' ≡ xs → n' ≡ n → f' ≡ f

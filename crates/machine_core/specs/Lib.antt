@@ -5,6 +5,10 @@ pub mod Looking
 pub mod Hits
 pub mod Owners
 pub mod Uses
+pub mod Keeping
+pub mod Effects
+pub mod Split
+pub mod OneChoice
 pub mod inner
 pub use Rattle.tso_terms.specs.FlatMachine
 pub use Rattle.tso_terms.specs.Runs

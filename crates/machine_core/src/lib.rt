@@ -7,15 +7,18 @@
 #![tactic(auto)]
 
 pub mod bus_laws;
+mod completing;
+pub mod ending;
+mod hardware;
 pub mod looking;
 pub mod machine;
 mod restarting;
+mod split;
 pub mod worked;
 
+pub use ending::FinalState;
 pub use looking::BusHolder;
 pub use machine::{Final, Machine};
-pub use multiprocessor::{
-    CacheUse, Config, Counts, FinalState, MemoryAccess, accesses, config, counts, ending,
-};
+pub use multiprocessor::{CacheUse, Config, Counts, MemoryAccess, accesses, config, counts};
 pub use snoop_bus::{CachedLine, Shape};
 pub use tso_terms::{Bus, Choice, Outcome, Stall};

@@ -12,8 +12,9 @@ ghost use Rattle.snoop_bus.specs.Asks.{tag_at, awaited_by};
 ghost use Rattle.multiprocessor.specs.inner.Keeping.{memory_access_in};
 
 use crate::machine::Machine;
+use crate::split::access_of;
 use multiprocessor::accesses::Next;
-use multiprocessor::{MemoryAccess, Processor, access_of};
+use multiprocessor::{MemoryAccess, Processor};
 use protocol_tables::{Protocol, State, Transient};
 use snoop_bus::{CachedLine, Transaction};
 use tso_terms::{Choice, Core, Entry, Loc, Reg};

@@ -9,11 +9,11 @@ ghost use Rattle.machine_core.specs.Running.{new_machine, restarted, machine_eff
 ghost use Rattle.machine_core.specs.inner.Running.{is_ended};
 ghost use Rattle.machine_core.specs.inner.Running.{IsAloneBetween, HasFailed};
 
+use crate::ending::{FinalState, final_state};
+use crate::hardware::{Hardware, are_done, begin, make_choice};
 use crate::restarting::restart;
 use commit_order::build;
-use multiprocessor::ending::final_state;
-use multiprocessor::hardware::{are_done, begin, make_choice};
-use multiprocessor::{CacheUse, Config, Counts, FinalState, Hardware};
+use multiprocessor::{CacheUse, Config, Counts};
 use protocol_tables::Protocol;
 use std::alloc::Global;
 use std::marker::Model;

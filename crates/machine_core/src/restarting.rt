@@ -6,11 +6,13 @@ ghost use Rattle.tso_terms.specs.FlatMachine.{started};
 ghost use Rattle.snoop_bus.specs.Rows.{table_of_rows};
 ghost use Rattle.multiprocessor.specs.Cores.{core_states};
 ghost use Rattle.multiprocessor.specs.Statistics.{no_counts, no_statistics};
-ghost use Rattle.multiprocessor.specs.Keeping.{IsCore, HardwareFitsTest};
-ghost use Rattle.multiprocessor.specs.inner.Keeping.{statistics_in};
-ghost use Rattle.multiprocessor.specs.inner.OneChoice.{AreAtStart};
+ghost use Rattle.multiprocessor.specs.Keeping.{IsCore};
+ghost use Rattle.machine_core.specs.Keeping.{HardwareFitsTest};
+ghost use Rattle.machine_core.specs.inner.Keeping.{statistics_in};
+ghost use Rattle.machine_core.specs.inner.OneChoice.{AreAtStart};
 
-use multiprocessor::{Counts, Hardware, Processor};
+use crate::hardware::Hardware;
+use multiprocessor::{Counts, Processor};
 use protocol_tables::Protocol;
 use tso_terms::{Core, Test};
 

@@ -6,8 +6,6 @@ pub mod Answered
 pub mod Cores
 pub mod Keeping
 pub mod Effects
-pub mod Split
-pub mod OneChoice
 pub mod inner
 pub use Rattle.tso_terms.specs.FlatMachine
 pub use Rattle.tso_terms.specs.Runs

@@ -1,14 +1,13 @@
 -- The words of the crates below that the definitions of this crate use, in one place: each file takes its own from here.
-pub use Rattle.tso_terms.specs.EitherBus.{after_on, BusState, effect_on, HitFits, unheld}
+pub use Rattle.tso_terms.specs.EitherBus.{after_on, BusState, effect_on, unheld}
 pub use Rattle.tso_terms.specs.FlatMachine.{applied, chosen, core_of, CoreState, drain_of, Effect, effect_by, effect_of, fenced, memory_after, start, State, stored}
 pub use Rattle.tso_terms.specs.Limits.{most_cores, most_depth, most_instructions}
 pub use Rattle.tso_terms.specs.Litmus.{IsTest, Litmus}
 pub use Rattle.tso_terms.specs.MemoryAccess.{access_by, access_of, Locks, MemoryAccess, NoAccess, Reads, Writes}
 pub use Rattle.tso_terms.specs.ProgramOrder.{writes_to}
 pub use Rattle.tso_terms.specs.Runs.{has_ended}
-pub use Rattle.tso_terms.specs.SplitMachine.{acts, Attempt, begins, BusEffect, completes, Free, HeldBetween, HeldBy, Holder, needs_bus, same_choice, split_effect, writes_last}
-pub use Rattle.tso_terms.specs.Thread.{entry, updated, value_in}
-pub use Rattle.tso_terms.specs.declared.action.Action.TheVariants.{Lock}
+pub use Rattle.tso_terms.specs.SplitMachine.{Attempt, BusEffect, Free, HeldBetween, HeldBy, Holder, needs_bus}
+pub use Rattle.tso_terms.specs.Thread.{entry}
 pub use Rattle.store_buffer.specs.Stores.{Stores}
 pub use Rattle.store_buffer.specs.declared.Pending.{Pending}
 pub use Rattle.store_buffer.specs.inner.Stores.{stores}

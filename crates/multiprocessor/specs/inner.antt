@@ -4,7 +4,5 @@ pub mod Buffers
 pub mod Caches
 pub mod Cores
 pub mod Keeping
-pub mod OneChoice
 pub mod Effects
-pub mod Split
 pub mod Turns

@@ -5,11 +5,6 @@
 //! holder's access, and not its instruction: that a locked instruction has its store part still to do, and with which
 //! entry, is kept here.
 
-ghost use Rattle.std.specs.Prelude.{◌≡◌};
-ghost use Rattle.multiprocessor.specs.Keeping.{next_in};
-
-use crate::hardware::Hardware;
-use protocol_tables::Protocol;
 use snoop_bus::Access;
 use tso_terms::{Choice, Entry, Loc};
 
@@ -42,14 +37,4 @@ pub enum Next {
     Complete(Choice),
     /// A locked instruction, of which this is the load part, writes.
     Write(Entry),
-}
-
-/// What the action that holds the bus goes on with; `None` where nobody holds it.
-pub fn next_of<P: Protocol>(hardware: &Hardware<P>) -> Option<Next>
-    ensures { result ≡ next_in hardware.now }
-{
-    match hardware.bus.who_holds() {
-        None => None,
-        Some(_) => Some(hardware.next),
-    }
 }

@@ -65,7 +65,7 @@ impl Config {
     }
 
     /// The shape of a core's cache.
-    pub(crate) fn shape(self) -> Shape
+    pub fn shape(self) -> Shape
         ensures { result ≡ self.shape }
     {
         self.shape

@@ -8,6 +8,7 @@ use store_buffer::Pending;
 use tso_terms::{Core, Entry, Kind, Loc};
 
 /// The entry of this kind that a core commits at this place of its program.
+#[inline(always)]
 pub fn entry(core: Core, place: u8, kind: Kind, loc: Loc, value: u32) -> Entry
     ensures { result ≡ entry core.0 place kind loc value }
 {
@@ -21,6 +22,7 @@ pub fn entry(core: Core, place: u8, kind: Kind, loc: Loc, value: u32) -> Entry
 }
 
 /// The entry that a pending store of a core commits when it goes to memory.
+#[inline(always)]
 pub fn store_entry(core: Core, store: Pending) -> Entry
     ensures { result ≡ store_of core.0 store }
 {

@@ -1,28 +1,22 @@
-//! What a machine is made of: cores with store buffers and caches on one snooping bus, and what one choice does to them.
+//! The cores of a machine, with store buffers and caches on one snooping bus: what a step or a drain of one core does, and
+//! what is counted of it.
 //!
-//! A choice does what it does on the machine of `tso_terms`, on either bus. Callers see the cores, who holds the bus, what
-//! was committed, and what the accesses of each core's cache were. The test is handed to each call, and so is what a choice
-//! needs: that the hardware is of this test.
+//! A core does what it does on the machine of `tso_terms`. Its access of the bus is whole, or completes what was asked for on
+//! a split bus. Callers see the core, the bus, what was committed, and what the access of the core's cache was.
 #![tactic(auto)]
 
 pub mod accesses;
-mod completing;
 pub mod config;
 pub mod counts;
-pub mod ending;
-mod entries;
-pub mod hardware;
-mod locked;
+pub mod entries;
+pub mod locked;
+pub mod memory;
 pub mod pending_stores;
 pub mod processor;
-mod split;
-mod turn;
+pub mod turn;
 
 pub use accesses::{CacheUse, MemoryAccess};
 pub use config::Config;
 pub use counts::Counts;
-pub use ending::FinalState;
-pub use hardware::Hardware;
 pub use pending_stores::PendingStores;
 pub use processor::Processor;
-pub use split::access_of;

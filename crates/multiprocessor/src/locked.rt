@@ -1,21 +1,26 @@
 //! A locked instruction made whole: its word is read and written at one choice, with nothing between. It waits until its
-//! core's store buffer is empty; else its own older stores would come after it in memory order. (x86-TSO, section 3;
-//! Primer, chapter 4.)
-ghost use Rattle.std.specs.Prelude.{◌≡◌, ◌<◌, IfOk, OnErr};
+//! core's store buffer is empty; else its own older stores would come after it in memory order. Of one that has asked for a
+//! split bus the load part comes first, and keeps the bus: freed between the two parts, it would let another core's write in.
+//! (x86-TSO, section 3; Primer, chapters 4 and 7.)
+ghost use Rattle.std.specs.Prelude.{◌≡◌, ◌<◌, Some, IfOk, OnOk, OnErr};
 ghost use Rattle.tso_terms.specs.Limits.{most_instructions};
 ghost use Rattle.tso_terms.specs.MemoryAccess.{locked_access};
-ghost use Rattle.snoop_bus.specs.Bus.{words_of};
-ghost use Rattle.multiprocessor.specs.inner.Cores.{pending_in, effect_of_lock};
+ghost use Rattle.snoop_bus.specs.Bus.{words_of, holder_of, IsSameMachine};
+ghost use Rattle.snoop_bus.specs.Held.{holder};
+ghost use Rattle.multiprocessor.specs.Caches.{caches_of, completion_by};
+ghost use Rattle.multiprocessor.specs.Effects.{HasUsed};
+ghost use Rattle.multiprocessor.specs.inner.Cores.{pending_in, effect_of_lock, first_read};
 ghost use Rattle.multiprocessor.specs.inner.Effects.{MayAccess};
 ghost use Rattle.multiprocessor.specs.inner.Turns.{whole};
-ghost use Rattle.multiprocessor.specs.inner.OneCore.{Acts, SucceedsUnlessCommitting, AreUnchanged, HasSameSizes};
+ghost use Rattle.multiprocessor.specs.inner.OneCore.{Acts, SucceedsUnlessCommitting, AreUnchanged, HasSameSizes, Notes};
 
-use crate::accesses::CacheUse;
+use crate::accesses::{CacheUse, Next};
 use crate::entries::entry;
 use crate::processor::{Processor, advance};
 use commit_order::Commits;
 use protocol_tables::Protocol;
-use snoop_bus::SnoopBus;
+use snoop_bus::holding::Stage;
+use snoop_bus::{Access, SnoopBus};
 use tso_terms::{Core, Kind, Loc, NoMemory, Outcome, Reg, Stall, Update};
 
 /// A locked instruction: the location that it reads and writes, its register, and what it makes of the word.
@@ -60,4 +65,33 @@ pub fn read_and_write<P: Protocol>(
     commits.note(store_part).unwrap();
     advance(processor, reg, updated.before);
     Ok((Outcome::Committed, CacheUse::Through(updated.access)))
+}
+
+/// The load part of a locked instruction that has asked for the bus. It is committed, and the holder goes on with the store part.
+///
+/// Errors: out of memory only; nothing is changed then.
+pub fn read_first<P: Protocol>(
+    core: Core,
+    place: u8,
+    loc: Loc,
+    bus: &mut SnoopBus<P>,
+    commits: &mut Commits,
+) -> Result<(Next, Access), NoMemory>
+    requires holds { holder_of bus.old ≡ Some (holder core loc Stage.Write) }
+
+    ensures next { IfOk result (λ r. r.0 ≡ Next.Write (first_read core.0 place loc bus.old)) }
+    ensures used { IfOk result (λ r. HasUsed (completion_by (caches_of bus.old) core.0 loc.0) bus.new (CacheUse.Through r.1)) }
+    ensures commits { OnOk result (Notes commits.old commits.new (first_read core.0 place loc bus.old)) }
+    ensures holds { OnOk result (holder_of bus.new ≡ Some (holder core loc Stage.Locked)) }
+    ensures words { words_of bus.new ≡ words_of bus.old }
+    ensures machine { IsSameMachine bus.old bus.new }
+    ensures err_bus { OnErr result (bus.new ≡ bus.old) }
+    ensures err_commits { OnErr result (commits.new.entries ≡ commits.old.entries) }
+{
+    commits.make_room(1)?;
+    let (value, access) = bus.complete_read(core, loc)?;
+    // There is room for the entry.
+    let read = entry(core, place, Kind::LR, loc, value);
+    commits.note(read).unwrap();
+    Ok((Next::Write(read), access))
 }

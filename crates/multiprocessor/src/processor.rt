@@ -84,7 +84,7 @@ impl Processor {
 ///
 /// Errors: out of memory only; nothing is changed then.
 #[inline(always)]
-pub(crate) fn step<P: Protocol>(
+pub fn step<P: Protocol>(
     processor: &mut Processor,
     turn: Turn,
     instr: Instr,
@@ -264,7 +264,8 @@ fn fence(
 }
 
 /// The core goes on to its next instruction, with this value in the register.
-pub(crate) fn advance(processor: &mut Processor, reg: Reg, value: u32)
+#[inline(always)]
+pub fn advance(processor: &mut Processor, reg: Reg, value: u32)
     requires { processor.old.place < most_instructions }
     ensures { processor.new ≡ at_next processor.old (with_value processor.old.registers reg value) }
 {
@@ -276,7 +277,7 @@ pub(crate) fn advance(processor: &mut Processor, reg: Reg, value: u32)
 ///
 /// Errors: out of memory only; nothing is changed then.
 #[inline(always)]
-pub(crate) fn drain<P: Protocol>(
+pub fn drain<P: Protocol>(
     processor: &mut Processor,
     turn: Turn,
     bus: &mut SnoopBus<P>,

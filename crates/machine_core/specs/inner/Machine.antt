@@ -3,10 +3,11 @@
 use Rattle.std.specs.Prelude.{Bool}
 use Rattle.machine_core.specs.Vocabulary.{Litmus}
 use Rattle.tso_laws.specs.BusChoices.{IsPossibleOn}
-use Rattle.multiprocessor.specs.declared.hardware.Hardware.{Hardware}
+use Rattle.machine_core.specs.declared.hardware.Hardware.{Hardware}
 use Rattle.machine_core.specs.Running.{Running}
-use Rattle.multiprocessor.specs.Keeping.{HardwareFitsTest, IsHeldForAccess, state_in}
-use Rattle.multiprocessor.specs.inner.Keeping.{IsTallied, statistics_in}
+use Rattle.machine_core.specs.Keeping.{HardwareFitsTest, IsHeldForAccess, state_in}
+use Rattle.multiprocessor.specs.inner.Keeping.{IsTallied}
+use Rattle.machine_core.specs.inner.Keeping.{statistics_in}
 
 -- what a contract sees of a machine of this test with this hardware, and whether memory was refused to it
 abbrev pub running_of : {P : Type 0} → Litmus → Hardware P → Bool → Running

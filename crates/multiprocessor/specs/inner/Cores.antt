@@ -55,6 +55,10 @@ seen_by core s memory loc = last_value (filter (writes_to loc.0) (buffered_entri
 abbrev pub word_on_bus : BusModel → Loc → ℕ
 word_on_bus b loc = slice_index (words_of b) loc.0
 
+-- the load part of a locked instruction, which reads that word
+abbrev pub first_read : ℕ → ℕ → Loc → BusModel → Entry
+first_read core place loc b = entry core place LR loc (word_on_bus b loc)
+
 -- both parts of a locked instruction that read this word and wrote this value
 abbrev pub both_parts : ℕ → ℕ → Loc → ℕ → ℕ → List Entry
 both_parts core place loc word value = entry core place LR loc word ∷ (entry core place LW loc value ∷ [])

@@ -1,15 +1,13 @@
--- What the hardware of a machine keeps from choice to choice, for counting: no count is larger than the number of instructions
--- that have made their accesses. So no counter can overflow.
+-- What a machine keeps from choice to choice, for counting: no count is larger than the number of instructions that have
+-- made their accesses. So no counter can overflow.
 use Rattle.std.specs.Prelude.{ℕ, ◌≡◌, ◌<◌, ◌≤◌, ◌+◌, ◌-◌, ◌*◌, length, All, Option, None, Some}
 use Rattle.std.specs.List.{sum_by}
 use Rattle.multiprocessor.specs.Vocabulary.{Awaited, BusState, CoreState, Free, HeldBetween, HeldBy, Holder, IsTest, Litmus, Locks, MemoryAccess, most_cores, most_instructions, NoAccess, Reads, Writes}
 use Rattle.tso_terms.specs.declared.instruction.Core.{Core}
-use Rattle.multiprocessor.specs.declared.hardware.Hardware.{Hardware}
 use Rattle.multiprocessor.specs.declared.accesses.CacheUse.{CacheUse}
 use Rattle.multiprocessor.specs.declared.accesses.CacheUse.TheVariants.{Unused, Forwarded, Through}
 use Rattle.multiprocessor.specs.declared.accesses.MemoryAccess as code
 use Rattle.multiprocessor.specs.declared.accesses.MemoryAccess.TheVariants.{Nothing, Read, Write, Lock}
-use Rattle.multiprocessor.specs.Caches.{caches_of}
 use Rattle.multiprocessor.specs.Statistics.{Statistics}
 use Rattle.multiprocessor.specs.Keeping.{IsAtMost}
 
@@ -64,7 +62,3 @@ memory_access_in Nothing = NoAccess
 memory_access_in (Read loc) = Reads loc
 memory_access_in (Write loc) = Writes loc
 memory_access_in (Lock loc) = Locks loc
-
--- the statistics so far
-abbrev pub statistics_in : {P : Type 0} → Hardware P → Statistics
-statistics_in m = record { caches = caches_of m.bus; counts = m.counts.items }

@@ -1,8 +1,8 @@
 use Rattle.machine_core.proofs.Vocabulary.{◌≡◌, arith, ap, ◌∙◌, sym, subst, rules, replicate, no_counts, length, All, with_items_is, words_of, holder_of, awaited_of, core_states, IsCore}
 use Rattle.std.specs.Vec.{vec_len}
-use Rattle.multiprocessor.proofs.Beginning.{begun-state, begun-statistics}
-use Rattle.multiprocessor.proofs.TallyLemmas.{tallied-first}
-use Rattle.multiprocessor.proofs.Splitting.{held-freed}
+use Rattle.machine_core.proofs.Beginning.{begun-state, begun-statistics}
+use Rattle.machine_core.proofs.TallyLemmas.{tallied-first}
+use Rattle.machine_core.proofs.Splitting.{held-freed}
 use Rattle.machine_core.proofs.restarting.restart.Goals as goal
 
 pub returns-clause-begun : goal.returns-clause-begun

@@ -1,6 +1,6 @@
 use Rattle.machine_core.proofs.Vocabulary.{◌≡◌, ◌<◌, length, slice_index_or, ap, ◌∙◌, subst, sym, All, arith, core_states, at_start, IsCore}
-use Rattle.multiprocessor.proofs.Overwriting.{written, written-next}
-use Rattle.multiprocessor.proofs.Beginning.{begun, started-begun, depth-begun}
+use Rattle.machine_core.proofs.Overwriting.{written, written-next}
+use Rattle.machine_core.proofs.Beginning.{begun, started-begun, depth-begun}
 use Rattle.machine_core.proofs.restarting.restart_cores.Goals as goal
 
 pub loop-core-preserved : goal.loop-core-preserved

@@ -1,6 +1,6 @@
 use Rattle.machine_core.proofs.Vocabulary.{◌≡◌}
-use Rattle.multiprocessor.proofs.Overwriting.{written}
-use Rattle.multiprocessor.proofs.Beginning.{begun}
+use Rattle.machine_core.proofs.Overwriting.{written}
+use Rattle.machine_core.proofs.Beginning.{begun}
 use Rattle.machine_core.proofs.restarting.restart_cores.Given as goal
 
 abbrev pub invariant-loop-core : goal.invariant-loop-core

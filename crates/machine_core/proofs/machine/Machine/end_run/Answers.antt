@@ -1,5 +1,5 @@
 use Rattle.machine_core.proofs.Vocabulary.{◌≡◌, [], false, IsTrue, IfOk, map, refl, ap, ◌∙◌, sym, subst, length, length-map, start, unheld, table_of_rows, restarted, is_ended, state_in, statistics_in, no_statistics}
-use Rattle.multiprocessor.proofs.Beginning.{possible-first}
+use Rattle.machine_core.proofs.Beginning.{possible-first}
 use Rattle.multiprocessor.proofs.CoreLemmas.{registers-core_states}
 use Rattle.machine_core.proofs.RunningLemmas.{Running-same, has-ended, free-bus, if-ok}
 use Rattle.machine_core.proofs.machine.Machine.end_run.Goals as goal

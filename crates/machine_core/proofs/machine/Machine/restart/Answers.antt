@@ -1,5 +1,5 @@
 use Rattle.machine_core.proofs.Vocabulary.{[], false, refl, ap, ◌∙◌, start, unheld, restarted, state_in, statistics_in}
-use Rattle.multiprocessor.proofs.Beginning.{possible-first}
+use Rattle.machine_core.proofs.Beginning.{possible-first}
 use Rattle.machine_core.proofs.RunningLemmas.{Running-same}
 use Rattle.machine_core.proofs.machine.Machine.restart.Goals as goal
 
