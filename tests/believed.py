@@ -287,7 +287,7 @@ def topic(module):
         return "choices and orders as texts"
     if crate in ("snoop_bus", "cache_set", "multiprocessor", "machine_core", "protocol_tables"):
         return "caches"
-    if crate in ("tso_cli", "machine_runs", "simulator", "sweep_runs", "sweeper", "tso_io", "command_line", "page_exports"):
+    if crate in ("tso_cli", "machine_runs", "simulator", "sweep_runs", "sweeper", "counted_io", "tso_io", "command_line", "page_exports"):
         return "commands"
     if crate in ("tso_report", "outcome_report", "reason_report"):
         return "printed text"

@@ -26,7 +26,7 @@ pub use Rattle.reason_report.specs.Steps.{Amid, Answer, Before, Case, Closing, C
 pub use Rattle.reason_report.specs.declared.steps.Edge.{Edge}
 pub use Rattle.reason_report.specs.declared.steps.Event.{Event}
 pub use Rattle.command_line.specs.Search.{Search}
-pub use Rattle.tso_io.specs.Limits.{longest_input}
+pub use Rattle.counted_io.specs.Limits.{longest_input}
 pub use Rattle.machine_runs.specs.Runs.{AnswersFit, run_under}
 pub use Rattle.tso_cli.specs.Dividing.{parts_of}
 pub use Rattle.tso_cli.specs.Fitting.{CountsFitTest, IsStateAt, RunFitsTest, shown_under}

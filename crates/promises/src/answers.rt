@@ -19,7 +19,7 @@ ghost use Rattle.tso_cli.specs.Dividing.{parts_of};
 ghost use Rattle.tso_cli.specs.SplitRun.{split_run};
 ghost use Rattle.tso_cli.specs.TraceHeadline.{PrintsTrace, PrintsTracedObject};
 ghost use Rattle.tso_cli.specs.Streams.{Writes, WritesAnswer, WritesBeginning};
-ghost use Rattle.tso_io.specs.Streams.{ConsumesAtMost};
+ghost use Rattle.counted_io.specs.Streams.{ConsumesAtMost};
 
 use machine_core::{Bus, Config};
 use protocol_tables::ProtocolKind;

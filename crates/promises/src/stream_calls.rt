@@ -6,7 +6,7 @@ ghost use Rattle.std.specs.Io.KnownBytes.{Keeps};
 ghost use Rattle.tso_cli.specs.Answers.{IsAnswer, most_read};
 ghost use Rattle.tso_cli.specs.Headline.{Headline};
 ghost use Rattle.tso_cli.specs.Streams.{Writes, WritesAnswer, WritesBeginning};
-ghost use Rattle.tso_io.specs.Streams.{ConsumesAtMost};
+ghost use Rattle.counted_io.specs.Streams.{ConsumesAtMost};
 
 use std::alloc::Global;
 use std::io::{Read, Write};

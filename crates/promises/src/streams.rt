@@ -1,7 +1,7 @@
 //! What is counted of a stream: each call that failed, a flush too.
 
 ghost use Rattle.std.specs.Prelude.{◌≡◌};
-ghost use Rattle.tso_io.specs.inner.Streams.{counts_error};
+ghost use Rattle.counted_io.specs.inner.Streams.{counts_error};
 
 use std::io;
 use std::io::Write;

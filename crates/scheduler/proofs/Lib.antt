@@ -8,5 +8,7 @@ pub mod Loop
 pub mod Capped
 pub mod Stopping
 pub mod Cores
+pub mod Counted
+pub mod Fitting
 mod FirstWord
 mod PrintedWords

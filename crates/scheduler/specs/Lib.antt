@@ -5,5 +5,6 @@ pub mod Seeds
 pub mod Grammar
 pub mod Refusals
 pub mod Printed
+pub mod Reach
 pub mod inner
 pub mod WordOfChoice

@@ -3,3 +3,4 @@ pub mod Coming
 pub mod ItemsRead
 pub mod Reading
 pub mod TooMany
+pub mod Passed

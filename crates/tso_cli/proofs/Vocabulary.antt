@@ -78,7 +78,7 @@ pub use Rattle.order_builder.specs.PrintedOrder.{HasWord, printed_order, HasLoca
 pub use Rattle.order_builder.specs.declared.fault.OrderFault.{OrderFault}
 pub use Rattle.order_breaches.specs.FirstBreach.{IsFirstBreach}
 pub use Rattle.order_breaches.specs.declared.breach.Breach.{Breach}
-pub use Rattle.tso_io.specs.Limits.{longest_input}
+pub use Rattle.counted_io.specs.Limits.{longest_input}
 pub use Rattle.tso_terms.specs.Registers.{AreRegisters, IsWord, index_of}
 pub use Rattle.tso_terms.specs.ProgramEntries.{made_by, made_from, read_values}
 pub use Rattle.machine_runs.proofs.BusLemmas.{attempts_in, length-in, run-is, atomic-run}

@@ -48,7 +48,7 @@ pub use Rattle.reason_report.specs.Printed.{refutation_in, ShowsExecution, unfin
 pub use Rattle.command_line.specs.Explanation.{Explanation}
 pub use Rattle.command_line.specs.Search.{Search}
 pub use Rattle.command_line.specs.declared.settings.Settings.{Settings}
-pub use Rattle.tso_io.specs.Limits.{longest_input}
+pub use Rattle.counted_io.specs.Limits.{longest_input}
 pub use Rattle.machine_runs.specs.Runs.{AnswersFit, counts_under, run_under}
 pub use Rattle.machine_runs.specs.Simulation.{IsEndingOf, shown_of, verdict}
 pub use Rattle.machine_runs.specs.declared.driving.Ending.{Ending}

@@ -4,8 +4,8 @@
 ghost use Rattle.std.specs.Prelude.{◌≡◌, ◌+◌, ◌-◌, ◌^◌, ◌<◌, ◌≤◌, ◌↔◌, ◌⊎◌, IfOk, Err, string_bytes};
 ghost use Rattle.std.specs.Io.KnownBytes.{Keeps};
 ghost use Rattle.tso_cli.specs.Streams.{Writes, WritesAnswer, WritesBeginning};
-ghost use Rattle.tso_io.specs.Streams.{ConsumesAtMost};
-ghost use Rattle.tso_io.specs.inner.Streams.{CountsReadFaults};
+ghost use Rattle.counted_io.specs.Streams.{ConsumesAtMost};
+ghost use Rattle.counted_io.specs.inner.Streams.{CountsReadFaults};
 ghost use Rattle.tso_cli.specs.Answers.{IsAnswer, most_read};
 ghost use Rattle.tso_cli.specs.Headline.{Headline};
 ghost use Rattle.command_line.specs.Limits.{HasDepth};

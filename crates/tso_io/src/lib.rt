@@ -2,8 +2,7 @@
 //! device failed, so that a contract can say that a fault is told exactly where a device had one.
 #![tactic(auto)]
 
-pub mod counted;
 pub mod streams;
 
-pub use counted::Counted;
-pub use streams::{MAX_INPUT, READ_LIMIT, RunFault, read_input, write_output};
+pub use counted_io::{Counted, MAX_INPUT, READ_LIMIT, RunFault, counted, read_input};
+pub use streams::write_output;

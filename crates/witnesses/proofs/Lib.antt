@@ -1,4 +1,2 @@
 pub mod Vocabulary
 pub mod AlongLemmas
-pub mod Counted
-pub mod Fitting

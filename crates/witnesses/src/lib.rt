@@ -1,10 +1,6 @@
-//! The choices that reach an order: a witness that the machine can run so, and the depth that its store buffers need.
+//! The choices along an order, by which the machine reaches it.
 #![tactic(auto)]
 
 mod along;
-mod depth;
-pub mod fault;
-mod reaching;
 
-pub use fault::WitnessFault;
-pub use reaching::witness;
+pub use along::choices_along;

@@ -13,7 +13,7 @@ ghost use Rattle.hints.specs.Hint.{longest_hint};
 ghost use Rattle.tso_report.specs.Limits.{longest_report, most_entries};
 ghost use Rattle.scheduler.specs.Plan.{most_seeds};
 ghost use Rattle.command_line.specs.Search.{most_states};
-ghost use Rattle.tso_io.specs.Limits.{longest_input};
+ghost use Rattle.counted_io.specs.Limits.{longest_input};
 
 /// How large a test may be.
 pub fn numbers_of_tests()

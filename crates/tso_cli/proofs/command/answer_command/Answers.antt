@@ -1,5 +1,5 @@
 use Rattle.tso_cli.proofs.Vocabulary.{subst, sym, IsAnswer, Headline}
-use Rattle.tso_io.proofs.KnownLemmas.{input-is}
+use Rattle.counted_io.proofs.KnownLemmas.{input-is}
 use Rattle.tso_cli.proofs.CommandLemmas.{answer-read, headline-read}
 use Rattle.tso_cli.proofs.command.answer_command.Goals as goal
 

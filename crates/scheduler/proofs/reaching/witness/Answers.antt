@@ -1,6 +1,6 @@
-use Rattle.witnesses.proofs.Vocabulary.{◌≡◌, ◌≤◌, arith, needed}
-use Rattle.witnesses.proofs.Fitting.{core-at, place-at}
-use Rattle.witnesses.proofs.reaching.witness.Goals as goal
+use Rattle.scheduler.proofs.Vocabulary.{◌≡◌, ◌≤◌, arith, needed}
+use Rattle.scheduler.proofs.Fitting.{core-at, place-at}
+use Rattle.scheduler.proofs.reaching.witness.Goals as goal
 
 pub needed-requires-clause-cores : goal.needed-requires-clause-cores
 needed-requires-clause-cores c = λ k d h.

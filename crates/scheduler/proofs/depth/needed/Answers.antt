@@ -1,7 +1,7 @@
-use Rattle.witnesses.proofs.Vocabulary.{◌+◌, ◌<◌, get_or, arith, refl, ◌∙◌, Entry, R}
-use Rattle.witnesses.proofs.Counted.{sum-fits, count-fits, onward-load, onward-store, onward-other, entry-fits, greatest, none-passed, all-passed}
-use Rattle.witnesses.proofs.depth.needed.Goals.{in-R, in-W, in-F}
-use Rattle.witnesses.proofs.depth.needed.Goals as goal
+use Rattle.scheduler.proofs.Vocabulary.{◌+◌, ◌<◌, get_or, arith, refl, ◌∙◌, Entry, R}
+use Rattle.scheduler.proofs.Counted.{sum-fits, count-fits, onward-load, onward-store, onward-other, entry-fits, greatest, none-passed, all-passed}
+use Rattle.scheduler.proofs.depth.needed.Goals.{in-R, in-W, in-F}
+use Rattle.scheduler.proofs.depth.needed.Goals as goal
 
 -- what a place out of range would read
 abbrev none : Entry

@@ -1,7 +1,7 @@
 //! Why an order isn't reached: the fault has the depth that its line has to name.
 
 ghost use Rattle.std.specs.Prelude.{◌≡◌};
-ghost use Rattle.witnesses.specs.declared.fault.WitnessFault.TheVariants as fault;
+ghost use Rattle.scheduler.specs.declared.witness_fault.WitnessFault.TheVariants as fault;
 
 use std::error::Error;
 use std::fmt;

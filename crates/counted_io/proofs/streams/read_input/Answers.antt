@@ -1,7 +1,7 @@
 use Rattle.std.proofs.Common.{arith, length-append, length-take, ℕ, ◌++◌, ◌∙◌, take}
 use Rattle.std.proofs.lemmas.List.{take-append-le}
-use Rattle.tso_io.proofs.KnownLemmas.{consumes-more}
-use Rattle.tso_io.proofs.streams.read_input.Goals as goal
+use Rattle.counted_io.proofs.KnownLemmas.{consumes-more}
+use Rattle.counted_io.proofs.streams.read_input.Goals as goal
 
 pub returns-in_err-extend_from_slice-in-Ok-clause-most :
     goal.returns-in_err-extend_from_slice-in-Ok-clause-most

@@ -1,5 +1,5 @@
 -- The entries of an execution are of its test.
-use Rattle.witnesses.proofs.Vocabulary.{ℕ, ◌<◌, List, [], length, get_or, arith, slice_get-get_or, All-get_or, Litmus, IsTest, IsProgram, IsWhole, StandsIn, Entry, FitsTest}
+use Rattle.scheduler.proofs.Vocabulary.{ℕ, ◌<◌, List, [], length, get_or, arith, slice_get-get_or, All-get_or, Litmus, IsTest, IsProgram, IsWhole, StandsIn, Entry, FitsTest}
 
 -- the law that each entry of a whole order is of the test
 abbrev pub Fits : Type 0

@@ -5,8 +5,8 @@ use Rattle.tso_terms.specs.Litmus.{Litmus}
 use Rattle.tso_terms.specs.Runs.{run}
 use Rattle.basic_laws.specs.Types.{Entry, Choice}
 use Rattle.tso_laws.specs.Depth.{needed}
-use Rattle.witnesses.specs.declared.fault.WitnessFault.{WitnessFault}
-use Rattle.witnesses.specs.declared.fault.WitnessFault.TheVariants.{Depth}
+use Rattle.scheduler.specs.declared.witness_fault.WitnessFault.{WitnessFault}
+use Rattle.scheduler.specs.declared.witness_fault.WitnessFault.TheVariants.{Depth}
 
 -- the order needs more than this depth, and the fault names what it needs
 abbrev pub NamesDepth : ℕ → List Entry → WitnessFault → Type 0

@@ -4,7 +4,7 @@
 ghost use Rattle.std.specs.Prelude.{◌≡◌, ℕ, ◌-◌, ◌<◌};
 ghost use Rattle.std.specs.Io.KnownBytes.{ReadConsumes, WriteAppends, Keeps};
 ghost use Rattle.std.specs.Io.{ReadsAtMost, WritesAtMost};
-ghost use Rattle.tso_io.specs.inner.Streams.{counts_error, CountsWrite};
+ghost use Rattle.counted_io.specs.inner.Streams.{counts_error, CountsWrite};
 
 use std::io;
 use std::io::{Read, Write};

@@ -1,2 +1,2 @@
 -- Words of contracts inside the project.
-pub mod Passed
+pub mod Streams

@@ -1,5 +1,5 @@
 -- One entry more at the front of those that are passed, in the counts of plain stores.
-use Rattle.witnesses.proofs.Vocabulary.{◌≡◌, ◌≢◌, ℕ, ◌+◌, ◌-◌, ◌<◌, ◌≤◌, ◌==◌, ◌&&◌, zero, suc, Bool, true, false, if◌then◌else◌, List, [], ◌∷◌, ◌++◌, length, get_or, take, replicate, drop, filter, sum, refl, ap, sym, ◌∙◌, ◌||◌, not, arith, drop-cons, subst, max, All, ◌⊎◌, inl, inr, set, length-set, drop_all, length_push, length-replicate, take-set-le, get_or-take, get_or-set_same, get_or-set_other, length-take, get_or_default, take-set-lt, All-get_or, sum_by-set, get_or-le-sum_by, ord_max, nat_cmp, same_kind, is_store, is_load, is_before, needed, asked, HaveCounted, stores_below, Entry, Kind, R, W, F, LR, LW}
+use Rattle.scheduler.proofs.Vocabulary.{◌≡◌, ◌≢◌, ℕ, ◌+◌, ◌-◌, ◌<◌, ◌≤◌, ◌==◌, ◌&&◌, zero, suc, Bool, true, false, if◌then◌else◌, List, [], ◌∷◌, ◌++◌, length, get_or, take, replicate, drop, filter, sum, refl, ap, sym, ◌∙◌, ◌||◌, not, arith, drop-cons, subst, max, All, ◌⊎◌, inl, inr, set, length-set, drop_all, length_push, length-replicate, take-set-le, get_or-take, get_or-set_same, get_or-set_other, length-take, get_or_default, take-set-lt, All-get_or, sum_by-set, get_or-le-sum_by, ord_max, nat_cmp, same_kind, is_store, is_load, is_before, needed, asked, HaveCounted, stores_below, Entry, Kind, R, W, F, LR, LW}
 use Rattle.std.proofs.Common.{nat_lt, length-drop}
 use Rattle.std.proofs.lemmas.List.{take_all}
 use borrow.Author.Tests.{tests}

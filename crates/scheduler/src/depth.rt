@@ -4,7 +4,7 @@
 ghost use Rattle.std.specs.Prelude.{◌≡◌, ◌<◌, ◌^◌, ℕ, IfOk, All, Some, [], length, sum};
 ghost use Rattle.tso_terms.specs.Limits.{most_instructions};
 ghost use Rattle.tso_laws.specs.Depth.{needed};
-ghost use Rattle.witnesses.specs.inner.Passed.{HaveCounted};
+ghost use Rattle.scheduler.specs.inner.Passed.{HaveCounted};
 
 use std::alloc::Global;
 use tso_laws::needed_is_the_most_that_is_asked;

@@ -7,17 +7,17 @@ ghost use Rattle.tso_terms.specs.Axioms.{IsTsoExecution};
 ghost use Rattle.tso_laws.specs.Along.{choices_along, LeadTo};
 ghost use Rattle.tso_laws.specs.Depth.{needed};
 ghost use Rattle.tso_laws.specs.Counting.{most_stores};
-ghost use Rattle.witnesses.specs.Reach.{NamesDepth, IsOutOfReach};
+ghost use Rattle.scheduler.specs.Reach.{NamesDepth, IsOutOfReach};
 
-use crate::along::choices_along;
 use crate::depth::needed;
-use crate::fault::WitnessFault;
+use crate::witness_fault::WitnessFault;
 use std::alloc::Global;
 use tso_laws::{
     every_execution_is_reached, most_stores_are_depth_enough, smaller_depths_never_reach,
     whole_orders_have_each_entry_once,
 };
 use tso_terms::{Choice, Execution, Test};
+use witnesses::choices_along;
 
 /// The choices under which the flat machine at this depth ends with the very order of a TSO execution of the test; none
 /// stalls and none is left over. Going along the order, each entry steps its core only as far as it needs, and a plain
