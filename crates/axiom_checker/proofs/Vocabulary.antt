@@ -5,6 +5,5 @@ pub use Rattle.tso_terms.specs.Litmus.{Litmus}
 pub use Rattle.order_breaches.specs.FirstBreach.{IsFirstBreach}
 pub use Rattle.std.proofs.lemmas.List.{length-set}
 pub use Rattle.std.specs.Option.{unwrap_or}
-pub use Rattle.std.proofs.lemmas.Bool.Decides.{nat_tests}
 pub use Rattle.order_breaches.specs.inner.Passing.{HasMet}
 pub use Rattle.std.proofs.lemmas.Result.{err_from_is_err_and}

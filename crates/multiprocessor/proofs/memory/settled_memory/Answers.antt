@@ -2,14 +2,20 @@ use Rattle.multiprocessor.proofs.Vocabulary.{arith, ℕ, List, ◌≡◌, ◌+�
 use Rattle.multiprocessor.proofs.CoreLemmas.{take-got}
 use Rattle.multiprocessor.proofs.memory.settled_memory.Goals as goal
 
--- one word more is taken
-taken-next : (words before after : List ℕ) (k word : ℕ) → after ≡ before ++ word ∷ [] → before ≡ take k words → slice_get words k ≡ Some word → after ≡ take (k + 1) words
-taken-next words before after k word pushed taken got = pushed ∙ ap (λ xs. xs ++ word ∷ []) taken ∙ sym (take-got words k word got)
+-- one word more is taken of these
+taken-next : (memory words before after : List ℕ) (k word : ℕ) → after ≡ before ++ word ∷ [] → before ≡ take k words → memory ≡ words → slice_get memory k ≡ Some word → after ≡ take (k + 1) words
+taken-next memory words before after k word pushed taken settled got =
+    pushed ∙ ap (λ xs. xs ++ word ∷ []) taken ∙ sym (take-got words k word (subst (λ ws. slice_get ws k ≡ Some word) settled got))
 
 pub loop-location-preserved : goal.loop-location-preserved
 loop-location-preserved g c =
-    taken-next (words_of c.args.bus.now) c.loop-location.memory.items c.push.new.self.items c.loop-location.location c.memory_word.result c.in_ok-push.ensures.items c.loop-location.invariant
-    (subst (λ words. slice_get words c.loop-location.location ≡ Some c.memory_word.result) c.settle.ensures.memory c.memory_word.ensures.value)
+    let before = c.loop-location.invariant in
+    record {
+      taken = taken-next _ (words_of c.args.bus.now) c.loop-location.memory.items c.push.new.self.items c.loop-location.location c.memory_word.result c.in_ok-push.ensures.items before.taken before.settled
+          c.memory_word.ensures.value;
+      settled = before.settled;
+      seen = before.seen;
+    }
 
 pub memory_word-requires : goal.memory_word-requires
-memory_word-requires g c = omega (arith, c.requires.within, c.loop-location-test.true, ap length c.settle.ensures.words)
+memory_word-requires g c = let seen = ap length c.loop-location.invariant.seen in omega (arith, c.requires.within, c.loop-location-test.true, seen)

@@ -1,5 +1,5 @@
-use Rattle.axiom_checker.proofs.Vocabulary.{refl, sym, ◌∙◌}
-use Rattle.axiom_checker.proofs.passing.wrong_read.Goals as goal
+use Rattle.std.proofs.Common.{refl, sym, ◌∙◌}
+use Rattle.wrong_reads.proofs.wrong_read.Goals as goal
 
 pub returns-clause-found : goal.returns-clause-found
 returns-clause-found c ours = (refl, sym c.is_read.ensures ∙ c.if-not-is_read.false, c.if-x-due.false, (c.source-source.result, c.source-source.ensures ours, c.due_value-due.ensures))

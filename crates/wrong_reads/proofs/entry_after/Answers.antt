@@ -1,5 +1,5 @@
-use Rattle.axiom_checker.proofs.Vocabulary.{arith}
-use Rattle.axiom_checker.proofs.passing.entry_after.Goals as goal
+use Rattle.std.proofs.Common.{arith}
+use Rattle.wrong_reads.proofs.entry_after.Goals as goal
 
 pub returns-then-len-at-gt1-clause-looks : goal.returns-then-len-at-gt1-clause-looks
 returns-then-len-at-gt1-clause-looks g c = grind arith
