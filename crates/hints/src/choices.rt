@@ -5,7 +5,7 @@ use crate::divider::begins_order;
 use crate::faults::ONE_TEST;
 use crate::hinting::NOTHING_KNOWN;
 use crate::line::{Line, Piece};
-use crate::quotes::{after_front, is_all_digits, word};
+use crate::quotes::{is_all_digits, word};
 use crate::tables::{is_exactly_one_of, is_one_of};
 use scheduler::{ChoiceFault, MAX_CHOICES};
 
@@ -83,10 +83,10 @@ fn begin_word<'a>(line: &mut Line, text: &'a [u8], number: usize) -> (&'a [u8], 
                 _ => Part::First,
             };
         }
-        rest = after_front(rest, word);
-        if rest.is_empty() {
+        if word.len() >= rest.len() {
             break;
         }
+        rest = &rest[word.len() + 1..];
     }
     (&[], part)
 }

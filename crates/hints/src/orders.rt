@@ -3,7 +3,7 @@
 use crate::characters::says_foreign;
 use crate::hinting::NOTHING_KNOWN;
 use crate::line::Line;
-use crate::quotes::{after_byte, after_front, first_word, is_all_digits, is_choice, up_to};
+use crate::quotes::{after_byte, first_word, is_all_digits, is_choice, up_to};
 use litmus_tokens::word as word_value;
 use order_builder::OrderFault;
 
@@ -123,12 +123,11 @@ fn bad_count(line: &mut Line, text: &[u8]) {
     let mut rest = text;
     // The number of a line of two bytes or more is below the length of its text.
     for number in 1..text.len() {
-        let entry = up_to(rest, b'\n');
         if start == 0 {
-            if without_return(entry) == b"Order".as_slice() {
+            if rest.starts_with(b"Order") && first_line(rest).len() == 5 {
                 start = number;
             }
-        } else if entry.starts_with(b"Endorder ") {
+        } else if rest.starts_with(b"Endorder ") {
             let entries = number.saturating_sub(start).saturating_sub(1);
             let sentence = if entries == 1 {
                 "{} ends an order of 1 entry"
@@ -136,9 +135,9 @@ fn bad_count(line: &mut Line, text: &[u8]) {
                 "{} ends an order of {} entries"
             };
             line.say_number("line {} after ====: ", number);
-            return line.say_of_number(sentence, without_return(entry), entries);
+            return line.say_of_number(sentence, first_line(rest), entries);
         }
-        rest = after_front(rest, entry);
+        rest = after_byte(rest, b'\n');
         if rest.is_empty() {
             break;
         }

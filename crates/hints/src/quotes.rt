@@ -46,26 +46,22 @@ pub fn token(text: &[u8]) -> &[u8] {
 
 /// The digits at the front.
 fn digits(text: &[u8]) -> &[u8] {
-    let mut count = 0usize;
-    for byte in text {
-        if !byte.is_ascii_digit() {
-            break;
+    for at in 0..text.len() {
+        if !text[at].is_ascii_digit() {
+            return &text[..at];
         }
-        count = count.saturating_add(1);
     }
-    first_bytes(text, count)
+    text
 }
 
 /// The letters, digits and underscores at the front.
 pub fn digits_and_letters(text: &[u8]) -> &[u8] {
-    let mut count = 0usize;
-    for byte in text {
-        if !continues_name(*byte) {
-            break;
+    for at in 0..text.len() {
+        if !continues_name(text[at]) {
+            return &text[..at];
         }
-        count = count.saturating_add(1);
     }
-    first_bytes(text, count)
+    text
 }
 
 /// What stands before the next white space.
@@ -80,50 +76,42 @@ pub fn first_word(text: &[u8]) -> &[u8] {
 
 /// What stands before the first such byte, or all where there is none.
 pub fn up_to(text: &[u8], stop: u8) -> &[u8] {
-    let mut count = 0usize;
-    for byte in text {
-        if *byte == stop {
-            break;
+    for at in 0..text.len() {
+        if text[at] == stop {
+            return &text[..at];
         }
-        count = count.saturating_add(1);
     }
-    first_bytes(text, count)
+    text
 }
 
 /// What stands before the first of these bytes, or all where there is none.
 pub fn up_to_any<'a>(text: &'a [u8], stops: &[u8]) -> &'a [u8] {
-    let mut count = 0usize;
-    for byte in text {
-        if stops.contains(byte) {
-            break;
+    for at in 0..text.len() {
+        if stops.contains(&text[at]) {
+            return &text[..at];
         }
-        count = count.saturating_add(1);
     }
-    first_bytes(text, count)
+    text
 }
 
 /// What stands after the last of these bytes, or all where there is none.
 pub fn after_last<'a>(text: &'a [u8], stops: &[u8]) -> &'a [u8] {
-    let mut count = 0usize;
-    for byte in text {
-        count = if stops.contains(byte) {
-            0
-        } else {
-            count.saturating_add(1)
-        };
+    for at in (0..text.len()).rev() {
+        if stops.contains(&text[at]) {
+            return &text[at + 1..];
+        }
     }
-    last_bytes(text, count)
+    text
 }
 
 /// What stands after the first such byte, or no bytes where there is none.
 pub fn after_byte(text: &[u8], byte: u8) -> &[u8] {
-    after_front(text, up_to(text, byte))
-}
-
-/// What stands after these bytes, with which a text begins, and after one byte more.
-pub fn after_front<'a>(text: &'a [u8], front: &[u8]) -> &'a [u8] {
-    let rest = text.len().saturating_sub(front.len());
-    last_bytes(text, rest.saturating_sub(1))
+    for at in 0..text.len() {
+        if text[at] == byte {
+            return &text[at + 1..];
+        }
+    }
+    &[]
 }
 
 /// The letters, digits and underscores that a text ends with, white space aside; or else its last byte.
