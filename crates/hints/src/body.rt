@@ -20,7 +20,19 @@ pub fn body_of(text: &[u8]) -> &[u8] {
 /// any bytes may stand: then what stands after these brackets.
 pub fn ending_of<'a>(body: &'a [u8], tokens: &Tokens<'a>) -> &'a [u8] {
     if let Stop::BadToken(remaining) = tokens.stop {
-        return after_square(last_bytes(body, remaining));
+        // What stands after the next `]`, comments passed over.
+        let mut rest = last_bytes(body, remaining);
+        for _ in 0..remaining {
+            let Ok(at) = after_gap(rest) else {
+                return &[];
+            };
+            match at.split_first() {
+                Some((b']', after)) => return after,
+                Some((_, after)) => rest = after,
+                None => return &[],
+            }
+        }
+        return &[];
     }
     let mut last = 0;
     for token in &tokens.items {
@@ -29,22 +41,6 @@ pub fn ending_of<'a>(body: &'a [u8], tokens: &Tokens<'a>) -> &'a [u8] {
         }
     }
     last_bytes(body, last)
-}
-
-/// What stands after the next `]`, comments passed over.
-fn after_square(bytes: &[u8]) -> &[u8] {
-    let mut rest = bytes;
-    for _ in 0..bytes.len() {
-        let Ok(at) = after_gap(rest) else {
-            return &[];
-        };
-        match at.split_first() {
-            Some((b']', after)) => return after,
-            Some((_, after)) => rest = after,
-            None => return &[],
-        }
-    }
-    &[]
 }
 
 /// Whether a token is this name.

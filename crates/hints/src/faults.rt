@@ -46,9 +46,16 @@ pub fn say_fault(
         _ => place.line(),
     };
     line.say_number("line {}: ", number);
-    if let Some(said) = foreign_line(place, why) {
-        line.say(said);
-        return Ok(());
+    // A line may be no part of a test as it is read, whatever is at fault in it.
+    if !matches!(why, Why::NoHeader | Why::TooLarge) {
+        if place.from_last(b"\n").starts_with(b";;") {
+            line.say(COMMENT);
+            return Ok(());
+        }
+        if place.token.starts_with(b"X86") {
+            line.say(ONE_TEST);
+            return Ok(());
+        }
     }
     match why {
         Why::NoHeader => no_header(line, asked.reader, place),
@@ -84,19 +91,6 @@ pub fn say_fault(
         Why::NoMemory => line.say(NOTHING_KNOWN),
     }
     Ok(())
-}
-
-/// Of a line that is no part of a test as it is read, whatever is at fault in it.
-fn foreign_line(place: &Place<'_>, why: Why) -> Option<&'static str> {
-    if matches!(why, Why::NoHeader | Why::TooLarge) {
-        None
-    } else if place.from_last(b"\n").starts_with(b";;") {
-        Some(COMMENT)
-    } else if place.token.starts_with(b"X86") {
-        Some(ONE_TEST)
-    } else {
-        None
-    }
 }
 
 /// Of what doesn't fit in a part of a test, which has this form; `end` says that the test ends there.

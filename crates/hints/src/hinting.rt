@@ -9,13 +9,12 @@ use crate::choices::{say_choices, too_many_steps};
 use crate::divider::Asked;
 use crate::faults::say_fault;
 use crate::line::Line;
-use crate::listed::left_out;
 use crate::orders::say_order;
 use crate::place::Place;
 use crate::printing::printed;
 use crate::quotes::{first_bytes, last_bytes};
 use crate::search_end::search_ends;
-use crate::unended::{MORE_CASES, NO_CHOICES, choices_end, never_seen, sweep_ends};
+use crate::unended::{MORE_CASES, NO_CHOICES, choices_end, never_seen};
 use crate::unused::{UNUSED, say_named};
 use std::alloc::Global;
 use tso_terms::NoMemory;
@@ -81,7 +80,14 @@ fn say_cause(alloc: Global, line: &mut Line, cause: &Cause, input: &[u8]) -> Res
             drains,
             stalls,
         } => choices_end(line, *steps, *drains, stalls),
-        Cause::ShortSeeds { length, none_ended } => sweep_ends(line, *length, *none_ended),
+        Cause::ShortSeeds { length, none_ended } => {
+            let sentence = if *none_ended {
+                "no run ended, so nothing was seen: raise --length, which is {}"
+            } else {
+                "some runs didn't end: raise --length, which is {}"
+            };
+            line.say_number(sentence, *length as usize);
+        }
         Cause::NeverSeen { runs, depth } => never_seen(line, *runs, *depth),
         Cause::UnusedLocation { first, length } => {
             say_named(line, UNUSED, input, *first, *length);
@@ -90,7 +96,14 @@ fn say_cause(alloc: Global, line: &mut Line, cause: &Cause, input: &[u8]) -> Res
             first,
             length,
             is_register,
-        } => say_named(line, left_out(*is_register), input, *first, *length),
+        } => {
+            let sentence = if *is_register {
+                "line {}: locations lists {}, which the states leave out: --show registers shows it"
+            } else {
+                "line {}: locations lists {}, which the states leave out: --show all shows it"
+            };
+            say_named(line, sentence, input, *first, *length);
+        }
         Cause::TooManyStates(end) => search_ends(line, end),
         Cause::TooManyCases { most } => line.say_number(MORE_CASES, *most as usize),
     }

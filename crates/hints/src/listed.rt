@@ -80,12 +80,3 @@ fn listed_at(test: &Test, text: &[u8], core: Option<u32>, token: &Token<'_>) -> 
         what,
     })
 }
-
-/// Of a register or a location that is listed there: no state shows it unless more is asked for.
-pub fn left_out(is_register: bool) -> &'static str {
-    if is_register {
-        "line {}: locations lists {}, which the states leave out: --show registers shows it"
-    } else {
-        "line {}: locations lists {}, which the states leave out: --show all shows it"
-    }
-}

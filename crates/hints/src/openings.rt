@@ -143,21 +143,16 @@ pub fn bad_token(line: &mut Line, place: &Place<'_>) {
             ],
         );
     }
-    match place.rest.first() {
-        Some(byte) if !begins_token(*byte, place.rest) => bad_byte(line, place, *byte),
-        _ => line.say_of(
-            "{} stands before the initial state { }: only \"..\", KEY=.. and comments may stand there",
-            token,
-        ),
+    match place.rest {
+        [] | [b'/', b'\\', ..] | [b'\\', b'/', ..] => {}
+        [byte, ..] if continues_name(*byte) || b"=;:[]{}|,$~()".contains(byte) => {}
+        [byte, ..] => return bad_byte(line, place, *byte),
     }
-}
-
-/// Whether a text begins with a token; this is its first byte.
-fn begins_token(first: u8, text: &[u8]) -> bool {
-    continues_name(first)
-        || b"=;:[]{}|,$~()".contains(&first)
-        || text.starts_with(b"/\\")
-        || text.starts_with(b"\\/")
+    // What stands there begins a token.
+    line.say_of(
+        "{} stands before the initial state { }: only \"..\", KEY=.. and comments may stand there",
+        token,
+    );
 }
 
 fn bad_byte(line: &mut Line, place: &Place<'_>, byte: u8) {

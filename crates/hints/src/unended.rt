@@ -16,16 +16,6 @@ pub const MORE_CASES: &str =
 /// Maximum number of seeds of a sweep.
 const MOST_SEEDS: u32 = 1000;
 
-/// Of a sweep whose seeds make so many choices: not all of its runs ended, or none.
-pub fn sweep_ends(line: &mut Line, length: u32, none_ended: bool) {
-    let sentence = if none_ended {
-        "no run ended, so nothing was seen: raise --length, which is {}"
-    } else {
-        "some runs didn't end: raise --length, which is {}"
-    };
-    line.say_number(sentence, length as usize);
-}
-
 /// Of a sweep of so many runs at this depth, in none of which the condition's proposition was true.
 pub fn never_seen(line: &mut Line, runs: u32, depth: u8) {
     let sentence = if runs < MOST_SEEDS {
