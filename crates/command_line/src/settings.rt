@@ -113,16 +113,13 @@ pub fn settings_of(alloc: Global, words: &[&str]) -> Result<Settings, LineFault>
     ensures depth { IfOk result HasDepth }
 {
     let matches = matches_of(alloc, words)?;
-    match matches.subcommand() {
-        Some((name, inner)) => match settings_named(name, inner) {
-            Some(settings) => {
-                settings.know_limits();
-                Ok(settings)
-            }
-            None => Err(LineFault::Range),
-        },
-        None => Err(LineFault::Range),
+    if let Some((name, inner)) = matches.subcommand()
+        && let Some(settings) = settings_named(name, inner)
+    {
+        settings.know_limits();
+        return Ok(settings);
     }
+    Err(LineFault::Range)
 }
 
 /// What the words say, where they are a command with its options.

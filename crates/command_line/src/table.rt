@@ -94,10 +94,14 @@ impl Subcommand {
     /// Its option of this name, which begins with `--`.
     pub fn option_named(self, option: &[u8]) -> Option<&'static DeclaredOption> {
         let name = option.strip_prefix(b"--".as_slice())?;
-        match named_in(self.options(), name) {
-            Some(declared) => Some(declared),
-            None => named_in(self.further_options(), name),
+        for options in &[self.options(), self.further_options()] {
+            for declared in *options {
+                if declared.name.as_bytes() == name {
+                    return Some(declared);
+                }
+            }
         }
+        None
     }
 
     fn declared(self) -> &'static DeclaredCommand {
@@ -112,16 +116,6 @@ impl Subcommand {
             Subcommand::Tables => &TABLES,
         }
     }
-}
-
-/// The first of these options that has this name.
-fn named_in(options: &'static [DeclaredOption], name: &[u8]) -> Option<&'static DeclaredOption> {
-    for declared in options {
-        if declared.name.as_bytes() == name {
-            return Some(declared);
-        }
-    }
-    None
 }
 
 /// The protocols as a command line names them.
