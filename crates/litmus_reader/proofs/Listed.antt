@@ -1,5 +1,6 @@
 -- The first registers of a test, one more at a time.
 use Rattle.litmus_reader.proofs.Vocabulary.{◌≡◌, ◌==◌, ◌&&◌, cond, true, false, ℕ, Bor, ◌+◌, ◌≤◌, ◌<◌, List, [], ◌∷◌, ◌++◌, length, map, drop, get_or, Result, Ok, Err, refl, sym, ap, ◌∙◌, add-one, drop-cons, arith, list_any, bytes_eq, index_of, nil_from_length, length-drop, map_push, Reg, TwiceInit, Fault, word_at, core_of, given_of, named_by_key, named_by_word, Given, initial, gives, judged, with_register, registers_with, fault, of_register}
+use Rattle.std.specs.Prelude.{not, Bool}
 use Rattle.std.specs.Cmp.{nat_eq_equiv}
 use Rattle.std.specs.Cmp.Lexicographic.{nat_list_eq_equiv}
 use Rattle.litmus_reader.specs.declared.initial.RegisterWord.{RegisterWord}
@@ -67,6 +68,18 @@ given_before core reg i [] [] at known = refl
 given_before core reg i [] (r ∷ rs) at known = absurd cc
 given_before core reg i (k ∷ ks) [] at known = absurd cc
 given_before core reg i (k ∷ ks) (r ∷ rs) at known = rw (same-register core i k r cc, given_before core reg i ks rs at cc, at) refl
+
+not_twice : (b : Bool) → not (not b) ≡ b
+not_twice true = refl
+not_twice false = refl
+
+-- a register that is noted for the first time, and only such a one, wasn't given a word
+pub given_unless_first : (core : List ℕ) (reg : Reg) (i : ℕ) (keys : List (Bor (List ℕ) × ℕ)) (registers : List RegisterWord) (first : Bool)
+    → i ≡ index_of reg → map named_by_key keys ≡ map named_by_word registers
+    → first ≡ not (list_any (λ k. bytes_eq core k.0.now && (i == k.1)) keys)
+    → list_any (λ r. gives core reg (given_of r)) registers ≡ not first
+given_unless_first core reg i keys registers first at known is =
+    sym (given_before core reg i keys registers at known) ∙ sym (not_twice (list_any (λ k. bytes_eq core k.0.now && (i == k.1)) keys)) ∙ ap not (sym is)
 
 pub given_with : (keys new : List (Bor (List ℕ) × ℕ)) (registers : List RegisterWord) (w : RegisterWord) (i : ℕ)
     → i ≡ index_of w.reg → map named_by_key keys ≡ map named_by_word registers

@@ -39,10 +39,12 @@ pub fn columns_at<'a, 'b>(stop: Stop, tokens: &'b [Token<'a>]) -> Result<usize, 
             });
         }
         core += 1;
-        let Some(next) = after_symbol(Symbol::Bar, after) else {
-            part.expect(after, after_symbol(Symbol::Semicolon, after))?;
+        if let Some(next) = after_symbol(Symbol::Bar, after) {
+            rest = next;
+        } else if after_symbol(Symbol::Semicolon, after).is_some() {
             return Ok(core);
-        };
-        rest = next;
+        } else {
+            return Err(part.unfit(after));
+        }
     }
 }

@@ -3,7 +3,6 @@
 
 ghost use Rattle.std.specs.Prelude.{◌≡◌};
 ghost use Rattle.litmus_tokens.specs.inner.Pieces.{pieces};
-ghost use Rattle.litmus_reader.specs.Faults as spec;
 ghost use Rattle.litmus_reader.specs.Places as places;
 
 use litmus_cells::{Fault, Why};
@@ -12,7 +11,7 @@ use std::error::Error;
 use std::fmt;
 
 /// The refusal of a text: its line, from 1, and why. With `NoMemory` the line is 0.
-#[derive(Clone, Copy, Debug)]
+#[derive(Clone, Copy)]
 pub struct TextFault {
     pub line: usize,
     pub why: Why,
@@ -23,6 +22,12 @@ impl fmt::Display for TextFault {
         let line = self.line;
         let why = self.why;
         write!(f, "line {line} {why}")
+    }
+}
+
+impl fmt::Debug for TextFault {
+    fn fmt<W: fmt::Write>(&self, f: &mut fmt::Formatter<W>) -> fmt::Result {
+        fmt::Display::fmt(self, f)
     }
 }
 
@@ -47,17 +52,6 @@ impl Part {
                 remaining: first.remaining,
             },
             None => self.missing,
-        }
-    }
-
-    /// What is there, or the refusal of the token at the front.
-    #[inline(always)]
-    pub fn expect<T>(self, tokens: &[Token<'_>], found: Option<T>) -> Result<T, Fault>
-        ensures { result ≡ spec.or_unfit self (pieces tokens.now) found }
-    {
-        match found {
-            Some(found) => Ok(found),
-            None => Err(self.unfit(tokens)),
         }
     }
 }

@@ -2,8 +2,7 @@
 //! only after the header row: so such words are kept with their places.
 
 ghost use Rattle.litmus_tokens.specs.inner.Pieces.{pieces};
-ghost use Rattle.std.specs.Prelude.{◌≡◌, ◌≤◌, ◌<◌, ◌++◌, ◌∷◌, [], false, length, map, replicate, IfOk, OnOk};
-ghost use Rattle.std.specs.List.{list_any};
+ghost use Rattle.std.specs.Prelude.{◌≡◌, ◌≤◌, ◌<◌, [], length, map, replicate, IfOk, OnOk};
 ghost use Rattle.tso_terms.specs.Limits.{most_cores};
 ghost use Rattle.litmus_tokens.specs.inner.Faults.{Gives};
 ghost use Rattle.litmus_tokens.specs.Locations.{texts};
@@ -44,42 +43,6 @@ pub struct Initial<'a> {
     given: IndexSet<(&'a [u8], usize)>,
 }
 
-fn in_initial(remaining: usize, stop: Stop) -> Part
-    ensures { result ≡ places.in_initial remaining stop }
-{
-    Part {
-        why: Why::BadInit,
-        missing: at_stop(
-            Fault {
-                why: Why::Unclosed,
-                remaining,
-            },
-            stop,
-        ),
-    }
-}
-
-/// Whether this register of this core was given a word.
-fn is_given<'a>(state: &Initial<'a>, core: &'a [u8], reg: Reg) -> bool
-    requires { KnowsGiven state.now }
-    ensures { result ≡ list_any (λ r. inner.gives core.now reg (given_of r)) state.now.registers.items }
-{
-    state.given.contains(&(core, reg.index()))
-}
-
-/// Notes a register's first word.
-fn note_register<'a>(state: &mut Initial<'a>, word: RegisterWord<'a>) -> Result<(), NoMemory>
-    requires knows { KnowsGiven state.old }
-    requires once { list_any (λ r. inner.gives word.core.now word.reg (given_of r)) state.old.registers.items ≡ false }
-    ensures registers { OnOk result (state.new.registers.items ≡ state.old.registers.items ++ word.entry ∷ []) }
-    ensures words { OnOk result (state.new.words ≡ state.old.words) }
-    ensures knows { OnOk result (KnowsGiven state.new) }
-{
-    state.given.insert((word.core, word.reg.index()))?;
-    state.registers.push(word)?;
-    Ok(())
-}
-
 /// Notes an item whose first token stands at `remaining`.
 ///
 /// `BadNumber`, then `TooLarge` for a location too many, then `TwiceInit`, all at `remaining`.
@@ -101,16 +64,16 @@ fn note_item<'a>(
     match item {
         SpelledSetting::Register(core, reg, digits) => {
             let value = word_at(remaining, digits)?;
-            if is_given(state, core, reg) {
+            let is_first = state.given.insert((core, reg.index()))?;
+            if !is_first {
                 return Err(ReadError::Fault(twice));
             }
-            let word = RegisterWord {
+            state.registers.push(RegisterWord {
                 remaining,
                 core,
                 reg,
                 value,
-            };
-            note_register(state, word)?;
+            })?;
         }
         SpelledSetting::Location(name, digits) => {
             let value = word_at(remaining, digits)?;
@@ -155,9 +118,18 @@ fn read_item<'a>(
     if let Some(is_last) = item_end(tokens) {
         return Ok(is_last);
     }
-    let part = in_initial(remaining, stop);
+    let unclosed = Fault {
+        why: Why::Unclosed,
+        remaining,
+    };
+    let part = Part {
+        why: Why::BadInit,
+        missing: at_stop(unclosed, stop),
+    };
     let (item, rest) = setting_at(part, tokens)?;
-    let is_last = part.expect(rest, item_end(rest))?;
+    let Some(is_last) = item_end(rest) else {
+        return Err(ReadError::Fault(part.unfit(rest)));
+    };
     note_item(remaining_of(tokens), state, names, item)?;
     Ok(is_last)
 }

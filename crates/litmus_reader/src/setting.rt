@@ -31,8 +31,13 @@ fn value_at<'a, 'b>(
     ensures value { mapped (λ x. (decimal_value x.0.now, pieces x.1.now)) result ≡ spec.value_at part (pieces tokens.now) }
     ensures shorter { IfOk result (λ x. length x.1.now < length tokens.now) }
 {
-    let rest = part.expect(tokens, after_symbol(Symbol::Equals, tokens))?;
-    part.expect(rest, number_at(rest))
+    let Some(rest) = after_symbol(Symbol::Equals, tokens) else {
+        return Err(part.unfit(tokens));
+    };
+    let Some(found) = number_at(rest) else {
+        return Err(part.unfit(rest));
+    };
+    Ok(found)
 }
 
 #[tactic(auto, unfolding(crate::specs::Settings::register_setting))]
@@ -44,8 +49,12 @@ fn register_setting<'a, 'b>(
     ensures value { mapped (λ x. (setting_of x.0, pieces x.1.now)) result ≡ spec.register_setting part core.now (pieces tokens.now) }
     ensures shorter { IfOk result (λ x. length x.1.now < length tokens.now) }
 {
-    let rest = part.expect(tokens, after_symbol(Symbol::Colon, tokens))?;
-    let (reg, rest) = part.expect(rest, register_at(rest))?;
+    let Some(rest) = after_symbol(Symbol::Colon, tokens) else {
+        return Err(part.unfit(tokens));
+    };
+    let Some((reg, rest)) = register_at(rest) else {
+        return Err(part.unfit(rest));
+    };
     let (value, rest) = value_at(part, rest)?;
     Ok((SpelledSetting::Register(core, reg, value), rest))
 }
@@ -58,8 +67,12 @@ fn square_setting<'a, 'b>(
     ensures value { mapped (λ x. (setting_of x.0, pieces x.1.now)) result ≡ spec.square_setting part (pieces tokens.now) }
     ensures shorter { IfOk result (λ x. length x.1.now < length tokens.now) }
 {
-    let (name, rest) = part.expect(tokens, location_at(tokens))?;
-    let rest = part.expect(rest, after_symbol(Symbol::CloseSquare, rest))?;
+    let Some((name, rest)) = location_at(tokens) else {
+        return Err(part.unfit(tokens));
+    };
+    let Some(rest) = after_symbol(Symbol::CloseSquare, rest) else {
+        return Err(part.unfit(rest));
+    };
     let (value, rest) = value_at(part, rest)?;
     Ok((SpelledSetting::Location(name, value), rest))
 }
@@ -72,7 +85,9 @@ fn plain_setting<'a, 'b>(
     ensures value { mapped (λ x. (setting_of x.0, pieces x.1.now)) result ≡ spec.plain_setting part (pieces tokens.now) }
     ensures shorter { IfOk result (λ x. length x.1.now < length tokens.now) }
 {
-    let (name, rest) = part.expect(tokens, location_at(tokens))?;
+    let Some((name, rest)) = location_at(tokens) else {
+        return Err(part.unfit(tokens));
+    };
     let (value, rest) = value_at(part, rest)?;
     Ok((SpelledSetting::Location(name, value), rest))
 }
