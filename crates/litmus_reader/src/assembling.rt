@@ -1,25 +1,27 @@
 //! The parts of a test, made of what was read: only here are names copied; while reading they are slices of the text.
 
-ghost use Rattle.std.specs.Prelude.{◌≡◌, IfOk, OnOk, All, map, replicate, string_bytes};
+ghost use Rattle.std.specs.Prelude.{◌≡◌, Ok, IfOk, OnOk, All, map, replicate, string_bytes};
 ghost use Rattle.std.specs.Str.{IsUtf8};
 ghost use Rattle.std.specs.List.{range_with_len};
 ghost use Rattle.tso_terms.specs.Names as names;
+ghost use Rattle.tso_terms.specs.LitmusParts.{litmus_of};
+ghost use Rattle.litmus_tokens.specs.inner.Faults.{Gives};
 ghost use Rattle.litmus_tokens.specs.Locations.{texts};
 ghost use Rattle.litmus_reader.specs.inner.Initial as initial;
 ghost use Rattle.litmus_reader.specs.Reading as spec;
-ghost use Rattle.litmus_reader.specs.Returned.{AreParts, asked_of};
+ghost use Rattle.litmus_reader.specs.Returned.{asked_of};
 
 use crate::row::Table;
-use litmus_cells::CoreInstr;
-use std::alloc::{AllocError, Global};
+use litmus_cells::{CoreInstr, ReadError};
+use std::alloc::Global;
 use std::mem::replace;
 use tso_terms::{Cond, Instr, NoMemory, TestParts};
 
-fn string_of(alloc: Global, bytes: &[u8]) -> Result<String, AllocError>
+fn string_of(alloc: Global, bytes: &[u8]) -> Result<String, NoMemory>
     requires { IsUtf8 bytes.now }
     ensures { IfOk result (λ text. string_bytes text ≡ bytes.now) }
 {
-    String::from_utf8_lossy(alloc, bytes)
+    Ok(String::from_utf8_lossy(alloc, bytes)?)
 }
 
 #[tactic(auto, using(crate::proofs::PartsAssembled::texts_next, std::proofs::lemmas::List::map_push, std::proofs::lemmas::List::take_all))]
@@ -35,11 +37,14 @@ fn strings_of(alloc: Global, names: &[&[u8]]) -> Result<Vec<String>, NoMemory>
 }
 
 /// Puts zeros after the words, so that they are so many in all.
-fn fill_words(alloc: Global, words: &mut Vec<u32>, count: usize) -> Result<(), AllocError>
+#[tactic(auto, using(std::proofs::lemmas::List::take_all))]
+fn fill_words(words: &mut Vec<u32>, count: usize) -> Result<(), NoMemory>
     ensures { OnOk result (words.new.items ≡ initial.words_of count words.old.items) }
 {
-    let mut rest = vec![in alloc; 0; count.saturating_sub(words.len())]?;
-    words.append(&mut rest)
+    if words.len() < count {
+        words.resize(count, 0)?;
+    }
+    Ok(())
 }
 
 #[tactic(auto, using(crate::proofs::PartsAssembled::program_more, crate::proofs::PartsAssembled::program_same))]
@@ -81,13 +86,13 @@ pub fn parts_of(
     words: &mut Vec<u32>,
     table: &mut Table,
     cond: &mut Option<Cond>,
-) -> Result<TestParts, NoMemory>
+) -> Result<TestParts, ReadError>
     requires name { IsUtf8 name.now }
     requires names { All (λ name. IsUtf8 name) (texts names.now) }
-    ensures { AreParts result (spec.test_of name.now (texts names.now) words.old.items table.old.registers.items table.old.instrs.items (asked_of cond.old)) }
+    ensures { Gives (λ parts. litmus_of parts) result (Ok (spec.test_of name.now (texts names.now) words.old.items table.old.registers.items table.old.instrs.items (asked_of cond.old))) }
 {
     let cores = table.registers.len();
-    fill_words(alloc, words, names.len())?;
+    fill_words(words, names.len())?;
     Ok(TestParts {
         name: string_of(alloc, name)?,
         locations: strings_of(alloc, names)?,

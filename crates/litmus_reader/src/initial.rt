@@ -148,13 +148,13 @@ pub fn nothing_given<'a>(alloc: Global) -> Initial<'a>
 }
 
 /// Reads the initial state with which a text begins, puts what it gives where nothing is yet, and answers what stands after it.
-/// There are no names of locations before it.
+/// There are no names of locations before it. `tokens` has room for those of an item.
 ///
 /// `BadInit` at a token that doesn't fit, `Unclosed` at its `{` where the text ends; as an item's
 /// `;` or `}` stands there, at the item's first token, `BadNumber`, `TooLarge` for a location too
 /// many, and `TwiceInit`.
 pub fn read_initial<'a>(
-    alloc: Global,
+    tokens: &mut Vec<Token<'a>>,
     state: &mut Initial<'a>,
     names: &mut Vec<&'a [u8]>,
     text: &'a [u8],
@@ -166,10 +166,9 @@ pub fn read_initial<'a>(
     ensures stop { IfOk result (λ x. stop_of x.now ≡ stop_of text.now) }
 {
     let (remaining, mut rest) = after_opening(Symbol::OpenCurly, Why::Unclosed, text)?;
-    let mut tokens = Vec::new(alloc);
     'items: loop {
-        let onward = read_item_tokens(&mut tokens, rest)?;
-        let is_last = read_item(remaining, onward.stop, state, names, &tokens)?;
+        let onward = read_item_tokens(tokens, rest)?;
+        let is_last = read_item(remaining, onward.stop, state, names, tokens.as_slice())?;
         rest = onward.rest;
         if is_last {
             return Ok(rest);

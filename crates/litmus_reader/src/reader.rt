@@ -29,7 +29,7 @@ use crate::header::{header_at, sized};
 use crate::information::braces_at;
 use crate::initial::{Initial, nothing_given, read_initial};
 use crate::observed::after_observed;
-use crate::row::read_table;
+use crate::row::{Table, read_table};
 use litmus_cells::{Fault, ReadError, Why};
 use litmus_tokens::{Stop, Token, line_of, tokens_of};
 use std::alloc::Global;
@@ -78,28 +78,31 @@ fn tail_at<'a>(
     Ok(cond)
 }
 
-/// The parts of the test: the initial state, the table and what stands after it.
+/// The parts of the test: the initial state, the table and what stands after it. What is read on the way is lent, so that
+/// no refusal has to let go of it.
 #[tactic(auto, unfolding(crate::specs::Reading::body_of))]
 fn body_with<'a>(
     alloc: Global,
     name: &[u8],
     text: &'a [u8],
+    tokens: &mut Vec<Token<'a>>,
     names: &mut Vec<&'a [u8]>,
     initial: &mut Initial<'a>,
+    table: &mut Table,
 ) -> Result<TestParts, ReadError>
     requires name { IsUtf8 name.now }
     requires names { texts names.old.items ≡ [] }
     requires words { initial.old.words.items ≡ [] }
     requires registers { initial.old.registers.items ≡ [] }
     requires knows { KnowsGiven initial.old }
+    requires instrs { table.old.instrs.items ≡ [] }
     ensures { Gives (λ parts. litmus_of parts) result (inner.body_of name.now text.now (stop_of text.now) (tokens_in text.now)) }
 {
-    let rest = read_initial(alloc, initial, names, text)?;
-    let (mut table, rest) = read_table(alloc, &initial.registers, names, rest)?;
+    let rest = read_initial(tokens, initial, names, text)?;
+    let rest = read_table(alloc, tokens, &initial.registers, names, table, rest)?;
     let mut cond = tail_at(alloc, text, table.cores, names, rest)?;
     let words = &mut initial.words;
-    let parts = parts_of(alloc, name, names.as_slice(), words, &mut table, &mut cond)?;
-    Ok(parts)
+    parts_of(alloc, name, names.as_slice(), words, table, &mut cond)
 }
 
 /// The test without its header and its information lines.
@@ -107,9 +110,15 @@ fn body_of(alloc: Global, name: &[u8], text: &[u8]) -> Result<TestParts, ReadErr
     requires { IsUtf8 name.now }
     ensures { Gives (λ parts. litmus_of parts) result (inner.body_of name.now text.now (stop_of text.now) (tokens_in text.now)) }
 {
+    let mut tokens = Vec::new(alloc);
     let mut names = Vec::new(alloc);
     let mut initial = nothing_given(alloc);
-    body_with(alloc, name, text, &mut names, &mut initial)
+    let mut table = Table {
+        cores: 0,
+        registers: Vec::new(alloc),
+        instrs: Vec::new(alloc),
+    };
+    body_with(alloc, name, text, &mut tokens, &mut names, &mut initial, &mut table)
 }
 
 /// What [`test_or_fault`] answers, with the line of what is at fault.

@@ -1,7 +1,7 @@
 //! The rows of the table, and the instructions of all cells. A row without one cell for each core is refused as a whole,
 //! for nobody knows whose cell is missing.
 
-ghost use Rattle.std.specs.Prelude.{◌≡◌, ◌<◌, ◌≤◌, length, map, IfOk};
+ghost use Rattle.std.specs.Prelude.{◌≡◌, ◌<◌, ◌≤◌, [], length, map, IfOk, OnOk};
 ghost use Rattle.tso_terms.specs.Limits.{most_cores};
 ghost use Rattle.litmus_tokens.specs.inner.Pieces.{pieces};
 ghost use Rattle.litmus_tokens.specs.inner.Terms.{term_of};
@@ -113,36 +113,35 @@ pub struct Table {
     pub instrs: Vec<CoreInstr>,
 }
 
-/// Reads the header row and all rows with which a text begins, and answers what stands after them.
+/// Reads the header row and all rows with which a text begins, puts what they give where nothing is yet, and answers what
+/// stands after them. `tokens` has room for those of a row.
 ///
 /// As the header row ends, `NoSuchCore` at the first item of the initial state whose core isn't
 /// there. A row is first taken to its `;` (`Unclosed` at its first token where the text ends), then
 /// its cells are counted, then they are read.
 pub fn read_table<'a>(
     alloc: Global,
+    tokens: &mut Vec<Token<'a>>,
     given: &[RegisterWord<'a>],
     names: &mut Vec<&'a [u8]>,
+    table: &mut Table,
     text: &'a [u8],
-) -> Result<(Table, &'a [u8]), ReadError>
-    ensures value { GivesTable (spec.table_at (stop_of text.now) (map given_of given.now)) names.old.items text.now result names.new.items }
-    ensures cores { IfOk result (λ x. x.0.cores ≤ most_cores) }
-    ensures stop { IfOk result (λ x. stop_of x.1.now ≡ stop_of text.now) }
+) -> Result<&'a [u8], ReadError>
+    requires { table.old.instrs.items ≡ [] }
+    ensures value { GivesTable (spec.table_at (stop_of text.now) (map given_of given.now)) names.old.items text.now result names.new.items table.new }
+    ensures cores { OnOk result (table.new.cores ≤ most_cores) }
+    ensures stop { IfOk result (λ x. stop_of x.now ≡ stop_of text.now) }
 {
-    let mut tokens = Vec::new(alloc);
-    let header = read_row_tokens(&mut tokens, text)?;
-    let cores = columns_at(header.stop, &tokens)?;
+    let header = read_row_tokens(tokens, text)?;
+    let cores = columns_at(header.stop, tokens.as_slice())?;
     let registers = registers_of(alloc, cores, given)?;
-    let mut instrs = Vec::new(alloc);
+    table.cores = cores;
+    table.registers = registers;
     let mut rest = header.rest;
     'rows: while !ends_rows(rest) {
-        let onward = read_row_tokens(&mut tokens, rest)?;
-        read_row(cores, onward.stop, &mut instrs, names, &tokens)?;
+        let onward = read_row_tokens(tokens, rest)?;
+        read_row(cores, onward.stop, &mut table.instrs, names, tokens.as_slice())?;
         rest = onward.rest;
     }
-    let table = Table {
-        cores,
-        registers,
-        instrs,
-    };
-    Ok((table, rest))
+    Ok(rest)
 }

@@ -61,9 +61,9 @@ table_read t names rest = table t.cores t.registers.items (rows t.instrs.items (
 -- The reading of a text's tokens, after these names of locations, gives the header row and all rows, the names, and what stands
 -- after the rows.
 abbrev pub GivesTable : (List (List ℕ) → List Piece → Result Table Fault) → List (Bor (List ℕ)) → List ℕ
-    → Result (code.Table × Bor (List ℕ)) ReadError → List (Bor (List ℕ)) → Type 0
-GivesTable reading names text result names_new =
-    Gives (λ x. table_read x.0 names_new x.1.now) result (reading (texts names) (tokens_in text))
+    → Result (Bor (List ℕ)) ReadError → List (Bor (List ℕ)) → code.Table → Type 0
+GivesTable reading names text result names_new t =
+    Gives (λ x. table_read t names_new x.now) result (reading (texts names) (tokens_in text))
 
 -- this refusal, unless memory ran out
 abbrev pub IsUnlessMemory : TextFault → TextFault → Type 0
