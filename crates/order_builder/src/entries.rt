@@ -14,9 +14,12 @@ use tso_terms::{Core, Entry, Kind, Loc, Test};
 pub fn entry_in(test: &Test, line: &[u8]) -> Option<Entry>
     ensures { result ≡ entry_in test.now line.now }
 {
-    let (head, action) = split_once(line, b' ')?;
-    let (core, place) = place_in(head)?;
-    action_in(test, core, place, action)
+    if let Some((head, action)) = split_once(line, b' ')
+        && let Some((core, place)) = place_in(head)
+    {
+        return action_in(test, core, place, action);
+    }
+    None
 }
 
 /// The digits of a line that is `Endorder` and a number of any size.
@@ -24,11 +27,9 @@ pub fn entry_in(test: &Test, line: &[u8]) -> Option<Entry>
 pub fn end_in(line: &[u8]) -> Option<&[u8]>
     ensures { option_map (λ digits. digits.now) result ≡ end_in line.now }
 {
-    let digits = without_prefix(line, b"Endorder ")?;
-    if is_number(digits) {
-        Some(digits)
-    } else {
-        None
+    match without_prefix(line, b"Endorder ") {
+        Some(digits) if is_number(digits) => Some(digits),
+        _ => None,
     }
 }
 
@@ -36,11 +37,14 @@ pub fn end_in(line: &[u8]) -> Option<&[u8]>
 fn place_in(text: &[u8]) -> Option<(u8, u8)>
     ensures { result ≡ place_in text.now }
 {
-    let numbers = without_prefix(text, b"P")?;
-    let (core, place) = split_once(numbers, b':')?;
-    let core = number_within(core, u64::from(u8::MAX))?;
-    let place = number_within(place, u64::from(u8::MAX))?;
-    Some((core as u8, place as u8))
+    if let Some(numbers) = without_prefix(text, b"P")
+        && let Some((core, place)) = split_once(numbers, b':')
+        && let Some(core) = number_within(core, u64::from(u8::MAX))
+        && let Some(place) = number_within(place, u64::from(u8::MAX))
+    {
+        return Some((core as u8, place as u8));
+    }
+    None
 }
 
 #[tactic(auto, unfolding(crate::specs::inner::Reading::action_in))]
@@ -56,16 +60,19 @@ fn action_in(test: &Test, core: u8, place: u8, text: &[u8]) -> Option<Entry>
             value: 0,
         });
     }
-    let (letters, access) = split_once(text, b' ')?;
-    let kind = kind_of(letters)?;
-    let (loc, value) = access_in(test, access)?;
-    Some(Entry {
-        core: Core(core),
-        place,
-        kind,
-        loc: Loc(loc),
-        value,
-    })
+    if let Some((letters, access)) = split_once(text, b' ')
+        && let Some(kind) = kind_of(letters)
+        && let Some((loc, value)) = access_in(test, access)
+    {
+        return Some(Entry {
+            core: Core(core),
+            place,
+            kind,
+            loc: Loc(loc),
+            value,
+        });
+    }
+    None
 }
 
 #[tactic(auto, unfolding(crate::specs::inner::Reading::kind_of))]
@@ -85,10 +92,13 @@ fn kind_of(letters: &[u8]) -> Option<Kind>
 fn access_in(test: &Test, text: &[u8]) -> Option<(u8, u32)>
     ensures { result ≡ access_in test.now text.now }
 {
-    let (name, value) = split_once(text, b'=')?;
-    let loc = location_named(test, name)?;
-    let value = number_within(value, u64::from(u32::MAX))?;
-    Some((loc, value as u32))
+    if let Some((name, value)) = split_once(text, b'=')
+        && let Some(loc) = location_named(test, name)
+        && let Some(value) = number_within(value, u64::from(u32::MAX))
+    {
+        return Some((loc, value as u32));
+    }
+    None
 }
 
 #[tactic(auto, unfolding(crate::specs::inner::Reading::location_named))]
