@@ -1,5 +1,5 @@
 -- The first registers of a test, one more at a time.
-use Rattle.litmus_reader.proofs.Vocabulary.{◌≡◌, ◌==◌, ◌&&◌, cond, true, false, ℕ, Bor, ◌+◌, ◌≤◌, ◌<◌, List, [], ◌∷◌, ◌++◌, length, map, drop, get_or, Result, Ok, Err, refl, sym, ap, ◌∙◌, add-one, drop-cons, arith, list_any, bytes_eq, index_of, nil_from_length, length-drop, map_push, Reg, TwiceInit, Fault, word_at, core_of, given_of, named_by_key, named_by_word, Given, initial, gives, judged, with_register, registers_with, fault, of_register}
+use Rattle.litmus_reader.proofs.Vocabulary.{◌≡◌, ◌==◌, ◌&&◌, true, false, ℕ, Bor, ◌+◌, ◌≤◌, ◌<◌, List, [], ◌∷◌, ◌++◌, length, map, drop, get_or, Result, Ok, Err, refl, sym, ap, ◌∙◌, add-one, drop-cons, arith, list_any, bytes_eq, index_of, nil_from_length, length-drop, map_push, Reg, TwiceInit, Fault, word_at, core_of, given_of, named_by_key, named_by_word, Given, initial, gives, judged, with_register, registers_with, fault, of_register}
 use Rattle.std.specs.Prelude.{not, Bool}
 use Rattle.std.specs.Cmp.{nat_eq_equiv}
 use Rattle.std.specs.Cmp.Lexicographic.{nat_list_eq_equiv}
@@ -80,13 +80,3 @@ pub given_unless_first : (core : List ℕ) (reg : Reg) (i : ℕ) (keys : List (B
     → list_any (λ r. gives core reg (given_of r)) registers ≡ not first
 given_unless_first core reg i keys registers first at known is =
     sym (given_before core reg i keys registers at known) ∙ sym (not_twice (list_any (λ k. bytes_eq core k.0.now && (i == k.1)) keys)) ∙ ap not (sym is)
-
-pub given_with : (keys new : List (Bor (List ℕ) × ℕ)) (registers : List RegisterWord) (w : RegisterWord) (i : ℕ)
-    → i ≡ index_of w.reg → map named_by_key keys ≡ map named_by_word registers
-    → list_any (λ r. gives w.core.now w.reg (given_of r)) registers ≡ false
-    → new ≡ cond (list_any (λ k. bytes_eq w.core.now k.0.now && (i == k.1)) keys) keys (keys ++ (w.core, i) ∷ [])
-    → map named_by_key new ≡ map named_by_word (registers ++ w ∷ [])
-given_with keys new registers w i at known once inserted =
-    let absent : list_any (λ k. bytes_eq w.core.now k.0.now && (i == k.1)) keys ≡ false = given_before w.core.now w.reg i keys registers at known ∙ once in
-    let pushed : new ≡ keys ++ (w.core, i) ∷ [] = rw absent at inserted in
-    rw (pushed, map_push named_by_key keys (w.core, i), map_push named_by_word registers w, known, at) refl

@@ -1,7 +1,7 @@
 -- What a loop over a list finds, where it goes from one item to the next.
-use Rattle.litmus_reader.proofs.Vocabulary.{◌≡◌, ◌∙◌, ℕ, ◌+◌, ◌<◌, ◌≤◌, Bool, true, false, cond, ◌||◌, ◌&&◌, List, length, drop, Some, None, sym, ap, subst, arith, position, position_or_len, lt-ltb, le-ltb, prefix_len, ltb}
+use Rattle.litmus_reader.proofs.Vocabulary.{◌≡◌, ◌∙◌, ℕ, ◌+◌, ◌<◌, ◌≤◌, Bool, true, false, cond, ◌||◌, List, length, drop, Some, None, sym, ap, subst, arith, position, position_or_len, lt-ltb, le-ltb, prefix_len, ltb}
 use Rattle.std.proofs.Common.{slice_index_or}
-use Rattle.std.specs.List.{list_any, list_all}
+use Rattle.std.specs.List.{list_any}
 use Rattle.std.proofs.lemmas.Option.{slice_get-get_or}
 use Rattle.basic_laws.proofs.Lists.{drop-at, drop-end}
 
@@ -21,12 +21,6 @@ module _ {X : Type 0} (p : X → Bool) where
 
   pub any_ends : (xs : List X) (i : ℕ) → length xs ≤ i → i ≤ length xs → list_any p (drop i xs) ≡ false
   any_ends xs i l m = ap (list_any p) (drop-end xs i (omega (arith, l, m)))
-
-  pub all_on : (xs : List X) (i : ℕ) (d : X) (b : Bool) → i < length xs → p (slice_index_or xs i d) ≡ b → list_all p (drop i xs) ≡ (b && list_all p (drop (i + 1) xs))
-  all_on xs i d b l q = ap (list_all p) (drop-at xs i (slice_index_or xs i d) (slice_get-get_or xs i d l)) ∙ ap (λ b. b && list_all p (drop (i + 1) xs)) q
-
-  pub all_ends : (xs : List X) (i : ℕ) → length xs ≤ i → i ≤ length xs → list_all p (drop i xs) ≡ true
-  all_ends xs i l m = ap (list_all p) (drop-end xs i (omega (arith, l, m)))
 
   pub prefix_on : (xs : List X) (i : ℕ) (d : X) → i < length xs → p (slice_index_or xs i d) ≡ true → i + 1 + prefix_len p (drop (i + 1) xs) ≡ i + prefix_len p (drop i xs)
   prefix_on xs i d l q =

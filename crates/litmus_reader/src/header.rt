@@ -1,5 +1,4 @@
-//! The header line: `X86` and the name of the test. The text's size is judged first, so no time is spent on one that is too
-//! large.
+//! The header line: `X86` and the name of the test.
 
 ghost use Rattle.std.specs.Prelude.{◌≡◌, ◌≤◌, ◌==◌, ◌&&◌, nat_lt, length, position, None, IfOk};
 ghost use Rattle.std.specs.Option.{option_map};
@@ -12,23 +11,10 @@ ghost use Rattle.litmus_tokens.specs.inner.Mapped.{mapped};
 ghost use Rattle.litmus_reader.specs.GrammarText as grammar;
 
 use crate::fault::at_stop;
-use crate::limits::{MAX_TEST_NAME, MAX_TEXT};
+use crate::limits::MAX_TEST_NAME;
 use litmus_cells::{Fault, Why};
 use litmus_tokens::after_gap;
 use tso_terms::names::is_test_name;
-
-/// The text, if it isn't too large.
-pub fn sized(text: &[u8]) -> Result<&[u8], Fault>
-    ensures { mapped (λ x. x.now) result ≡ header.sized text.now }
-{
-    if text.len() > MAX_TEXT {
-        return Err(Fault {
-            why: Why::TooLarge,
-            remaining: text.len(),
-        });
-    }
-    Ok(text)
-}
 
 /// What stands after white space and comments; `Unclosed` at a comment that doesn't end.
 pub fn past_gap(bytes: &[u8]) -> Result<&[u8], Fault>
@@ -121,17 +107,11 @@ fn name_in(line: &[u8]) -> Option<&[u8]>
     }
 }
 
-fn is_printable(byte: u8) -> bool
-    ensures { result ≡ names.is_printable byte }
-{
-    (b' '..=b'~').contains(&byte)
-}
-
 fn is_all_printable(bytes: &[u8]) -> bool
     ensures { result ≡ list_all names.is_printable bytes.now }
 {
     for byte in bytes {
-        if !is_printable(*byte) {
+        if !(b' '..=b'~').contains(byte) {
             return false;
         }
     }

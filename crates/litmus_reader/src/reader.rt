@@ -25,9 +25,10 @@ ghost use Rattle.litmus_reader.specs.Spelling.{SpellsTest, IsFault, IsRefused};
 use crate::assembling::parts_of;
 use crate::condition::condition_at;
 use crate::fault::TextFault;
-use crate::header::{header_at, sized};
+use crate::header::header_at;
 use crate::information::braces_at;
 use crate::initial::{Initial, nothing_given, read_initial};
+use crate::limits::MAX_TEXT;
 use crate::observed::after_observed;
 use crate::row::{Table, read_table};
 use litmus_cells::{Fault, ReadError, Why};
@@ -118,7 +119,15 @@ fn body_of(alloc: Global, name: &[u8], text: &[u8]) -> Result<TestParts, ReadErr
         registers: Vec::new(alloc),
         instrs: Vec::new(alloc),
     };
-    body_with(alloc, name, text, &mut tokens, &mut names, &mut initial, &mut table)
+    body_with(
+        alloc,
+        name,
+        text,
+        &mut tokens,
+        &mut names,
+        &mut initial,
+        &mut table,
+    )
 }
 
 /// What [`test_or_fault`] answers, with the line of what is at fault.
@@ -157,7 +166,13 @@ pub fn test_or_fault(alloc: Global, text: &[u8]) -> Result<Test, ReadError>
 fn read_whole(alloc: Global, text: &[u8]) -> Result<Test, ReadError>
     ensures { Gives (λ test. test) result (inner.reading_of text.now) }
 {
-    let text = sized(text)?;
+    // No time is spent on a text that is too large.
+    if text.len() > MAX_TEXT {
+        return Err(ReadError::Fault(Fault {
+            why: Why::TooLarge,
+            remaining: text.len(),
+        }));
+    }
     let (name, rest) = header_at(text)?;
     let rest = braces_at(rest)?;
     let parts = body_of(alloc, name, rest)?;

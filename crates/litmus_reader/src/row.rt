@@ -140,7 +140,13 @@ pub fn read_table<'a>(
     let mut rest = header.rest;
     'rows: while !ends_rows(rest) {
         let onward = read_row_tokens(tokens, rest)?;
-        read_row(cores, onward.stop, &mut table.instrs, names, tokens.as_slice())?;
+        read_row(
+            cores,
+            onward.stop,
+            &mut table.instrs,
+            names,
+            tokens.as_slice(),
+        )?;
         rest = onward.rest;
     }
     Ok(rest)

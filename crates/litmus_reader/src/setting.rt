@@ -1,7 +1,7 @@
 //! Values of registers and locations, as the initial state and conditions spell them: one reading for both, so that both
 //! refuse alike.
 
-ghost use Rattle.std.specs.Prelude.{◌≡◌, ◌<◌, ◌≤◌, length, IfOk};
+ghost use Rattle.std.specs.Prelude.{◌≡◌, ◌<◌, ◌≤◌, if◌then◌else◌, length, IfOk};
 ghost use Rattle.tso_terms.specs.Limits.{most_cores};
 ghost use Rattle.decimals.specs.Decimals.{decimal_value};
 ghost use Rattle.litmus_tokens.specs.inner.Pieces.{pieces};
@@ -59,35 +59,26 @@ fn register_setting<'a, 'b>(
     Ok((SpelledSetting::Register(core, reg, value), rest))
 }
 
-#[tactic(auto, unfolding(crate::specs::Settings::square_setting))]
-fn square_setting<'a, 'b>(
+/// `x]=v` after a bracket, or `x=v`.
+#[inline(always)]
+#[tactic(auto, unfolding(crate::specs::Settings::square_setting, crate::specs::Settings::plain_setting))]
+fn location_setting<'a, 'b>(
     part: Part,
+    is_bracketed: bool,
     tokens: &'b [Token<'a>],
 ) -> Result<(SpelledSetting<'a>, &'b [Token<'a>]), Fault>
-    ensures value { mapped (λ x. (setting_of x.0, pieces x.1.now)) result ≡ spec.square_setting part (pieces tokens.now) }
+    ensures value { mapped (λ x. (setting_of x.0, pieces x.1.now)) result ≡ (if is_bracketed then spec.square_setting part (pieces tokens.now) else spec.plain_setting part (pieces tokens.now)) }
     ensures shorter { IfOk result (λ x. length x.1.now < length tokens.now) }
 {
-    let Some((name, rest)) = location_at(tokens) else {
+    let Some((name, mut rest)) = location_at(tokens) else {
         return Err(part.unfit(tokens));
     };
-    let Some(rest) = after_symbol(Symbol::CloseSquare, rest) else {
-        return Err(part.unfit(rest));
-    };
-    let (value, rest) = value_at(part, rest)?;
-    Ok((SpelledSetting::Location(name, value), rest))
-}
-
-#[tactic(auto, unfolding(crate::specs::Settings::plain_setting))]
-fn plain_setting<'a, 'b>(
-    part: Part,
-    tokens: &'b [Token<'a>],
-) -> Result<(SpelledSetting<'a>, &'b [Token<'a>]), Fault>
-    ensures value { mapped (λ x. (setting_of x.0, pieces x.1.now)) result ≡ spec.plain_setting part (pieces tokens.now) }
-    ensures shorter { IfOk result (λ x. length x.1.now < length tokens.now) }
-{
-    let Some((name, rest)) = location_at(tokens) else {
-        return Err(part.unfit(tokens));
-    };
+    if is_bracketed {
+        let Some(after) = after_symbol(Symbol::CloseSquare, rest) else {
+            return Err(part.unfit(rest));
+        };
+        rest = after;
+    }
     let (value, rest) = value_at(part, rest)?;
     Ok((SpelledSetting::Location(name, value), rest))
 }
@@ -108,9 +99,9 @@ pub fn setting_at<'a, 'b>(
         return register_setting(part, core, rest);
     }
     if let Some(rest) = after_symbol(Symbol::OpenSquare, tokens) {
-        return square_setting(part, rest);
+        return location_setting(part, true, rest);
     }
-    plain_setting(part, tokens)
+    location_setting(part, false, tokens)
 }
 
 /// A core of the test; `NoSuchCore` at `remaining` for any other, of whatever size.

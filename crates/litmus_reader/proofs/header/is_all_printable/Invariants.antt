@@ -4,4 +4,4 @@ use Rattle.tso_terms.specs.Names.{is_printable}
 use Rattle.litmus_reader.proofs.header.is_all_printable.Given as goal
 
 abbrev pub invariant-loop-byte : goal.invariant-loop-byte
-invariant-loop-byte l = list_all is_printable (drop l.byte-index l.bytes) ≡ list_all is_printable l.bytes
+invariant-loop-byte l = list_all is_printable l.bytes ≡ list_all is_printable (drop l.byte-index l.bytes)
