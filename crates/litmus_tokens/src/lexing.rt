@@ -104,7 +104,9 @@ fn name_len(bytes: &[u8]) -> usize
 pub fn word(digits: &[u8]) -> Option<u32>
     ensures { result ≡ word_of (decimal_value digits.now) }
 {
-    let number = number_up_to(u64::from(u32::MAX), digits)?;
+    let Some(number) = number_up_to(u64::from(u32::MAX), digits) else {
+        return None;
+    };
     Some(number as u32)
 }
 
@@ -137,11 +139,15 @@ fn symbol_of(bytes: &[u8]) -> Option<(Symbol, &[u8])>
     ensures value { option_map (λ x. (x.0, x.1.now)) result ≡ terms.symbol_of bytes.now }
     ensures shorter { IfSome result (λ x. length x.1.now < length bytes.now) }
 {
-    let (first, rest) = bytes.split_first()?;
+    let Some((first, rest)) = bytes.split_first() else {
+        return None;
+    };
     if let Some(symbol) = single(*first) {
         return Some((symbol, rest));
     }
-    let (second, past) = rest.split_first()?;
+    let Some((second, past)) = rest.split_first() else {
+        return None;
+    };
     if *first == b'/' && *second == b'\\' {
         Some((Symbol::And, past))
     } else if *first == b'\\' && *second == b'/' {

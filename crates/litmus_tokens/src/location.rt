@@ -1,15 +1,15 @@
 //! Locations by their names, each with its number: by first appearance in the text. One over the limit is refused where it
 //! appears.
 
-ghost use Rattle.std.specs.Prelude.{◌≡◌, OnOk};
+ghost use Rattle.std.specs.Prelude.{◌≡◌};
 ghost use Rattle.litmus_tokens.specs.inner.Faults.{Gives};
 ghost use Rattle.litmus_tokens.specs.Locations as spec;
 ghost use Rattle.litmus_tokens.specs.Locations.{texts};
 ghost use Rattle.litmus_tokens.specs.GrammarNames as grammar;
 
 use crate::fault::{Fault, ReadError, Why};
+use tso_terms::Loc;
 use tso_terms::limits::MAX_LOCATIONS;
-use tso_terms::{Loc, NoMemory};
 
 /// The number of a name: its own, or the next. The names are few, so each is looked at.
 fn number_of(names: &[&[u8]], name: &[u8]) -> usize
@@ -23,22 +23,10 @@ fn number_of(names: &[&[u8]], name: &[u8]) -> usize
     names.len()
 }
 
-/// Puts a name, whose number this is, after the others where it is new.
-#[tactic(auto, using(crate::proofs::Numbering::noted_new, crate::proofs::Numbering::noted_known))]
-fn note<'a>(names: &mut Vec<&'a [u8]>, number: usize, name: &'a [u8]) -> Result<(), NoMemory>
-    requires { number ≡ grammar.number_of (texts names.old.items) name.now }
-    ensures { OnOk result (texts names.new.items ≡ grammar.with_name (texts names.old.items) name.now) }
-{
-    if number == names.len() {
-        names.push(name)?;
-    }
-    Ok(())
-}
-
 /// The location of a name, which is put after the other names where it is new.
 ///
 /// `TooLarge` at `remaining` for one location too many.
-#[tactic(auto, unfolding(crate::specs::Locations::located))]
+#[tactic(auto, using(crate::proofs::Numbering::noted_new, crate::proofs::Numbering::noted_known), unfolding(crate::specs::Locations::located))]
 pub fn located<'a>(
     names: &mut Vec<&'a [u8]>,
     remaining: usize,
@@ -53,6 +41,8 @@ pub fn located<'a>(
             remaining,
         }));
     }
-    note(names, number, name)?;
+    if number == names.len() {
+        names.push(name)?;
+    }
     Ok(Loc(number as u8))
 }
