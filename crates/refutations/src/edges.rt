@@ -7,8 +7,7 @@ ghost use Rattle.refutations.specs.inner.Trees.{known_of, relations_of};
 
 use crate::answers::{Branch, comes_before, from_reads, reads_from};
 use crate::events::{
-    are_events, are_parts, is_access, is_before, is_event, is_locked, is_read, is_write,
-    share_location,
+    are_parts, is_access, is_before, is_event, is_locked, is_read, is_write, share_location,
 };
 use refutation_laws::{Model, Relation};
 use tso_terms::{Entry, Kind};
@@ -110,7 +109,7 @@ pub fn leads_to(branch: Branch<'_>, acyclic: Acyclic, x: &Entry, y: &Entry) -> b
     first_relation(branch, acyclic, x, y).is_some()
 }
 
-/// Whether each of these events leads to the next one, and the last one to the first.
+/// Whether each of these is one of the test's events and leads to the next one, and the last one to the first.
 pub fn is_cycle(branch: Branch<'_>, acyclic: Acyclic, cycle: &[Entry]) -> bool
     requires { branch.events.now ≡ events_of branch.test.now }
     ensures { result ≡ spec.is_cycle branch.entry.test.now (spec.is_edge branch.entry.test.now (known_of branch.entry.answers.now) (relations_of acyclic)) cycle.now }
@@ -118,8 +117,10 @@ pub fn is_cycle(branch: Branch<'_>, acyclic: Acyclic, cycle: &[Entry]) -> bool
     let Some((first, rest)) = cycle.split_first() else {
         return false;
     };
-    if !are_events(branch.test, branch.events, cycle) {
-        return false;
+    for e in cycle {
+        if !is_event(branch.test, branch.events, e) {
+            return false;
+        }
     }
     let mut last = first;
     for next in rest {

@@ -1,6 +1,5 @@
 //! The events of a test: the entries of its programs, whose values are left open. (Herding Cats, section 4.)
-ghost use Rattle.std.specs.Prelude.{◌≡◌, ◌++◌, map, IfOk};
-ghost use Rattle.std.specs.List.{list_all};
+ghost use Rattle.std.specs.Prelude.{◌≡◌, IfOk};
 ghost use Rattle.tso_terms.specs.ProgramOrder as program_order;
 ghost use Rattle.relational_model.specs.Relations as relations;
 ghost use Rattle.relational_model.specs.Model as model;
@@ -22,18 +21,11 @@ pub fn make_events(alloc: Global, test: &Test) -> Result<Vec<Entry>, NoMemory>
         let core = Core(number);
         let zeros = vec![in alloc; 0u32; read_count(test, core)]?;
         let thread = thread_entries(alloc, test, core, &zeros)?;
-        add_bare(&mut events, &thread.entries)?;
+        for e in &thread.entries {
+            events.push(Entry { value: 0, ..*e })?;
+        }
     }
     Ok(events)
-}
-
-fn add_bare(events: &mut Vec<Entry>, entries: &[Entry]) -> Result<(), NoMemory>
-    ensures { IfOk result (λ _. events.new.items ≡ events.old.items ++ map spec.bare entries.now) }
-{
-    for e in entries {
-        events.push(Entry { value: 0, ..*e })?;
-    }
-    Ok(())
 }
 
 /// Whether both are one event: they differ at most in their values.
@@ -54,19 +46,6 @@ pub fn is_event(test: &Test, events: &[Entry], x: &Entry) -> bool
         }
     }
     false
-}
-
-/// Whether each of these is one of the test's events.
-pub fn are_events(test: &Test, events: &[Entry], some: &[Entry]) -> bool
-    requires { events.now ≡ spec.events_of test.now }
-    ensures { result ≡ list_all (spec.is_event test.now) some.now }
-{
-    for e in some {
-        if !is_event(test, events, e) {
-            return false;
-        }
-    }
-    true
 }
 
 /// Whether x stands before y in the program of their core.

@@ -1,13 +1,19 @@
-use Rattle.refutations.proofs.Vocabulary.{sym, ◌∙◌, is_edge, leads_back, known_of, relations_of}
+use Rattle.refutations.proofs.Vocabulary.{◌+◌, ◌&&◌, drop, list_all, is_event, at_drop_more, at_drop_all, ap, sym, ◌∙◌, is_edge, leads_back, known_of, relations_of}
 use Rattle.refutations.proofs.Walking.{all-done}
 use Rattle.refutations.proofs.Relating.{begun, leads-on, leads-off}
 use Rattle.refutations.proofs.edges.is_cycle.Goals as goal
 
-pub returns-then-not-are_events : goal.returns-then-not-are_events
-returns-then-not-are_events c = sym (begun c.args.branch.test.now _ _ _ _ _ c.in-Some.ensures.cases.0 (sym c.are_events.ensures ∙ c.if-not-are_events.true))
+pub returns-then-not-is_event : goal.returns-then-not-is_event
+returns-then-not-is_event c =
+    let all = list_all (is_event c.args.branch.test.now) in
+    sym (begun c.args.branch.test.now _ _ _ _ _ c.in-Some.ensures.cases.0 (sym c.loop-e.invariant
+    ∙ (at_drop_more all c.args.cycle.now c.loop-e.e-index _ c.loop-e-test.true
+    ∙ ap (λ b. b && all (drop (c.loop-e.e-index + 1) c.args.cycle.now)) (sym c.is_event.ensures ∙ c.if-not-is_event.true))))
 
 pub loop-next-init : goal.loop-next-init
-loop-next-init c = begun c.args.branch.test.now _ _ _ _ _ c.in-Some.ensures.cases.0 (sym c.are_events.ensures ∙ c.if-not-are_events.false)
+loop-next-init c =
+    begun c.args.branch.test.now _ _ _ _ _ c.in-Some.ensures.cases.0
+    (sym c.loop-e.invariant ∙ at_drop_all (list_all (is_event c.args.branch.test.now)) c.args.cycle.now c.loop-e.e-index c.loop-e-test.false)
 
 pub loop-next-preserved : goal.loop-next-preserved
 loop-next-preserved c =

@@ -1,5 +1,8 @@
-use Rattle.refutations.proofs.Vocabulary.{◌≡◌, drop, known_of, relations_of, is_cycle, is_edge, leads_back}
+use Rattle.refutations.proofs.Vocabulary.{◌≡◌, drop, list_all, is_event, known_of, relations_of, is_cycle, is_edge, leads_back}
 use Rattle.refutations.proofs.edges.is_cycle.Given as goal
+
+abbrev pub invariant-loop-e : goal.invariant-loop-e
+invariant-loop-e l = list_all (is_event l.branch.test.now) (drop l.e-index l.cycle) ≡ list_all (is_event l.branch.test.now) l.cycle
 
 abbrev pub invariant-loop-next : goal.invariant-loop-next
 invariant-loop-next l =

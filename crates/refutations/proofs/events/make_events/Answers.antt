@@ -1,16 +1,22 @@
 use Rattle.refutations.proofs.Vocabulary.{◌<◌, ◌++◌, ap, ◌∙◌, subst, ◌≤◌, [], map, refl, sym, bare, events_from}
 use Rattle.refutations.proofs.Growing.{events-more}
-use Rattle.refutations.proofs.Walking.{all-appended}
+use Rattle.refutations.proofs.Walking.{appended, all-appended}
 use Rattle.refutations.proofs.events.make_events.Goals as goal
 
 pub loop-number-preserved : goal.loop-number-preserved
 loop-number-preserved c =
     let t = c.args.test.now in
-    events-more c.loop-number.number t.programs t.registers c.deref.result.now _ c.loop-number.events.items c.add_bare.new.events.items
+    events-more c.loop-number.number t.programs t.registers c.deref.result.now _ c.loop-number.events.items c.loop-e.events.items
     c.in_ok-thread.thread.entries.items (subst (λ n. c.loop-number.number < n) c.cores-number-end.ensures.value c.loop-number-test.true)
     c.in_ok-thread.ensures.entries
-    (c.in_ok-add_bare.ensures ∙ ap (λ es. c.loop-number.events.items ++ map bare es) c.deref-in-loop-number.ensures.value)
+    (all-appended (map bare) c.deref-e-items.result.now c.loop-e.e-index c.loop-e.events.items _ c.loop-e-test.false refl c.loop-e.invariant
+    ∙ ap (λ es. c.loop-number.events.items ++ map bare es) c.deref-e-items.ensures.value)
     c.loop-number.invariant
+
+pub loop-e-preserved : goal.loop-e-preserved
+loop-e-preserved c =
+    appended (map bare) c.deref-e-items.result.now c.loop-e.e-index _ _ c.loop-e.events.items c.push.new.self.items _ c.loop-e-test.true refl
+    c.in_ok-push.ensures.items c.loop-e.invariant
 
 pub loop-number-init : goal.loop-number-init
 loop-number-init c = ap (λ es. es ++ map bare (events_from 0 c.args.test.now.programs c.args.test.now.registers [])) (sym c.new-events.ensures.items)
