@@ -19,7 +19,7 @@ ghost use Rattle.explorer.specs.declared.search.Extent.{Extent};
 
 use crate::closing::close;
 use crate::fault::ExploreFault;
-use crate::found::{Found, begin, nothing_found};
+use crate::found::{Found, begin};
 use crate::link::path;
 use crate::plan::{Plan, plan_of};
 use crate::search::{Extent, expand_all};
@@ -160,8 +160,7 @@ pub fn explore_watched<W: Watcher>(
     ensures kept { IfOk result (λ m. (fewer : ℕ) → fewer < m.kept → HasMoreStates test.now depth fewer) }
 {
     let plan = plan_of(alloc, test, depth, hidden)?;
-    let mut found = nothing_found(alloc, plan.test)?;
-    begin(alloc, &plan, &mut found)?;
+    let mut found = begin(alloc, &plan)?;
     alike_cores_are_exchangeable();
     partly_closed_states_miss_none();
     dead_registers_change_nothing();

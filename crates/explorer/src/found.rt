@@ -3,7 +3,7 @@ ghost use Rattle.std.specs.Prelude.{◌≡◌, IfOk, OnOk, map};
 ghost use Rattle.tso_terms.specs.FlatMachine.{start};
 ghost use Rattle.tso_laws.specs.Closed.{IsAmongStates, IsCovered};
 ghost use Rattle.flat_machine.specs.State.{state_of_snapshot};
-ghost use Rattle.explorer.specs.inner.Settled.{Grows, LeadOn, IsInOrder, IsNothingYet};
+ghost use Rattle.explorer.specs.inner.Settled.{Grows, LeadOn, IsInOrder};
 ghost use Rattle.explorer.specs.inner.Packed.{state_of_packed};
 ghost use Rattle.explorer.specs.inner.Planned.{IsPlan};
 ghost use Rattle.explorer.specs.declared.plan.Plan.{Plan};
@@ -15,10 +15,10 @@ use crate::packed::Packed;
 use crate::packing::pack;
 use crate::plan::Plan;
 use crate::reached::Reached;
-use flat_machine::{Snapshot, exact, start};
+use flat_machine::{Snapshot, start};
 use indexmap::IndexSet;
 use std::alloc::Global;
-use tso_terms::{NoMemory, Test};
+use tso_terms::NoMemory;
 
 /// What a search has found: each state once, and how each was reached.
 pub struct Found {
@@ -63,22 +63,29 @@ pub fn keep(alloc: Global, found: &mut Found, from: usize) -> Result<(), NoMemor
         return Ok(());
     }
     // With no room to spare: as many are kept as there are states.
-    let bytes = exact(alloc, &found.room.bytes)?;
+    let bytes = Vec::from_slice(alloc, &found.room.bytes)?;
     found.states.insert(Packed { bytes })?;
     let turns = turns_of(alloc, &found.reached.choices, &found.reached.exchanges)?;
     found.links.push(Link { from, turns })?;
     Ok(())
 }
 
-/// No state, with room for those that will be gone through and reached.
+/// What a search begins with: the state alone to which the choices that need not wait lead from the first state of the test, without
+/// what is dead there, and how it was reached.
 ///
 /// Errors: out of memory only.
-pub fn nothing_found(alloc: Global, test: &Test) -> Result<Found, NoMemory>
-    ensures { IfOk result (IsNothingYet test.now) }
+pub fn begin(alloc: Global, plan: &Plan) -> Result<Found, NoMemory>
+    requires { IsPlan plan.now }
+    ensures found { IfOk result (IsInOrder plan.now) }
+    ensures covered { IfOk result (λ f. IsCovered plan.now.depth plan.now.test.now plan.now.hidden.now plan.now.alike.items
+        (map state_of_packed f.states.keys) (start plan.now.test.now)) }
 {
-    let current = start(alloc, test)?;
-    let state = start(alloc, test)?;
-    Ok(Found {
+    let current = start(alloc, plan.test)?;
+    let mut state = start(alloc, plan.test)?;
+    let mut choices = Vec::new(alloc);
+    settle(&mut state, plan.test, plan.depth, &mut choices)?;
+    forget(&mut state, plan);
+    let mut found = Found {
         states: IndexSet::new(alloc),
         links: Vec::new(alloc),
         current,
@@ -87,29 +94,10 @@ pub fn nothing_found(alloc: Global, test: &Test) -> Result<Found, NoMemory>
         },
         reached: Reached {
             state,
-            choices: Vec::new(alloc),
+            choices,
             exchanges: Vec::new(alloc),
         },
-    })
-}
-
-/// Keeps what a search begins with, where nothing is found yet: the state alone to which the choices that need not wait lead
-/// from the first state of the test, without what is dead there, and how it was reached.
-///
-/// Errors: out of memory only.
-pub fn begin(alloc: Global, plan: &Plan, found: &mut Found) -> Result<(), NoMemory>
-    requires plan { IsPlan plan.now }
-    requires nothing { IsNothingYet plan.now.test.now found.old }
-    ensures found { OnOk result (IsInOrder plan.now found.new) }
-    ensures covered { OnOk result (IsCovered plan.now.depth plan.now.test.now plan.now.hidden.now plan.now.alike.items
-        (map state_of_packed found.new.states.keys) (start plan.now.test.now)) }
-{
-    settle(
-        &mut found.reached.state,
-        plan.test,
-        plan.depth,
-        &mut found.reached.choices,
-    )?;
-    forget(&mut found.reached.state, plan);
-    keep(alloc, found, 0)
+    };
+    keep(alloc, &mut found, 0)?;
+    Ok(found)
 }

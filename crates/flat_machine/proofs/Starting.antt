@@ -1,4 +1,4 @@
--- The cores begin one after the other, and are copied so.
+-- The cores begin one after the other.
 use Rattle.flat_machine.proofs.Vocabulary.{◌≡◌, ℕ, ◌+◌, ◌<◌, ◌≤◌, zero, suc, List, [], ◌∷◌, ◌++◌, length, take, map, slice_index_or, refl, ap, sym, ◌∙◌, arith, take_all, CoreState, State, started, start, Litmus, Instr, core_of_processor, Processor}
 
 pub map-last : (xs : List Processor) (y : Processor) → map core_of_processor (xs ++ y ∷ []) ≡ map core_of_processor xs ++ core_of_processor y ∷ []
@@ -33,9 +33,3 @@ pub all-begun : (t : Litmus) (memory : List ℕ) (cores : List CoreState) (n : �
     → state-with memory cores ≡ start t
 all-begun t memory cores n past words begun =
     ap (λ m. state-with m cores) words ∙ ap (state-with t.words) (begun ∙ ap (λ l. started 0 l t.registers) (take_all n t.programs past))
-
--- all cores are copied
-pub all-copied : (memory same : List ℕ) (cores : List Processor) (copies : List CoreState) (n : ℕ) → length cores ≤ n → same ≡ memory
-    → copies ≡ map core_of_processor (take n cores) → state-with same copies ≡ state-with memory (map core_of_processor cores)
-all-copied memory same cores copies n past words copied =
-    ap (λ m. state-with m copies) words ∙ ap (state-with memory) (copied ∙ ap (map core_of_processor) (take_all n cores past))

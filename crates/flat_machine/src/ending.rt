@@ -1,27 +1,21 @@
 //! Whether a test has ended in a state of the flat machine, and what its registers hold there.
 ghost use Rattle.std.specs.Prelude.{◌≡◌, IfOk, OnOk, length, map};
-ghost use Rattle.tso_terms.specs.FlatMachine.{registers_in};
-ghost use Rattle.tso_terms.specs.Runs.{is_done, has_ended};
-ghost use Rattle.flat_machine.specs.State.{state_of_snapshot, core_of_processor};
+ghost use Rattle.tso_terms.specs.Runs.{has_ended};
+ghost use Rattle.flat_machine.specs.State.{state_of_snapshot};
 
 use crate::snapshot::{Processor, Snapshot};
 use std::alloc::Global;
-use tso_terms::{Core, Instr, NoMemory, Test};
+use tso_terms::{Core, NoMemory, Test};
 
-/// Whether the core is at the end of its program with nothing pending.
-fn is_done(program: &[Instr], processor: &Processor) -> bool
-    ensures { result ≡ is_done program.now (core_of_processor processor.now) }
-{
-    program.len() == usize::from(processor.place) && processor.pending.is_empty()
-}
-
-/// Whether the test has ended: each core is done.
+/// Whether the test has ended: each core is at the end of its program with nothing pending.
 pub fn has_ended(test: &Test, snapshot: &Snapshot) -> bool
     requires { length snapshot.now.cores.items ≡ length test.now.programs }
     ensures { result ≡ has_ended test.now (state_of_snapshot snapshot.now) }
 {
     for core in 0..test.cores() {
-        if !is_done(test.program(Core(core)), &snapshot.cores[usize::from(core)]) {
+        let program = test.program(Core(core));
+        let processor = &snapshot.cores[usize::from(core)];
+        if program.len() != usize::from(processor.place) || !processor.pending.is_empty() {
             return false;
         }
     }

@@ -10,4 +10,4 @@ pub mod snapshot;
 pub use acting::{act, drain, has_stalled, is_idle, step};
 pub use driving::drive;
 pub use ending::{has_ended, registers_of, write_registers};
-pub use snapshot::{Processor, Snapshot, copy, exact, overwrite, start};
+pub use snapshot::{Processor, Snapshot, overwrite, start};

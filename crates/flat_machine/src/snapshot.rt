@@ -1,7 +1,7 @@
 //! A state of the flat machine: memory, and each core's place, registers and pending stores.
 ghost use Rattle.std.specs.Prelude.{◌≡◌, IfOk, OnOk, length};
 ghost use Rattle.tso_terms.specs.FlatMachine.{start};
-ghost use Rattle.flat_machine.specs.State.{state_of_snapshot, core_of_processor};
+ghost use Rattle.flat_machine.specs.State.{state_of_snapshot};
 
 use std::alloc::Global;
 use tso_terms::{Core, Entry, NoMemory, Test};
@@ -62,56 +62,6 @@ pub fn start(alloc: Global, test: &Test) -> Result<Snapshot, NoMemory>
     Ok(Snapshot { memory, cores })
 }
 
-/// The same items once more, with no room to spare: as many of these are kept as there are states.
-///
-/// Errors: out of memory only.
-pub fn exact<T: Copy>(alloc: Global, items: &[T]) -> Result<Vec<T>, NoMemory>
-    ensures { IfOk result (λ v. v.items ≡ items.now) }
-{
-    Ok(Vec::from_slice(alloc, items)?)
-}
-
-/// The same core once more.
-///
-/// Errors: out of memory only.
-fn copy_core(alloc: Global, core: &Processor) -> Result<Processor, NoMemory>
-    ensures { IfOk result (λ c. core_of_processor c ≡ core_of_processor core.now) }
-{
-    Ok(Processor {
-        place: core.place,
-        registers: core.registers,
-        pending: exact(alloc, &core.pending)?,
-    })
-}
-
-/// The same state once more.
-///
-/// Errors: out of memory only.
-pub fn copy(alloc: Global, state: &Snapshot) -> Result<Snapshot, NoMemory>
-    ensures value { IfOk result (λ s. state_of_snapshot s ≡ state_of_snapshot state.now) }
-    ensures cores { IfOk result (λ s. length s.cores.items ≡ length state.now.cores.items) }
-{
-    let memory = exact(alloc, &state.memory)?;
-    let mut cores = Vec::with_capacity(alloc, state.cores.len())?;
-    for core in &state.cores {
-        cores.push(copy_core(alloc, core)?)?;
-    }
-    Ok(Snapshot { memory, cores })
-}
-
-/// Makes a core the same as another one, in the memory that it has.
-///
-/// Errors: out of memory only.
-fn overwrite_core(core: &mut Processor, other: &Processor) -> Result<(), NoMemory>
-    ensures { OnOk result (core_of_processor core.new ≡ core_of_processor other.now) }
-{
-    core.place = other.place;
-    core.registers = other.registers;
-    core.pending.clear();
-    core.pending.extend_from_slice(&other.pending)?;
-    Ok(())
-}
-
 /// Makes a state the same as another one with as many cores, in the memory that it has.
 ///
 /// Errors: out of memory only.
@@ -122,8 +72,13 @@ pub fn overwrite(state: &mut Snapshot, other: &Snapshot) -> Result<(), NoMemory>
 {
     state.memory.clear();
     state.memory.extend_from_slice(&other.memory)?;
-    for core in 0..other.cores.len() {
-        overwrite_core(&mut state.cores[core], &other.cores[core])?;
+    for at in 0..other.cores.len() {
+        let core = &mut state.cores[at];
+        let same = &other.cores[at];
+        core.place = same.place;
+        core.registers = same.registers;
+        core.pending.clear();
+        core.pending.extend_from_slice(&same.pending)?;
     }
     Ok(())
 }

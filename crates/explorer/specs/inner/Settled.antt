@@ -109,13 +109,3 @@ pub record IsInOrder (plan : Plan) (found : Found) : Type 0 where
   pub linked : AreLinked plan.depth plan.test.now plan.hidden.now found.states.keys found.links.items
   pub current : length found.current.cores.items ≡ length plan.test.now.programs
   pub room : length found.reached.state.cores.items ≡ length plan.test.now.programs
-
--- nothing is found yet, and no choice has been made from the beginning of the test
-pub record IsNothingYet (t : Litmus) (found : Found) : Type 0 where
-  pub states : found.states.keys ≡ []
-  pub links : found.links.items ≡ []
-  pub current : length found.current.cores.items ≡ length t.programs
-  pub room : length found.reached.state.cores.items ≡ length t.programs
-  pub state : state_of_snapshot found.reached.state ≡ start t
-  pub choices : found.reached.choices.items ≡ []
-  pub exchanges : found.reached.exchanges.items ≡ []
