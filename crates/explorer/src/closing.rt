@@ -1,12 +1,9 @@
 //! What exchanges of alike cores make of the states in which the test has ended. A search keeps one of the states that
 //! differ by such exchanges; all of those that have ended are added to it at its end, each with choices that lead there.
-ghost use Rattle.std.specs.Prelude.{◌≡◌, ◌<◌, ◌≤◌, true, OnOk, map, length, slice_get, Some};
+ghost use Rattle.std.specs.Prelude.{◌≡◌, ◌<◌, ◌≤◌, true, OnOk, length, slice_get, Some};
 ghost use Rattle.tso_terms.specs.Runs.{has_ended};
-ghost use Rattle.tso_laws.specs.Closed.{IsAmongStates};
-ghost use Rattle.tso_laws.specs.Exchanged.{exchanged, IsOneOf};
-ghost use Rattle.flat_machine.specs.State.{state_of_snapshot};
 ghost use Rattle.explorer.specs.inner.Packed.{state_of_packed};
-ghost use Rattle.explorer.specs.inner.Settled.{Grows, IsCurrent, IsInOrder};
+ghost use Rattle.explorer.specs.inner.Settled.{Grows, IsInOrder};
 ghost use Rattle.explorer.specs.inner.Arranged.{HasExchanged, AreExchanged};
 ghost use Rattle.explorer.specs.inner.Planned.{IsPlan};
 ghost use Rattle.explorer.specs.declared.packed.Packed.{Packed};
@@ -20,36 +17,7 @@ use std::alloc::Global;
 use tso_laws::{alike_cores_are_exchangeable, dead_registers_change_nothing};
 use tso_terms::NoMemory;
 
-/// Adds what one exchange makes of the state that is gone through, if it isn't there yet.
-///
-/// Errors: out of memory only.
-fn add_exchanged(
-    alloc: Global,
-    plan: &Plan,
-    found: &mut Found,
-    from: usize,
-    pair: (u8, u8),
-) -> Result<(), NoMemory>
-    requires plan { IsPlan plan.now }
-    requires current { IsCurrent found.old.states.keys from found.old.current }
-    requires found { IsInOrder plan.now found.old }
-    requires pair { IsOneOf plan.now.alike.items pair }
-    ensures grows { OnOk result (Grows found.old.states.keys found.new.states.keys) }
-    ensures found { OnOk result (IsInOrder plan.now found.new) }
-    ensures current { OnOk result (found.new.current ≡ found.old.current) }
-    ensures among { OnOk result (IsAmongStates (map state_of_packed found.new.states.keys) (exchanged pair (state_of_snapshot found.old.current))) }
-{
-    alike_cores_are_exchangeable();
-    dead_registers_change_nothing();
-    overwrite(&mut found.reached.state, &found.current)?;
-    exchange(&mut found.reached.state, pair);
-    found.reached.choices.clear();
-    found.reached.exchanges.clear();
-    found.reached.exchanges.push(pair)?;
-    keep(alloc, found, from)
-}
-
-/// Adds what each exchange of two alike cores makes of a state, if the test has ended in it.
+/// Adds what each exchange of two alike cores makes of a state, if the test has ended in it, and what isn't there yet.
 ///
 /// Errors: out of memory only.
 fn add_all_exchanged(
@@ -66,12 +34,20 @@ fn add_all_exchanged(
     ensures exchanged { OnOk result ((s : Packed) → slice_get found.old.states.keys from ≡ Some s
         → has_ended plan.now.test.now (state_of_packed s) ≡ true → HasExchanged plan.now.alike.items found.new.states.keys (state_of_packed s)) }
 {
+    alike_cores_are_exchangeable();
+    dead_registers_change_nothing();
     unpack(&found.states[from], &mut found.current)?;
     if !has_ended(plan.test, &found.current) {
         return Ok(());
     }
     for at in 0..plan.alike.len() {
-        add_exchanged(alloc, plan, found, from, plan.alike[at])?;
+        let pair = plan.alike[at];
+        overwrite(&mut found.reached.state, &found.current)?;
+        exchange(&mut found.reached.state, pair);
+        found.reached.choices.clear();
+        found.reached.exchanges.clear();
+        found.reached.exchanges.push(pair)?;
+        keep(alloc, found, from)?;
     }
     Ok(())
 }

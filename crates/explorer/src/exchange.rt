@@ -1,10 +1,10 @@
 //! Two cores exchanged: each has the other's state, and what the one has pending or chooses is the other's.
 ghost use Rattle.std.specs.Prelude.{◌≡◌, ◌<◌, length, map};
-ghost use Rattle.tso_laws.specs.Exchanged.{exchanged_core, exchanged_choice, exchanged_entry, exchanged};
+ghost use Rattle.tso_laws.specs.Exchanged.{exchanged_core, exchanged_choice, exchanged};
 ghost use Rattle.flat_machine.specs.State.{state_of_snapshot};
 
 use flat_machine::Snapshot;
-use tso_terms::{Choice, Core, Entry};
+use tso_terms::{Choice, Core};
 
 /// The core that stands for this one where two are exchanged.
 fn exchanged_core(core: Core, pair: (u8, u8)) -> Core
@@ -19,16 +19,7 @@ fn exchanged_core(core: Core, pair: (u8, u8)) -> Core
     }
 }
 
-/// Exchanges whose the pending stores are.
-fn exchange_entries(pending: &mut Vec<Entry>, pair: (u8, u8))
-    ensures { pending.new.items ≡ map (exchanged_entry pair) pending.old.items }
-{
-    for at in 0..pending.len() {
-        pending[at].core = exchanged_core(pending[at].core, pair);
-    }
-}
-
-/// Exchanges two cores of a state.
+/// Exchanges two cores of a state, and whose the pending stores are.
 pub fn exchange(state: &mut Snapshot, pair: (u8, u8))
     requires first { pair.0 < length state.old.cores.items }
     requires second { pair.1 < length state.old.cores.items }
@@ -36,7 +27,10 @@ pub fn exchange(state: &mut Snapshot, pair: (u8, u8))
     ensures cores { length state.new.cores.items ≡ length state.old.cores.items }
 {
     for core in 0..state.cores.len() {
-        exchange_entries(&mut state.cores[core].pending, pair);
+        let pending = &mut state.cores[core].pending;
+        for at in 0..pending.len() {
+            pending[at].core = exchanged_core(pending[at].core, pair);
+        }
     }
     state.cores.swap(usize::from(pair.0), usize::from(pair.1));
 }

@@ -1,8 +1,7 @@
 //! How the search reached a state: from which one, by which choices, and by which exchanges of alike cores after them. Back
 //! along the links are the choices that lead to each final state; an exchange is made in all those before it.
-ghost use Rattle.std.specs.Prelude.{◌≡◌, ◌<◌, ◌++◌, length, map, IfOk, OnOk};
+ghost use Rattle.std.specs.Prelude.{◌≡◌, ◌<◌, ◌++◌, length, map, IfOk};
 ghost use Rattle.explorer.specs.declared.link.Turn.{Turn};
-ghost use Rattle.explorer.specs.inner.Arranged.{played};
 ghost use Rattle.explorer.specs.inner.Settled.{GoBack, IsPath};
 
 use crate::exchange::exchange_choices;
@@ -47,22 +46,7 @@ pub fn turns_of(
     Ok(turns)
 }
 
-/// Appends the choices among the turns, and makes each exchange in all choices that stand there then.
-///
-/// Errors: out of memory only.
-fn play(choices: &mut Vec<Choice>, turns: &[Turn]) -> Result<(), NoMemory>
-    ensures { OnOk result (choices.new.items ≡ played turns.now choices.old.items) }
-{
-    for turn in turns {
-        match *turn {
-            Turn::Made(choice) => choices.push(choice)?,
-            Turn::Exchanged(pair) => exchange_choices(choices, pair),
-        }
-    }
-    Ok(())
-}
-
-/// The choices that lead from the beginning of the test to the state of this number.
+/// The choices that lead from the beginning of the test to the state of this number: an exchange is made in all choices before it.
 ///
 /// Errors: out of memory only.
 pub fn path(alloc: Global, links: &[Link], at: usize) -> Result<Vec<Choice>, NoMemory>
@@ -76,6 +60,11 @@ pub fn path(alloc: Global, links: &[Link], at: usize) -> Result<Vec<Choice>, NoM
     if at > 0 {
         choices = path(alloc, links, links[at].from)?;
     }
-    play(&mut choices, &links[at].turns)?;
+    for turn in &links[at].turns {
+        match *turn {
+            Turn::Made(choice) => choices.push(choice)?,
+            Turn::Exchanged(pair) => exchange_choices(&mut choices, pair),
+        }
+    }
     Ok(choices)
 }

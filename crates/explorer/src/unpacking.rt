@@ -1,10 +1,10 @@
 //! Reads a state from its string of bytes. What is left of the bytes is handed on from one part to the next.
-ghost use Rattle.std.specs.Prelude.{◌≡◌, IfOk, OnOk, length, map};
-ghost use Rattle.flat_machine.specs.State.{state_of_snapshot, core_of_processor};
-ghost use Rattle.explorer.specs.inner.Packed.{read_byte, read_long, read_number, word_or_zero, read_word, kind_of_byte, read_all, read_list, read_entry, read_registers, read_core, state_of_packed};
+ghost use Rattle.std.specs.Prelude.{◌≡◌, IfOk, OnOk, length};
+ghost use Rattle.flat_machine.specs.State.{state_of_snapshot};
+ghost use Rattle.explorer.specs.inner.Packed.{read_byte, read_long, read_number, word_or_zero, read_word, kind_of_byte, read_list, read_entry, read_registers, state_of_packed};
 
 use crate::packed::Packed;
-use flat_machine::{Processor, Snapshot};
+use flat_machine::Snapshot;
 use tso_terms::{Core, Entry, Kind, Loc, NoMemory};
 
 /// A byte from the front, and the rest.
@@ -125,24 +125,6 @@ fn unpack_pending<'a>(bytes: &'a [u8], pending: &mut Vec<Entry>) -> Result<&'a [
     Ok(rest)
 }
 
-/// Reads a core into each of these.
-///
-/// Errors: out of memory only.
-fn unpack_cores(bytes: &[u8], cores: &mut Vec<Processor>) -> Result<(), NoMemory>
-    requires { length cores.old.items ≡ length (read_list read_core bytes.now).0 }
-    ensures { OnOk result (map core_of_processor cores.new.items ≡ (read_list read_core bytes.now).0) }
-{
-    let (_, mut rest) = take_number(bytes);
-    for at in 0..cores.len() {
-        let core = &mut cores[at];
-        let (place, later) = take_byte(rest);
-        core.place = place;
-        let later = unpack_registers(later, &mut core.registers);
-        rest = unpack_pending(later, &mut core.pending)?;
-    }
-    Ok(())
-}
-
 /// Makes a state, with as many cores, the packed one, in the memory that it has.
 ///
 /// Errors: out of memory only.
@@ -151,6 +133,14 @@ pub fn unpack(packed: &Packed, state: &mut Snapshot) -> Result<(), NoMemory>
     ensures value { OnOk result (state_of_snapshot state.new ≡ state_of_packed packed.now) }
     ensures cores { OnOk result (length state.new.cores.items ≡ length state.old.cores.items) }
 {
-    let rest = unpack_memory(&packed.bytes, &mut state.memory)?;
-    unpack_cores(rest, &mut state.cores)
+    let bytes = unpack_memory(&packed.bytes, &mut state.memory)?;
+    let (_, mut rest) = take_number(bytes);
+    for at in 0..state.cores.len() {
+        let core = &mut state.cores[at];
+        let (place, later) = take_byte(rest);
+        core.place = place;
+        let later = unpack_registers(later, &mut core.registers);
+        rest = unpack_pending(later, &mut core.pending)?;
+    }
+    Ok(())
 }

@@ -1,6 +1,6 @@
-use Rattle.explorer.proofs.Vocabulary.{◌≡◌, ◌<◌, ℕ, List, length, map, swap, slice_set, slice_index_or, ap, sym, ◌∙◌, arith, length-set, CoreState, State, idle, Entry, renamed, core_of_processor, Processor, map-at, map-set}
+use Rattle.explorer.proofs.Vocabulary.{◌≡◌, ◌<◌, ℕ, List, length, map, swap, slice_set, slice_index_or, ap, sym, ◌∙◌, arith, length-set, CoreState, State, idle, Entry, renamed, exchanged_entry, core_of_processor, Processor, map-at, map-set}
 use Rattle.explorer.proofs.Ending.{length-map}
-use Rattle.explorer.proofs.Mapping.{maps-more, maps-all, map-swap}
+use Rattle.explorer.proofs.Mapping.{maps-more, maps-all, maps-size, map-swap}
 use Rattle.explorer.proofs.exchange.exchange.Goals as goal
 
 pub loop-core-preserved : goal.loop-core-preserved
@@ -11,14 +11,14 @@ loop-core-preserved c =
     let n = c.loop-core.invariant.count in
     let l : k < length cores = let a = c.loop-core-test.true in let b = c.loop-core.auto.core-end in let d = c.len-core-end.ensures in omega (arith, n, a, b, d) in
     let held : List Entry → CoreState = λ z. record { place = p.place; registers = p.registers; pending = z } in
-    let q : Processor = record { place = p.place; registers = p.registers; pending = c.exchange_entries.new.pending } in
+    let q : Processor = record { place = p.place; registers = p.registers; pending = c.loop-at.pending } in
     let here : p ≡ slice_index_or cores k p = c.index_mut.ensures.value in
     record {
       memory = c.loop-core.invariant.memory;
       count = length-set cores k _ ∙ n;
-      mapped = maps-more (renamed c.args.pair) (map core_of_processor c.args.state.now.cores.items) (map core_of_processor cores) (map core_of_processor (slice_set cores k q)) k (held c.exchange_entries.new.pending.items) idle
+      mapped = maps-more (renamed c.args.pair) (map core_of_processor c.args.state.now.cores.items) (map core_of_processor cores) (map core_of_processor (slice_set cores k q)) k (held c.loop-at.pending.items) idle
           c.loop-core.invariant.mapped (let m = length-map cores in omega (arith, m, l)) (map-set cores k q)
-          (ap held c.exchange_entries.ensures
+          (ap held (maps-all (exchanged_entry c.args.pair) p.pending.items c.loop-at.pending.items c.loop-at.at c.loop-at.invariant (let a = c.loop-at-test.false in let b = c.loop-at.auto.at-end in let d = c.len-at-end.ensures in let e = maps-size (exchanged_entry c.args.pair) p.pending.items c.loop-at.pending.items c.loop-at.at c.loop-at.invariant in omega (arith, a, b, d, e)))
           ∙ ap (renamed c.args.pair) (sym (map-at cores k p l ∙ ap core_of_processor (sym here))));
     }
 
