@@ -85,7 +85,7 @@ pub struct Branch {
     /// The values that reads return, `NONE` where none is told.
     pub values: List<usize>,
     /// When it was told that the first one of two writes is before the other one, or a source was taken from a read.
-    moments: List<Moment>,
+    pub moments: List<Moment>,
     /// Sets of events, a row for each of those that are named above.
     pub sets: Rows,
     pub claim_is_dirty: bool,
@@ -143,19 +143,6 @@ impl Branch {
     /// Whether something closes the branch.
     pub fn is_closed(&self) -> bool {
         !matches!(self.conflict, Conflict::Open)
-    }
-
-    /// Whether memory was refused.
-    pub fn is_refused(&self) -> bool {
-        self.rows.words.is_refused
-            | self.trail.is_refused
-            | self.facts.is_refused
-            | self.edges.is_refused
-            | self.heads.is_refused
-            | self.source.is_refused
-            | self.values.is_refused
-            | self.moments.is_refused
-            | self.sets.words.is_refused
     }
 }
 

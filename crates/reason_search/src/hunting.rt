@@ -75,9 +75,25 @@ pub fn make_hunt(alloc: Global, problem: &Problem) -> Hunt {
 
 /// Whether memory was refused.
 pub fn is_refused(hunt: &Hunt) -> bool {
-    let desk = &hunt.desk;
-    hunt.branch.is_refused()
-        | hunt.questions.is_refused()
+    let Hunt {
+        branch,
+        desk,
+        questions,
+        ..
+    } = hunt;
+    branch.rows.words.is_refused
+        | branch.trail.is_refused
+        | branch.facts.is_refused
+        | branch.edges.is_refused
+        | branch.heads.is_refused
+        | branch.source.is_refused
+        | branch.values.is_refused
+        | branch.moments.is_refused
+        | branch.sets.words.is_refused
+        | questions.frames.is_refused
+        | questions.answers.is_refused
+        | questions.tried.is_refused
+        | questions.used.is_refused
         | lack_memory(&desk.paths)
         | lack_memory(&desk.inner)
         | desk.best.cycle.is_refused
