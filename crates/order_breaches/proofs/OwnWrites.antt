@@ -1,5 +1,6 @@
 -- The last write that an entry's own program has before it: where the walk over the programs finds it.
-use Rattle.order_breaches.proofs.Vocabulary.{◌≡◌, ◌<◌, ◌≤◌, ℕ, ◌+◌, List, [], ◌∷◌, ◌++◌, length, get_or, Option, Some, None, slice_get, slice_index_or, slice_set, true, ◌==◌, if◌then◌else◌, arith, ap, sym, ◌∙◌, inl, inr, subst, cases_order, cases_eq, cases_Bool, eq-eqb, eqb-true, and_from, and_parts, eqb-false, get_or-set_same, get_or-set_other, get_or_push, get_or_append_left, slice_get-get_or, is_write, writes_to, rank, Entry, le-cases, kept_in, Ascends, own_write, noted_write, IsSource}
+use Rattle.std.specs.Prelude.{zero, suc, replicate}
+use Rattle.order_breaches.proofs.Vocabulary.{refl, ◌≡◌, ◌<◌, ◌≤◌, ℕ, ◌+◌, List, [], ◌∷◌, ◌++◌, length, get_or, Option, Some, None, slice_get, slice_index_or, slice_set, true, ◌==◌, if◌then◌else◌, arith, ap, sym, ◌∙◌, inl, inr, subst, cases_order, cases_eq, cases_Bool, eq-eqb, eqb-true, and_from, and_parts, eqb-false, get_or-set_same, get_or-set_other, get_or_push, get_or_append_left, slice_get-get_or, is_write, writes_to, rank, Entry, le-cases, kept_in, Ascends, own_write, noted_write, IsSource}
 use Rattle.order_breaches.proofs.Firsts.{same_or_below, at-place}
 use Rattle.order_breaches.proofs.Actions.{SameAction, same-rank}
 use Rattle.order_breaches.proofs.Sooner.{before-from, before-parts, Before, sooner-of}
@@ -20,6 +21,11 @@ none-sooner k l = absurd (omega arith)
 -- at first there is none
 pub latest-none : (entries : List Entry) (loc : ℕ) (o : Option Entry) → o ≡ None → IsLatest entries 0 loc o
 latest-none entries loc o none = subst (λ o. IsLatest entries 0 loc o) (sym none) (λ k y l f w. none-sooner k l)
+
+pub none-kept : (n loc : ℕ) → kept_in (replicate n (let o : Option Entry = None in o)) loc ≡ None
+none-kept zero loc = refl
+none-kept (suc n) zero = refl
+none-kept (suc n) (suc loc) = none-kept n loc
 
 -- there is a place for the location of a write of the programs
 pub known-here : (entries : List Entry) (at : ℕ) (d : Entry) → at < length entries → (now words : ℕ) → now ≡ words → ((k : ℕ) (e : Entry) → slice_get entries k ≡ Some e → is_write e ≡ true → e.loc.0 < words)

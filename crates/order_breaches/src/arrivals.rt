@@ -1,6 +1,6 @@
 //! Which of the programs' entries come in an order, and which don't. A memory order has each entry exactly once and nothing
 //! else; one that leaves a store out could keep every other axiom.
-ghost use Rattle.std.specs.Prelude.{◌≡◌, ◌+◌, ◌<◌, ◌≤◌, ℕ, List, length, slice_get, slice_set, Some, None, IfSome, IsNone};
+ghost use Rattle.std.specs.Prelude.{◌≡◌, ◌+◌, ◌<◌, ◌≤◌, ℕ, List, length, slice_get, Some, None, IfSome, IsNone};
 ghost use Rattle.tso_terms.specs.declared.execution.Entry.{Entry};
 ghost use Rattle.order_breaches.specs.First.{NoneBefore, IsFirst, IsNowhere};
 ghost use Rattle.order_breaches.specs.Entries.{IsStray};
@@ -60,16 +60,8 @@ fn arrive(
     if kept(came, i).is_some() {
         return Some(Breach::Twice(*x));
     }
-    note(came, i, x.value);
+    came[i] = Some(x.value);
     None
-}
-
-/// Notes with which value an entry of the programs came.
-fn note(came: &mut [Option<u32>], at: usize, value: u32)
-    requires { at < length came.old }
-    ensures { came.new ≡ slice_set came.old at (Some value) }
-{
-    came[at] = Some(value);
 }
 
 /// The first entry of the programs that didn't come.

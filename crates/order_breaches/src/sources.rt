@@ -1,6 +1,6 @@
 //! The last write that an entry's own program has before it. A load that passed it in memory order must still return it
 //! (forwarding). (Primer, chapter 4; x86-TSO, section 3.)
-ghost use Rattle.std.specs.Prelude.{◌≡◌, ◌<◌, ℕ, length, slice_get, slice_set, Some, None, true, IfOk};
+ghost use Rattle.std.specs.Prelude.{◌≡◌, ◌<◌, ℕ, length, true, IfOk};
 ghost use Rattle.tso_terms.specs.ProgramOrder as program_order;
 ghost use Rattle.tso_terms.specs.declared.execution.Entry.{Entry};
 ghost use Rattle.order_breaches.specs.Entries.{IsExtra, written_value};
@@ -26,21 +26,9 @@ pub fn own_writes(
     requires within { (cores : ℕ) × EntriesAreWithin cores locations made.now }
     ensures { IfOk result (λ sources. TellsSources made.now sources.items) }
 {
-    let mut latest = vec![in alloc; None; usize::from(locations)]?;
-    find_sources(alloc, made, &mut latest)
-}
-
-/// The same, with the latest write to each location on the way; at first there is none.
-fn find_sources(
-    alloc: Global,
-    made: &[Entry],
-    latest: &mut [Option<Entry>],
-) -> Result<Vec<Option<Entry>>, NoMemory>
-    requires none_yet { (loc : ℕ) → kept_in latest.old loc ≡ None }
-    requires ascends { Ascends made.now }
-    requires within { (cores : ℕ) × EntriesAreWithin cores (length latest.old) made.now }
-    ensures { IfOk result (λ sources. TellsSources made.now sources.items) }
-{
+    // The latest write to each location on the way; at first there is none.
+    let mut room = vec![in alloc; None; usize::from(locations)]?;
+    let latest: &mut [Option<Entry>] = &mut room;
     let mut sources = Vec::new(alloc);
     for e in made {
         sources.push(own_write(latest, e))?;

@@ -1,6 +1,6 @@
 use Rattle.order_breaches.proofs.Vocabulary.{◌≡◌, ◌<◌, ℕ, Some, slice_get, length, Entry, kept_in, IsSource}
 use Rattle.order_breaches.proofs.OwnWrites.{AreLatest}
-use Rattle.order_breaches.proofs.sources.find_sources.Given as goal
+use Rattle.order_breaches.proofs.sources.own_writes.Given as goal
 
 abbrev pub invariant-loop-e : goal.invariant-loop-e
 invariant-loop-e l = record {
