@@ -37,25 +37,6 @@ fn add_value(
     Ok(())
 }
 
-/// The order's own values for the reads of a core.
-fn read_values(
-    alloc: Global,
-    test: &Test,
-    core: Core,
-    order: &[Entry],
-) -> Result<Vec<u32>, NoMemory>
-    requires { core.0 < length test.now.programs }
-    ensures { IfOk result (λ v. v.items ≡ entries.read_values core.0 0 (slice_index_or test.now.programs core.0 []) order.now) }
-{
-    let mut values = Vec::new(alloc);
-    let mut place = 0;
-    for instr in test.program(core) {
-        add_value(&mut values, order, core, place, instr.action())?;
-        place += 1;
-    }
-    Ok(values)
-}
-
 /// What a core's program makes where its reads return what the order itself says.
 ///
 /// Errors: out of memory only.
@@ -66,7 +47,12 @@ fn thread_of(alloc: Global, test: &Test, core: Core, order: &[Entry]) -> Result<
     ensures registers { IfOk result (λ thread. thread.registers
         ≡ state.registers_of core.0 (slice_index_or test.now.programs core.0 []) (slice_index_or test.now.registers core.0 []) order.now) }
 {
-    let values = read_values(alloc, test, core, order)?;
+    let mut values = Vec::new(alloc);
+    let mut place = 0;
+    for instr in test.program(core) {
+        add_value(&mut values, order, core, place, instr.action())?;
+        place += 1;
+    }
     thread_entries(alloc, test, core, &values)
 }
 

@@ -1,6 +1,6 @@
 use Rattle.std.proofs.Common.{◌≡◌, ◌++◌, drop}
 use Rattle.tso_terms.specs.ProgramEntries.{read_values}
-use Rattle.execution_check.proofs.final_state.read_values.Given as goal
+use Rattle.execution_check.proofs.final_state.thread_of.Given as goal
 
 -- what is done and what is left are the whole
 abbrev pub invariant-loop-instr : goal.invariant-loop-instr
