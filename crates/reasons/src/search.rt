@@ -27,30 +27,9 @@ struct Asked<'t> {
     model: Model,
 }
 
-/// What is done with an open case, whatever is proposed: where no leaf closes it, the next question is asked, or it has an execution.
+/// What is done with an open case: what the guide proposes, if that may stand there. Else, where no leaf closes it, the next question is
+/// asked, or it has an execution.
 fn next_step(
-    alloc: Global,
-    test: &Test,
-    events: &[Entry],
-    model: Model,
-    answers: &Answers,
-) -> Result<Step, NoMemory>
-    requires events { events.now ≡ events_of test.now }
-    requires sound { IsSound test.now (known_of answers.now) }
-    ensures { IfOk result (IsSearchStep model test.now (known_of answers.now)) }
-{
-    if let Some(leaf) = find_leaf(alloc, test, events, model, answers)? {
-        return Ok(Step::Leaf(leaf));
-    }
-    if let Some(question) = next_question(events, answers) {
-        return Ok(Step::Question(question));
-    }
-    let order = make_order(alloc, test, events, model, answers)?;
-    Ok(Step::Allowed(Execution { order }))
-}
-
-/// What is done with an open case: what the guide proposes, if that may stand there.
-fn guided_step(
     alloc: Global,
     guide: &mut Guide,
     test: &Test,
@@ -72,7 +51,14 @@ fn guided_step(
         }
     }
     forget(guide);
-    next_step(alloc, test, events, model, answers)
+    if let Some(leaf) = find_leaf(alloc, test, events, model, answers)? {
+        return Ok(Step::Leaf(leaf));
+    }
+    if let Some(question) = next_question(events, answers) {
+        return Ok(Step::Question(question));
+    }
+    let order = make_order(alloc, test, events, model, answers)?;
+    Ok(Step::Allowed(Execution { order }))
 }
 
 /// Why what the test asks never is, or an execution in which it is. One of the two is found where the
@@ -134,7 +120,7 @@ fn close_cases(
 {
     let mut leaves = 0;
     while let Some(answers) = cases.pop() {
-        match guided_step(
+        match next_step(
             alloc,
             guide,
             asked.test,

@@ -23,19 +23,11 @@ pub enum Precedence {
     Order(Model),
 }
 
-fn is_kept(model: Model, x: &Entry, y: &Entry) -> bool
-    ensures { result ≡ orders.is_kept_by model x.now y.now }
-{
-    match model {
-        Model::Tso => is_before(x, y) && !(x.kind == Kind::W && y.kind == Kind::R),
-        Model::Sequential => is_before(x, y),
-    }
-}
-
 fn must_precede(model: Model, answers: &Answers, x: &Entry, y: &Entry) -> bool
     ensures { result ≡ orders.must_precede model (known_of answers.now) x.now y.now }
 {
-    is_kept(model, x, y)
+    // With store buffers a plain load may pass a plain store.
+    is_before(x, y) && !(matches!(model, Model::Tso) && x.kind == Kind::W && y.kind == Kind::R)
         || reads_from(answers, x, y) && x.core.0 != y.core.0
         || comes_before(answers, x, y)
         || from_reads(answers, x, y)

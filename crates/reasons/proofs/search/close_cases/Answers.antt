@@ -12,8 +12,8 @@ loop-answers-init c = record {
   few = omega arith;
 }
 
-pub guided_step-requires-clause-sound : goal.guided_step-requires-clause-sound
-guided_step-requires-clause-sound c =
+pub next_step-requires-clause-sound : goal.next_step-requires-clause-sound
+next_step-requires-clause-sound c =
     its-sound c.args.asked.model c.args.asked.test.now c.loop-answers.cases.items c.pop.new.self.items c.in-Some.answers c.in-Some.ensures.items
     (map node_of c.loop-answers.nodes.items) c.loop-answers.leaves c.loop-answers.invariant.search
 

@@ -13,4 +13,4 @@ make_order-requires-clause-full c =
     (ap (next_question (known_of c.args.answers.now)) (sym c.requires.events) ∙ (sym c.next_question.ensures ∙ c.in_default-next_question.is))
 
 pub make_order-requires-clause-leafless : goal.make_order-requires-clause-leafless
-make_order-requires-clause-leafless c = subst (LeafOrNone c.args.model c.args.test.now (known_of c.args.answers.now)) c.in_default.is c.in_ok-leaf.ensures
+make_order-requires-clause-leafless c = subst (LeafOrNone c.args.model c.args.test.now (known_of c.args.answers.now)) c.in_default-2.is c.in_ok-leaf.ensures
