@@ -1,5 +1,5 @@
 -- The numbers of the states in which a claim is true: one state after the other.
-use Rattle.outcome_report.proofs.Vocabulary.{◌≡◌, ◌∙◌, ◌≤◌, ℕ, suc, ◌+◌, Bool, true, false, if◌then◌else◌, List, [], ◌∷◌, ◌++◌, length, Bor, codes, refl, sym, ap, subst, append_assoc, append-nil, arith, values_of, All-head, All-tail, Claim, NamesExist, truth_of, FinalState, outcome_of, true_from, true_in, printed_numbers, kept_of, outcomes_at, AllHave}
+use Rattle.outcome_report.proofs.Vocabulary.{◌≡◌, ◌∙◌, ◌≤◌, ℕ, suc, ◌+◌, Bool, true, false, if◌then◌else◌, List, [], ◌∷◌, ◌++◌, length, Bor, codes, refl, sym, ap, subst, append_assoc, arith, values_of, All-head, All-tail, Claim, NamesExist, truth_of, FinalState, outcome_of, true_from, true_in, printed_numbers, kept_of, outcomes_at, AllHave}
 use Rattle.std.specs.Fmt.{decimal}
 use Rattle.outcome_report.proofs.Truths.{Entries, states-kept}
 
@@ -67,7 +67,3 @@ pub one-more-fits : (claim : Claim) (whole : List ℕ) (many before : ℕ) (text
     → all ≡ s ∷ rest → Numbered claim whole many before text all → before + 1 ≤ many
 one-more-fits claim whole many before text all rest s steps numbered =
     let longer : length all ≡ suc (length rest) = ap length steps in let was = numbered.2 in omega (arith, longer, was)
-
-pub all-numbered : (claim : Claim) (whole : List ℕ) (many before : ℕ) (text : List ℕ) (rest : List (Bor FinalState)) → rest ≡ [] → Numbered claim whole many before text rest → text ≡ whole
-all-numbered claim whole many before text rest none numbered =
-    sym (append-nil text) ∙ (sym (ap (λ states. text ++ printed_numbers (true_from (before + 1) claim (outcomes_at states))) none) ∙ numbered.0)

@@ -1,5 +1,5 @@
 -- The names that the proofs of this crate bring in from definitions and from crates below; each file takes its own from here.
-pub use Rattle.std.proofs.Common.{◌≡◌, ◌∙◌, Bool, true, false, cond, List, [], ◌∷◌, Option, Some, None, is_some, Less, Equal, Contains, refl, ap, subst, ℕ, ◌<◌, map, length, drop, slice_index_or, ◌+◌, Vec, Bor, All, sym, suc, ◌-◌, not, arith, ◌≤◌, if◌then◌else◌, ◌++◌, codes, append_assoc, append-nil, ◌||◌, ◌⊎◌, inl, inr, zero, filter, ⊎_elim, ◌==◌, ◌&&◌, slice_index, take, slice_get, slice_set, ◌≢◌, string_bytes, ◌^◌, IfOk, rules}
+pub use Rattle.std.proofs.Common.{◌≡◌, ◌∙◌, Bool, true, false, cond, List, [], ◌∷◌, Option, Some, None, is_some, Less, Equal, Contains, refl, ap, subst, ℕ, ◌<◌, map, length, drop, slice_index_or, ◌+◌, Vec, Bor, All, sym, suc, ◌-◌, not, arith, ◌≤◌, if◌then◌else◌, ◌++◌, codes, append_assoc, ◌||◌, ◌⊎◌, inl, inr, zero, filter, ⊎_elim, ◌==◌, ◌&&◌, slice_index, take, slice_get, slice_set, ◌≢◌, string_bytes, ◌^◌, IfOk, rules}
 pub use Rattle.std.specs.List.{AllByRecursion}
 unfoldable pub use Rattle.std.specs.List.Sorted.{IsStrictlySortedBy}
 pub use Rattle.std.specs.Ordering.{is_eq, nat_cmp, ordering_reverse, match_ordering}
@@ -12,7 +12,7 @@ pub use Rattle.std.specs.declared.alloc.Global.{Global}
 pub use Rattle.std.specs.declared.cmp.Ordering.{Ordering}
 pub use Rattle.std.specs.declared.cmp.Ordering.TheVariants.{Greater}
 pub use Rattle.std.proofs.lemmas.List.Elements.{All-from_recursion, recursion_from_All, All-head, All-tail, All-nil, All-cons}
-pub use Rattle.std.proofs.lemmas.List.{get_or-map, length-map, drop_more, map-append, length-append}
+pub use Rattle.std.proofs.lemmas.List.{get_or-map, length-map, drop_more}
 pub use Rattle.tso_terms.specs.Litmus.{Litmus, IsTest, IsCondition}
 pub use Rattle.explorer.specs.declared.final_states.FinalState.{FinalState}
 pub use Rattle.tso_report.specs.Tally.{shown_value, claim_names_register, claim_names_location, is_looked_at, named_register, named_location, named_registers, named_locations}
@@ -24,7 +24,7 @@ pub use Rattle.std.specs.Prelude.{count_by}
 pub use Rattle.std.proofs.lemmas.List.Sums.{sum_by-cons}
 pub use Rattle.tso_terms.specs.Condition.{Claim, NamesExist, truth_of, claim_of, condition_of, Condition, TruthClaim, RegClaim, LocClaim, NotClaim, AndClaim, OrClaim}
 pub use Rattle.serde_json.specs.Data.{array, boolean, Data, string, Members, no_members, member, put, object}
-pub use Rattle.serde_json.specs.View.{view, items_of, members_view}
+pub use Rattle.serde_json.specs.View.{view}
 pub use Rattle.outcome_report.specs.OutcomesJson.{holds_in, state_value, states_value, key_of, value_members, with_holds, observation_value, outcomes_value}
 pub use Rattle.outcome_report.specs.inner.Written.{kept_lines, kept_values}
 pub use Rattle.serde_json.specs.Written.{has_float, members_have_float}

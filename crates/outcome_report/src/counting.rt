@@ -16,19 +16,11 @@ pub fn counts_of(cond: &Cond, outcomes: &Outcomes) -> (usize, usize)
     ensures held { result.0 ≡ held_in (claim_of cond.now.prop) (values_of (kept_of outcomes.now.entries)) }
     ensures failed { result.1 ≡ failed_in (claim_of cond.now.prop) (values_of (kept_of outcomes.now.entries)) }
 {
-    let held = held_in(cond, outcomes);
-    (held, outcomes.len() - held)
-}
-
-fn held_in(cond: &Cond, outcomes: &Outcomes) -> usize
-    requires { AllHave (claim_of cond.now.prop) (values_of (kept_of outcomes.now.entries)) }
-    ensures { result ≡ held_in (claim_of cond.now.prop) (values_of (kept_of outcomes.now.entries)) }
-{
     let mut held = 0;
     for state in outcomes.values() {
         if cond_holds(cond, &state.registers, &state.memory) {
             held += 1;
         }
     }
-    held
+    (held, outcomes.len() - held)
 }

@@ -1,9 +1,8 @@
 //! The registers and locations whose values a final state shows.
 
-ghost use Rattle.std.specs.Prelude.{◌≡◌, ◌<◌, ◌∷◌, [], IfOk, OnOk, All, length, map};
+ghost use Rattle.std.specs.Prelude.{◌≡◌, ◌<◌, ◌∷◌, [], IfOk, OnOk, All, length};
 ghost use Rattle.tso_terms.specs.Actions.{action_of};
-ghost use Rattle.tso_report.specs.Report.{all_registers};
-ghost use Rattle.tso_report.specs.Tally.{named_register, named_registers, named_locations};
+ghost use Rattle.tso_report.specs.Tally.{named_registers};
 ghost use Rattle.tso_report.specs.inner.Tally.{NameExists};
 ghost use Rattle.shown_values.specs.Shown.{writes, writes_one, is_written, is_added, is_shown, names_shown};
 ghost use Rattle.shown_values.specs.inner.Shown.{ShownAreNoted};
@@ -23,7 +22,9 @@ pub fn names_shown(alloc: Global, test: &Test, show: Show) -> Result<Vec<Named>,
 {
     let mut list = Vec::new(alloc);
     note_registers(&mut list, test, show)?;
-    note_locations(&mut list, test, show)?;
+    for loc in 0..test.locations() {
+        note(&mut list, test, show, Named::Location(Loc(loc)))?;
+    }
     Ok(list)
 }
 
@@ -31,40 +32,9 @@ fn note_registers(list: &mut Vec<Named>, test: &Test, show: Show) -> Result<(), 
     ensures { OnOk result (ShownAreNoted show test.now (named_registers 0 (length test.now.programs)) list.old.items list.new.items) }
 {
     for core in 0..test.cores() {
-        note_core(list, test, show, core)?;
-    }
-    Ok(())
-}
-
-#[tactic(auto, unfolding(tso_report::specs::Report::all_registers))]
-fn note_core(list: &mut Vec<Named>, test: &Test, show: Show, core: u8) -> Result<(), NoMemory>
-    requires { core < length test.now.programs }
-    ensures { OnOk result (ShownAreNoted show test.now (map (named_register core) all_registers) list.old.items list.new.items) }
-{
-    note_each(list, test, show, core, &Reg::ALL)
-}
-
-fn note_each(
-    list: &mut Vec<Named>,
-    test: &Test,
-    show: Show,
-    core: u8,
-    regs: &[Reg],
-) -> Result<(), NoMemory>
-    requires { core < length test.now.programs }
-    ensures { OnOk result (ShownAreNoted show test.now (map (named_register core) regs.now) list.old.items list.new.items) }
-{
-    for reg in regs {
-        note(list, test, show, Named::Register(Core(core), *reg))?;
-    }
-    Ok(())
-}
-
-fn note_locations(list: &mut Vec<Named>, test: &Test, show: Show) -> Result<(), NoMemory>
-    ensures { OnOk result (ShownAreNoted show test.now (named_locations 0 (length test.now.locations)) list.old.items list.new.items) }
-{
-    for loc in 0..test.locations() {
-        note(list, test, show, Named::Location(Loc(loc)))?;
+        for reg in &Reg::ALL {
+            note(list, test, show, Named::Register(Core(core), *reg))?;
+        }
     }
     Ok(())
 }

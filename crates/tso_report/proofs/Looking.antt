@@ -1,5 +1,5 @@
 -- What is looked at, one core and one location at a time.
-use Rattle.tso_report.proofs.Vocabulary.{◌≡◌, ◌∙◌, ℕ, zero, suc, ◌+◌, ◌-◌, ◌<◌, ◌≤◌, Bool, List, [], ◌∷◌, ◌++◌, length, map, filter, All, ap, sym, subst, append_assoc, append-nil, arith, filter-append, All-filter, All-append, All-cons, All-nil, slice_index, slice_index_or, shown_value, Litmus, Reg, Named, all_registers, is_looked_at, named_register, named_location, named_registers, named_locations, looked_at, NameExists}
+use Rattle.tso_report.proofs.Vocabulary.{◌≡◌, ◌∙◌, ℕ, zero, suc, ◌+◌, ◌-◌, ◌<◌, ◌≤◌, Bool, List, [], ◌∷◌, ◌++◌, length, map, filter, drop, drop_all, All, ap, sym, subst, append_assoc, append-nil, arith, filter-append, All-filter, All-append, All-cons, All-nil, slice_index, slice_index_or, shown_value, Litmus, Reg, Named, all_registers, is_looked_at, named_register, named_location, named_registers, named_locations, looked_at, NameExists}
 use Rattle.basic_laws.specs.Types.{Core, Loc}
 use Rattle.tso_terms.specs.Registers.{index_of}
 use Rattle.tso_report.specs.declared.named.Named.TheVariants.{Register, Location}
@@ -25,6 +25,12 @@ pub register-noted : (p : Named → Bool) (list before after : List Named) (name
     → all ≡ named ∷ rest → before ++ filter p all ≡ list → after ++ filter p rest ≡ list
 register-noted p list before after named rest all is next was =
     part-noted p list before after (named ∷ []) rest is (sym (ap (λ l. before ++ filter p l) next) ∙ was)
+
+-- and no register of the core is left at its end
+pub registers-over : (p : Named → Bool) (list noted : List Named) (core i : ℕ) (regs : List Reg) → length regs ≤ i
+    → list ++ filter p (map (named_register core) (drop i regs)) ≡ noted → list ≡ noted
+registers-over p list noted core i regs over so =
+    sym (append-nil list) ∙ (sym (ap (λ rest. list ++ filter p (map (named_register core) rest)) (drop_all i regs over)) ∙ so)
 
 pub location-noted : (p : Named → Bool) (list before after : List Named) (loc n : ℕ) → loc < n
     → after ≡ before ++ filter p (named_location loc ∷ []) → before ++ filter p (named_locations loc (n - loc)) ≡ list
@@ -62,21 +68,20 @@ looked-known t =
     All-filter (is_looked_at t.condition) (NameExists (length t.programs) (length t.locations)) (named_registers 0 (length t.programs) ++ named_locations 0 (length t.locations)) (names-known t)
 
 -- all of them are noted, registers first, after nothing
-pub registers-noted : (t : Litmus) (first list : List Named) → first ≡ [] → list ≡ first ++ filter (is_looked_at t.condition) (named_registers 0 (length t.programs))
-    → list ++ filter (is_looked_at t.condition) (named_locations 0 (length t.locations - 0)) ≡ looked_at t
-registers-noted t first list none is =
-    let p = is_looked_at t.condition in
+pub registers-noted : (p : Named → Bool) (t : Litmus) (first list : List Named) → first ≡ [] → list ≡ first ++ filter p (named_registers 0 (length t.programs))
+    → list ++ filter p (named_locations 0 (length t.locations - 0)) ≡ filter p (named_registers 0 (length t.programs) ++ named_locations 0 (length t.locations))
+registers-noted p t first list none is =
     let registers = named_registers 0 (length t.programs) in
     let locations = named_locations 0 (length t.locations) in
     let all : length t.locations - 0 ≡ length t.locations = omega arith in
     ap (λ count. list ++ filter p (named_locations 0 count)) all ∙ ap (λ noted. noted ++ filter p locations) (is ∙ ap (λ noted. noted ++ filter p registers) none) ∙ sym (filter-append p registers locations)
 
 -- and no location is left at the end
-pub all-noted : (t : Litmus) (list : List Named) (loc : ℕ) → length t.locations ≤ loc
-    → list ++ filter (is_looked_at t.condition) (named_locations loc (length t.locations - loc)) ≡ looked_at t → list ≡ looked_at t
-all-noted t list loc over so =
+pub all-noted : (p : Named → Bool) (t : Litmus) (all list : List Named) (loc : ℕ) → length t.locations ≤ loc
+    → list ++ filter p (named_locations loc (length t.locations - loc)) ≡ all → list ≡ all
+all-noted p t all list loc over so =
     let none : length t.locations - loc ≡ 0 = omega (arith, over) in
-    sym (append-nil list) ∙ (sym (ap (λ count. list ++ filter (is_looked_at t.condition) (named_locations loc count)) none) ∙ so)
+    sym (append-nil list) ∙ (sym (ap (λ count. list ++ filter p (named_locations loc count)) none) ∙ so)
 
 pub noted-known : (t : Litmus) (list : List Named) → list ≡ looked_at t → All (NameExists (length t.programs) (length t.locations)) list
 noted-known t list is = subst (All (NameExists (length t.programs) (length t.locations))) (sym is) (looked-known t)

@@ -3,7 +3,7 @@
 
 ghost use Rattle.std.specs.Prelude.{◌≡◌, ◌<◌, ◌∷◌, [], IfOk, OnOk, All, length, map};
 ghost use Rattle.tso_terms.specs.Condition.{claim_of};
-ghost use Rattle.tso_report.specs.Tally.{is_looked_at, named_register};
+ghost use Rattle.tso_report.specs.Tally.{is_looked_at};
 ghost use Rattle.tso_report.specs.inner.Tally.{AreNoted, NameExists, claim_names};
 ghost use Rattle.tso_report.specs.Tally.{named_registers, looked_at, shown_value};
 
@@ -39,16 +39,9 @@ fn note_registers(list: &mut Vec<Named>, test: &Test) -> Result<(), NoMemory>
     ensures { OnOk result (AreNoted test.now.condition (named_registers 0 (length test.now.programs)) list.old.items list.new.items) }
 {
     for core in 0..test.cores() {
-        note_each(list, test, core, &Reg::ALL)?;
-    }
-    Ok(())
-}
-
-fn note_each(list: &mut Vec<Named>, test: &Test, core: u8, regs: &[Reg]) -> Result<(), NoMemory>
-    ensures { OnOk result (AreNoted test.now.condition (map (named_register core) regs.now) list.old.items list.new.items) }
-{
-    for reg in regs {
-        note(list, test, Named::Register(Core(core), *reg))?;
+        for reg in &Reg::ALL {
+            note(list, test, Named::Register(Core(core), *reg))?;
+        }
     }
     Ok(())
 }

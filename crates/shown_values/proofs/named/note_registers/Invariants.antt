@@ -1,5 +1,5 @@
-use Rattle.std.proofs.Common.{◌≡◌, ◌-◌, ◌++◌, length, filter}
-use Rattle.tso_report.specs.Tally.{named_registers}
+use Rattle.std.proofs.Common.{◌≡◌, ◌-◌, ◌++◌, length, drop, map, filter}
+use Rattle.tso_report.specs.Tally.{named_register, named_registers}
 use Rattle.shown_values.specs.Shown.{is_shown}
 use Rattle.shown_values.proofs.named.note_registers.Given as goal
 
@@ -7,3 +7,8 @@ abbrev pub invariant-loop-core : goal.invariant-loop-core
 invariant-loop-core l =
     l.list.items ++ filter (is_shown l.show l.test) (named_registers l.core (length l.test.programs - l.core))
     ≡ l.initial.list.items ++ filter (is_shown l.show l.test) (named_registers 0 (length l.test.programs))
+
+abbrev pub invariant-loop-reg : goal.invariant-loop-reg
+invariant-loop-reg l =
+    l.list.items ++ filter (is_shown l.show l.test) (map (named_register l.core) (drop l.reg-index l.reg-items))
+    ≡ l.initial.list.items ++ filter (is_shown l.show l.test) (map (named_register l.core) l.reg-items)
