@@ -1,5 +1,7 @@
 //! The words of seeds, against published ones: a seed must give the same run on every machine and in every version.
 
+ghost use Rattle.std.specs.Prelude.{◌<◌};
+
 use crate::named::{MEMORY, holds};
 use rand_core::SeedableRng;
 use rand_core::utils::NextWord;
@@ -18,7 +20,7 @@ const OF_SEED_0: [u32; 2] = [0x11cdd903, 0xfc843fd7];
 
 fn gives(rt: &impl Abort, mut generator: Lcg64Xsh32, words: &[u32]) {
     for word in words {
-        assert!(rt; generator.next_word() == *word);
+        holds(rt, generator.next_word() == *word);
     }
 }
 
@@ -28,33 +30,28 @@ fn the_generator_gives_the_published_words(rt: HostRuntime) {
     gives(&rt, Lcg64Xsh32::seed_from_u64(0), &OF_SEED_0);
 }
 
-/// Choices of seeds for so many cores, and the same one by one, worked out apart from this project from the published
-/// algorithm. In the last a seed begins anew.
-const SEEDS: [(u8, &[u8], &[u8]); 5] = [
-    (255, b"seed 0 2", b"93d 203d"),
-    (2, b"seed 9 6", b"1s 1d 1d 1d 1s 0d"),
-    (3, b"seed 17 6", b"0d 2d 2s 2d 1d 0d"),
-    (2, b"seed 18446744073709551615 4", b"1s 1s 0s 0d"),
-    (2, b"seed 9 4 seed 9 2", b"1s 1d 1d 1d 1s 1d"),
-];
-
-fn are_the_same(rt: &impl Abort, alloc: Global, cores: u8, seeds: &[u8], choices: &[u8]) {
-    assert!(rt; 0 < cores);
-    let seeded = read_choices(alloc, cores, seeds).expect(rt, "choices");
+/// Whether a seed begins with these choices for so many cores.
+fn begins(rt: &impl Abort, alloc: Global, cores: u8, seed: u64, choices: &[u8])
+    requires { 0 < cores }
+{
     let listed = read_choices(alloc, cores, choices).expect(rt, "choices");
+    let seeded = seeded_choices(alloc, cores, seed, listed.len()).expect(rt, MEMORY);
     holds(rt, seeded == listed);
 }
 
+/// The choices were worked out apart from this project from the published algorithm.
 #[test]
-fn seeds_give_the_published_choices(rt: HostRuntime) {
-    for (cores, seeds, choices) in &SEEDS {
-        are_the_same(&rt, rt.alloc(), *cores, seeds, choices);
-    }
+fn a_seed_gives_its_choices(rt: HostRuntime) {
+    let alloc = rt.alloc();
+    begins(&rt, alloc, 255, 0, b"93d 203d");
+    begins(&rt, alloc, 2, 9, b"1s 1d 1d 1d 1s 0d");
+    begins(&rt, alloc, 3, 17, b"0d 2d 2s 2d 1d 0d");
+    begins(&rt, alloc, 2, 18446744073709551615, b"1s 1s 0s 0d");
 }
 
 #[test]
-fn a_seed_gives_its_choices(rt: HostRuntime) {
-    let seeded = seeded_choices(rt.alloc(), 2, 9, 6).expect(&rt, MEMORY);
-    let listed = read_choices(rt.alloc(), 2, b"1s 1d 1d 1d 1s 0d").expect(&rt, "choices");
+fn a_seed_begins_anew(rt: HostRuntime) {
+    let seeded = read_choices(rt.alloc(), 2, b"seed 9 4 seed 9 2").expect(&rt, "choices");
+    let listed = read_choices(rt.alloc(), 2, b"1s 1d 1d 1d 1s 1d").expect(&rt, "choices");
     holds(&rt, seeded == listed);
 }

@@ -1,7 +1,7 @@
 //! Tests, of what neither a clause nor a row of the program says: outside vectors, calls that the program doesn't make
-//! with ample memory, and inputs and outputs over streams that fail or give little at a time. A test is proved like any
-//! function, and many calls on one value in one function cost minutes: the calls are data, listed with what each is to
-//! answer, and each stands in a helper of its own, which promises little.
+//! with ample memory, and inputs and outputs over a device that fails or moves little at a time. A test is proved like any
+//! function, and many calls on one value in one function cost minutes: each stands in a helper of its own, which promises
+//! little, and a test lists the helper's calls.
 #![tactic(auto)]
 
 #[cfg(test)]

@@ -1,15 +1,11 @@
 //! The checker of refutations, which the program doesn't call: message passing's tree refutes, and no nodes don't.
 
-use crate::named::{MEMORY, P0, P1, X, Y, holds, test_of};
+use crate::named::{MEMORY, MESSAGE_PASSING, P0, P1, X, Y, holds, test_of};
 use refutation_laws::Model;
 use refutations::{Node, refutes};
 use std::alloc::Global;
 use std::process::Abort;
 use tso_terms::{Entry, Kind};
-
-/// Message passing.
-const MP: &[u8] =
-    b"X86 MP\n{ }\n P0 | P1 ;\n MOV [x],$1 | MOV EAX,[y] ;\n MOV [y],$1 | MOV EBX,[x] ;\nexists (1:EAX=1 /\\ 1:EBX=0)\n";
 
 const STORE_X: Entry = Entry {
     core: P0,
@@ -43,30 +39,23 @@ const LOAD_X: Entry = Entry {
     value: 0,
 };
 
-fn tree(rt: &impl Abort, alloc: Global) -> Vec<Node> {
-    let cycle = vec![in alloc; STORE_X, STORE_Y, LOAD_Y, LOAD_X].expect(rt, MEMORY);
-    vec![in alloc;
+fn is_refuted(rt: &impl Abort, alloc: Global, nodes: &[Node]) -> bool {
+    let test = test_of(rt, alloc, MESSAGE_PASSING);
+    refutes(alloc, &test, Model::Tso, nodes).expect(rt, MEMORY)
+}
+
+#[test]
+fn the_tree_of_message_passing_refutes(rt: HostRuntime) {
+    let alloc = rt.alloc();
+    let cycle = vec![in alloc; STORE_X, STORE_Y, LOAD_Y, LOAD_X].expect(&rt, MEMORY);
+    let nodes = vec![in alloc;
         Node::ReadsFrom(LOAD_Y),
         Node::FalseClaim,
         Node::ReadsFrom(LOAD_X),
         Node::Globally(cycle),
         Node::FalseClaim,
     ]
-    .expect(rt, MEMORY)
-}
-
-fn judged(rt: &impl Abort, alloc: Global, nodes: &[Node]) -> bool {
-    let test = test_of(rt, alloc, MP);
-    refutes(alloc, &test, Model::Tso, nodes).expect(rt, MEMORY)
-}
-
-#[test]
-fn the_tree_of_message_passing_refutes(rt: HostRuntime) {
-    let nodes = tree(&rt, rt.alloc());
-    holds(&rt, judged(&rt, rt.alloc(), &nodes));
-}
-
-#[test]
-fn no_nodes_refute_nothing(rt: HostRuntime) {
-    holds(&rt, !judged(&rt, rt.alloc(), &[]));
+    .expect(&rt, MEMORY);
+    holds(&rt, is_refuted(&rt, alloc, &nodes));
+    holds(&rt, !is_refuted(&rt, alloc, &[]));
 }

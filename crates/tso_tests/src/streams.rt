@@ -1,149 +1,112 @@
-//! Inputs and outputs over a reader and a writer that fail or give little at a time.
+//! Inputs and outputs over a device that fails or moves little at a time.
+
 use crate::named::holds;
 use std::alloc::Global;
 use std::io;
 use std::io::{Read, Write};
 use std::process::Abort;
-use tso_io::{Counted, RunFault, read_input, write_output};
+use tso_io::{Counted, read_input, write_output};
 
 const INPUT: &[u8] = b"X86 t\n{ }\n P0 ;\n MFENCE ;\n";
 
 const REPORT: &[u8] = b"Test t\nMachine msi depth=4 sets=1 ways=2 words=1\n";
 
-/// A reader over bytes that gives so many a call, and whose call of one number fails. It would work
-/// at the next, so a call that comes again shows.
-#[derive(Drop)]
-struct Source {
+/// A device that gives these bytes, or takes these alone. Each call moves at most so many; at `None` it fails. It would work
+/// after the last of them, so a call that comes again shows.
+#[derive(Clone, Copy)]
+struct Device {
     left: &'static [u8],
-    most: usize,
-    calls: u64,
-    failing: u64,
+    calls: &'static [Option<usize>],
 }
 
-impl Read for Source {
-    fn read(&mut self, buf: &mut [u8]) -> io::Result<usize> {
-        self.calls = self.calls.wrapping_add(1);
-        if self.calls == self.failing {
-            return Err(io::Error::from(io::ErrorKind::Other));
+impl Device {
+    /// How many bytes the next call moves at most.
+    fn next(&mut self) -> Option<usize> {
+        match self.calls.split_first() {
+            Some((first, later)) => {
+                self.calls = later;
+                *first
+            }
+            None => Some(self.left.len()),
         }
-        let n = self.left.len().min(self.most).min(buf.len());
-        buf[..n].copy_from_slice(&self.left[..n]);
-        self.left = &self.left[n..];
-        Ok(n)
     }
 }
 
-/// A writer that takes so many bytes a call, and whose call of one number fails or takes none. It
-/// counts the flushes.
-#[derive(Drop)]
-struct Sink {
-    taken: Vec<u8>,
-    most: usize,
-    calls: u64,
-    failing: u64,
-    refusing: u64,
-    flushes: u64,
+impl Read for Device {
+    fn read(&mut self, buf: &mut [u8]) -> io::Result<usize> {
+        match self.next() {
+            Some(most) => {
+                let n = most.min(buf.len());
+                self.left.read(&mut buf[..n])
+            }
+            None => Err(io::Error::from(io::ErrorKind::Other)),
+        }
+    }
 }
 
-impl Write for Sink {
+impl Write for Device {
     fn write(&mut self, buf: &[u8]) -> io::Result<usize> {
-        self.calls = self.calls.wrapping_add(1);
-        if self.calls == self.failing {
-            return Err(io::Error::from(io::ErrorKind::Other));
+        match self.next() {
+            Some(most) if buf == self.left => {
+                let n = most.min(buf.len());
+                self.left = &self.left[n..];
+                Ok(n)
+            }
+            _ => Err(io::Error::from(io::ErrorKind::Other)),
         }
-        if self.calls == self.refusing {
-            return Ok(0);
-        }
-        let n = buf.len().min(self.most);
-        if self.taken.extend_from_slice(&buf[..n]).is_err() {
-            return Err(io::Error::from(io::ErrorKind::OutOfMemory));
-        }
-        Ok(n)
     }
 
     fn flush(&mut self) -> io::Result<()> {
-        self.flushes = self.flushes.wrapping_add(1);
-        Ok(())
+        Err(io::Error::from(io::ErrorKind::Other))
     }
 }
 
-/// A reader of the input that gives so many bytes a call, and whose call of this number fails.
-fn reader_of(most: usize, failing: u64) -> Counted<Source> {
-    Counted::new(Source {
-        left: INPUT,
-        most,
-        calls: 0,
-        failing,
-    })
+/// Whether so many calls failed, none is still to come, and so many bytes are left.
+fn ended(device: Counted<Device>, failures: u32, left: usize) -> bool {
+    let failed = device.failures();
+    let device = device.into_inner();
+    failed == failures && device.calls.is_empty() && device.left.len() == left
 }
 
-/// A writer that takes so many bytes a call, and whose call of the one number fails, of the other takes none.
-fn writer_of(alloc: Global, most: usize, failing: u64, refusing: u64) -> Counted<Sink> {
-    Counted::new(Sink {
-        taken: Vec::new(alloc),
-        most,
-        calls: 0,
-        failing,
-        refusing,
-        flushes: 0,
-    })
-}
-
-/// Whether so many calls of the writer failed, and it took these bytes in so many calls.
-fn took(writer: Counted<Sink>, failures: u32, calls: u64, bytes: &[u8]) -> bool {
-    let failed = writer.failures();
-    let sink = writer.into_inner();
-    failed == failures && sink.calls == calls && sink.taken.as_slice() == bytes && sink.flushes == 0
-}
-
-#[test]
-fn a_readers_fault_is_told(rt: HostRuntime) {
-    let mut reader = reader_of(10, 2);
-    holds(&rt, reader.failures() == 0);
-    let read = read_input(rt.alloc(), &mut reader, 100);
-    holds(&rt, matches!(read, Err(RunFault::Device)));
-    holds(&rt, reader.failures() == 1);
-    holds(&rt, reader.into_inner().calls == 2);
-}
-
-#[test]
-fn one_byte_a_call_is_enough_to_read(rt: HostRuntime) {
-    let mut reader = reader_of(1, 0);
-    holds(&rt, reader.failures() == 0);
-    let read = read_input(rt.alloc(), &mut reader, 100);
-    holds(&rt, matches!(&read, Ok(bytes) if bytes.as_slice() == INPUT));
-}
-
-/// Whether the report is written so, through a writer that takes so many bytes a call, and whose call of the one number fails, of
-/// the other takes none.
-fn is_written(
+/// Reads the input from a device with these calls: all of it, unless one fails.
+fn is_read(
     rt: &impl Abort,
-    mut writer: Counted<Sink>,
-    wanted: Result<(), RunFault>,
-    calls: u64,
-    bytes: &[u8],
+    alloc: Global,
+    calls: &'static [Option<usize>],
+    failures: u32,
+    left: usize,
 ) {
-    holds(rt, writer.failures() == 0);
+    let mut reader = Counted::new(Device { left: INPUT, calls });
+    match read_input(alloc, &mut reader, 100) {
+        Ok(bytes) => holds(rt, failures == 0 && bytes.as_slice() == INPUT),
+        Err(_) => holds(rt, failures == 1),
+    }
+    holds(rt, ended(reader, failures, left));
+}
+
+/// A reader's fault is told, and one byte a call is enough.
+#[test]
+fn an_input_is_read_once(rt: HostRuntime) {
+    let alloc = rt.alloc();
+    is_read(&rt, alloc, &[Some(10), None], 1, INPUT.len() - 10);
+    is_read(&rt, alloc, &[Some(1); 27], 0, 0);
+}
+
+/// Writes the report to a device with these calls: all of it, unless one fails or takes none.
+fn is_written(rt: &impl Abort, calls: &'static [Option<usize>], failures: u32, left: usize) {
+    let mut writer = Counted::new(Device {
+        left: REPORT,
+        calls,
+    });
     let written = write_output(&mut writer, REPORT);
-    holds(rt, written == wanted);
-    let failures = u32::from(wanted.is_err());
-    holds(rt, took(writer, failures, calls, bytes));
+    holds(rt, written.is_ok() == (failures == 0));
+    holds(rt, ended(writer, failures, left));
 }
 
+/// A writer's fault leaves a beginning, a write of no byte is a fault, and one byte a call is enough.
 #[test]
-fn a_writers_fault_leaves_a_beginning(rt: HostRuntime) {
-    let writer = writer_of(rt.alloc(), 10, 2, 0);
-    is_written(&rt, writer, Err(RunFault::Device), 2, b"Test t\nMac");
-}
-
-#[test]
-fn a_write_of_no_byte_is_a_fault(rt: HostRuntime) {
-    let writer = writer_of(rt.alloc(), 64, 0, 1);
-    is_written(&rt, writer, Err(RunFault::Device), 1, b"");
-}
-
-#[test]
-fn one_byte_a_call_is_enough_to_write(rt: HostRuntime) {
-    let writer = writer_of(rt.alloc(), 1, 0, 0);
-    is_written(&rt, writer, Ok(()), REPORT.len() as u64, REPORT);
+fn a_report_is_written_once(rt: HostRuntime) {
+    is_written(&rt, &[Some(10), None], 1, REPORT.len() - 10);
+    is_written(&rt, &[Some(0)], 1, REPORT.len());
+    is_written(&rt, &[Some(1); 49], 0, 0);
 }

@@ -1,7 +1,7 @@
 //! What a tally says of runs that ended and of one that didn't. The program counts states; runs are counted here.
 ghost use Rattle.std.specs.Prelude.{◌≡◌};
 
-use crate::named::{MEMORY, holds, test_of};
+use crate::named::{MEMORY, says, test_of};
 use machine_core::{Final, FinalState};
 use std::alloc::Global;
 use std::process::Abort;
@@ -56,24 +56,20 @@ fn add(rt: &impl Abort, tally: &mut Tally<'_>, test: &Test, run: &Run)
     tally.add(run).expect(rt, MEMORY);
 }
 
-fn says(rt: &impl Abort, alloc: Global, tally: &Tally<'_>) {
-    assert!(rt; tally.count() == 3);
-    let text = tally.text(alloc, 0, 6).expect(rt, MEMORY);
-    holds(rt, text.as_str() == TEXT);
-}
-
-/// One in which both loads pass, one in which the second core sees the first core's store, and one that doesn't end.
-fn counts(rt: &impl Abort, alloc: Global, test: &Test) {
+/// The text of one in which both loads pass, one in which the second core sees the first core's store, and one that doesn't end.
+fn text_of_three(rt: &impl Abort, alloc: Global, test: &Test) -> String {
     let mut tally = Tally::new(alloc, test).expect(rt, MEMORY);
     add(rt, &mut tally, test, &run(rt, alloc, [0, 0], true));
     add(rt, &mut tally, test, &run(rt, alloc, [0, 1], false));
     assert!(rt; tally.count() < 3);
     tally.add_unfinished();
-    says(rt, alloc, &tally);
+    tally.text(alloc, 0, 6).expect(rt, MEMORY)
 }
 
 #[test]
 fn a_tally_counts_states_and_verdicts(rt: HostRuntime) {
-    let test = test_of(&rt, rt.alloc(), SB);
-    counts(&rt, rt.alloc(), &test);
+    let alloc = rt.alloc();
+    let test = test_of(&rt, alloc, SB);
+    let text = text_of_three(&rt, alloc, &test);
+    says(&rt, text, TEXT);
 }
