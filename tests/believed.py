@@ -283,7 +283,7 @@ def topic(module):
     crate = module.split(".")[0]
     if crate in ("litmus_reader", "litmus_cells", "litmus_tokens"):
         return "grammar and refusals of tests"
-    if crate in ("scheduler", "witnesses", "order_builder", "commit_order", "decimals"):
+    if crate in ("scheduler", "witnesses", "order_builder", "commit_order") or module == "tso_terms.specs.Decimals":
         return "choices and orders as texts"
     if crate in ("snoop_bus", "cache_set", "multiprocessor", "machine_core", "protocol_tables"):
         return "caches"

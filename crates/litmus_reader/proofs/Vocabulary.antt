@@ -68,7 +68,7 @@ pub use Rattle.litmus_tokens.specs.Locations.{texts}
 unfoldable pub use Rattle.litmus_tokens.specs.Locations.{located}
 pub use Rattle.litmus_reader.specs.Reading.{program_of, test_of, refusal}
 unfoldable pub use Rattle.litmus_reader.specs.Reading.{end_at, tail_at, body_of, reading_of}
-pub use Rattle.decimals.specs.Decimals.{decimal_value}
+pub use Rattle.tso_terms.specs.Decimals.{decimal_value}
 pub use Rattle.tso_terms.specs.Names.{is_location_name, is_among, is_name, is_register_word, is_test_name, is_printable, begins_name, continues_name, last_byte, is_keyword}
 pub use Rattle.litmus_tokens.specs.Arguments.{ArgumentTerm, in_memory, in_register, constant, as_constant, memory_at, if_last}
 unfoldable pub use Rattle.litmus_tokens.specs.Arguments.{argument_at, two_arguments}

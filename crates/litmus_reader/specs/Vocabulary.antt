@@ -6,7 +6,7 @@ pub use Rattle.tso_terms.specs.Names.{is_location_name, is_printable, is_test_na
 pub use Rattle.tso_terms.specs.Registers.{index_of, register_named, same_letters}
 pub use Rattle.tso_terms.specs.Thread.{with_value}
 pub use Rattle.basic_laws.specs.Types.{Cond, Quantifier, Exists, Forall, NotExists, Instr, Reg}
-pub use Rattle.decimals.specs.Decimals.{decimal_value}
+pub use Rattle.tso_terms.specs.Decimals.{decimal_value}
 pub use Rattle.litmus_tokens.specs.Front.{is_symbol, is_symbol_term, name_at, number_at, symbol_at}
 pub use Rattle.litmus_tokens.specs.Gap.{gap_end}
 pub use Rattle.litmus_tokens.specs.Line.{line_of}

@@ -3,7 +3,7 @@
 
 ghost use Rattle.std.specs.Prelude.{◌≡◌, ◌<◌, ◌≤◌, if◌then◌else◌, length, IfOk};
 ghost use Rattle.tso_terms.specs.Limits.{most_cores};
-ghost use Rattle.decimals.specs.Decimals.{decimal_value};
+ghost use Rattle.tso_terms.specs.Decimals.{decimal_value};
 ghost use Rattle.litmus_tokens.specs.inner.Pieces.{pieces};
 ghost use Rattle.litmus_tokens.specs.inner.Mapped.{mapped};
 ghost use Rattle.litmus_reader.specs.Settings as spec;

@@ -1,8 +1,8 @@
 -- The number that digits say, where a word has room for it.
 use Rattle.std.proofs.Common.{◌≡◌, ◌^◌, ltb, leb, List, ℕ, refl, arith}
 use Rattle.std.proofs.lemmas.Bool.Decides.{nat_tests}
-use Rattle.decimals.specs.Decimals.{decimal_value}
-use Rattle.decimals.specs.inner.Decimals.{number_up_to}
+use Rattle.tso_terms.specs.Decimals.{decimal_value}
+use Rattle.tso_terms.specs.inner.Decimals.{number_up_to}
 use Rattle.litmus_tokens.specs.Terms.{word_of}
 
 -- at most the greatest word is below the number of words

@@ -10,7 +10,7 @@ ghost use Rattle.tso_terms.specs.Names as names;
 ghost use Rattle.litmus_tokens.specs.inner.Mapped.{mapped};
 ghost use Rattle.litmus_tokens.specs.Terms as terms;
 ghost use Rattle.litmus_tokens.specs.inner.SymbolSteps as steps;
-ghost use Rattle.decimals.specs.Decimals.{decimal_value};
+ghost use Rattle.tso_terms.specs.Decimals.{decimal_value};
 ghost use Rattle.litmus_tokens.specs.Terms.{word_of};
 ghost use Rattle.litmus_tokens.specs.inner.Terms.{term_of};
 ghost use Rattle.litmus_tokens.specs.Pieces as spec;
@@ -19,7 +19,7 @@ ghost use Rattle.litmus_tokens.specs.inner.Pieces.{piece_of, pieces};
 
 use crate::gap::after_gap;
 use crate::token::{Lexeme, Stop, Symbol, Token, Tokens};
-use decimals::number_up_to;
+use tso_terms::decimals::number_up_to;
 use std::alloc::Global;
 use tso_terms::NoMemory;
 use tso_terms::names::{begins_name, continues_name};

@@ -1,7 +1,7 @@
 //! Numbers, which a text may have of any size: a word has to have room for each.
 
 ghost use Rattle.std.specs.Prelude.{◌≡◌};
-ghost use Rattle.decimals.specs.Decimals.{decimal_value};
+ghost use Rattle.tso_terms.specs.Decimals.{decimal_value};
 ghost use Rattle.litmus_tokens.specs.Numbers as spec;
 
 use crate::fault::{Fault, Why};

@@ -15,8 +15,8 @@ pub use Rattle.order_builder.specs.declared.fault.OrderFault.{OrderFault}
 pub use Rattle.order_builder.specs.declared.fault.OrderFault.TheVariants.{NoOrder, BadLine, BadCount, NoMemory}
 pub use Rattle.std.proofs.lemmas.Bool.{eqb-false, and_parts, and_from, eqb-true, le-leb, leb-true, lt-ltb, le-ltb, ltb-false}
 pub use Rattle.std.proofs.lemmas.Bool.Decides.{nat_tests}
-pub use Rattle.decimals.specs.Decimals.{decimal_value}
-unfoldable pub use Rattle.decimals.specs.Decimals.{decimal_from}
+pub use Rattle.tso_terms.specs.Decimals.{decimal_value}
+unfoldable pub use Rattle.tso_terms.specs.Decimals.{decimal_from}
 pub use Rattle.std.specs.Char.{is_ascii_digit}
 pub use Rattle.std.specs.Fmt.{decimal, digits_onto, digit_glyph}
 unfoldable pub use Rattle.std.specs.Fmt.{digits}
@@ -26,7 +26,7 @@ pub use Rattle.std.proofs.lemmas.List.Quantifiers.{position-Some}
 pub use Rattle.tso_terms.specs.Names.{is_name, is_location_name, begins_name, continues_name, is_among}
 pub use Rattle.std.proofs.lemmas.Fmt.{digits_decimal, digits_value-decimal, decimal_nonempty, first_decimal, decimal_digit, decimal-digits_value}
 pub use Rattle.std.proofs.lemmas.Str.Parse.{IsNumeralModel, numerals_by_fold}
-unfoldable pub use Rattle.decimals.specs.inner.Decimals.{number_up_to}
+unfoldable pub use Rattle.tso_terms.specs.inner.Decimals.{number_up_to}
 pub use Rattle.order_builder.specs.Numbers.{is_number}
 unfoldable pub use Rattle.order_builder.specs.inner.Numbers.{number_within}
 pub use Rattle.std.proofs.lemmas.List.{append_assoc, append-nil, length-append, length-map, take_all, take_more, take-append-drop, take_at, drop_at, length-drop, length-take, get_or-take, get_or_at, get_or_append_left, length_push, drop_more, nil_from_length}

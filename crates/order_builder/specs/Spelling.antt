@@ -3,7 +3,7 @@ use Rattle.std.specs.Prelude.{ℕ, ◌+◌, ◌<◌, ◌^◌, ◌≡◌, ◌≢�
 use Rattle.tso_terms.specs.Litmus.{Litmus}
 use Rattle.basic_laws.specs.Types.{Entry, Kind, F}
 use Rattle.order_builder.specs.Lines.{lines_of, is_line}
-use Rattle.decimals.specs.Decimals.{decimal_value}
+use Rattle.tso_terms.specs.Decimals.{decimal_value}
 use Rattle.order_builder.specs.Numbers.{is_number}
 use Rattle.order_builder.specs.PrintedOrder.{printed_entry, order_lines}
 use Rattle.order_builder.specs.declared.fault.OrderFault.{OrderFault}

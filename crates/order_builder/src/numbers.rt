@@ -1,11 +1,11 @@
 //! Numbers as an order is written with them: decimal, without leading zeros, and refused where they pass their limit.
 
 ghost use Rattle.std.specs.Prelude.{◌≡◌, ◌≤◌, ◌==◌, IfSome};
-ghost use Rattle.decimals.specs.Decimals.{decimal_value};
+ghost use Rattle.tso_terms.specs.Decimals.{decimal_value};
 ghost use Rattle.order_builder.specs.Numbers.{is_number};
 ghost use Rattle.order_builder.specs.inner.Numbers.{number_within};
 
-use decimals::{all_digits, number_up_to};
+use tso_terms::decimals::{all_digits, number_up_to};
 
 /// Whether the text is a decimal number without leading zeros, of any size.
 pub fn is_number(text: &[u8]) -> bool
@@ -15,7 +15,7 @@ pub fn is_number(text: &[u8]) -> bool
 }
 
 /// Whether digits say this number.
-#[tactic(auto, unfolding(decimals::specs::inner::Decimals::number_up_to))]
+#[tactic(auto, unfolding(tso_terms::specs::inner::Decimals::number_up_to))]
 pub fn number_is(digits: &[u8], number: u64) -> bool
     ensures { result ≡ (decimal_value digits.now == number) }
 {

@@ -9,9 +9,9 @@ pub use Rattle.basic_laws.specs.Types.{Choice, Step, Drain, Entry, Kind, R, W, F
 pub use Rattle.scheduler.specs.declared.fault.ChoiceFault.TheVariants.{BadWord, NoSuchCore, TooMany, NoMemory}
 pub use Rattle.scheduler.specs.declared.item.ChoiceKind.{ChoiceKind}
 pub use Rattle.scheduler.specs.declared.item.ChoiceItem.TheVariants.{One, Seeded}
-pub use Rattle.decimals.specs.Decimals.{decimal_value}
-unfoldable pub use Rattle.decimals.specs.Decimals.{decimal_from}
-unfoldable pub use Rattle.decimals.specs.inner.Decimals.{number_up_to}
+pub use Rattle.tso_terms.specs.Decimals.{decimal_value}
+unfoldable pub use Rattle.tso_terms.specs.Decimals.{decimal_from}
+unfoldable pub use Rattle.tso_terms.specs.inner.Decimals.{number_up_to}
 pub use Rattle.scheduler.specs.Words.{words_of_text}
 unfoldable pub use Rattle.scheduler.specs.Words.{is_numeral, is_space}
 pub use Rattle.scheduler.specs.Grammar.{IsChoiceWord, step, drain, one, AreItems, none, more, SpellsChoices, IsItem, seeded, WordsSpell}

@@ -4,7 +4,7 @@ use Rattle.std.specs.Prelude.{◌<◌, ◌≤◌, ◌^◌, ◌++◌, ℕ, List, 
 use Rattle.tso_terms.specs.FlatMachine.{chosen}
 use Rattle.basic_laws.specs.Types.{Choice, Step, Drain}
 use Rattle.scheduler.specs.Limits.{most_choices}
-use Rattle.decimals.specs.Decimals.{decimal_value}
+use Rattle.tso_terms.specs.Decimals.{decimal_value}
 use Rattle.scheduler.specs.Words.{words_of_text, is_numeral}
 use Rattle.scheduler.specs.Seeds.{seeded_choices}
 

@@ -4,7 +4,7 @@ use Rattle.tso_terms.specs.FlatMachine.{chosen}
 use Rattle.tso_terms.specs.declared.choice.Choice.{Choice}
 use Rattle.scheduler.specs.declared.fault.ChoiceFault.{ChoiceFault}
 use Rattle.scheduler.specs.declared.fault.ChoiceFault.TheVariants.{BadWord, NoSuchCore, TooMany}
-use Rattle.decimals.specs.Decimals.{decimal_value}
+use Rattle.tso_terms.specs.Decimals.{decimal_value}
 use Rattle.scheduler.specs.Words.{words_of_text, is_numeral}
 use Rattle.scheduler.specs.Limits.{most_choices}
 use Rattle.scheduler.specs.Grammar.{IsChoiceWord, IsItem, AreItems, SpellsChoices}

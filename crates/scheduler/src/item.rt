@@ -11,7 +11,7 @@ ghost use Rattle.scheduler.specs.declared.item.ChoiceItem.TheVariants.{One};
 use crate::fault::ChoiceFault;
 use crate::seeds::push_seeded;
 use crate::words::{capped_number, first_word, is_numeral};
-use decimals::number_up_to;
+use tso_terms::decimals::number_up_to;
 use tso_terms::{Choice, Core, NoMemory};
 
 /// What a core is to do.

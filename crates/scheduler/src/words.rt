@@ -5,9 +5,9 @@ ghost use Rattle.std.specs.Prelude.{◌≡◌, ◌<◌, ◌≤◌, ◌∷◌, []
 ghost use Rattle.std.specs.List.{prefix_len};
 ghost use Rattle.std.specs.Option.{IfNone};
 ghost use Rattle.scheduler.specs.Words.{is_space, words_of_text, is_numeral};
-ghost use Rattle.decimals.specs.Decimals.{decimal_value};
+ghost use Rattle.tso_terms.specs.Decimals.{decimal_value};
 
-use decimals::all_digits;
+use tso_terms::decimals::all_digits;
 
 #[tactic(auto, unfolding(crate::specs::Words::is_space))]
 fn is_space(byte: u8) -> bool

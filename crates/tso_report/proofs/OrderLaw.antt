@@ -5,7 +5,7 @@ use Rattle.std.specs.Char.{is_ascii_digit}
 use Rattle.std.proofs.lemmas.Str.Parse.{IsNumeralModel, numerals_by_fold}
 use Rattle.std.proofs.lemmas.List.{append_assoc}
 use Rattle.std.proofs.lemmas.List.Folds.{list_all-append}
-use Rattle.decimals.specs.Decimals.{decimal_from}
+use Rattle.tso_terms.specs.Decimals.{decimal_from}
 use Rattle.order_builder.specs.Lines.{is_line}
 
 -- ---- no line feed

@@ -1,2 +1,3 @@
 pub mod LitmusLemmas
 pub mod ListLemmas
+pub mod Digits

@@ -20,3 +20,4 @@ pub mod SequentialConsistency
 pub mod Standing
 pub mod inner
 pub mod LitmusParts
+pub mod Decimals

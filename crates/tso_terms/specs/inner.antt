@@ -1,3 +1,4 @@
 -- Words of contracts inside the project.
 pub mod ConditionCode
 pub mod Watched
+pub mod Decimals

@@ -8,6 +8,7 @@
 pub mod action;
 pub mod choice;
 pub mod condition;
+pub mod decimals;
 pub mod execution;
 pub mod instruction;
 pub mod limits;

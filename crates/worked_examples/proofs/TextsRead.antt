@@ -28,7 +28,7 @@ use Rattle.litmus_reader.specs.Reading.{end_at, tail_at, body_of, reading_of}
 use Rattle.litmus_reader.specs.Rows.{row_at, row_in, rows_within, table_at}
 use Rattle.litmus_reader.specs.Sections.{section_of}
 use Rattle.litmus_reader.specs.Settings.{value_at, register_setting, square_setting, plain_setting, setting_at}
-use Rattle.decimals.specs.Decimals.{decimal_from}
+use Rattle.tso_terms.specs.Decimals.{decimal_from}
 
 unfoldable pub computed_reading : List ℕ → Result Litmus Fault
 unfolding is_symbol symbol_at name_at number_at is_space gap_end piece_at pieces_within pieces_of symbols symbol_of

@@ -1,5 +1,5 @@
 -- Operands of instructions: a register, a number after `$`, or a location in brackets.
-use Rattle.decimals.specs.Decimals.{decimal_value}
+use Rattle.tso_terms.specs.Decimals.{decimal_value}
 use Rattle.litmus_tokens.specs.declared.argument.Argument.{Argument}
 use Rattle.litmus_tokens.specs.Arguments.{ArgumentTerm, constant, in_memory, in_register}
 use Rattle.litmus_tokens.specs.declared.argument.Argument.TheVariants as code

@@ -1,5 +1,5 @@
 -- The instructions as they are spelled in cells: one form for each, by the operands that it takes.
-use Rattle.decimals.specs.Decimals.{decimal_value}
+use Rattle.tso_terms.specs.Decimals.{decimal_value}
 use Rattle.litmus_tokens.specs.declared.form.Form.{Form}
 use Rattle.litmus_tokens.specs.Shapes.{Shape, store_imm, store_reg, load, set_imm, set_reg, fence, xchg, xadd}
 use Rattle.litmus_tokens.specs.declared.form.Form.TheVariants as code

@@ -1,6 +1,6 @@
 -- A number of an order as it is read, where it is within a limit: a digit more must not make it wrap.
 use Rattle.std.specs.Prelude.{ℕ, List, Option, None, if◌then◌else◌}
-use Rattle.decimals.specs.inner.Decimals.{number_up_to}
+use Rattle.tso_terms.specs.inner.Decimals.{number_up_to}
 use Rattle.order_builder.specs.Numbers.{is_number}
 
 -- the number that a text is, if it is one and no greater than the most that there may be

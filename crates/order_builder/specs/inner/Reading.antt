@@ -6,7 +6,7 @@ use Rattle.std.specs.Str.{bytes_eq}
 use Rattle.tso_terms.specs.Litmus.{Litmus}
 use Rattle.basic_laws.specs.Types.{Entry, Kind, R, W, F, LR, LW}
 use Rattle.order_builder.specs.Lines.{lines_of}
-use Rattle.decimals.specs.Decimals.{decimal_value}
+use Rattle.tso_terms.specs.Decimals.{decimal_value}
 use Rattle.order_builder.specs.Numbers.{is_number}
 use Rattle.order_builder.specs.inner.Numbers.{number_within}
 use Rattle.order_builder.specs.declared.fault.OrderFault.{OrderFault}

@@ -8,7 +8,7 @@ use Rattle.scheduler.specs.declared.item.ChoiceKind.{ChoiceKind}
 use Rattle.scheduler.specs.declared.item.ChoiceKind.TheVariants.{Step, Drain}
 use Rattle.scheduler.specs.declared.item.ChoiceItem.{ChoiceItem}
 use Rattle.scheduler.specs.declared.item.ChoiceItem.TheVariants.{One, Seeded}
-use Rattle.decimals.specs.inner.Decimals.{number_up_to}
+use Rattle.tso_terms.specs.inner.Decimals.{number_up_to}
 use Rattle.scheduler.specs.Words.{is_numeral}
 use Rattle.scheduler.specs.Seeds.{seeded_choices}
 use Rattle.tso_terms.specs.declared.choice.Choice.TheVariants as choice

@@ -1,11 +1,9 @@
 //! Decimal numbers as texts have them: the number that digits say. Each reader says for itself which digits are a number,
 //! and whether zeros may lead.
-#![tactic(auto)]
-
 ghost use Rattle.std.specs.Prelude.{◌≡◌, ◌≤◌, IfSome};
 ghost use Rattle.std.specs.List.{list_all};
 ghost use Rattle.std.specs.Char.{is_ascii_digit};
-ghost use Rattle.decimals.specs.inner.Decimals.{number_up_to};
+ghost use Rattle.tso_terms.specs.inner.Decimals.{number_up_to};
 
 /// Whether each byte is a digit, `0` to `9`.
 pub fn all_digits(text: &[u8]) -> bool
@@ -16,7 +14,7 @@ pub fn all_digits(text: &[u8]) -> bool
 
 /// The number that digits say in base ten, if it is at most `most`. There may be any number of digits, and leading zeros;
 /// without a digit it is 0.
-#[tactic(auto, using(crate::proofs::Reading::digit_by_digit))]
+#[tactic(auto, using(crate::proofs::Digits::digit_by_digit))]
 pub fn number_up_to(most: u64, digits: &[u8]) -> Option<u64>
     ensures value { result ≡ number_up_to most digits.now }
     ensures within { IfSome result (λ n. n ≤ most) }

@@ -2,8 +2,8 @@
 use Rattle.std.proofs.Common.{◌≡◌, ℕ, ◌+◌, ◌-◌, ◌*◌, ◌/◌, ◌<◌, ◌≤◌, true, false, leb, List, [], ◌∷◌, length, get_or, drop, Some, None, refl, sym, ap, ◌∙◌, add-one, drop-cons, arith}
 use Rattle.std.proofs.lemmas.Bool.{le-leb, lt-leb}
 use Rattle.std.proofs.lemmas.List.{nil_from_length, length-drop}
-use Rattle.decimals.specs.Decimals.{decimal_from, decimal_value}
-use Rattle.decimals.specs.inner.Decimals.{number_up_to}
+use Rattle.tso_terms.specs.Decimals.{decimal_from, decimal_value}
+use Rattle.tso_terms.specs.inner.Decimals.{number_up_to}
 
 pub decimal_more : (ds : List ℕ) (i n : ℕ) → i < length ds → decimal_from n (drop i ds) ≡ decimal_from (n * 10 + (get_or ds i 0 - 48)) (drop (i + 1) ds)
 unfolding decimal_from
