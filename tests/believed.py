@@ -178,9 +178,9 @@ def reached(roots, case=None, without=()):
 TOP_LEVEL = ("tso_cli.specs.Headline", "Headline")
 SPLIT = ("tso_cli.specs.SplitRun", "split_run")
 JSON = (("tso_report.specs.Json", "json_report"), ("tso_report.specs.Json", "json_unfinished"))
-TRACED_AS_JSON = (*JSON, ("trace_json.specs.TracedRun", "json_ended"), ("trace_json.specs.TracedRun", "json_unended"))
-FOUND_AS_JSON = (("outcome_report.specs.OutcomesJson", "outcomes_json"), ("outcome_report.specs.OutcomesJson", "unfinished_outcomes_json"))
-REASONS_AS_JSON = tuple(("reason_report.specs.ReasonJson", name) for name in ("never_json", "allowed_json", "unfinished_reason_json"))
+TRACED_AS_JSON = (*JSON, ("trace_report.specs.TracedRun", "json_ended"), ("trace_report.specs.TracedRun", "json_unended"))
+FOUND_AS_JSON = (("search_report.specs.OutcomesJson", "outcomes_json"), ("search_report.specs.OutcomesJson", "unfinished_outcomes_json"))
+REASONS_AS_JSON = tuple(("search_report.specs.ReasonJson", name) for name in ("never_json", "allowed_json", "unfinished_reason_json"))
 PROMISES = {
     "run": ([TOP_LEVEL], "Run", (SPLIT, *JSON)),
     "run-whole": ([TOP_LEVEL], "Run", ()),
@@ -289,7 +289,7 @@ def topic(module):
         return "caches"
     if crate in ("tso_cli", "machine_runs", "simulator", "sweep_runs", "sweeper", "counted_io", "tso_io", "command_line", "page_exports"):
         return "commands"
-    if crate in ("tso_report", "outcome_report", "reason_report"):
+    if crate in ("tso_report", "search_report"):
         return "printed text"
     return "tests, machine, axioms"
 

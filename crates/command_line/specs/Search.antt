@@ -1,7 +1,7 @@
 -- Which final states are searched for, how many states of the machine may be kept meanwhile, and what is shown of the final ones.
 use Rattle.std.specs.Prelude.{ℕ, ◌≤◌}
 use Rattle.tso_terms.specs.Limits.{most_depth}
-use Rattle.shown_values.specs.declared.show.Show.{Show}
+use Rattle.tso_report.specs.declared.show.Show.{Show}
 
 -- the depth of the store buffers, how many states may be kept, and what is shown of the final ones
 pub record Search : Type 0 where

@@ -12,5 +12,5 @@ pub mod table;
 pub use explanation::ReasonPlan;
 pub use search::SearchPlan;
 pub use settings::{LineFault, Settings, settings_of};
-pub use shown_values::Show;
 pub use table::{DeclaredOption, SUBCOMMANDS, Subcommand, Value};
+pub use tso_report::Show;

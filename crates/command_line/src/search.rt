@@ -4,8 +4,8 @@
 ghost use Rattle.std.specs.Prelude.{◌≡◌, ◌↔◌, IsSome, IfSome};
 ghost use Rattle.command_line.specs.Search.{most_states, IsSearchWithinLimits};
 
-use shown_values::Show;
 use std::marker::Model;
+use tso_report::Show;
 use tso_terms::limits::MAX_DEPTH;
 
 /// Maximum number of states of the machine that a search may keep.

@@ -13,9 +13,9 @@ use machine_core::{Bus, Config, Shape};
 use protocol_tables::ProtocolKind;
 use refutation_laws::Model;
 use scheduler::SweepPlan;
-use shown_values::Show;
 use std::alloc::Global;
 use thiserror::Error;
+use tso_report::Show;
 use tso_terms::limits::{MAX_DEPTH, MIN_DEPTH};
 
 /// What a command line asks for.

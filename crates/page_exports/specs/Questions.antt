@@ -23,8 +23,8 @@ use Rattle.page_exports.specs.declared.AnswerLengths.{AnswerLengths}
 use Rattle.tso_terms.specs.declared.choice.Bus.TheVariants as buses
 use Rattle.protocol_tables.specs.declared.kind.ProtocolKind.TheVariants as kinds
 use Rattle.refutation_laws.specs.declared.model.Model.TheVariants as models
-use Rattle.shown_values.specs.declared.show.Show.{Show}
-use Rattle.shown_values.specs.declared.show.Show.TheVariants as shows
+use Rattle.tso_report.specs.declared.show.Show.{Show}
+use Rattle.tso_report.specs.declared.show.Show.TheVariants as shows
 use Rattle.command_line.specs.declared.settings.Settings.TheVariants as settings
 use Rattle.tso_cli.specs.declared.answer.Status.TheVariants as statuses
 use Rattle.page_exports.specs.declared.question.Question.TheVariants as questions

@@ -6,9 +6,9 @@ use Rattle.std.proofs.lemmas.List.Elements.{All-from_recursion, recursion_from_A
 use Rattle.scheduler.specs.Printed.{printed_after, printed_choices}
 use Rattle.tso_report.specs.Report.{line, test_line}
 use Rattle.tso_report.specs.declared.named.Named.{Named}
-use Rattle.shown_values.specs.Shown.{names_shown}
-use Rattle.shown_values.specs.declared.show.Show.{Show}
-use Rattle.outcome_report.specs.Outcomes.{Outcome, shown_values, outcomes_line, state_line, by_line, outcome_lines, outcomes_text, condition_lines}
+use Rattle.tso_report.specs.ShownNames.{names_shown}
+use Rattle.tso_report.specs.declared.show.Show.{Show}
+use Rattle.search_report.specs.Outcomes.{Outcome, shown_values, outcomes_line, state_line, by_line, outcome_lines, outcomes_text, condition_lines}
 use Rattle.tso_cli.specs.Revisited.{IsRevisited, AreRevisited}
 use Rattle.tso_cli.specs.SweepHeadline.{HasPart}
 use Rattle.promises.specs.Searched.{line_by, IsRunAgain, LinesAreRunAgain}

@@ -3,7 +3,7 @@ use Rattle.promises.proofs.PrintedVocabulary.{◌≡◌, ℕ, ◌<◌, Bool, tru
 use Rattle.json.specs.Json as json
 use Rattle.snoop_bus.specs.declared.looking.CachedLine.{CachedLine}
 use Rattle.trace_report.specs.StepLaws.{after_choices}
-use Rattle.trace_json.proofs.Tracing.{each-after}
+use Rattle.trace_report.proofs.Tracing.{each-after}
 use Rattle.promises.specs.TracedMachines.{copy_shown, copies_shown, holder_shown, ShowTheSameMachine, AreWordsOf, MachinesAreTold}
 use Rattle.promises.proofs.JsonMemory.{memory-told}
 use Rattle.promises.proofs.JsonReading.{deeper, text-told}

@@ -2,11 +2,11 @@
 use Rattle.promises.proofs.Vocabulary.{◌≡◌, ◌∙◌, ◌<◌, ℕ, Bool, false, ◌||◌, List, length, IfOk, Ok, Err, Result, Some, None, Vec, ap, Litmus, IsTest, EndsAreWhatTsoAllows, IsAllowedAtDepth, AreReached, HaveEveryEnd, AreWhat}
 use Rattle.std.specs.declared.alloc.Global.{Global}
 use Rattle.tso_terms.specs.Condition as conditions
-use Rattle.shown_values.specs.declared.show.Show.TheVariants.{Condition}
+use Rattle.tso_report.specs.declared.show.Show.TheVariants.{Condition}
 use Rattle.tso_terms.specs.declared.register.Reg.{Reg}
 use Rattle.explorer.specs.declared.final_states.Exploration.{Exploration}
 use Rattle.tso_report.specs.Tally.{is_looked_at, named_register, claim_names_register}
-use Rattle.outcome_report.specs.Hidden.{IsHidden, AreAllNotShown}
+use Rattle.search_report.specs.Hidden.{IsHidden, AreAllNotShown}
 
 pub found-allowed : {E : Type 0} (r : Result Exploration E) (t : Litmus) (depth : ℕ) (hidden : List (List Bool)) → EndsAreWhatTsoAllows → IsTest t
     → IfOk r (λ x. AreReached t depth x.final_states.items) → IfOk r (λ x. HaveEveryEnd t depth hidden x.final_states.items)

@@ -1,7 +1,7 @@
 -- What `trace` prints tells the run and its steps.
 use Rattle.promises.proofs.PrintedVocabulary.{◌≡◌, ℕ, ◌^◌, ◌<◌, Bool, true, false, List, [], ◌∷◌, ◌++◌, refl, sym, ap, ◌∙◌, ◌≤◌, arith, ◌+◌, length, cond, append_cancel_left, max_depth, json_tokens, Data, Members, put, outline, compact_text, members_outline, print-outline, codes, IsNumber-decimal, head, body, unfinished_run_value, run_value, run_members, unfinished_members, json_report, json_unfinished, ReportsTellTheirMachines, Litmus, IsTest, ProtocolKind, Configuration, IsConfigurationWithinLimits, ShownRun, RunFitsTest, shown_under, EndedRunsFit, ChoicesAreCounted, print, escape_byte, Run, CoresExist, report_in, unfinished_in, run_under, counts_under, PrintedRunsAreTold, Choice, trace_text, told_by_line, told_by_object, TraceValuesTellTheirSteps, PrintedTracesAreTold, PrintedTracesNameTheSame, trace_under, programs_value, proposition_value, trace_json}
 use Rattle.json.specs.Json as json
-use Rattle.trace_json.specs.TracedRun.{with_trace, ended_value, unended_value, json_ended, json_unended}
+use Rattle.trace_report.specs.TracedRun.{with_trace, ended_value, unended_value, json_ended, json_unended}
 use Rattle.tso_cli.specs.Lines.{unfinished_run_line}
 use Rattle.tso_cli.specs.Trace.{ending_text}
 use Rattle.promises.proofs.Heads.{head-cut}

@@ -55,28 +55,28 @@ pub use Rattle.machine_runs.specs.Runs.{run_under, counts_under}
 pub use Rattle.promises.specs.OfRuns.{PrintedRunsAreTold}
 pub use Rattle.std.proofs.lemmas.Bool.Decides.{nat_tests}
 pub use Rattle.std.proofs.lemmas.List.Folds.{list_all-append, list_any-append}
-pub use Rattle.shown_values.specs.Shown.{is_shown, names_shown, values_at}
-pub use Rattle.shown_values.specs.declared.show.Show.{Show}
-pub use Rattle.outcome_report.specs.OutcomesJson.{key_of, states_value, observed_value, observation_value, unfinished_outcomes_json, value_members, holds_in, with_holds, state_value, outcomes_value}
+pub use Rattle.tso_report.specs.ShownNames.{is_shown, names_shown, values_at}
+pub use Rattle.tso_report.specs.declared.show.Show.{Show}
+pub use Rattle.search_report.specs.OutcomesJson.{key_of, states_value, observed_value, observation_value, unfinished_outcomes_json, value_members, holds_in, with_holds, state_value, outcomes_value}
 pub use Rattle.scheduler.specs.Printed.{printed_choice, printed_after, printed_choices}
-pub use Rattle.outcome_report.specs.Outcomes.{Outcome, shown_values, outcomes_line, outcome_lines, condition_lines, unfinished_outcomes_line, held_in, failed_in, true_in, is_met_in, printed_numbers, observation_line, true_line, by_line, state_line, true_from}
-pub use Rattle.outcome_report.proofs.Alike.{alike}
+pub use Rattle.search_report.specs.Outcomes.{Outcome, shown_values, outcomes_line, outcome_lines, condition_lines, unfinished_outcomes_line, held_in, failed_in, true_in, is_met_in, printed_numbers, observation_line, true_line, by_line, state_line, true_from}
+pub use Rattle.search_report.proofs.Alike.{alike}
 pub use Rattle.promises.specs.Outcomes.{OutcomesTellTheirStates, OutcomesTellTheirTests, OutcomesFit, PrintedStatesFit}
-pub use Rattle.outcome_report.specs.Verdict.{verdict_word, is_well, outcomes_verdict_value, verdict_line, is_met, is_as_claimed}
+pub use Rattle.search_report.specs.Verdict.{verdict_word, is_well, outcomes_verdict_value, verdict_line, is_met, is_as_claimed}
 pub use Rattle.promises.specs.Verdicts.{PrintsVerdict, EndsInNumbers, IsAsClaimed, IsNotAsClaimed, VerdictMeans, VerdictsAgree, StatusTells, TrueNamesTrueStates, HoldsTellsTrueStates}
-pub use Rattle.outcome_report.specs.Printed.{outcomes_in, unfinished_search_in}
+pub use Rattle.search_report.specs.PrintedOutcomes.{outcomes_in, unfinished_search_in}
 pub use Rattle.promises.specs.Observed.{EndsInWord, HasWordInObject, PrintsWord, IsSoEverywhere, IsSoSomewhere, IsSoNowhere, IsAlwaysSo, IsSometimesSo, WordMeans}
 pub use Rattle.relational_model.specs.Candidates.{Candidate, events_from}
 pub use Rattle.refutation_laws.specs.Refutations.{Node, asked_claim, ReadsFrom, ComesFirst, OnLocation, Globally, Between, FalseClaim, sources_of, is_node, branches, close, refutes}
 pub use Rattle.refutation_laws.specs.declared.model.Model.{Model}
-pub use Rattle.reason_report.specs.Steps.{ReasonStep, Case, So, Leaf, Endcases, steps_of, leaves_in, Answer, From, Before, Closing, Uniproc, Cycle, Amid, False, event_at, edges_back, edges_of, is_leaf, leaf_steps, replies, with_reply, Part, Branch, branches_with, is_closed, write_of_answer, answer_at, are_alike, groups, known_of_case, closed_case, case_steps, so_steps, rest_steps, question_steps, grown, is_false_source, is_source, is_false, answer_of_case, answer_of_branch, parts_of_nodes}
-pub use Rattle.reason_report.specs.ReasonText.{model_name, truth_asked, asked_line, never_line, reason_step_line, blanks, answer_text, closing_text, from_line, reads_of, coherence_lines, values_left, location_text, entry_text, event_text, relation_text, hop_text, cycle_text, source_text, or_text, sources_text, bar_text, words_text, place_text}
-pub use Rattle.reason_report.specs.ReasonJson.{asked_value, step_value, edge_value, answer_value, place_members, never_value_of, allowed_value, unfinished_reason_json, cycle_value}
+pub use Rattle.search_report.specs.Steps.{ReasonStep, Case, So, Leaf, Endcases, steps_of, leaves_in, Answer, From, Before, Closing, Uniproc, Cycle, Amid, False, event_at, edges_back, edges_of, is_leaf, leaf_steps, replies, with_reply, Part, Branch, branches_with, is_closed, write_of_answer, answer_at, are_alike, groups, known_of_case, closed_case, case_steps, so_steps, rest_steps, question_steps, grown, is_false_source, is_source, is_false, answer_of_case, answer_of_branch, parts_of_nodes}
+pub use Rattle.search_report.specs.ReasonText.{model_name, truth_asked, asked_line, never_line, reason_step_line, blanks, answer_text, closing_text, from_line, reads_of, coherence_lines, values_left, location_text, entry_text, event_text, relation_text, hop_text, cycle_text, source_text, or_text, sources_text, bar_text, words_text, place_text}
+pub use Rattle.search_report.specs.ReasonJson.{asked_value, step_value, edge_value, answer_value, place_members, never_value_of, allowed_value, unfinished_reason_json, cycle_value}
 pub use Rattle.tso_terms.specs.FinalState.{final_words, final_registers}
 pub use Rattle.tso_terms.specs.FlatMachine.{registers_in, chosen, CoreState, State, Effect, is_none_pending, stalled, advanced_with, stored, load_value, effect_by, idle, program_of, core_of, effect_of, memory_after, applied, started, start, step_of}
 pub use Rattle.tso_laws.specs.Outcomes.{IsEnd, EndsAreWhatTsoAllows}
 pub use Rattle.litmus_reader.specs.Spelling.{SpellsTest}
-pub use Rattle.outcome_report.specs.Laws.{TruthIsShown}
+pub use Rattle.search_report.specs.Laws.{TruthIsShown}
 pub use Rattle.tso_cli.specs.Dividing.{parts_of}
 pub use Rattle.tso_cli.proofs.FoundOutcomes.{Leads, made-of}
 pub use Rattle.command_line.specs.Search.{Search}
@@ -93,8 +93,8 @@ pub use Rattle.trace_report.specs.declared.step.StateChange.{StateChange}
 pub use Rattle.std.specs.Option.{option_map}
 pub use Rattle.tso_terms.specs.declared.choice.Stall.TheVariants.{Done, Full, Empty}
 pub use Rattle.promises.specs.Traces.{bare_store, told_by_line, TraceStepFits, TracesTellTheirSteps, told_by_object, SourceFits, ObjectsTellTheirSteps, IsReadable, TraceValuesTellTheirSteps, PrintedTracesAreTold, PrintedTracesNameTheSame}
-pub use Rattle.trace_json.specs.Values.{text_or_null, array_of_texts}
-pub use Rattle.trace_json.specs.StepJson.{outcome_word, stall_in, step_json}
+pub use Rattle.trace_report.specs.JsonValues.{text_or_null, array_of_texts}
+pub use Rattle.trace_report.specs.StepJson.{outcome_word, stall_in, step_json}
 pub use Rattle.tso_terms.specs.Actions.{action_of, location_of}
 pub use Rattle.tso_terms.specs.ProgramOrder.{is_write, writes_to, is_read}
 pub use Rattle.tso_terms.specs.MemoryAccess.{MemoryAccess, NoAccess, Writes, Locks, access_of, next_of}
@@ -113,25 +113,25 @@ pub use Rattle.trace_report.proofs.Whole.{step-known, traced-next}
 pub use Rattle.protocol_tables.specs.declared.requests.Transient.{Transient}
 pub use Rattle.machine_core.specs.Looking.{bus_holder, bus_holder_as, bus_holder_of}
 pub use Rattle.machine_core.specs.declared.looking.BusHolder.{BusHolder}
-pub use Rattle.trace_json.specs.MachineJson.{words_per_line, copy_json, sets_json, core_json, cores_json, words_in_line, words_on_bus, bus_json, machine_json, cached_lines_in, core_with}
-pub use Rattle.trace_json.specs.OwnWords.{own_word, own_words_from, own_words, is_newer_in}
-pub use Rattle.trace_json.specs.Programs.{instruction_text, program_value, programs_value}
-pub use Rattle.trace_json.specs.Proposition.{proposition_text, proposition_value}
-pub use Rattle.trace_json.specs.TraceJson.{sourced_by, step_to, steps_json, trace_json, Sourced}
+pub use Rattle.trace_report.specs.MachineJson.{words_per_line, copy_json, sets_json, core_json, cores_json, words_in_line, words_on_bus, bus_json, machine_json, cached_lines_in, core_with}
+pub use Rattle.trace_report.specs.OwnWords.{own_word, own_words_from, own_words, is_newer_in}
+pub use Rattle.trace_report.specs.ProgramsJson.{instruction_text, program_value, programs_value}
+pub use Rattle.trace_report.specs.PropositionJson.{proposition_text, proposition_value}
+pub use Rattle.trace_report.specs.TraceJson.{sourced_by, step_to, steps_json, trace_json, Sourced}
 pub use Rattle.refutation_laws.specs.Edges.{on_location, global_in, relates, is_edge, is_cycle, leads_back, are_parts}
 pub use Rattle.refutation_laws.specs.declared.model.Relation.{Relation}
 pub use Rattle.refutation_laws.specs.declared.model.Relation.TheVariants.{Po, PoLoc, PoGhb, Mfence, Implied, Rf, Rfe, Co, Fr}
-pub use Rattle.reason_report.specs.declared.steps.Event.{Event}
+pub use Rattle.search_report.specs.declared.steps.Event.{Event}
 pub use Rattle.promises.specs.Reasons.{told_event, IsValueFor, EventFits, IsRelationAmong, told_edge, told_answer, LeadFrom, CycleFits, CaseFits, IsNamed, PlaceFits, told_closing, told_reason_step, ClosingFits, ReasonsTellTheirTests, ReasonsTellTheirSteps, StepsOfRefutationsFit, PrintedRefutationsTellTheirSteps, told_by_value, depth_in, AreCounted, ReasonValuesTellTheirSteps, ReasonStepFits}
-pub use Rattle.reason_report.specs.Places.{Place, words_at, known_among, unseen, suffices, place_with_values, places_in, name_the_same}
-pub use Rattle.reason_report.specs.declared.steps.Edge.{Edge}
+pub use Rattle.search_report.specs.Places.{Place, words_at, known_among, unseen, suffices, place_with_values, places_in, name_the_same}
+pub use Rattle.search_report.specs.declared.steps.Edge.{Edge}
 pub use Rattle.refutation_laws.specs.Known.{Known, events_of, same_event, bare, is_event, nothing, with_source, with_pair, is_write_of, reads_from, comes_before, is_overwritten, from_reads}
 pub use Rattle.refutation_laws.specs.declared.known.Source.{Source}
 pub use Rattle.refutation_laws.specs.Values.{known_in, known_operand, known_update, word_given, write_with, writes_by, registers_left_by, writes_of, left_of, known_first_registers, writes_from, value_among, returned_from, returned, known_writes, all_known, value_read, register_at_end, words_at_end, can_be_last, can_be, allows}
 pub use Rattle.refutation_laws.specs.Shown.{value_known, first_that_relates}
 pub use Rattle.refutation_laws.proofs.Standing.{same-bare}
-pub use Rattle.reason_report.specs.declared.replies.Reply.{Reply}
-pub use Rattle.reason_report.specs.declared.replies.Reply.TheVariants.{Reads, First}
+pub use Rattle.search_report.specs.declared.replies.Reply.{Reply}
+pub use Rattle.search_report.specs.declared.replies.Reply.TheVariants.{Reads, First}
 pub use Rattle.basic_laws.proofs.Lists.{Each, each-map, each-append, each-left, each-right}
 pub use Rattle.refutation_laws.proofs.Soundness.{itself, bare-same}
 pub use Rattle.promises.specs.ReadBack.{entry_of_event, replies_in, ReadCase, same_source, same_reply, source_in, leaf_in, ReadPart, Closed, Cases, nodes_with, nodes_of, cases_with, parts_before, parts_in, question_answered, tree_of, StepsOfRefutationsRefute, LinesTellTheirTree, PrintedTreesRefute, ValuesTellTheirTree, PrintedValuesRefute}

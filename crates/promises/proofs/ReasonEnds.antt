@@ -1,6 +1,6 @@
 -- The verdict that stands at the end of what `why` prints.
 use Rattle.promises.proofs.PrintedVocabulary.{◌≡◌, ℕ, Bool, true, false, List, [], ◌∷◌, ◌++◌, refl, sym, ap, subst, Option, Some, decimal, flat_map, append_assoc, string, no_members, member, compact_text, codes, line, printed_quantifier, printed_truth, test_line, Litmus, Condition, looked_at, printed_values, escape_byte, Choice, by_line, state_line, is_well, outcomes_verdict_value, verdict_line, never_value_of, Candidate, Node, asked_claim, Model, ReasonStep, Case, So, Leaf, Endcases, steps_of, leaves_in, model_name, truth_asked, asked_line, never_line, reason_step_line, blanks, answer_text, closing_text, from_line, reads_of, coherence_lines, values_left, allowed_value, unfinished_reason_json}
-use Rattle.reason_report.specs.Printed.{refutation_in, allowed_in, unfinished_cases_in}
+use Rattle.search_report.specs.PrintedReasons.{refutation_in, allowed_in, unfinished_cases_in}
 use Rattle.promises.proofs.Digits.{both-other, number-in-line}
 use Rattle.promises.proofs.Endings.{EndsIn, behind, all-feeds, line-feed, verdict_tail, no-verdict-line, no-verdict-member, object-ends}
 use Rattle.promises.proofs.LastLines.{behind-feed, nested}

@@ -3,9 +3,9 @@ use Rattle.promises.proofs.PrintedVocabulary.{◌≡◌, ℕ, List, [], ◌∷�
 use Rattle.json.specs.Json as json
 use Rattle.tso_terms.specs.declared.choice.Outcome.{Outcome}
 use Rattle.trace_report.specs.declared.step.Moved as move
-use Rattle.trace_json.specs.Supplied.{supplier_text}
-use Rattle.trace_json.specs.declared.supplied.Source.{Source}
-use Rattle.trace_json.specs.declared.supplied.Source.TheVariants.{Buffer, Cache, Other, Bus as OnBus, Memory}
+use Rattle.trace_report.specs.Supplied.{supplier_text}
+use Rattle.trace_report.specs.declared.supplied.Source.{Source}
+use Rattle.trace_report.specs.declared.supplied.Source.TheVariants.{Buffer, Cache, Other, Bus as OnBus, Memory}
 use Rattle.promises.proofs.Cutting.{unlike}
 use Rattle.promises.proofs.JsonTexts.{items_in, truth_in, value_at, text_at, texts_of, texts-there, words-there}
 use Rattle.promises.proofs.JsonReading.{ReadsBack, back-at, each-back, strings-back, text-back, text-told}

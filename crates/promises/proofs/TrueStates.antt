@@ -2,7 +2,7 @@
 use Rattle.promises.proofs.PrintedVocabulary.{◌≡◌, ◌∙◌, inl, inr, ◌<◌, ◌≤◌, ◌+◌, ℕ, zero, suc, Bool, true, false, cond, List, [], ◌∷◌, length, Contains, Some, refl, sym, ap, subst, arith, Claim, truth_of, names_shown, values_at, Outcome, shown_values, true_from, true_in, holds_in, TruthIsShown, EndsInNumbers, TrueNamesTrueStates, HoldsTellsTrueStates}
 use Rattle.std.specs.List.{slice_get}
 use Rattle.std.proofs.lemmas.Option.{slice_get_within, get_or_from_slice_get}
-use Rattle.outcome_report.proofs.Members.{Member, to-member, member-place}
+use Rattle.search_report.proofs.Members.{Member, to-member, member-place}
 use Rattle.promises.proofs.LastLines.{numbers-end}
 
 from-member : {X : Type 0} (x : X) (xs : List X) → Member x xs → Contains xs x

@@ -2,9 +2,9 @@
 use Rattle.std.specs.Prelude.{ℕ, ◌≡◌, ◌<◌, ◌^◌, Bool, List, map, length, All}
 use Rattle.promises.specs.Vocabulary.{IsStateAt, IsTest, Litmus, Named, names_shown, Outcome, shown_values}
 use Rattle.scheduler.specs.Printed.{printed_choices}
-use Rattle.shown_values.specs.declared.show.Show.{Show}
-use Rattle.outcome_report.specs.Printed.{outcomes_in}
-use Rattle.outcome_report.specs.Laws.{OutcomesAreAlike}
+use Rattle.tso_report.specs.declared.show.Show.{Show}
+use Rattle.search_report.specs.PrintedOutcomes.{outcomes_in}
+use Rattle.search_report.specs.Laws.{OutcomesAreAlike}
 use Rattle.tso_cli.specs.Outcomes.{AreAllOutcomes}
 
 -- final states, fewer than 2^64: each has a word for each register and location that is shown, which have these names

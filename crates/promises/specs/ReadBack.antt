@@ -5,9 +5,9 @@ use Rattle.std.specs.List.{flat_map}
 use Rattle.std.specs.Option.{option_map}
 use Rattle.promises.specs.Vocabulary.{Amid, Answer, asked_claim, bare, Before, Between, Case, Claim, Closing, ComesFirst, Cycle, Edge, Endcases, Event, False, FalseClaim, From, Globally, IsTest, Leaf, Litmus, Model, never_lines, never_text, Node, OnLocation, ReadsFrom, ReasonStep, refutes, replies, same_event, So, steps_of, Uniproc}
 use Rattle.tso_terms.specs.declared.execution.Entry.{Entry}
-use Rattle.reason_report.specs.declared.replies.Reply.{Reply}
-use Rattle.reason_report.specs.declared.replies.Reply.TheVariants.{Reads, First}
-use Rattle.reason_report.specs.ReasonJson as json
+use Rattle.search_report.specs.declared.replies.Reply.{Reply}
+use Rattle.search_report.specs.declared.replies.Reply.TheVariants.{Reads, First}
+use Rattle.search_report.specs.ReasonJson as json
 use Rattle.promises.specs.Reasons.{ReasonStepFits, AreCounted}
 
 -- ---- one line

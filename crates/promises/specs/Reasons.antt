@@ -5,8 +5,8 @@ use Rattle.promises.specs.Vocabulary.{Amid, Answer, asked_claim, bare, Before, C
 use Rattle.tso_report.specs.declared.named.Named.TheVariants.{Register, Location}
 use Rattle.refutation_laws.specs.Edges.{on_location, global_in}
 use Rattle.refutation_laws.specs.declared.model.Relation.{Relation}
-use Rattle.reason_report.specs.Places.{Place}
-use Rattle.reason_report.specs.ReasonJson as json
+use Rattle.search_report.specs.Places.{Place}
+use Rattle.search_report.specs.ReasonJson as json
 
 -- ---- what is told of a step
 

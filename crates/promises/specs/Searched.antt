@@ -8,9 +8,9 @@ use Rattle.multiprocessor.specs.Configuration.{Configuration}
 use Rattle.tso_report.specs.Shown.{ShownRun}
 use Rattle.tso_report.specs.Report.{line}
 use Rattle.tso_report.specs.declared.named.Named.{Named}
-use Rattle.shown_values.specs.Shown.{names_shown, values_at}
-use Rattle.shown_values.specs.declared.show.Show.{Show}
-use Rattle.outcome_report.specs.Outcomes.{Outcome, state_line, outcomes_text}
+use Rattle.tso_report.specs.ShownNames.{names_shown, values_at}
+use Rattle.tso_report.specs.declared.show.Show.{Show}
+use Rattle.search_report.specs.Outcomes.{Outcome, state_line, outcomes_text}
 use Rattle.command_line.specs.declared.settings.Settings.TheVariants as settings
 use Rattle.tso_cli.specs.Dividing.{joined_parts}
 use Rattle.tso_cli.specs.RunTexts.{report_in}

@@ -13,7 +13,7 @@ use Rattle.machine_core.specs.Running.{Running, new_machine}
 use Rattle.machine_core.specs.declared.looking.BusHolder.{BusHolder}
 use Rattle.trace_report.specs.StepLaws.{after_choices}
 use Rattle.trace_report.specs.declared.step.LineState.{LineState}
-use Rattle.trace_json.specs.MachineJson.{words_per_line, cached_lines_in, words_in_line, words_on_bus, machine_json}
+use Rattle.trace_report.specs.MachineJson.{words_per_line, cached_lines_in, words_in_line, words_on_bus, machine_json}
 use Rattle.promises.specs.Traces.{bare_store}
 
 -- a copy of a line, as it is shown: the names of the line's locations, what it is in, and the words of these locations in digits

@@ -8,10 +8,10 @@ use Rattle.basic_laws.specs.Types.{Choice, Entry, W}
 use Rattle.order_builder.specs.PrintedOrder.{HasWord}
 use Rattle.trace_report.specs.Known.{StepNamesExist}
 use Rattle.trace_report.specs.Shown.{ShownStep}
-use Rattle.trace_json.specs.StepJson.{step_json}
-use Rattle.trace_json.specs.TraceJson.{trace_json}
-use Rattle.trace_json.specs.declared.supplied.Source.{Source}
-use Rattle.trace_json.specs.declared.supplied.Source.TheVariants.{Buffer, Cache, Other, Bus, Memory}
+use Rattle.trace_report.specs.StepJson.{step_json}
+use Rattle.trace_report.specs.TraceJson.{trace_json}
+use Rattle.trace_report.specs.declared.supplied.Source.{Source}
+use Rattle.trace_report.specs.declared.supplied.Source.TheVariants.{Buffer, Cache, Other, Bus, Memory}
 use Rattle.tso_cli.specs.Trace.{traced_in}
 use Rattle.promises.specs.OfRuns.{RunsLeaveTheSame}
 use Rattle.promises.specs.Telling.{NameTheSame}

@@ -3,7 +3,7 @@
 use Rattle.std.specs.Prelude.{ℕ, ◌+◌, ◌≡◌, ◌<◌, ◌≤◌, ◌↔◌, Bool, true, false, List, ◌++◌, length, Some, Contains, slice_get, codes}
 use Rattle.promises.specs.Vocabulary.{Claim, Condition, Exists, Forall, InputHeadline, IsTest, line, Litmus, longest_input, Named, names_shown, NotExists, Outcome, parts_of, printed_numbers, Quantifier, Search, shown_values, SpellsTest, truth_of, values_at, verdict_word}
 use Rattle.refutation_laws.specs.Models.{depth_of}
-use Rattle.outcome_report.specs.OutcomesJson.{holds_in}
+use Rattle.search_report.specs.OutcomesJson.{holds_in}
 use Rattle.command_line.specs.Explanation.{Explanation}
 use Rattle.command_line.specs.declared.settings.Settings.{Settings}
 use Rattle.command_line.specs.declared.settings.Settings.TheVariants as settings

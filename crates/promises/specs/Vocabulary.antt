@@ -18,13 +18,13 @@ pub use Rattle.tso_report.specs.Report.{line}
 pub use Rattle.tso_report.specs.declared.named.Named.{Named}
 pub use Rattle.trace_report.specs.Lines.{line_name, names_in_line, trace_text}
 pub use Rattle.trace_report.specs.Steps.{line_state, trace_under}
-pub use Rattle.shown_values.specs.Shown.{names_shown, values_at}
-pub use Rattle.outcome_report.specs.Outcomes.{Outcome, printed_numbers, shown_values}
-pub use Rattle.outcome_report.specs.Verdict.{verdict_word}
-pub use Rattle.reason_report.specs.ReasonText.{never_lines, never_text}
-pub use Rattle.reason_report.specs.Steps.{Amid, Answer, Before, Case, Closing, Cycle, Endcases, False, From, Leaf, leaves_in, ReasonStep, replies, So, steps_of, Uniproc}
-pub use Rattle.reason_report.specs.declared.steps.Edge.{Edge}
-pub use Rattle.reason_report.specs.declared.steps.Event.{Event}
+pub use Rattle.tso_report.specs.ShownNames.{names_shown, values_at}
+pub use Rattle.search_report.specs.Outcomes.{Outcome, printed_numbers, shown_values}
+pub use Rattle.search_report.specs.Verdict.{verdict_word}
+pub use Rattle.search_report.specs.ReasonText.{never_lines, never_text}
+pub use Rattle.search_report.specs.Steps.{Amid, Answer, Before, Case, Closing, Cycle, Endcases, False, From, Leaf, leaves_in, ReasonStep, replies, So, steps_of, Uniproc}
+pub use Rattle.search_report.specs.declared.steps.Edge.{Edge}
+pub use Rattle.search_report.specs.declared.steps.Event.{Event}
 pub use Rattle.command_line.specs.Search.{Search}
 pub use Rattle.counted_io.specs.Limits.{longest_input}
 pub use Rattle.machine_runs.specs.Runs.{AnswersFit, run_under}

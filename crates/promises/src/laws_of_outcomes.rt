@@ -12,7 +12,7 @@ ghost use Rattle.command_line.specs.declared.settings.Settings.{Settings};
 ghost use Rattle.tso_cli.specs.declared.answer.Status.TheVariants.{Good, NotAsClaimed};
 
 use litmus_reader::test_texts::test_is_spelled_once;
-use outcome_report::alike_outcomes::truth_is_shown;
+use search_report::alike_outcomes::truth_is_shown;
 use tso_laws::{ends_are_what_tso_allows, values_are_words};
 
 /// `Never`, plain or as JSON, means that no run at that depth makes the proposition true, and at depth 32 no TSO execution;

@@ -1,8 +1,8 @@
 //! What `why` prints of a refutation tells its steps: each answer, and why each case is closed. It also tells a tree that refutes.
 
 ghost use Rattle.std.specs.Prelude.{◌≡◌};
-ghost use Rattle.reason_report.specs.Steps.{steps_of};
-ghost use Rattle.reason_report.specs.Worked.{between_asked, n6_asked, n6_refuted_twice, passing_asked};
+ghost use Rattle.search_report.specs.Steps.{steps_of};
+ghost use Rattle.search_report.specs.Worked.{between_asked, n6_asked, n6_refuted_twice, passing_asked};
 ghost use Rattle.refutation_laws.specs.Worked.{between_refuted, lost, n6_refuted, other_first, passed, passing_refuted};
 ghost use Rattle.refutation_laws.specs.declared.model.Model.TheVariants.{Tso};
 ghost use Rattle.promises.specs.ReadBack.{tree_of, LinesTellTheirTree, PrintedTreesRefute, StepsOfRefutationsRefute};

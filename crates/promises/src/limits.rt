@@ -10,7 +10,7 @@ use scheduler::SweepPlan;
 use scheduler::plan::{MAX_LENGTH, MAX_SEEDS};
 use snoop_bus::bus::MAX_CORES as MAX_BUS_CORES;
 use snoop_bus::shape::{MAX_SETS, MAX_WAYS, MAX_WORDS};
-use trace_json::MAX_STEPS;
+use trace_report::MAX_STEPS;
 use tso_cli::{MAX_INPUT, READ_LIMIT};
 use tso_terms::limits::{
     MAX_ATOMS, MAX_CORES, MAX_DEPTH, MAX_INSTRUCTIONS, MAX_LOCATIONS, MAX_NAME, MAX_OPEN,

@@ -9,7 +9,7 @@ ghost use Rattle.tso_cli.specs.declared.answer.Status.{Status};
 ghost use Rattle.tso_cli.specs.declared.answer.Status.TheVariants.{Good, Refused};
 ghost use Rattle.multiprocessor.specs.Configuration.{Configuration};
 ghost use Rattle.protocol_tables.specs.declared.kind.ProtocolKind.{ProtocolKind};
-ghost use Rattle.trace_json.specs.TracedRun.{json_ended, json_unended};
+ghost use Rattle.trace_report.specs.TracedRun.{json_ended, json_unended};
 ghost use Rattle.trace_report.specs.Lines.{trace_text};
 ghost use Rattle.tso_cli.specs.Answers.{IsAnswer};
 ghost use Rattle.tso_cli.specs.Machines.{AreAtomicAtOneDepth, DifferInLines, DifferInMembers, EndedObjectsDiffer, ReportsDiffer, SweepsDiffer, TracesDiffer, TracesDifferIn, UnendedObjectsDiffer};

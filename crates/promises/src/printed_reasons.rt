@@ -6,7 +6,7 @@ ghost use Rattle.basic_laws.specs.Types.{Choice, Entry};
 ghost use Rattle.relational_model.specs.Candidates.{Candidate};
 ghost use Rattle.relational_model.specs.CandidatesOfOrders.{IsCandidateOf};
 ghost use Rattle.refutation_laws.specs.declared.model.Model.{Model};
-ghost use Rattle.reason_report.specs.Printed.{ShowsExecution, allowed_in};
+ghost use Rattle.search_report.specs.PrintedReasons.{ShowsExecution, allowed_in};
 
 /// What is printed of an order is what a candidate of that order is printed as, with these choices.
 pub fn a_printed_execution_is_a_candidate_of_its_order()

@@ -17,7 +17,7 @@ ghost use Rattle.refutation_laws.specs.declared.model.Model.{Model};
 ghost use Rattle.scheduler.specs.Grammar.{SpellsChoices};
 ghost use Rattle.scheduler.specs.Printed.{printed_choices};
 ghost use Rattle.reasons.specs.Reasons.{HasMoreCases, most_cases};
-ghost use Rattle.reason_report.specs.Printed.{allowed_in, refutation_in, unfinished_cases_in};
+ghost use Rattle.search_report.specs.PrintedReasons.{allowed_in, refutation_in, unfinished_cases_in};
 ghost use Rattle.command_line.specs.Explanation.{Explanation, IsExplanationWithinLimits};
 ghost use Rattle.command_line.specs.declared.settings.Settings.{Settings};
 ghost use Rattle.tso_cli.specs.Dividing.{parts_of};

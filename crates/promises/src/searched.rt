@@ -11,9 +11,9 @@ ghost use Rattle.protocol_tables.specs.declared.kind.ProtocolKind.{ProtocolKind}
 ghost use Rattle.multiprocessor.specs.Configuration.{Configuration};
 ghost use Rattle.tso_report.specs.Tally.{claim_names_register, named_register};
 ghost use Rattle.tso_report.specs.inner.Tally.{NameExists};
-ghost use Rattle.shown_values.specs.Shown as shown;
-ghost use Rattle.shown_values.specs.Shown.{is_shown};
-ghost use Rattle.outcome_report.specs.Hidden.{AreNotShown, IsHidden};
+ghost use Rattle.tso_report.specs.ShownNames as shown;
+ghost use Rattle.tso_report.specs.ShownNames.{is_shown};
+ghost use Rattle.search_report.specs.Hidden.{AreNotShown, IsHidden};
 ghost use Rattle.command_line.specs.Limits.{IsWithinLimits};
 ghost use Rattle.command_line.specs.Search.{Search};
 ghost use Rattle.command_line.specs.declared.settings.Settings.{Settings};
@@ -24,14 +24,14 @@ ghost use Rattle.tso_cli.specs.OneSearch.{AreOneSearch};
 ghost use Rattle.promises.specs.Searched.{LinesAreRunAgain};
 
 use explorer::{Exploration, ExploreFault, Met, Watcher, explore, explore_watched};
-use outcome_report::hidden_registers;
-use shown_values::{Show, names_shown};
+use search_report::hidden_registers;
 use std::alloc::Global;
 use tso_cli::answers::answers_meet_the_headline;
 use tso_cli::headline_laws::headlines_leave_one_text;
 use tso_cli::round_trips::searches_reach_their_states;
 use tso_laws::ends_are_what_tso_allows;
 use tso_report::named::Named;
+use tso_report::{Show, names_shown};
 use tso_terms::{NoMemory, Test};
 
 /// With store buffers a search finds the final states of the TSO executions that need no deeper ones, but for registers that nobody

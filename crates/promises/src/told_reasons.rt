@@ -3,11 +3,11 @@
 ghost use Rattle.std.specs.Prelude.{◌≡◌, ◌<◌, ℕ, All, List, map, true};
 ghost use Rattle.promises.specs.ReadBack.{tree_of};
 ghost use Rattle.promises.specs.Reasons.{ReasonStepFits, depth_in, told_by_value, told_edge, told_event, told_reason_step};
-ghost use Rattle.reason_report.specs.ReasonJson.{never_json, never_json_line};
-ghost use Rattle.reason_report.specs.ReasonText.{never_lines, never_text};
-ghost use Rattle.reason_report.specs.Steps.{ReasonStep, leaves_in, steps_of};
-ghost use Rattle.reason_report.specs.declared.steps.Edge.{Edge};
-ghost use Rattle.reason_report.specs.declared.steps.Event.{Event};
+ghost use Rattle.search_report.specs.ReasonJson.{never_json, never_json_line};
+ghost use Rattle.search_report.specs.ReasonText.{never_lines, never_text};
+ghost use Rattle.search_report.specs.Steps.{ReasonStep, leaves_in, steps_of};
+ghost use Rattle.search_report.specs.declared.steps.Edge.{Edge};
+ghost use Rattle.search_report.specs.declared.steps.Event.{Event};
 ghost use Rattle.refutation_laws.specs.Refutations.{Node, asked_claim, refutes};
 ghost use Rattle.refutation_laws.specs.declared.model.Model.{Model};
 ghost use Rattle.tso_terms.specs.Condition.{Claim};

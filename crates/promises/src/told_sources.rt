@@ -7,13 +7,13 @@ ghost use Rattle.protocol_tables.specs.declared.kind.ProtocolKind.{ProtocolKind}
 ghost use Rattle.protocol_tables.specs.declared.requests.Request.{Request};
 ghost use Rattle.protocol_tables.specs.declared.state.State.{State};
 ghost use Rattle.cache_set.specs.Requests.{snoop_column};
-ghost use Rattle.trace_json.specs.OwnWords.{own_words};
-ghost use Rattle.trace_json.specs.Supplied.{found_at, supplies};
-ghost use Rattle.trace_json.specs.SupplyLaws.{NobodySupplies, copy_on};
-ghost use Rattle.trace_json.specs.declared.supplied.Source.TheVariants.{Bus, Cache, Memory, Other};
+ghost use Rattle.trace_report.specs.OwnWords.{own_words};
+ghost use Rattle.trace_report.specs.Supplied.{found_at, supplies};
+ghost use Rattle.trace_report.specs.SupplyLaws.{NobodySupplies, copy_on};
+ghost use Rattle.trace_report.specs.declared.supplied.Source.TheVariants.{Bus, Cache, Memory, Other};
 ghost use Rattle.tso_terms.specs.declared.instruction.Core.{Core};
 
-use trace_json::memory_words::sources_are_told;
+use trace_report::memory_words::sources_are_told;
 
 /// A core that is told is another one of the test, whose copy supplies the line in each protocol's table; where memory is told
 /// nobody supplies it, and the words that a trace tells of memory are those that are seen.

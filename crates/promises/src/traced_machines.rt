@@ -9,7 +9,7 @@ ghost use Rattle.promises.specs.TracedMachines.{AreWordsOf, ShowTheSameMachine, 
 ghost use Rattle.promises.specs.Traces.{bare_store};
 ghost use Rattle.protocol_tables.specs.declared.kind.ProtocolKind.{ProtocolKind};
 ghost use Rattle.serde_json.specs.Written.{compact_text};
-ghost use Rattle.trace_json.specs.MachineJson.{machine_json};
+ghost use Rattle.trace_report.specs.MachineJson.{machine_json};
 ghost use Rattle.tso_terms.specs.FlatMachine.{core_of};
 ghost use Rattle.tso_terms.specs.Litmus.{IsTest, Litmus};
 ghost use Rattle.tso_terms.specs.Runs.{CoresExist};

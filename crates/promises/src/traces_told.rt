@@ -11,9 +11,9 @@ ghost use Rattle.protocol_tables.specs.declared.kind.ProtocolKind.{ProtocolKind}
 ghost use Rattle.serde_json.specs.Data.{Data};
 ghost use Rattle.serde_json.specs.Written.{compact_text, outline};
 ghost use Rattle.machine_runs.specs.Runs.{AnswersFit, run_under};
-ghost use Rattle.trace_json.specs.StepJson.{step_json};
-ghost use Rattle.trace_json.specs.TraceJson.{trace_json};
-ghost use Rattle.trace_json.specs.declared.supplied.Source.{Source};
+ghost use Rattle.trace_report.specs.StepJson.{step_json};
+ghost use Rattle.trace_report.specs.TraceJson.{trace_json};
+ghost use Rattle.trace_report.specs.declared.supplied.Source.{Source};
 ghost use Rattle.trace_report.specs.Lines.{trace_text};
 ghost use Rattle.trace_report.specs.Shown.{ShownStep};
 ghost use Rattle.trace_report.specs.Steps.{trace_under};

@@ -3,14 +3,14 @@
 ghost use Rattle.std.specs.Prelude.{◌<◌, ◌≡◌, ◌≤◌, ◌^◌, Bool, List, codes, false, length, map, true, ℕ};
 ghost use Rattle.explorer.specs.FinalStates.{HasMoreStates};
 ghost use Rattle.command_line.specs.Search.{Search};
-ghost use Rattle.outcome_report.specs.Laws.{OutcomesAreAlike};
-ghost use Rattle.outcome_report.specs.Outcomes.{Outcome};
-ghost use Rattle.outcome_report.specs.Printed.{outcomes_in, unfinished_search_in};
+ghost use Rattle.search_report.specs.Laws.{OutcomesAreAlike};
+ghost use Rattle.search_report.specs.Outcomes.{Outcome};
+ghost use Rattle.search_report.specs.PrintedOutcomes.{outcomes_in, unfinished_search_in};
 ghost use Rattle.tso_laws.specs.Outcomes.{IsSequentiallyConsistent};
 ghost use Rattle.promises.specs.Observed.{IsSoEverywhere, IsSoSomewhere, WordMeans, truth_after, truth_after_run};
 ghost use Rattle.promises.specs.Outcomes.{OutcomesFit, ShowTheSame};
 ghost use Rattle.scheduler.specs.Printed.{printed_choices};
-ghost use Rattle.shown_values.specs.Shown.{names_shown};
+ghost use Rattle.tso_report.specs.ShownNames.{names_shown};
 ghost use Rattle.tso_cli.specs.OneSearch.{ShowOneSearch, ShowsNoState, without_choices};
 ghost use Rattle.tso_laws.specs.Depth.{needed};
 ghost use Rattle.tso_terms.specs.Axioms.{IsTsoExecution};
@@ -21,7 +21,7 @@ ghost use Rattle.basic_laws.specs.Types.{Choice, Entry};
 ghost use Rattle.tso_report.specs.declared.named.Named.{Named};
 
 use crate::{outcomes_tell_their_states, outcomes_tell_their_tests, words_mean_what_they_say};
-use shown_values::Show;
+use tso_report::Show;
 
 /// `Never` is so nowhere, `Always` everywhere, and `Sometimes` here and not there.
 pub fn a_word_means_what_it_says()

@@ -24,3 +24,13 @@ pub mod GaveWay
 pub mod WriteBacksTold
 pub mod CoresTold
 pub mod OthersSee
+pub mod NoFloats
+pub mod NoFloatsWhole
+pub mod MachinesLooked
+pub mod LineLengths
+pub mod Owning
+pub mod BusMemory
+pub mod Listed
+pub mod Tracing
+pub mod Within
+pub mod Supplying

@@ -1,10 +1,10 @@
 -- The names that the proofs of this crate bring in from definitions and from crates below; each file takes its own from here.
-pub use Rattle.std.proofs.Common.{◌≡◌, ◌∙◌, ℕ, ◌+◌, ◌<◌, ◌≤◌, List, [], ◌∷◌, ◌++◌, length, take, drop, get_or, codes, Option, Some, sym, ap, append_assoc, append-nil, arith, Bool, true, false, if◌then◌else◌, refl, zero, suc, nat_lt, None, subst, length-append, ◌*◌, ◌/◌, IfSome, All, slice_get, slice_index, slice_index_or, inl, inr, ◌==◌, ◌%◌, ◌-◌, option_map, min, get_or-set_same, ◌⊎◌, ◌≢◌, ◌&&◌, map, replicate, get_or-set_other, not, ◌||◌, slice_set, is_some, rules, string_bytes}
-pub use Rattle.std.proofs.lemmas.Bool.{cases_Bool}
+pub use Rattle.std.proofs.Common.{◌≡◌, ◌∙◌, ℕ, ◌+◌, ◌<◌, ◌≤◌, List, [], ◌∷◌, ◌++◌, length, take, drop, get_or, codes, Option, Some, sym, ap, append_assoc, append-nil, arith, Bool, true, false, if◌then◌else◌, refl, zero, suc, nat_lt, None, subst, length-append, ◌*◌, ◌/◌, IfSome, All, slice_get, slice_index, slice_index_or, inl, inr, ◌==◌, ◌%◌, ◌-◌, option_map, min, get_or-set_same, ◌⊎◌, ◌≢◌, ◌&&◌, map, replicate, get_or-set_other, not, ◌||◌, slice_set, is_some, rules, string_bytes, Global, Vec, IfOk}
+pub use Rattle.std.proofs.lemmas.Bool.{cases_Bool, or_parts}
 pub use Rattle.std.proofs.Math.ListN.{drop_of_length-le, length-set, get_or-map}
-pub use Rattle.std.proofs.lemmas.List.{drop_more, get_or-take, length-take, get_or_past, length-replicate, length-map, set-get_or, get_or-replicate}
+pub use Rattle.std.proofs.lemmas.List.{drop_more, get_or-take, length-take, get_or_past, length-replicate, length-map, set-get_or, get_or-replicate, drop-set-lt, take_more_set, with_items_is, drop_all, length-drop, take_more, take_all}
 pub use Rattle.tso_terms.specs.Litmus.{Litmus, IsTest, IsProgram, KnownLocation}
-pub use Rattle.trace_report.specs.Lines.{after_plus, joined_by_plus, line_name, write_back_text, stall_name, changes_text, entries_text, later_stores}
+pub use Rattle.trace_report.specs.Lines.{after_plus, joined_by_plus, line_name, write_back_text, stall_name, changes_text, entries_text, later_stores, access_name, state_name, names_in_line, store_text, printed_core, printed_move, printed_change, printed_request, transient_name}
 pub use Rattle.std.specs.List.{list_any}
 pub use Rattle.tso_terms.specs.ProgramOrder.{writes_to}
 pub use Rattle.tso_terms.specs.MemoryAccess.{MemoryAccess, NoAccess, Reads, Writes, Locks, access_of, next_of, access_by, step_access, load_access, locked_access, store_access, drain_access}
@@ -12,7 +12,7 @@ pub use Rattle.basic_laws.specs.Types.{Entry, Kind, R, W, F, LR, LW, Bus, Atomic
 pub use Rattle.multiprocessor.specs.Caches.{Caches, not_through, asking_by, completing_by, use_by_kind, use_of, used_between, is_awaited, use_on, state_after_on, Used, load_after, hits_by, would_hit, attempt_of, at_access, through, completion_by, whole_by}
 pub use Rattle.multiprocessor.specs.declared.accesses.CacheUse.TheVariants.{Forwarded, Unused, Through}
 pub use Rattle.tso_terms.specs.Actions.{action_of, location_of}
-pub use Rattle.tso_terms.specs.FlatMachine.{CoreState, State, Effect, is_none_pending, stalled, stored, effect_by, effect_of, core_of, chosen, program_of, applied, start, idle, step_of, load_value, after_choice}
+pub use Rattle.tso_terms.specs.FlatMachine.{CoreState, State, Effect, is_none_pending, stalled, stored, effect_by, effect_of, core_of, chosen, program_of, applied, start, idle, step_of, load_value, after_choice, memory_after}
 pub use Rattle.basic_laws.proofs.WithPending.{drain_with}
 pub use Rattle.tso_terms.specs.SplitMachine.{Holder, Free, HeldBy, HeldBetween, Attempt, same_choice, needs_bus, acts, asks, begins, completes, as_read, after_first, writes_last, split_effect, load_part, BusEffect}
 pub use Rattle.tso_terms.specs.EitherBus.{BusState, effect_on, BusRun, unheld, then_on, resting_on, run_on, run_on_from, choices_in, after_on}
@@ -29,7 +29,7 @@ pub use Rattle.std.proofs.Math.Nat.{div-mul-le_self, mul-le-mul_right, add-mul}
 pub use Rattle.std.proofs.lemmas.List.Elements.{All-nil, All-cons, All-head, All-tail, All-push, All-drop, All-append, All-weaker}
 pub use Rattle.tso_terms.specs.Thread.{entry, fence, value_in, value_of, updated}
 pub use Rattle.std.specs.Prelude.{filter, Ok}
-pub use Rattle.order_builder.specs.PrintedOrder.{HasLocation, IsLocationFor}
+pub use Rattle.order_builder.specs.PrintedOrder.{HasLocation, IsLocationFor, printed_entry}
 pub use Rattle.tso_laws.proofs.Cores.{core-cases, quiet-same}
 pub use Rattle.basic_laws.proofs.Cores.{starts-idle, length-starts}
 pub use Rattle.trace_report.specs.Known.{IsAt, IsLine, AreStoresKnown, StepNamesExist}
@@ -38,7 +38,7 @@ pub use Rattle.snoop_bus.specs.Asks.{Awaited, tag_at, or_invalid, asking, comple
 unfoldable pub use Rattle.snoop_bus.specs.Asks.{awaiting}
 pub use Rattle.machine_core.specs.Running.{Running, attempt_on, machine_use, machine_after, new_machine, configuration_of, machine_effect}
 pub use Rattle.multiprocessor.specs.declared.accesses.CacheUse.{CacheUse}
-pub use Rattle.trace_report.specs.Steps.{goes_on_bus, request_at, sent_on, line_states, placed_states_from, number_of_lines, states_of, number_of_state, change_of, changes_in, last_line, among, giving_way, wrote_back_by, buffer_if_changed, moved_by, placed, is_forwarded, access_kind_in, moved_from, nothing_sent, moved_at, steps_from, trace_of, sent_whole, sent_at, state_with, awaited_at, sent_asked}
+pub use Rattle.trace_report.specs.Steps.{goes_on_bus, request_at, sent_on, line_states, placed_states_from, number_of_lines, states_of, number_of_state, change_of, changes_in, last_line, among, giving_way, wrote_back_by, buffer_if_changed, moved_by, placed, is_forwarded, access_kind_in, moved_from, nothing_sent, moved_at, steps_from, trace_of, sent_whole, sent_at, state_with, awaited_at, sent_asked, line_state}
 unfoldable pub use Rattle.trace_report.specs.Steps.{trace_step_of}
 pub use Rattle.trace_report.specs.declared.step.LineRequest.{LineRequest}
 pub use Rattle.trace_report.specs.declared.step.StateChange.{StateChange}
@@ -48,12 +48,12 @@ pub use Rattle.snoop_bus.specs.declared.access.AccessKind.{AccessKind}
 pub use Rattle.cache_set.specs.Geometry.{Geometry, IsLineSize}
 pub use Rattle.basic_laws.proofs.Basics.{test-true, lt-or, test-false, and-false, decide}
 pub use Rattle.multiprocessor.specs.Configuration.{Configuration}
-pub use Rattle.trace_report.specs.Shown.{ShownStep}
+pub use Rattle.trace_report.specs.Shown.{ShownStep, shown_step}
 pub use Rattle.trace_report.specs.Told.{IsTraced, IsTracedInStates}
 pub use Rattle.trace_report.specs.inner.Left.{stores_on, waited_on, IsLeftBy}
 pub use Rattle.trace_report.specs.declared.sending.Sent.{Sent}
 pub use Rattle.trace_report.specs.Stalls.{stalled_step}
-pub use Rattle.protocol_tables.specs.Tables.{Table, filled_shared, filled_by_sharing, written_in_place}
+pub use Rattle.protocol_tables.specs.Tables.{Table, filled_shared, filled_by_sharing, written_in_place, table_of}
 pub use Rattle.tso_terms.specs.Runs.{Run, has_ended, stall_count, then_run, run, CoresExist, is_done}
 pub use Rattle.multiprocessor.specs.Statistics.{no_statistics, Statistics, no_counts, with_access, with_forward, with_write_back, with_flush, counts_at_core, flush_counted, with_use_counted, statistics_from}
 pub use Rattle.basic_laws.proofs.Lists.{Each, each-append, each-at}
@@ -80,3 +80,27 @@ pub use Rattle.cache_set.specs.Requests.{snoop_column}
 pub use Rattle.cache_set.specs.Copies.{tags_in}
 pub use Rattle.trace_report.specs.StepLaws.{WriteBacksAreTold, after_choices, with_moved, pending_told, CoresAreTold, IsWordOfStall, done, full, lock, empty, IsHeldByOther, IsWordOfStallOn, flat, bus, StallsAreTold, with_seen, OthersSeeTheRequest}
 pub use Rattle.multiprocessor.specs.inner.Keeping.{IsAmong, IsFlusherAmong, IsSenderAmong, memory_access_in}
+pub use Rattle.serde_json.specs.Data.{Data, boolean, string, Members, no_members, put, array, object}
+pub use Rattle.serde_json.specs.View.{items_of, view, members_view}
+pub use Rattle.serde_json.specs.Written.{has_float, items_have_float, members_have_float}
+pub use Rattle.protocol_tables.specs.declared.kind.ProtocolKind.{ProtocolKind}
+pub use Rattle.snoop_bus.specs.declared.looking.CachedLine.{CachedLine}
+pub use Rattle.machine_core.specs.Looking.{bus_holder_of, bus_holder, bus_holder_as}
+pub use Rattle.tso_report.specs.Json.{count, memory_value, order_value, registers_value}
+pub use Rattle.trace_report.specs.JsonValues.{array_of_numbers, text_or_null, array_of_texts}
+pub use Rattle.trace_report.specs.OwnWords.{own_words, is_newer_in, own_word, own_words_from, is_newer}
+pub use Rattle.trace_report.specs.MachineJson.{words_per_line, words_in_line, words_on_bus, copy_json, cached_lines_in, set_json, sets_json, core_json, cores_json, holder_json, bus_json, machine_json, core_with}
+pub use Rattle.trace_report.specs.StepJson.{outcome_word, stall_in, step_json}
+pub use Rattle.trace_report.specs.Supplied.{supplier_text, found_by, supplied_to, supplies, supplier_from, supplier_or_memory}
+pub use Rattle.trace_report.specs.TraceJson.{Sourced, sourced_by, last_or, last_step_json, step_to, steps_json, start_json, trace_json, alone}
+pub use Rattle.trace_report.specs.declared.supplied.Source.{Source}
+pub use Rattle.tso_terms.specs.Condition.{Condition, condition_of}
+pub use Rattle.std.proofs.lemmas.Result.{on_ok_weaker}
+pub use Rattle.scheduler.specs.Printed.{printed_choice}
+pub use Rattle.trace_report.specs.ProgramsJson.{instruction_text, program_value, programs_value}
+pub use Rattle.trace_report.specs.TracedRun.{with_trace_value}
+pub use Rattle.std.proofs.lemmas.Option.{unwrap_or-slice_get}
+pub use Rattle.serde_json.specs.declared.value.Value.{Value, the_lemmas}
+pub use Rattle.trace_report.specs.inner.Looked.{IsMachineOfTest, told_last, sourced, trace_with}
+pub use Rattle.trace_report.specs.inner.Told.{IsLookedAt}
+pub use Rattle.trace_report.specs.SupplyLaws.{copy_on, SourcesAreTold}

@@ -1,5 +1,4 @@
 pub mod TraceLaws
-pub mod inner
 pub mod Known
 pub mod Lines
 pub mod Shown
@@ -7,3 +6,15 @@ pub mod Steps
 pub mod Told
 pub mod Stalls
 pub mod StepLaws
+pub mod Vocabulary
+pub mod JsonValues
+pub mod MachineJson
+pub mod OwnWords
+pub mod ProgramsJson
+pub mod PropositionJson
+pub mod Supplied
+pub mod StepJson
+pub mod SupplyLaws
+pub mod TraceJson
+pub mod TracedRun
+pub mod inner

@@ -4,3 +4,8 @@ pub mod Told
 pub mod Steps
 pub mod ToldSteps
 pub mod Pieces
+pub mod Looked
+pub mod Limited
+pub mod Following
+pub mod Observing
+pub mod BusMemory

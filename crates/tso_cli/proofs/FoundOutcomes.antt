@@ -3,8 +3,8 @@ use Rattle.tso_cli.proofs.Vocabulary.{◌≡◌, ◌∙◌, ℕ, zero, suc, Bool
 use Rattle.std.proofs.lemmas.List.Elements.{All-weaker, All-contains, All-from_recursion}
 use Rattle.tso_laws.specs.Outcomes.{IsEnd, LeadToEnd}
 use Rattle.tso_report.specs.declared.named.Named.{Named}
-use Rattle.outcome_report.specs.Outcomes.{Outcome, outcome_of, shown_values}
-use Rattle.outcome_report.specs.Hidden.{AreNotShown}
+use Rattle.search_report.specs.Outcomes.{Outcome, outcome_of, shown_values}
+use Rattle.search_report.specs.Hidden.{AreNotShown}
 use Rattle.command_line.specs.Search.{Search}
 use Rattle.tso_cli.specs.inner.Searched.{ShowEveryEnd}
 

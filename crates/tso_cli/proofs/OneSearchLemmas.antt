@@ -1,7 +1,7 @@
 -- What the headline decides of `outcomes`.
 use Rattle.tso_cli.proofs.Vocabulary.{◌≡◌, ◌∙◌, ◌<◌, ◌≤◌, ◌⊎◌, inl, inr, ℕ, Bool, true, false, List, [], ◌∷◌, ◌++◌, map, length, Contains, Option, Some, None, refl, sym, ap, subst, ForSome, nat_cmp, slice_cmp, IsStrictlySortedBy, length-map, Litmus, IsTest, Condition, Choice, SpellsTest, TextFault, test_line, Named, names_shown, verdict_line, outcomes_verdict_value, Outcome, shown_values, held_in, failed_in, is_met_in, outcomes_in, OutcomesAreAlike, OutcomesOfTheSameValuesAreAlike, Search, longest_input, Parts, parts_of, test_refusal, HeadlineOfOutcomes, all, PartsHeadline, InputHeadline, AreReadOneWay, true_in, outcomes_line, state_line, by_line, outcome_lines, observation_line, true_line, condition_lines}
 use Rattle.litmus_reader.specs.Spelling.{IsRefused as IsRefusedTest}
-use Rattle.outcome_report.specs.OutcomesJson.{state_value, holds_in, observation_value}
+use Rattle.search_report.specs.OutcomesJson.{state_value, holds_in, observation_value}
 use Rattle.command_line.specs.declared.settings.Settings.TheVariants as settings
 use Rattle.tso_cli.specs.OutcomesHeadline.{too_many}
 use Rattle.tso_cli.specs.OneSearch.{without_choices, AreOneSearch, one_text, both_show, first_shows_none, second_shows_none}

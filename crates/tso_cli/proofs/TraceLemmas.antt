@@ -2,8 +2,8 @@
 use Rattle.tso_cli.proofs.Vocabulary.{◌≡◌, ℕ, true, List, ◌++◌, refl, sym, ap, ◌∙◌, append_assoc, Litmus, Run, Counts, Choice, Configuration, ProtocolKind, Good, Unended, Ended, Unfinished, IsEndingOf, HasCounts, run_under, counts_under, status_under, body, shown_of, ending_text, traced_in}
 use Rattle.machine_runs.specs.declared.driving.Ending.{Ending}
 use Rattle.tso_report.specs.Shown.{ShownRun}
-use Rattle.trace_json.specs.TraceJson.{trace_json}
-use Rattle.trace_json.specs.TracedRun.{line_with, ending_members, json_ended, json_unended}
+use Rattle.trace_report.specs.TraceJson.{trace_json}
+use Rattle.trace_report.specs.TracedRun.{line_with, ending_members, json_ended, json_unended}
 use Rattle.tso_cli.specs.inner.Trace.{lines_left, status_in}
 
 -- three pieces, one after the other

@@ -10,7 +10,7 @@ use Rattle.scheduler.specs.declared.fault.ChoiceFault.{ChoiceFault}
 use Rattle.scheduler.proofs.Stopping.{stops}
 use Rattle.multiprocessor.specs.Answered.{answered}
 use Rattle.multiprocessor.specs.Statistics.{no_statistics}
-use Rattle.trace_json.specs.TracedRun.{most_steps}
+use Rattle.trace_report.specs.TracedRun.{most_steps}
 use Rattle.tso_cli.specs.inner.Trace.{used_in, IsMeasured}
 use Rattle.machine_runs.specs.declared.driving.Ending.{Ending}
 use Rattle.machine_runs.proofs.BusLemmas.{length-answered}

@@ -50,8 +50,8 @@ pub use Rattle.machine_runs.specs.declared.driving.Ending.TheVariants.{Ended, Un
 pub use Rattle.tso_cli.specs.declared.answer.Status.TheVariants.{Good, Refused, Unended, Invalid}
 pub use Rattle.std.proofs.lemmas.List.{length-map, drop-drop, nil_from_length}
 pub use Rattle.tso_report.specs.declared.named.Named.{Named}
-pub use Rattle.shown_values.specs.Shown.{names_shown, values_at}
-pub use Rattle.outcome_report.specs.Outcomes.{Outcome, shown_values, held_in, failed_in, is_met_in, true_in, outcomes_line, state_line, by_line, outcome_lines, observation_line, true_line, condition_lines}
+pub use Rattle.tso_report.specs.ShownNames.{names_shown, values_at}
+pub use Rattle.search_report.specs.Outcomes.{Outcome, shown_values, held_in, failed_in, is_met_in, true_in, outcomes_line, state_line, by_line, outcome_lines, observation_line, true_line, condition_lines}
 pub use Rattle.command_line.specs.Search.{Search}
 pub use Rattle.tso_cli.specs.Outcomes.{AreAllOutcomes, IsOutcomesAnswer, found, is_claimed_of, too_many}
 pub use Rattle.tso_cli.specs.OutcomesHeadline.{HeadlineOfOutcomes, all}
@@ -60,9 +60,9 @@ pub use Rattle.command_line.specs.Explanation.{Explanation}
 pub use Rattle.tso_cli.specs.Why.{IsWhyAnswer, allowed, never}
 pub use Rattle.tso_cli.specs.WhyHeadline.{PrintsRefutation, PrintsExecutionOf, HeadlineOfReasons}
 pub use Rattle.litmus_reader.specs.Spelling.{SpellsTest}
-pub use Rattle.outcome_report.specs.Verdict.{verdict_line, outcomes_verdict_value}
-pub use Rattle.outcome_report.specs.Printed.{outcomes_in, PrintsOutcomes, unfinished_search_in}
-pub use Rattle.outcome_report.specs.Laws.{OutcomesAreAlike, OutcomesOfTheSameValuesAreAlike}
+pub use Rattle.search_report.specs.Verdict.{verdict_line, outcomes_verdict_value}
+pub use Rattle.search_report.specs.PrintedOutcomes.{outcomes_in, PrintsOutcomes, unfinished_search_in}
+pub use Rattle.search_report.specs.Laws.{OutcomesAreAlike, OutcomesOfTheSameValuesAreAlike}
 pub use Rattle.tso_terms.specs.Standing.{StandsIn}
 pub use Rattle.tso_laws.specs.Entries.{FitsTest}
 pub use Rattle.order_builder.specs.Spelling.{IsOrderFor, SpellsOrder, HasAccess, IsEntryFor, HasFault}
@@ -87,7 +87,7 @@ pub use Rattle.machine_runs.proofs.CountLemmas.{counts-each, counts-few}
 pub use Rattle.std.specs.Fmt.{decimal}
 pub use Rattle.trace_report.specs.Lines.{trace_text, trace_step_line, step_lines, end_line}
 pub use Rattle.trace_report.specs.Steps.{trace_under, trace_step_of, steps_from, trace_of}
-pub use Rattle.trace_json.specs.TracedRun.{json_ended, json_unended, json_last_step}
+pub use Rattle.trace_report.specs.TracedRun.{json_ended, json_unended, json_last_step}
 unfoldable pub use Rattle.std.specs.List.Sorted.{IsStrictlySortedBy}
 pub use Rattle.std.specs.Ordering.{is_eq, nat_cmp, ordering_reverse, match_ordering}
 pub use Rattle.std.specs.Cmp.Lexicographic.{slice_cmp}
@@ -104,4 +104,4 @@ pub use Rattle.trace_report.specs.inner.ToldSteps.{told_step}
 pub use Rattle.explorer.specs.FinalStates.{AreReached, HaveEveryEnd, HasMoreStates}
 pub use Rattle.explorer.specs.declared.final_states.FinalState.{FinalState}
 pub use Rattle.tso_cli.specs.Verdicts.{status_of_verdict}
-pub use Rattle.reason_report.specs.Printed.{ShowsExecution, refutation_in, unfinished_cases_in}
+pub use Rattle.search_report.specs.PrintedReasons.{ShowsExecution, refutation_in, unfinished_cases_in}

@@ -4,8 +4,8 @@ use Rattle.basic_laws.specs.Types.{Quantifier, Forall}
 use Rattle.refutation_laws.specs.Refutations.{Node, asked_claim, refutes}
 use Rattle.refutation_laws.specs.declared.model.Model.{Model}
 use Rattle.refutation_laws.specs.declared.model.Model.TheVariants.{Tso, Sequential}
-use Rattle.reason_report.specs.ReasonText.{truth_asked}
-use Rattle.reason_report.specs.Printed.{refutation_in}
+use Rattle.search_report.specs.ReasonText.{truth_asked}
+use Rattle.search_report.specs.PrintedReasons.{refutation_in}
 use Rattle.tso_cli.specs.Why.{IsAllowedAnswer, never, allowed, too_many}
 use Rattle.tso_cli.specs.WhyHeadline.{IsSoIn, IsDepthOf, never, allowed, too_many}
 use Rattle.tso_cli.proofs.WitnessLemmas.{Reaching, choices-few}

@@ -6,7 +6,7 @@ use Rattle.std.specs.Cmp.Lexicographic.{slice_cmp}
 use Rattle.std.specs.List.Sorted.{IsStrictlySortedBy}
 use Rattle.tso_cli.specs.Vocabulary.{is_as_claimed, is_met_in, IsEnd, LeadToEnd, Litmus, Named, names_shown, Outcome, shown_values, values_at}
 use Rattle.explorer.specs.FinalStates.{HasMoreStates}
-use Rattle.outcome_report.specs.Printed.{outcomes_in, unfinished_search_in}
+use Rattle.search_report.specs.PrintedOutcomes.{outcomes_in, unfinished_search_in}
 use Rattle.command_line.specs.Search.{Search}
 use Rattle.tso_cli.specs.declared.answer.Status.{Status}
 use Rattle.tso_cli.specs.declared.answer.Status.TheVariants.{Unended}

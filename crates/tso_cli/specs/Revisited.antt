@@ -2,7 +2,7 @@
 -- to come up.
 use Rattle.std.specs.Prelude.{◌≡◌, ℕ, Bool, List, All, Some}
 use Rattle.tso_cli.specs.Vocabulary.{Configuration, Litmus, Named, names_shown, Outcome, outcomes_in, printed_choices, ProtocolKind, shown_values, ShownRun, SpellsTest, values_at}
-use Rattle.shown_values.specs.declared.show.Show.{Show}
+use Rattle.tso_report.specs.declared.show.Show.{Show}
 use Rattle.command_line.specs.declared.settings.Settings.TheVariants as settings
 use Rattle.tso_cli.specs.Answers.{IsAnswer}
 use Rattle.tso_cli.specs.Dividing.{joined_parts}

@@ -38,13 +38,13 @@ pub use Rattle.tso_report.specs.Tally.{Ascend, counted_state_line, ended_in, loo
 pub use Rattle.tso_report.specs.declared.named.Named.{Named}
 pub use Rattle.trace_report.specs.Lines.{end_line, trace_step_line, trace_text}
 pub use Rattle.trace_report.specs.Steps.{trace_step_of, trace_under}
-pub use Rattle.trace_json.specs.TracedRun.{json_ended, json_last_step, json_unended, most_steps}
-pub use Rattle.shown_values.specs.Shown.{names_shown, values_at}
-pub use Rattle.outcome_report.specs.Laws.{OutcomesAreAlike}
-pub use Rattle.outcome_report.specs.Outcomes.{is_met_in, Outcome, outcome_of, shown_values}
-pub use Rattle.outcome_report.specs.Printed.{outcomes_in, unfinished_search_in}
-pub use Rattle.outcome_report.specs.Verdict.{is_as_claimed}
-pub use Rattle.reason_report.specs.Printed.{refutation_in, ShowsExecution, unfinished_cases_in}
+pub use Rattle.trace_report.specs.TracedRun.{json_ended, json_last_step, json_unended, most_steps}
+pub use Rattle.tso_report.specs.ShownNames.{names_shown, values_at}
+pub use Rattle.search_report.specs.Laws.{OutcomesAreAlike}
+pub use Rattle.search_report.specs.Outcomes.{is_met_in, Outcome, outcome_of, shown_values}
+pub use Rattle.search_report.specs.PrintedOutcomes.{outcomes_in, unfinished_search_in}
+pub use Rattle.search_report.specs.Verdict.{is_as_claimed}
+pub use Rattle.search_report.specs.PrintedReasons.{refutation_in, ShowsExecution, unfinished_cases_in}
 pub use Rattle.command_line.specs.Explanation.{Explanation}
 pub use Rattle.command_line.specs.Search.{Search}
 pub use Rattle.command_line.specs.declared.settings.Settings.{Settings}

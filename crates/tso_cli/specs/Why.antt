@@ -5,7 +5,7 @@ use Rattle.tso_cli.specs.Vocabulary.{Choice, Entry, is_as_claimed, LeadTo, Litmu
 use Rattle.refutation_laws.specs.Refutations.{Node, asked_claim, refutes}
 use Rattle.refutation_laws.specs.Models.{IsMet, depth_of}
 use Rattle.reasons.specs.Reasons.{HasMoreCases, most_cases}
-use Rattle.reason_report.specs.Printed.{refutation_in, ShowsExecution, unfinished_cases_in}
+use Rattle.search_report.specs.PrintedReasons.{refutation_in, ShowsExecution, unfinished_cases_in}
 use Rattle.command_line.specs.Explanation.{Explanation}
 use Rattle.tso_cli.specs.declared.answer.Status.{Status}
 use Rattle.tso_cli.specs.declared.answer.Status.TheVariants.{Unended}

@@ -7,7 +7,7 @@ use Rattle.tso_laws.specs.EndedRuns.{End}
 use Rattle.refutation_laws.specs.Models.{IsExecutionOf, depth_of}
 use Rattle.refutation_laws.specs.Refutations.{Node, asked_claim, refutes}
 use Rattle.refutation_laws.specs.declared.model.Model.TheVariants.{Tso, Sequential}
-use Rattle.reason_report.specs.ReasonText.{truth_asked}
+use Rattle.search_report.specs.ReasonText.{truth_asked}
 
 -- what the condition asks is so in this final state: its proposition is true, or of `forall` false; without a condition anything is
 abbrev pub IsSoIn : Option Condition → List (List ℕ) → List ℕ → Type 0

@@ -7,9 +7,9 @@ ghost use Rattle.tso_cli.specs.Why.{IsWhyAnswer};
 use crate::answer::{Answer, Status};
 use command_line::ReasonPlan;
 use hints::Cause;
-use outcome_report::verdict::is_as_claimed;
-use reason_report::{allowed_report, refutation_report, unfinished_cases_report};
 use reasons::{Reason, choices_to, explain};
+use search_report::verdict::is_as_claimed;
+use search_report::{allowed_report, refutation_report, unfinished_cases_report};
 use std::alloc::Global;
 use tso_terms::{NoMemory, Test};
 

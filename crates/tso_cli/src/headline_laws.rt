@@ -17,7 +17,7 @@ use crate::answers::texts_are_read_one_way;
 use axiom_checker::first_breaches::each_order_is_judged;
 use litmus_reader::test_texts::texts_are_decided;
 use order_builder::order_texts::order_is_spelled_once;
-use outcome_report::alike_outcomes::outcomes_of_the_same_values_are_alike;
+use search_report::alike_outcomes::outcomes_of_the_same_values_are_alike;
 
 /// The headline leaves one text for each input of `check` and of `sweep`, of `run` and `trace` where no run
 /// ends, and of `witness` where it finds no choices. Of a run that ended it leaves open how many choices were used,

@@ -2,9 +2,9 @@
 //! proved rests on it.
 
 use hints::{Cause, ListedName, listed_in};
-use shown_values::{Show, names_shown};
 use std::alloc::Global;
 use tso_report::named::Named;
+use tso_report::{Show, names_shown};
 use tso_terms::{NoMemory, Test};
 
 /// That the states of a test, which `spelling` spells, leave out what it lists and they might show; of more than one the

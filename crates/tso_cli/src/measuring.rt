@@ -14,7 +14,7 @@ use hints::Cause;
 use machine_runs::{Ending, Setup};
 use scheduler::ChoiceFault;
 use std::alloc::Global;
-use trace_json::{MAX_STEPS, word_beyond};
+use trace_report::{MAX_STEPS, word_beyond};
 use tso_terms::NoMemory;
 
 /// Where a run of the choices that a text spells left its test so, and used more of them than a trace as JSON may have

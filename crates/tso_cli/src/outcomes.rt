@@ -3,7 +3,7 @@
 
 ghost use Rattle.std.specs.Prelude.{Bool, IfOk, string_bytes};
 ghost use Rattle.explorer.specs.FinalStates.{AreReached, HasMoreStates};
-ghost use Rattle.shown_values.specs.Shown.{names_shown};
+ghost use Rattle.tso_report.specs.ShownNames.{names_shown};
 ghost use Rattle.tso_cli.specs.Outcomes.{IsOutcomesAnswer};
 ghost use Rattle.tso_cli.specs.inner.Searched.{ShowEveryEnd};
 
@@ -12,7 +12,7 @@ use crate::unfinished::cause_of_end;
 use command_line::SearchPlan;
 use explorer::{Extent, FinalState, Watcher, explore_watched};
 use hints::Cause;
-use outcome_report::{hidden_registers, outcomes_report, unfinished_report};
+use search_report::{hidden_registers, outcomes_report, unfinished_report};
 use std::alloc::Global;
 use tso_terms::{NoMemory, Test};
 

@@ -19,7 +19,7 @@ use machine_runs::Setup;
 use protocol_tables::ProtocolKind;
 use scheduler::{read_choices, spelled_cores_exist};
 use std::alloc::Global;
-use trace_json::simulate_telling_last;
+use trace_report::simulate_telling_last;
 use tso_io::MAX_INPUT;
 use tso_report::json::line_of;
 use tso_terms::NoMemory;

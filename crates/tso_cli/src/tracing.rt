@@ -16,7 +16,7 @@ use machine_runs::{Ending, Setup};
 use protocol_tables::ProtocolKind;
 use scheduler::{read_choices, spelled_cores_exist};
 use std::alloc::Global;
-use trace_json::{TracedRun, simulate_tracing, traced_json};
+use trace_report::{TracedRun, simulate_tracing, traced_json};
 use tso_terms::{NoMemory, Test};
 
 /// The answer of `trace` to a test and the text of choices, plain or as JSON: what `run` answers, with what each choice did.

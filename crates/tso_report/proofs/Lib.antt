@@ -8,3 +8,4 @@ pub mod States
 pub mod Tallies
 pub mod Listed
 pub mod CountLaws
+pub mod Noting

@@ -1,7 +1,7 @@
 -- The names that the proofs of this crate bring in from definitions and from crates below; each file takes its own from here.
 pub use Rattle.std.proofs.Common.{◌≡◌, ℕ, min, ◌<◌, ◌^◌, Bool, true, not, eqb, List, [], ◌∷◌, ◌++◌, get_or, All, inl, inr, refl, ap, ◌∙◌, arith, rules, ◌+◌, ◌-◌, ◌*◌, ◌≤◌, zero, suc, false, nat_le, ◌&&◌, length, map, slice_index, slice_index_or, Option, Some, None, length-append, codes, append-nil, ◌⊎◌, sym, ◌||◌, filter, subst, append_assoc, cond, sum, Vec, unwrap_or, option_map, ◌≢◌, drop, string_bytes, is_some, IfOk}
 pub use Rattle.std.specs.Fmt.{decimal}
-pub use Rattle.std.specs.List.{list_all, AllByRecursion}
+pub use Rattle.std.specs.List.{list_all, AllByRecursion, flat_map}
 pub use Rattle.std.proofs.lemmas.Bool.{and_parts, and_from, or_parts}
 pub use Rattle.std.proofs.lemmas.Bool.Decides.{nat_tests}
 pub use Rattle.std.proofs.lemmas.Fmt.{digits_decimal, length-decimal-le}
@@ -27,7 +27,7 @@ pub use Rattle.std.specs.Ordering.{nat_cmp, match_ordering, is_eq, ordering_reve
 pub use Rattle.std.specs.Cmp.Lexicographic.{slice_cmp}
 pub use Rattle.std.specs.declared.cmp.Ordering.{Ordering}
 pub use Rattle.std.specs.declared.cmp.Ordering.TheVariants.{Less, Equal, Greater}
-pub use Rattle.serde_json.specs.Data.{string, Members, no_members, member, put, object, Data}
+pub use Rattle.serde_json.specs.Data.{string, Members, no_members, member, put, object, Data, array}
 pub use Rattle.serde_json.specs.View.{items_of, view, members_view}
 pub use Rattle.serde_json.specs.Written.{compact_text, has_float, items_have_float, members_have_float}
 pub use Rattle.tso_report.specs.Json.{run_members, unfinished_members, count, counts_value, cache_value, choices_value, condition_value, with_bus, configuration_members, machine_value, memory_members, memory_value, order_value, registers_value, cores_value, run_value}
@@ -39,8 +39,6 @@ pub use Rattle.std.proofs.lemmas.Cmp.{nat_list_cmp_total, on_total, tied_itself}
 pub use Rattle.tso_report.specs.inner.Counted.{counted_states, counts_in, IsKept}
 pub use Rattle.std.proofs.lemmas.List.{drop_all, drop_more}
 pub use Rattle.serde_json.proofs.Views.{view-Array}
-pub use Rattle.serde_json.specs.Data.{array}
 pub use Rattle.tso_report.specs.inner.Pieces.{line_piece}
 pub use Rattle.tso_report.specs.inner.Members.{with_data}
-pub use Rattle.std.specs.List.{flat_map}
 pub use Rattle.std.proofs.lemmas.Result.{on_ok_weaker}

@@ -5,4 +5,5 @@ pub mod JsonFrame
 pub mod Tally
 pub mod Limits
 pub mod Laws
+pub mod ShownNames
 pub mod inner

@@ -7,3 +7,4 @@ pub mod Members
 pub mod Objects
 pub mod Pieces
 pub mod Tally
+pub mod ShownNames

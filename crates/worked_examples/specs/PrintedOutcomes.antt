@@ -11,10 +11,10 @@ use Rattle.tso_report.specs.Report.{line}
 use Rattle.tso_report.specs.Tally.{named_register}
 use Rattle.tso_report.specs.declared.named.Named.{Named}
 use Rattle.tso_report.specs.declared.named.Named.TheVariants.{Location}
-use Rattle.shown_values.specs.Shown.{names_shown}
-use Rattle.shown_values.specs.declared.show.Show.TheVariants.{Condition}
-use Rattle.outcome_report.specs.Outcomes.{Outcome, condition_lines, outcomes_text}
-use Rattle.outcome_report.specs.OutcomesJson.{outcomes_json}
+use Rattle.tso_report.specs.ShownNames.{names_shown}
+use Rattle.tso_report.specs.declared.show.Show.TheVariants.{Condition}
+use Rattle.search_report.specs.Outcomes.{Outcome, condition_lines, outcomes_text}
+use Rattle.search_report.specs.OutcomesJson.{outcomes_json}
 use Rattle.worked_examples.specs.Written.{loc_x, loc_y, step, drain, six}
 
 abbrev pub both_zero : Claim

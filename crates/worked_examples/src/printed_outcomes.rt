@@ -2,8 +2,8 @@
 //! shown. (litmus7 and herd, for the words.)
 
 ghost use Rattle.std.specs.Prelude.{◌≡◌, ◌++◌, [], ◌∷◌, codes};
-ghost use Rattle.shown_values.specs.Shown.{names_shown};
-ghost use Rattle.shown_values.specs.declared.show.Show.TheVariants.{Condition, Registers, All};
+ghost use Rattle.tso_report.specs.ShownNames.{names_shown};
+ghost use Rattle.tso_report.specs.declared.show.Show.TheVariants.{Condition, Registers, All};
 ghost use Rattle.tso_terms.specs.Condition.{NotClaim};
 ghost use Rattle.basic_laws.specs.Types.{Exists, NotExists, Forall, Ebx};
 ghost use Rattle.worked_examples.specs.PrintedOutcomes.{both_zero, one_is_two, said_of, three_lines, register};

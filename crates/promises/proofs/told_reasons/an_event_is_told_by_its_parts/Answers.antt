@@ -1,6 +1,6 @@
 use Rattle.promises.proofs.Vocabulary.{ap}
-use Rattle.reason_report.specs.declared.steps.Edge.{Edge}
-use Rattle.reason_report.specs.declared.steps.Event.{Event}
+use Rattle.search_report.specs.declared.steps.Edge.{Edge}
+use Rattle.search_report.specs.declared.steps.Event.{Event}
 use Rattle.promises.proofs.told_reasons.an_event_is_told_by_its_parts.Goals as goal
 
 pub returns-clause-core : goal.returns-clause-core

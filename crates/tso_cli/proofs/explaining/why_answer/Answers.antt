@@ -3,7 +3,7 @@ use Rattle.refutation_laws.specs.Models.{depth_of}
 use Rattle.refutations.specs.Trees.{node_of}
 use Rattle.reasons.specs.Reasons.{IsReason}
 use Rattle.reasons.specs.declared.reason.Reason.TheVariants as reasons
-use Rattle.outcome_report.specs.Verdict.{is_as_claimed}
+use Rattle.search_report.specs.Verdict.{is_as_claimed}
 use Rattle.tso_cli.specs.Why.{too_many}
 use Rattle.tso_cli.proofs.explaining.why_answer.Goals as goal
 

@@ -1,5 +1,5 @@
 use Rattle.tso_cli.proofs.Vocabulary.{ℕ, Ok, ◌∙◌, refl, TooMany, json_last_step, Refused, status_under, choices_refusal, run_under, too_long, IsLastStep, told}
-use Rattle.trace_json.proofs.NoFloats.{last_step_has_no_float}
+use Rattle.trace_report.proofs.NoFloats.{last_step_has_no_float}
 use Rattle.tso_cli.specs.inner.Step.{refused}
 use Rattle.tso_cli.proofs.StepLemmas.{status-is}
 use Rattle.tso_cli.proofs.stepping.last_answer.Goals as goal

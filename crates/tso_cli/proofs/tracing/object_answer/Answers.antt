@@ -1,6 +1,6 @@
 use Rattle.tso_cli.proofs.Vocabulary.{true, TooMany, Refused, refl, ap, ◌∙◌, status_under, choices_refusal, traced_in, IsTraceAnswer, too_long, traced}
-use Rattle.trace_json.specs.TracedRun.{line_with, ending_members}
-use Rattle.trace_json.proofs.NoFloats.{trace_has_no_float}
+use Rattle.trace_report.specs.TracedRun.{line_with, ending_members}
+use Rattle.trace_report.proofs.NoFloats.{trace_has_no_float}
 use Rattle.tso_cli.proofs.AnswerLemmas.{answer-is, same-answer}
 use Rattle.tso_cli.proofs.TraceLemmas.{ending-is}
 use Rattle.tso_cli.proofs.tracing.object_answer.Goals as goal

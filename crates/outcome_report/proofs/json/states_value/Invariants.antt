@@ -1,5 +1,0 @@
-use Rattle.outcome_report.proofs.Writing.{Made}
-use Rattle.outcome_report.proofs.json.states_value.Given as goal
-
-abbrev pub invariant-loop-values : goal.invariant-loop-values
-invariant-loop-values l = Made l.test l.names l.states l.values-iterator l.outcomes.entries

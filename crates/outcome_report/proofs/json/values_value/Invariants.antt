@@ -1,6 +1,0 @@
-use Rattle.tso_report.specs.inner.Objects.{HasMembers}
-use Rattle.outcome_report.proofs.Vocabulary.{drop, value_members}
-use Rattle.outcome_report.proofs.json.values_value.Given as goal
-
-abbrev pub invariant-loop-at : goal.invariant-loop-at
-invariant-loop-at l = HasMembers l.members (value_members l.test (drop l.at l.names) (drop l.at l.values))

@@ -1,4 +1,0 @@
--- Words of contracts inside the project.
-pub mod Shown
-pub mod Written
-pub mod Hidden

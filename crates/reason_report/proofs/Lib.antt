@@ -1,9 +1,0 @@
-pub mod Vocabulary
-pub mod Cutting
-pub mod Distinct
-pub mod Grouping
-pub mod Growing
-pub mod Laying
-pub mod Moving
-pub mod NoFloats
-pub mod Shown

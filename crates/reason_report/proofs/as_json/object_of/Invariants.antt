@@ -1,8 +1,0 @@
-use Rattle.tso_report.specs.inner.Objects.{HasMembers}
-use Rattle.reason_report.proofs.Vocabulary.{◌≡◌, drop, Members, no_members}
-use Rattle.reason_report.specs.inner.Pieces.{with_fields}
-use Rattle.reason_report.proofs.as_json.object_of.Given as goal
-
--- it has members to which those still to come are added
-abbrev pub invariant-loop-before : goal.invariant-loop-before
-invariant-loop-before l = (ms : Members) × HasMembers l.object ms × (with_fields l.test (drop l._before-index l.fields) ms ≡ with_fields l.test l.fields no_members)

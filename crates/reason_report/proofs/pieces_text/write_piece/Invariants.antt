@@ -1,6 +1,0 @@
-use Rattle.reason_report.proofs.Vocabulary.{◌≡◌, ◌++◌, string_bytes}
-use Rattle.reason_report.specs.ReasonText as spec
-use Rattle.reason_report.proofs.pieces_text.write_piece.Given as goal
-
-abbrev pub invariant-loop-deeper : goal.invariant-loop-deeper
-invariant-loop-deeper l = string_bytes l.text ≡ string_bytes l.initial.text ++ spec.blanks l._deeper

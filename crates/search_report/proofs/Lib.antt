@@ -1,0 +1,21 @@
+pub mod Vocabulary
+pub mod Inserting
+pub mod Keeping
+pub mod Truths
+pub mod Numbering
+pub mod Writing
+pub mod NoFloatsInOutcomes
+pub mod Printing
+pub mod Members
+pub mod Showing
+pub mod Alike
+pub mod Hiding
+mod Staying
+pub mod Cutting
+pub mod Distinct
+pub mod Grouping
+pub mod Growing
+pub mod Laying
+pub mod Moving
+pub mod NoFloatsInReasons
+pub mod ShownReasons

@@ -1,0 +1,41 @@
+use Rattle.search_report.proofs.Vocabulary.{◌≡◌, sym, subst, codes, map, map-map, put, no_members, string, array, items_of, count, model_name, asked_value, step_value, reason_step_of, outcomes_verdict_value, false}
+use Rattle.tso_report.specs.inner.Objects.{HasMembers}
+use Rattle.search_report.specs.Steps.{leaves_in}
+use Rattle.search_report.proofs.NoFloatsInReasons.{never-has-no-float}
+use Rattle.search_report.proofs.reasons_as_json.never_json.Goals as goal
+
+pub line-requires : goal.line-requires
+line-requires c =
+    let t = c.args.test.now in
+    let steps = map reason_step_of c.args.steps.now in
+    let name : c.name.result.now ≡ t.name = c.name.ensures in
+    let model : c.model_name.result.now ≡ model_name c.args.model = c.model_name.ensures in
+    let leaves : c.leaves_in.result ≡ leaves_in steps = c.leaves_in.ensures in
+    let shown : map (λ s. step_value t (reason_step_of s)) c.args.steps.now ≡ map (step_value t) steps = sym (map-map (step_value t) reason_step_of c.args.steps.now) in
+    let whole =
+    subst (HasMembers c.member-7.result)
+    (λ i. put (codes "verdict") (outcomes_verdict_value t.condition false) (put (codes "test") (string (name i)) (put (codes "steps") (array (items_of (shown i)))
+    (put (codes "model") (string (model i)) (put (codes "leaves") (count (leaves i)) (put (codes "asked") (asked_value t.condition)
+    (put (codes "answer") (string (codes "never")) no_members)))))))
+    (c.member-7.ensures _ _ (c.member-6.ensures _ _ (c.member-5.ensures _ _ (c.member-4.ensures _ _ (c.member-3.ensures _ (count c.leaves_in.result)
+    (c.member-2.ensures _ _ (c.member.ensures _ _ c.new.ensures c.word_value.ensures) c.asked_value.ensures) c.from.ensures) c.word_value-2.ensures)
+    c.array_of.ensures) c.word_value-3.ensures) c.outcomes_verdict_value.ensures) in
+    (_, whole, never-has-no-float c.args.model t steps)
+
+pub returns : goal.returns
+returns c =
+    let t = c.args.test.now in
+    let steps = map reason_step_of c.args.steps.now in
+    let name : c.name.result.now ≡ t.name = c.name.ensures in
+    let model : c.model_name.result.now ≡ model_name c.args.model = c.model_name.ensures in
+    let leaves : c.leaves_in.result ≡ leaves_in steps = c.leaves_in.ensures in
+    let shown : map (λ s. step_value t (reason_step_of s)) c.args.steps.now ≡ map (step_value t) steps = sym (map-map (step_value t) reason_step_of c.args.steps.now) in
+    let whole =
+    subst (HasMembers c.member-7.result)
+    (λ i. put (codes "verdict") (outcomes_verdict_value t.condition false) (put (codes "test") (string (name i)) (put (codes "steps") (array (items_of (shown i)))
+    (put (codes "model") (string (model i)) (put (codes "leaves") (count (leaves i)) (put (codes "asked") (asked_value t.condition)
+    (put (codes "answer") (string (codes "never")) no_members)))))))
+    (c.member-7.ensures _ _ (c.member-6.ensures _ _ (c.member-5.ensures _ _ (c.member-4.ensures _ _ (c.member-3.ensures _ (count c.leaves_in.result)
+    (c.member-2.ensures _ _ (c.member.ensures _ _ c.new.ensures c.word_value.ensures) c.asked_value.ensures) c.from.ensures) c.word_value-2.ensures)
+    c.array_of.ensures) c.word_value-3.ensures) c.outcomes_verdict_value.ensures) in
+    c.line.ensures _ whole

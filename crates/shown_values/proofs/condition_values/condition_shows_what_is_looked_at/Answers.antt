@@ -1,5 +1,0 @@
-use Rattle.shown_values.proofs.Noting.{nothing-added}
-use Rattle.shown_values.proofs.condition_values.condition_shows_what_is_looked_at.Goals as goal
-
-pub returns : goal.returns
-returns c = nothing-added

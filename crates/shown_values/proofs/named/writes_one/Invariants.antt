@@ -1,6 +1,0 @@
-use Rattle.std.proofs.Common.{◌≡◌, drop}
-use Rattle.shown_values.specs.Shown.{writes_one}
-use Rattle.shown_values.proofs.named.writes_one.Given as goal
-
-abbrev pub invariant-loop-instr : goal.invariant-loop-instr
-invariant-loop-instr l = writes_one (drop l.instr-index l.program) l.reg ≡ writes_one l.program l.reg

@@ -1,2 +1,0 @@
--- Words of contracts inside the project.
-pub mod Shown

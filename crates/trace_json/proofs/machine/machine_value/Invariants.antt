@@ -1,5 +1,0 @@
-use Rattle.trace_json.proofs.Vocabulary.{◌≡◌, take}
-use Rattle.trace_json.proofs.machine.machine_value.Given as goal
-
-abbrev pub invariant-loop-loc : goal.invariant-loop-loc
-invariant-loop-loc g l = l.seen.items ≡ take l.loc l.moment.machine.now.state.flat.memory

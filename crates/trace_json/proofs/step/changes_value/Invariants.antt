@@ -1,7 +1,0 @@
-use Rattle.tso_report.specs.inner.Arrays.{IsBegun}
-use Rattle.trace_json.proofs.Vocabulary.{drop, map, string, printed_change}
-use Rattle.trace_json.proofs.step.changes_value.Given as goal
-
-abbrev pub invariant-loop-change : goal.invariant-loop-change
-invariant-loop-change l =
-    IsBegun l.values (map string (map (printed_change l.test l.words) (drop l.change-index l.changes))) (map string (map (printed_change l.test l.words) l.initial.changes))

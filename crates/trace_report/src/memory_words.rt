@@ -1,0 +1,17 @@
+//! What a trace as JSON says of memory, and of where a word is found. Each law is the contract of a function that does
+//! nothing: who calls it knows it.
+
+ghost use Rattle.trace_report.specs.SupplyLaws.{SourcesAreTold};
+ghost use Rattle.trace_report.specs.inner.BusMemory.{ToldMemoryIsTheBuses};
+
+/// Memory's own words, which a trace follows from step to step, are those of the memory on the bus: whatever call of the
+/// bus a choice makes, and on each of the protocols.
+pub fn told_memory_is_the_buses()
+    ensures { ToldMemoryIsTheBuses }
+{}
+
+/// Where a word is found, as a trace tells it: the core whose cache is told has a copy whose row supplies the line in the
+/// table of each protocol; and where memory is told no copy does, and memory's own words are those that are seen.
+pub fn sources_are_told()
+    ensures { SourcesAreTold }
+{}
