@@ -17,9 +17,15 @@ use std::marker::Model;
 use tso_terms::NoMemory;
 
 /// The sets of one core's cache. A line lies in the set whose number is the line's modulo their count.
-#[derive(Drop)]
 pub struct Cache {
     sets: Vec<CacheSet>,
+}
+
+// Said by hand, as a set's.
+impl Drop for Cache {
+    fn drop(self) {
+        let Cache { sets: _sets } = self;
+    }
 }
 
 impl Model for Cache {

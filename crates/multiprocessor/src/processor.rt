@@ -33,11 +33,21 @@ use tso_terms::{Action, Core, Entry, Instr, Kind, Loc, NoMemory, Outcome, Reg, S
 
 /// A core: the place in its program, its registers, and the stores that it has issued and that
 /// have not reached memory.
-#[derive(Drop)]
 pub struct Processor {
     pub place: u8,
     pub registers: [u32; 6],
     pub stores: PendingStores,
+}
+
+// Said by hand, so that who lets a core go makes one call.
+impl Drop for Processor {
+    fn drop(self) {
+        let Processor {
+            place: _place,
+            registers: _registers,
+            stores: _stores,
+        } = self;
+    }
 }
 
 impl Processor {
