@@ -22,8 +22,7 @@ pub use Rattle.litmus_tokens.specs.Front.{is_symbol_term, name_then, number_then
 unfoldable pub use Rattle.litmus_tokens.specs.Front.{symbol_at, name_at, number_at, is_symbol}
 pub use Rattle.litmus_reader.specs.declared.fault.Part.{Part}
 pub use Rattle.litmus_tokens.specs.declared.fault.ReadError.{ReadError}
-pub use Rattle.litmus_tokens.specs.inner.Faults.{Fails, Gives}
-pub use Rattle.litmus_tokens.specs.Faults.{◌>>=◌, or_fault, there}
+pub use Rattle.litmus_tokens.specs.Faults.{Fails, Gives, ◌>>=◌, or_fault, there}
 unfoldable pub use Rattle.litmus_tokens.specs.Names.{location_at, register_at}
 pub use Rattle.litmus_reader.specs.Settings.{core_of}
 unfoldable pub use Rattle.litmus_reader.specs.Settings.{plain_setting, setting_at, value_at, register_setting, square_setting}

@@ -5,7 +5,7 @@ ghost use Rattle.std.specs.Str.{IsUtf8};
 ghost use Rattle.std.specs.List.{range_with_len};
 ghost use Rattle.tso_terms.specs.Names as names;
 ghost use Rattle.tso_terms.specs.LitmusParts.{litmus_of};
-ghost use Rattle.litmus_tokens.specs.inner.Faults.{Gives};
+ghost use Rattle.litmus_tokens.specs.Faults.{Gives};
 ghost use Rattle.litmus_tokens.specs.Locations.{texts};
 ghost use Rattle.litmus_reader.specs.inner.Initial as initial;
 ghost use Rattle.litmus_reader.specs.Reading as spec;

@@ -6,7 +6,7 @@ ghost use Rattle.std.specs.Option.{option_map};
 ghost use Rattle.tso_terms.specs.Limits.{most_cores};
 ghost use Rattle.tso_terms.specs.Condition.{claim_of, condition_of};
 ghost use Rattle.litmus_tokens.specs.inner.Pieces.{pieces};
-ghost use Rattle.litmus_tokens.specs.inner.Faults.{Gives};
+ghost use Rattle.litmus_tokens.specs.Faults.{Gives};
 ghost use Rattle.litmus_tokens.specs.Locations.{texts};
 ghost use Rattle.litmus_reader.specs.inner.Settings.{setting_of};
 ghost use Rattle.litmus_reader.specs.inner.Conditions as spec;

@@ -11,7 +11,7 @@ ghost use Rattle.litmus_reader.specs.declared.fault.TextFault.{TextFault};
 ghost use Rattle.tso_terms.specs.Condition.{condition_of};
 ghost use Rattle.tso_terms.specs.LitmusParts.{litmus_of};
 ghost use Rattle.litmus_tokens.specs.inner.Pieces.{pieces};
-ghost use Rattle.litmus_tokens.specs.inner.Faults.{Gives};
+ghost use Rattle.litmus_tokens.specs.Faults.{Gives};
 ghost use Rattle.litmus_tokens.specs.inner.Mapped.{mapped};
 ghost use Rattle.litmus_tokens.specs.Locations.{texts};
 ghost use Rattle.litmus_reader.specs.inner.Reading as spec;

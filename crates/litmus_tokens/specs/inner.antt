@@ -4,7 +4,6 @@ pub mod Mapped
 pub mod Pieces
 pub mod SymbolSteps
 pub mod Terms
-pub mod Faults
 pub mod Arguments
 pub mod Forms
 pub mod Returned

@@ -19,9 +19,9 @@ ghost use Rattle.litmus_tokens.specs.inner.Pieces.{piece_of, pieces};
 
 use crate::gap::after_gap;
 use crate::token::{Lexeme, Stop, Symbol, Token, Tokens};
-use tso_terms::decimals::number_up_to;
 use std::alloc::Global;
 use tso_terms::NoMemory;
+use tso_terms::decimals::number_up_to;
 use tso_terms::names::{begins_name, continues_name};
 
 /// Maximum length of a name, in bytes.

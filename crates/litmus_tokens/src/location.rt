@@ -2,7 +2,7 @@
 //! appears.
 
 ghost use Rattle.std.specs.Prelude.{◌≡◌};
-ghost use Rattle.litmus_tokens.specs.inner.Faults.{Gives};
+ghost use Rattle.litmus_tokens.specs.Faults.{Gives};
 ghost use Rattle.litmus_tokens.specs.Locations as spec;
 ghost use Rattle.litmus_tokens.specs.Locations.{texts};
 ghost use Rattle.litmus_tokens.specs.GrammarNames as grammar;

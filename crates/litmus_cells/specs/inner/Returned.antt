@@ -7,7 +7,7 @@ use Rattle.litmus_tokens.specs.inner.Pieces.{pieces}
 use Rattle.litmus_cells.specs.declared.cell.CoreInstr.{CoreInstr}
 use Rattle.litmus_tokens.specs.declared.fault.Fault.{Fault}
 use Rattle.litmus_tokens.specs.declared.fault.ReadError.{ReadError}
-use Rattle.litmus_tokens.specs.inner.Faults.{Gives}
+use Rattle.litmus_tokens.specs.Faults.{Gives}
 use Rattle.litmus_tokens.specs.Locations.{texts}
 
 -- a reading of cells, after these instructions and names of locations

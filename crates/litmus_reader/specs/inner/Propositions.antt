@@ -4,7 +4,7 @@ use denote.Ref.{Bor}
 use Rattle.litmus_reader.specs.Vocabulary.{BadCondition, Claim, claim_of, CloseRound, Fault, NotClaim, OpenRound, Piece, pieces, Stop, symbol_at, there, Token, ◌>>=◌}
 use Rattle.tso_terms.specs.declared.condition.Prop.{Prop}
 use Rattle.litmus_tokens.specs.declared.fault.ReadError.{ReadError}
-use Rattle.litmus_tokens.specs.inner.Faults.{Gives}
+use Rattle.litmus_tokens.specs.Faults.{Gives}
 use Rattle.litmus_reader.specs.Faults.{or_unfit}
 use Rattle.litmus_reader.specs.Places.{part_of}
 use Rattle.litmus_reader.specs.Conditions.{Claimed, Proposition, negation_at, unit_at}

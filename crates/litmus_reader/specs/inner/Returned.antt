@@ -7,7 +7,7 @@ use Rattle.litmus_tokens.specs.declared.fault.ReadError.{ReadError}
 use Rattle.litmus_reader.specs.declared.fault.TextFault.{TextFault}
 use Rattle.litmus_reader.specs.Conditions.{Proposition, Conditioned}
 use Rattle.litmus_reader.specs.inner.Conditions.{claimed, conditioned}
-use Rattle.litmus_tokens.specs.inner.Faults.{Gives}
+use Rattle.litmus_tokens.specs.Faults.{Gives}
 use Rattle.litmus_tokens.specs.inner.Returned.{GivesNamed}
 use Rattle.litmus_reader.specs.inner.Initial.{given_of, initial}
 use Rattle.litmus_reader.specs.Initial.{Initial, judged}

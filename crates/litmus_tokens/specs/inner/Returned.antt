@@ -3,7 +3,7 @@ use Rattle.std.specs.Prelude.{ℕ, List, Result}
 use denote.Ref.{Bor}
 use Rattle.litmus_tokens.specs.declared.fault.Fault.{Fault}
 use Rattle.litmus_tokens.specs.declared.fault.ReadError.{ReadError}
-use Rattle.litmus_tokens.specs.inner.Faults.{Gives}
+use Rattle.litmus_tokens.specs.Faults.{Gives}
 use Rattle.litmus_tokens.specs.Locations.{texts}
 
 -- what is found, and the names of locations with it
