@@ -20,7 +20,7 @@ pub fn command_line<'a>(alloc: Global, words: &[&str]) -> Result<Command<'a>, Al
 /// The program with these commands.
 fn program_of<'a>(alloc: Global, commands: &[Subcommand]) -> Result<Command<'a>, AllocError> {
     let mut program = Command::new(alloc, "tso")
-        .version("1.1.1")
+        .version("1.1.2")
         .about("Runs x86 litmus tests on a simulated multiprocessor under total store order (TSO)")
         .after_help(help::TSO)
         .subcommand_required(true);
