@@ -48,7 +48,7 @@ commit() { git_in add -A && git_in commit -qm "$1"; }
 
 # The crates and the files of rows that the repository has: some on which the program stands, and the page's; what has a word that one of the
 # programs here says otherwise.
-crates=(tso_terms store_buffer scheduler command_line tso page_exports)
+crates=(tso_terms witnesses scheduler command_line tso page_exports)
 rows=(outcomes sweep)
 
 # Those of its files that are as they are in this checkout, where that has a history or not, each ended by a zero byte.
@@ -100,9 +100,9 @@ name_another_toolchain() { echo "another toolchain" > release/TOOLCHAIN && make_
 
 change_one_byte() { printf 'X' | dd of=release/tso bs=1 seek=5000 conv=notrunc status=none; }
 
-change_a_source() { echo "// Another line." >> crates/store_buffer/src/lib.rt; }
+change_a_source() { echo "// Another line." >> crates/witnesses/src/lib.rt; }
 
-change_a_proof() { echo "-- Another line." >> "$(git_in ls-files 'crates/store_buffer/proofs' | head -n 1)"; }
+change_a_proof() { echo "-- Another line." >> "$(git_in ls-files 'crates/witnesses/proofs' | head -n 1)"; }
 
 judge_programs() {
   local release
@@ -349,7 +349,7 @@ judge_prove() {
   PATH=$room/toolchain:$PATH accepts ./tso --prove && cmp -s crates/tso/out/tso "$program" \
     && sha256sum --status -c crates/tso/out/stamp
   judge "--prove leaves the program and its stamp" $?
-  printf '#!/bin/sh\necho "// Another line." >> ../store_buffer/src/lib.rt\n' > "$room/toolchain/rt"
+  printf '#!/bin/sh\necho "// Another line." >> ../witnesses/src/lib.rt\n' > "$room/toolchain/rt"
   PATH=$room/toolchain:$PATH refuses "the sources changed while they were proved" ./tso --prove && [ ! -e crates/tso/out/stamp ]
   judge "--prove while a source is written" $?
   git_in checkout -q crates
