@@ -10,7 +10,8 @@ import sys
 import tempfile
 
 NAME = "chromium"
-INSTALL = "apt-get install -y --no-install-recommends chromium"
+PRINTED_TEXT = "pdftotext"
+INSTALL = "apt-get install -y --no-install-recommends chromium poppler-utils"
 PATIENCE = 120  # seconds
 KEY_CODES = {"End": 35, "Home": 36, "ArrowLeft": 37, "ArrowRight": 39}
 
@@ -19,8 +20,9 @@ class Browser:
     """One page of a browser. `faults` has what its scripts threw, its console said and its policy forbade; `requests` the addresses asked for."""
 
     def __init__(self):
-        if shutil.which(NAME) is None:
-            sys.exit("%s isn't there: %s" % (NAME, INSTALL))
+        for program in (NAME, PRINTED_TEXT):
+            if shutil.which(program) is None:
+                sys.exit("%s isn't there: %s" % (program, INSTALL))
         self.profile = tempfile.mkdtemp(prefix="tso-view-profile-")
         self.faults, self.requests = [], []
         self.count, self.unread = 0, b""

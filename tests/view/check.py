@@ -7,7 +7,8 @@
                                                          that ships, where PROGRAM is of its sources; --picture: the picture
                                                          of the page for documents, and nothing else: docs/page.png
 
-It needs Debian's browser, on a machine that isn't the gate's: apt-get install -y --no-install-recommends chromium
+It needs Debian's browser, and what reads its paper, on a machine that isn't the gate's:
+apt-get install -y --no-install-recommends chromium poppler-utils
 
 - The arrows, the initial values, the loads that passed stores and the stretches in which stores waited are those that
   runs.py finds in the line without the page's code: for runs of the program, for those of the whole gallery, for a line of

@@ -7,6 +7,7 @@ import tempfile
 import xml.etree.ElementTree
 
 from bench import DIVIDING_LINE, EXAMPLES, FIRST, READY, differs, read, safety
+from browser import PRINTED_TEXT
 from driver import LARGE, Driver
 
 TEST = read(EXAMPLES, FIRST).partition(DIVIDING_LINE)[0]
@@ -19,7 +20,7 @@ def printed(bench):
     with tempfile.NamedTemporaryFile(suffix=".pdf") as file:
         file.write(bench.window.printed())
         file.flush()
-        return subprocess.run(["pdftotext", "-layout", file.name, "-"], capture_output=True, text=True, timeout=60).stdout
+        return subprocess.run([PRINTED_TEXT, "-layout", file.name, "-"], capture_output=True, text=True, timeout=60).stdout
 
 
 def has(text, *words):
