@@ -8,7 +8,7 @@
     tests/believed.py --arrange            moves these definitions by tests/move_definitions.py
 
 PROMISE is run (on the atomic bus, plain), run-whole (the split bus and JSON too), trace and trace-whole (likewise), sweep, outcomes, why (both
-plain), check, witness, headline, axioms, state (the axioms, final state and verdict), answers, reach, page, models, refutations or laws
+plain), check, witness, headline, axioms, state (the axioms, final state and verdict), answers, reach, page, models, branches, refutations or laws
 (what the contracts name of all functions that PAGES name and that are no methods; what a contract cites through
 another name of a whole file, as `spec.reading_of`, is the code's own way said as a definition, and a word of the inside). A line counts
 where it is neither blank, a comment nor an import. tests/declared.py lists the types of the code that the headline names.
@@ -235,8 +235,15 @@ LAWS = {
         ("relational_model", "executions_have_candidates candidates_of_executions_are_allowed allowed_candidates_are_executions"
          " runs_have_exactly_the_allowed_candidates worked_candidates sequential_candidates_are_sequential_executions"
          " unbuffered_runs_have_exactly_the_sequential_candidates worked_candidates_of_store_buffers"),
+        ("locked_laws", "locked_instructions_take_turns no_two_read_one_source somebody_reads_the_initial_word each_but_the_last_is_read"
+         " words_add_up reads_add_up worked_locks"),
         ("abstract_machine", "runs_of_the_abstract_machine_are_executions executions_are_runs_of_the_abstract_machine"
          " bounded_buffers_lose_nothing worked_runs_of_the_abstract_machine"),
+    ),
+    "branches": (
+        ("branch_laws", "splitting_is_exact tree_runs_reach_exactly_the_executions tree_ends_are_the_outcomes read_values_are_of_rounds"
+         " outcomes_are_the_union_of_paths additions_share_a_test final_states_show_the_path notes_add_nothing same_paths_leave_the_same"
+         " bounded_outcomes_are_outcomes cut_off_paths_show worked_branches branch_premises_are_met"),
     ),
     "refutations": (
         ("refutation_laws", "refuted_claims_are_false no_run_makes_a_refuted_claim_true refuted_questions_are_answered"
@@ -337,7 +344,7 @@ PROMISED = {
     "sweep": "`sweep` on the atomic bus", "outcomes": "`outcomes`, plain", "why": "`why`, plain",
     "check": "`check`", "witness": "`witness`", "headline": "the headline, all commands", "axioms": "`IsTsoExecution`",
     "state": "axioms, final state and verdict", "answers": "the answers' laws, `exact` among them", "reach": "what runs reach",
-    "page": "the page's answers", "models": "the published models", "refutations": "refutations",
+    "page": "the page's answers", "models": "the published models", "branches": "threads that branch", "refutations": "refutations",
     "laws": "all that is named here and in the README",
 }
 

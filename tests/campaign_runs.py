@@ -9,7 +9,7 @@ import time
 
 import why_forms
 from tool_runs import GALLERY, described, gallery, interrupted, sorted_lines, stand_in, test_file, tool, write
-from scripts import INTERRUPTED
+from scripts import COULD_NOT, INTERRUPTED
 
 
 def judge_sweeps(program, tally, room):
@@ -62,8 +62,8 @@ def judge_differences(program, tally, room):
     wrong = write(os.path.join(room, "wrong"), "SB: PodWR Fre PodWR Fre: forbidden\nforbidden CoRR\n")
     for name, program, words, status, begin in (
             ("a wrong verdict", program, ["--expected", wrong], 1, "DIFFERS SB --depth 32 expected=forbidden found=allowed"),
-            ("too many states", program, ["--states", "3"], 1, "OPEN"),
-            ("a program that refuses", stand_in(os.path.join(room, "refuses"), program, "echo no; exit 1"), [], 1, "FAULT"),
+            ("too many states", program, ["--states", "3"], 2, "OPEN"),
+            ("a program that refuses", stand_in(os.path.join(room, "refuses"), program, "echo no; exit 1"), [], 2, "FAULT"),
             ("as JSON", program, ["--json"], 0, '{"expected": "forbidden", "false": ')):
         done = tool("campaign", "outcomes", program, "--results", place, *words, *tests)
         tally.add(name, None if done.returncode == status and done.stdout.startswith(begin) else described(done))
@@ -105,7 +105,7 @@ def judge_limits(program, tally, room):
     words = ["--theory", "--limit", "1", "--results", os.path.join(room, "limits"), many, test_file("SB")]
     done = tool("campaign", "outcomes", program, *words)
     told = re.match(r"OPEN    Orders --depth 32 found=forbidden .* - theory took over 1 seconds\nsame    SB", done.stdout)
-    tally.add("theory within a limit", None if done.returncode == 1 and told else described(done))
+    tally.add("theory within a limit", None if done.returncode == COULD_NOT and told else described(done))
 
 
 def judge_why(program, tally, room):
@@ -115,7 +115,7 @@ def judge_why(program, tally, room):
     wanted = ("OPEN    LB --model tso expected=forbidden - more than 100000 cases\n"
               "same    MP --model tso expected=forbidden found=forbidden leaves=3 true=0 false=3 states=3\n"
               "same    SB --model tso expected=allowed found=allowed true=1 false=3 states=4\n")
-    tally.add("answers of why", None if (done.returncode, done.stdout) == (1, wanted) else described(done))
+    tally.add("answers of why", None if (done.returncode, done.stdout) == (COULD_NOT, wanted) else described(done))
     # by the name of MP, a test whose condition can be
     with open(test_file("SB"), encoding="ascii") as file:
         other = write(os.path.join(room, "other"), re.sub(r"^TSO=.*\n", "", file.read(), flags=re.M).replace("X86 SB", "X86 MP"))

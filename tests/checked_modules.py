@@ -77,14 +77,21 @@ class Module:
         return {name for _, _, name in self.projections().values()}
 
     def ensured(self):
-        """The pairs of a step and a clause of which its terms may say `step.ensures.clause`; the step is "" where it stands elsewhere."""
+        """The pairs of a step and a clause of which its terms may say `step.ensures.clause`, and of a step and "" where they may say
+        `step.ensures`; the step is "" where it stands elsewhere."""
         found, pairs = self.projections(), set()
         follows = {end: at for at, (end, _, _) in found.items()}
+
+        def step_of(at):
+            step = follows.get(at) if found[at][1] == 1 else None
+            return "" if step is None else found[step][2]
+
         for at, (_, distance, clause) in found.items():
             of = follows.get(at)
+            if clause == "ensures":
+                pairs.add((step_of(at), ""))
             if distance == 1 and of is not None and found[of][2] == "ensures":
-                step = follows.get(of) if found[of][1] == 1 else None
-                pairs.add(("" if step is None else found[step][2], clause))
+                pairs.add((step_of(of), clause))
         return pairs
 
     def built(self):

@@ -8,10 +8,15 @@ import sys
 import tempfile
 import time
 
+from hostile_calls import processes_with, waited_for
+from scripts import COULD_NOT
 from tool_runs import GALLERY, TESTS, TOOLS, described, heed_interrupts, sorted_lines, stand_in, test_file, tool, write
 
 # So many cycles of six edges in the gate; tests/cluster.py takes another number.
 CYCLES, SEED = 120, 1
+
+# Tests of a campaign whose client, workers and scheduler are killed; and how long a program sleeps that nobody else has.
+KILLED, LONG_SLEEP = 60, "301.0625"
 
 # The cluster's workers.
 WORKERS = 4
@@ -116,6 +121,53 @@ def judge_stops(cluster, words, whole, tally, room):
     tally.add("and goes on", None if done.returncode == 0 and same else described(done))
 
 
+def judge_kills(python, program, tally, room):
+    """After the first results the client is killed; it goes on, and then a worker with its nanny, and the scheduler; with another cluster
+    the same words end it. The results are those of one process, byte for byte."""
+    slow = stand_in(os.path.join(room, "slower"), program, "sleep 0.05")
+    drawn = tool("cycles", "--length", "6", "--locked", "--some", str(KILLED), "--no-verdict").stdout
+    words = ["outcomes", slow, write(os.path.join(room, "few"), drawn)]
+    Campaign(sys.executable, words, os.path.join(room, "few alone")).end()
+    whole, place = sorted_lines(os.path.join(room, "few alone")), os.path.join(room, "kills")
+    counts = []
+    with LocalCluster(python, 2) as cluster:
+        client = Campaign(python, words + ["--scheduler", cluster.address], place)
+        client.wait_for(KILLED // 6)
+        client.running.kill()
+        client.end()
+        counts.append(len(sorted_lines(place)))
+        again = Campaign(python, words + ["--scheduler", cluster.address], place)
+        again.wait_for(KILLED // 2)
+        cluster.nannies[0].kill()
+        os.kill(cluster.workers[0], signal.SIGKILL)
+        cluster.scheduler.kill()
+        done = again.end(60)
+        counts.append(len(sorted_lines(place)))
+    told = done.returncode == COULD_NOT and 0 < counts[0] < counts[1] < KILLED
+    tally.add("client, worker and scheduler were killed in the middle", None if told else "%s; %s" % (counts, described(done)))
+    with LocalCluster(python, 2) as cluster:
+        done = Campaign(python, words + ["--scheduler", cluster.address], place).end()
+    same = sorted_lines(place) == whole and len(whole) == KILLED
+    tally.add("and with another cluster the results are the same", None if done.returncode == 0 and same else described(done))
+
+
+def judge_left(python, program, tally, room):
+    """A program that a worker has started ends with the worker, whatever ends that."""
+    endless = stand_in(os.path.join(room, "endless"), program, 'case "$*" in --*) exit 2;; esac; exec sleep ' + LONG_SLEEP)
+    with LocalCluster(python, 1) as cluster:
+        campaign = Campaign(python, ["outcomes", endless, "--scheduler", cluster.address, test_file("SB")], os.path.join(room, "left"))
+        begun = waited_for(lambda: processes_with("sleep\0" + LONG_SLEEP))
+        cluster.nannies[0].kill()
+        os.kill(cluster.workers[0], signal.SIGKILL)
+        gone = waited_for(lambda: not processes_with("sleep\0" + LONG_SLEEP), 10)
+        campaign.running.send_signal(signal.SIGINT)
+        done = campaign.end(60)
+    left = processes_with("sleep\0" + LONG_SLEEP)
+    for process in left:
+        os.kill(process, signal.SIGKILL)
+    tally.add("a worker's program ends with it", None if begun and gone else "left running: %s; %s" % (left, described(done)))
+
+
 def judge_killer(cluster, program, tally, room):
     """A test that ends its workers is named, and no other test is."""
     killer = stand_in(os.path.join(room, "killer"), program, "case $text in *'X86 SB\n'*) kill -9 $PPID; sleep 9;; esac")
@@ -123,7 +175,7 @@ def judge_killer(cluster, program, tally, room):
     words = ["outcomes", killer, "--scheduler", cluster.address, "--limit", PATIENT_LIMIT, *tests]
     done = Campaign(cluster.python, words, os.path.join(room, "killed")).end()
     named = done.stdout.startswith("FAULT   SB --depth 32 expected=allowed - it ended its workers\n") and done.stdout.count("FAULT") == 1
-    tally.add("a test that ends its workers", None if done.returncode == 1 and named else described(done))
+    tally.add("a test that ends its workers", None if done.returncode == COULD_NOT and named else described(done))
 
 
 def judge_absences(python, program, tally, room):
@@ -139,7 +191,7 @@ def judge_absences(python, program, tally, room):
         cluster.scheduler.kill()
         done = campaign.end(60)
     told = [line for line in done.stderr.splitlines() if line and not re.match(r"\d+ of \d+ tasks, ", line)]
-    same = done.returncode == 2 and told == ["campaign: the scheduler is gone; the same words go on"]
+    same = done.returncode == COULD_NOT and told == ["campaign: the scheduler is gone; the same words go on"]
     tally.add("a scheduler that is ended", None if same else described(done))
     before = sorted_lines(place)
     done = Campaign(python, ["outcomes", slow, GALLERY], place).end()
@@ -170,6 +222,8 @@ def judge(program, tally, how_many=CYCLES, seed=SEED):
         tally.add("a campaign by one process", None if done.returncode == 0 and len(whole) == how_many else described(done))
         took = [time.monotonic() - begun]
         judge_absences(python, program, tally, room)
+        judge_kills(python, program, tally, room)
+        judge_left(python, program, tally, room)
         with LocalCluster(python, WORKERS) as cluster:
             for part in (judge_deaths, judge_stops):
                 begun = time.monotonic()

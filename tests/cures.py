@@ -133,7 +133,7 @@ def write_character(text, code_point, column, cure):
     elif cure == 'write " here and at its other end':
         text.line = before + '"' + re.sub("[\u201c-\u201e\u00ab\u00bb]", '"', rest, count=1)
     else:
-        text.line = before + {"write a space": " "}.get(cure, cure[len("write "):]) + rest
+        text.line = before + {"write a space": " ", "cells are split by the vertical bar |": "|"}.get(cure, cure[len("write "):]) + rest
 
 
 def leave_out_type(text, kind):
@@ -146,6 +146,27 @@ def leave_out_type(text, kind):
 
 def leave_out_percent(text):
     text.line = text.line.replace("%", "", 1)
+
+
+def close(text, bracket, number):
+    """Closes a bracket at the end of the line on which it is opened."""
+    text.lines[int(number) - 1] += bracket
+
+
+def end_row(text):
+    text.line += " ;"
+
+
+def split_cells(text, sign):
+    text.line = text.line.replace(sign, "|", 1)
+
+
+def write_unsigned(text, signed, number):
+    text.line = text.line.replace(signed, number, 1)
+
+
+def leave_out_line(text):
+    del text.lines[text.at]
 
 
 def leave_out_second_test(text):
@@ -230,7 +251,7 @@ def leave_out_address(text, name):
 
 CURES = [
     (r"X86_64 tests aren't read: .*; if you do so by hand, begin with X86 and .*", lambda text: write_header(text, "X86_64")),
-    (r"(\w+) is (?:another processor|a language): a test begins with X86, a space and its name; .*", write_header),
+    (r"(\w+) is (?:another processor|a language): write its programs as X86 instructions, below a line X86 NAME; .*", write_header),
     (r"(\w+): write X86, in capitals", write_header),
     (r"'(.*)' is AT&T's order, source first; here the destination stands first, as in MOV EAX,\[y\]: .*", turn_round),
     (r"a register is written without %: EAX", leave_out_percent),
@@ -241,17 +262,27 @@ CURES = [
     (r"(\w+) is a type, and items have no types here: leave it out; if the item has no value, leave out the whole item, .*", leave_out_type),
     (r"(\w+) isn't read after LOCK: in a cell before it, put .* here write LOCK XADD \[x\],EAX", add_by_xadd),
     (r"(\w+) isn't read: without LOCK .* Write a load, as MOV EAX,\[x\], and a store of the result, .*", load_and_store),
-    (r"(\w+) isn't read: a program has no jumps and no compares; .*", leave_out_jump),
+    (r"(\w+) isn't read: a program has no branches, jumps or compares; .*", leave_out_jump),
+    (r"(\w+): is a label, and a program has no jumps: leave it out", leave_out_jump),
     (r"(\w+) isn't read: it changes .*, so leave it out", leave_out_cell),
     (r"\w+: leave DWORD PTR out, words have 32 bits", leave_out_pointer),
     (r"MOV has the forms .*; from \[y\] to \[x\] go through a register: .*", go_through_register),
     (r"(P\w+): a core is its number alone here, as in 0:EAX", number_core),
     (r"(\w+) names no location, and no register can hold an address here: .*", name_location),
-    (r"(\w+) is no number, and no register can hold an address here: .*", leave_out_address),
+    (r"(\w+): no register can hold an address here: .*", leave_out_address),
     (r"U\+(\w+), in column (\d+), isn't ASCII: (.*)", write_character),
     (r"a comment is written \(\* \.\. \*\)", write_comment),
     (r"the dividing line between a test and its choices is ==== alone", write_divider),
     (r"a second test begins here: an input has only one, .*", leave_out_second_test),
+    (r"(\w+) is no instruction: write (\w+)", Text.replace),
+    (r"(\w+) begins no condition: write (~exists|exists|forall)\b.*", Text.replace),
+    (r"(for all) is one word here: write (forall)", Text.replace),
+    (r"no ([)}]) closes the [({] of line (\d+)", close),
+    (r"no ; ends (?:the row that begins with|this row at its line's end)\b.*: a row ends with ;", end_row),
+    (r"'([/!])': cells are split by the vertical bar \|", split_cells),
+    (r"a number has no sign: write (-\d+) as (\d+)", write_unsigned),
+    (r"``` encloses a text in Markdown: leave this line out, .*", leave_out_line),
+    (r"'?(.*?)'?: write (\d+[sd])(?:, in small letters)?", Text.replace),
 ]
 
 

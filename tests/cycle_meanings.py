@@ -10,6 +10,7 @@ import answers
 import cycle_tests
 import edges
 import litmus
+from scripts import COULD_NOT
 
 theory, cycles = tool_runs.script("theory"), tool_runs.script("cycles")
 
@@ -246,7 +247,7 @@ def judge_lines(tally):
         tally.add(words, None if same else tool_runs.described(done))
     for words, why in REFUSED:
         done = tool_runs.tool("cycles", *words.split())
-        same = (done.returncode, done.stdout, done.stderr) == (1, "", "cycles: %s\n" % why)
+        same = (done.returncode, done.stdout, done.stderr) == (COULD_NOT, "", "cycles: %s\n" % why)
         tally.add(words, None if same else tool_runs.described(done))
 
 

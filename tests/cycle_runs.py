@@ -43,7 +43,7 @@ def judge_words(tally):
         done = tool("cycles", *words)
         tally.add("cycles " + " ".join(words), None if done.returncode == COULD_NOT and not done.stdout else described(done))
     done = tool("cycles", "--length", "3")
-    tally.add("no cycle has three edges", None if (done.returncode, done.stderr) == (1, "cycles: there is no such cycle\n") else described(done))
+    tally.add("no cycle has three edges", None if (done.returncode, done.stderr) == (COULD_NOT, "cycles: there is no such cycle\n") else described(done))
 
 
 def judge_lists(tally):

@@ -109,7 +109,7 @@ def test_of(text):
 def is_told(command, given, done, show):
     """Whether standard error is as it must be; beside an answer that tells of final states, as the reference has it. `show` says what
     these show."""
-    if done.returncode == ENDED and command in ("run", "outcomes", "why"):
+    if done.returncode == ENDED and command in ("run", "trace", "outcomes", "why"):
         test = test_of(parts_of(given)[0])
         return done.stderr == hints.beside(command, False, None, test, done.stdout.decode(), show)
     return judging.is_told(done.returncode, done.stdout, done.stderr)

@@ -7,7 +7,7 @@ tests/rows.py says how a row is written; standard error is the hint, and empty w
 standard output and the status must be the same.
 
 Then the hints are followed, word by word as tests/cures.py has it: on tests in AT&T's order of operands, which are read in the end as
-the tests that tools/import makes of them (tests/at_and_t.py); and on 300 wrong texts, each of which is read after one to three of them
+the tests that tools/import makes of them (tests/at_and_t.py); and on 400 wrong texts, each of which is read after one to three of them
 (tests/wrong_texts.py).
 
 The last line is 'N passed, M failed'.

@@ -18,7 +18,7 @@ import tso
 import verdicts
 from log_forms import IRIW, IRIW_LOG, OTHER_NAME, SHOWN
 from tool_runs import TESTS, described, stand_in, tool, write
-from scripts import script
+from scripts import COULD_NOT, script
 
 FOLDER = os.path.join(TESTS, "data", "imports")
 READ, HAND, REFUSED = (os.path.join(FOLDER, name) for name in ("read", "hand", "refused"))
@@ -134,7 +134,7 @@ def judge_targets(tally, room):
     counts = [len(os.listdir(folder)) - (folder == REFUSED) for folder in (READ, HAND, REFUSED)]
     due = ["import: %d tests, %d read, %d refused" % (sum(counts), counts[0] + counts[1], counts[2])]
     of = sum(line.endswith("refused: negative numbers") and line.split()[1] == "1" for line in sums)
-    same = (done.returncode, sums[:1], of) == (1, due, 1) and os.listdir(os.path.join(room, "out", "read")) and not os.path.exists(
+    same = (done.returncode, sums[:1], of) == (COULD_NOT, due, 1) and os.listdir(os.path.join(room, "out", "read")) and not os.path.exists(
         os.path.join(room, "out", "refused"))
     tally.add("a folder with what is refused", None if same else described(done))
     tally.add("as many files as are wanted", None if counts[0] + counts[2] >= LEAST and counts[0] == counts[1] else "there are %s" % counts)

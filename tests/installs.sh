@@ -16,7 +16,7 @@ trap 'chmod -R u+w "$room"; rm -rf "$room"' EXIT
 trap 'exit 130' INT
 passed=0
 failed=0
-tools=(campaign compare cycles graph hardware import theory)
+tools=(campaign compare cycles graph hardware import theory uninstall)
 any=$(IFS='|' && echo "${tools[*]}")
 
 # Counts a name with the status of the test before.
@@ -37,8 +37,9 @@ make_checkout() {
   cd "$room/checkout" || exit 1
   (cd "$top" && cp -r tso tools completions docs examples view README.md CHANGELOG.md crates.txt "$room/checkout/")
   cp "$program" release/tso && echo 9.9.9 > release/VERSION && sha256sum crates.txt > release/SOURCES
-  sha256sum release/SOURCES release/VERSION release/tso > release/SHA256SUMS
-  for word in bash env readlink uname getconf stat sha256sum cat mktemp mkdir mv rm rmdir install ln find sort sed grep; do
+  : > release/PROOFS && echo "a toolchain" > release/TOOLCHAIN
+  sha256sum release/PROOFS release/SOURCES release/TOOLCHAIN release/VERSION release/tso > release/SHA256SUMS
+  for word in bash env readlink uname getconf stat sha256sum cat cp flock mkdir mv rm rmdir install ln find sort sed grep; do
     ln -s "$(command -v "$word")" "$room/path/$word"
   done
   bare=(env "PATH=$room/path")
@@ -71,7 +72,7 @@ judge_where() {
     && [ -x "$room/a home/.local/bin/tso" ]
   judge "without a folder: below the home folder" $?
   says 0 "its programs are in $room/checkout/here/bin" "${bare[@]}" ./tso --install here \
-    && "${bare[@]}" ./tso --uninstall here && rmdir here
+    && "${bare[@]}" ./tso --uninstall here && [ ! -e here ]
   judge "a folder named from here" $?
   [ "$("${bare[@]}" ./tso --program)" = "$PWD/release/tso" ] && [ "$(cd / && "$room/checkout/tso" --program)" = "$PWD/release/tso" ]
   judge "--program prints the path of the program that is run" $?
@@ -104,13 +105,13 @@ bound() {
 
 judge_read_only() {
   mkdir -p "$room/read only" && chmod a-w "$room/read only"
-  says 70 "$room/read only/bin/tso couldn't be written" bound ./tso --install "$room/read only" && [ -z "$(ls -A "$room/read only")" ]
+  says 70 "$room/read only can't be written; nothing was changed" bound ./tso --install "$room/read only" && [ -z "$(ls -A "$room/read only")" ]
   judge "a folder that can't be written" $?
   mkdir -p "$room/half/share" && chmod a-w "$room/half/share"
-  says 70 "$room/half/share/man/man1/tso.1 couldn't be written" bound ./tso --install "$room/half" && [ "$(ls "$room/half")" = share ]
+  says 70 "a folder in $room/half couldn't be made; nothing was changed" bound ./tso --install "$room/half" && [ "$(ls "$room/half")" = share ]
   judge "a folder of which a part can't be written: nothing is left there" $?
   : > "$room/file"
-  says 70 "$room/file/bin/tso couldn't be written" ./tso --install "$room/file" && [ ! -s "$room/file" ]
+  says 70 "$room/file isn't a folder" ./tso --install "$room/file" && [ ! -s "$room/file" ]
   judge "a file in the folder's place" $?
 }
 

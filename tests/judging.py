@@ -337,9 +337,10 @@ def described(done):
 
 def is_told(status, output, errors):
     """Whether standard error is as it is beside such an answer: a hint where it has one, else nothing. The conditions of the
-    tests that are given name no location that nothing else of them names."""
-    has_hint = status in WITH_HINT or status == ENDED and any(form.search(output) for form in MISLEADING)
-    form = SEARCH_HINT if UNFINISHED_SEARCH.search(output) else HINT
+    tests that are given name no location that nothing else of them names, and nothing that no instruction writes."""
+    is_open = UNFINISHED_SEARCH.search(output) is not None
+    has_hint = status in WITH_HINT or status == ENDED and any(form.search(output) for form in MISLEADING) or is_open and output[:1] != b"{"
+    form = SEARCH_HINT if is_open else HINT
     return form.fullmatch(errors) is not None if has_hint else errors == b""
 
 

@@ -24,8 +24,8 @@ COMMANDS = ("run", "run --json", "run --bus split --protocol moesi", "trace", "s
             "outcomes --depth 1 --states 200", "outcomes --json")
 
 # What came after 1.0.0: lines after the last one of an answer, and members of the JSON, in any object.
-LATER_LINES = {"outcomes": re.compile(rb"^True(?: \d+)*\nVerdict (?:Ok|No)\n\Z", re.MULTILINE)}
-LATER_MEMBERS = {"outcomes": {"holds", "verdict"}}
+LATER_LINES = {"outcomes": re.compile(rb"^(?:True(?: \d+)*\n|Met \d+\n(?:State.*\nBy.*\n)*)(?:Verdict (?:Ok|No)\n)?\Z", re.MULTILINE)}
+LATER_MEMBERS = {"outcomes": {"holds", "met", "verdict"}}
 
 # What docs/VERSIONS.md leaves open of an answer: which choices lead to a state.
 OPEN_LINES = {"outcomes": re.compile(rb"^By.*\n", re.MULTILINE)}

@@ -1,7 +1,7 @@
 #!/usr/bin/env python3
 """Holds what `outcomes` prints against a plain search of all runs, with no reduction.
 
-    tests/outcomes.py PROGRAM [--tests N] [--seed S] [--also PROGRAM]
+    tests/outcomes.py PROGRAM [--tests N] [--met M] [--seed S] [--also PROGRAM]
 
 The tests are those of the gallery and of the examples, and N (300) made at random from a seed S (1): two to four cores, at most
 twelve instructions together, of all kinds; and half as many more in which some cores have the same program. Of each, at depths 0, 1,
@@ -17,6 +17,10 @@ Of the made tests the last two are asked with one value of `--show` each, in tur
 has one in four of them, each of them at one depth, in turn.
 
 Of three tests of the literature the number of final states is published, and held too.
+
+Of M (12) searches of larger tests, made at random, most of which `--states` of 100 to 10000 ends before their end, with all that can be
+shown: the states below the line `Met` are as many as it says and ascend, the choices of each end there in `run`, the line `Verdict` stands there exactly where one of them
+decides it, `--json` has the same states, and the status of `--assert` goes by the verdict.
 
 The search is written here, from docs/DEFINITIONS.md; the tests are read by tests/reference/. The last line is 'N passed, M failed'.
 """
@@ -310,6 +314,93 @@ def rows_of(tests, asked_in):
             yield "%s, depth %d" % (name, depth), lambda program, how=how: faults_at(program, *how)
 
 
+# ---- searches that end at their limit
+
+LIMITS = (100, 300, 1000, 3000, 10000)
+
+
+class Told:
+    """What an answer says of a search that met its limit: the lines of its states, and the verdict, None where it has none."""
+
+    def __init__(self, text):
+        found = re.fullmatch(r"Unfinished states=(\d+)\nMet (\d+)\n((?:State.*\nBy.*\n)*)(?:Verdict (Ok|No)\n)?", text)
+        self.has_form = found is not None
+        if found is not None:
+            self.limit, self.count, self.verdict = int(found.group(1)), int(found.group(2)), found.group(4)
+            lines = re.findall(r"^State(.*)\nBy ?(.*)$", found.group(3), re.M)
+            self.states = [(dict(pair.split("=") for pair in values.split()), way) for values, way in lines]
+
+    def value(self, test):
+        """The same as JSON, but for `holds`."""
+        states = [{"choices": way, "values": {name: int(word) for name, word in values.items()}} for values, way in self.states]
+        return {"met": states, "test": test, "unfinished": {"states": self.limit}, "verdict": self.verdict}
+
+
+def final_state_in(report):
+    """The registers and the words of a report, by their names; and whether it says that the proposition is true, None without one."""
+    words = dict(re.findall(r" (\w+)=(\d+)", re.search(r"^Memory(.*)$", report, re.M).group(1)))
+    for core, line in re.findall(r"^Registers P(\d)(.*)$", report, re.M):
+        words.update(("%s:%s" % (core, register), value) for register, value in re.findall(r" (\w+)=(\d+)", line))
+    holds = re.search(r"^Condition \S+ (true|false)$", report, re.M)
+    return words, holds and holds.group(1) == "true"
+
+
+def faults_of_met(program, given, depth, limit):
+    """What is wrong with the answer of a search that met this limit; nothing of one that came to its end."""
+    words = ["outcomes", "--depth", str(depth), "--states", str(limit), "--show", "all"]
+    done = program.run(words, given)
+    told, test = Told(done.stdout.decode("latin-1")), reading.read_test(given)
+    if done.returncode == judging.ENDED:
+        return []
+    if done.returncode != judging.UNFINISHED or not told.has_form:
+        return ["with %s status %s and %r" % (words, done.returncode, done.stdout[:200])]
+    values = [[int(word) for word in state.values()] for state, _ in told.states]
+    faults = [] if told.limit == limit and told.count == len(values) else ["with %s the counts are others" % words]
+    if any(one >= other for one, other in zip(values, values[1:])):
+        faults.append("with %s the states don't ascend" % words)
+    truths = []
+    for state, way in told.states:
+        report = report_of(program, given, depth, way)
+        ended, holds = final_state_in(report) if report else ({}, None)
+        truths.append(holds)
+        if " stalled=0 unused=0\n" not in report or any(ended.get(name) != word for name, word in state.items()):
+            faults.append("run doesn't end in %s under %s" % (state, way))
+    truth, word = {"exists": (True, "Ok"), "~exists": (True, "No"), "forall": (False, "No"), None: ("", None)}[test.quantifier]
+    if told.verdict != (word if truth in truths else None):
+        faults.append("with %s the verdict is %s" % (words, told.verdict))
+    return faults + faults_of_forms(program, given, words, done, told, truths)
+
+
+def faults_of_forms(program, given, words, plain, told, truths):
+    """How `--json` says something else of a search that met its limit, or `--assert` has another status."""
+    as_json = program.run(words + ["--json"], given)
+    due = told.value(reading.read_test(given).name)
+    for state, holds in zip(due["met"], truths):
+        state.update({} if holds is None else {"holds": holds})
+    faults = [] if as_json.returncode == judging.UNFINISHED and json.loads(as_json.stdout) == due else ["with %s --json says another thing" % words]
+    asserted = program.run(words + ["--assert"], given)
+    status = {None: judging.UNFINISHED, "Ok": judging.ENDED, "No": judging.INVALID}[told.verdict]
+    if (asserted.returncode, asserted.stdout) != (status, plain.stdout):
+        faults.append("with %s --assert status %s, and not %d" % (words, asserted.returncode, status))
+    return faults
+
+
+def large_test(draw, number):
+    """A test made at random, of more cores and instructions: most have more states than are kept."""
+    cores = draw.choice((3, 4, 6, 8))
+    programs = [[cell(draw) for _ in range(draw.randint(4, 24 // cores + 3))] for _ in range(cores)]
+    atoms = ["%d:%s=%d" % (draw.randrange(cores), draw.choice(REGISTERS), draw.randint(0, 2)) for _ in range(2)]
+    return written(draw, "large%d" % number, programs, draw.sample(LOCATIONS + ("0:EAX", "1:EBX"), 2), atoms)
+
+
+def rows_of_met(count, seed):
+    """So many searches of large tests, each with a limit."""
+    draw = random.Random("met %d" % seed)
+    for number in range(count):
+        how = large_test(draw, number), draw.choice(DEPTHS), LIMITS[number % len(LIMITS)]
+        yield "large test %d of seed %d, depth %d, %d states" % ((number, seed) + how[1:]), lambda program, how=how: faults_of_met(program, *how)
+
+
 def faults_of_count(program, name, depth, count):
     """How many final states a test of the gallery has, where another number is published."""
     with open(os.path.join(judging.EXAMPLES, "gallery", name + ".litmus"), "rb") as file:
@@ -326,6 +417,7 @@ def rows_of_published():
 def main():
     parser = judging.with_programs(__doc__, with_part=False)
     parser.add_argument("--tests", type=int, default=300)
+    parser.add_argument("--met", type=int, default=12)
     parser.add_argument("--seed", type=int, default=1)
     asked = parser.parse_args()
     programs, tally = judging.programs_in(asked), judging.Tally()
@@ -333,6 +425,7 @@ def main():
     tally.add("outcomes", judging.judged(rows_of(of_repository, lambda turn: OF_REPOSITORY), programs))
     tally.add("outcomes", judging.judged(rows_of_published(), programs))
     tally.add("outcomes", judging.judged_in_turn(rows_of(tests_made(asked.tests, asked.seed), of_made), programs))
+    tally.add("searches that met their limit", judging.judged_in_turn(rows_of_met(asked.met, asked.seed), programs))
     return tally.end()
 
 

@@ -1,7 +1,7 @@
 """Reasons that are wrong, each by one slip, for tests/why.py: a judge that takes one of them is no judge."""
 import re
 
-from reference import reading, reasons
+from reference import reading, reasons, refutations
 from reference.candidates import SC, TSO
 
 BUFFERING = b"""X86 SB
@@ -69,6 +69,29 @@ OWN_STORE = b"""X86 n6
 exists (0:EAX=1 /\\ 0:EBX=0 /\\ x=1)
 """
 
+# Two registers hold what is read, and each case is false by both.
+COPIED = b"""X86 copied
+{ }
+ P0          | P1         ;
+ MOV EAX,[y] | MOV [y],$1 ;
+ MOV EBX,EAX |            ;
+exists ((0:EAX=0 /\\ 0:EBX=1) \\/ (0:EAX=1 /\\ 0:EBX=0))
+"""
+
+BOTH_ALIKE = """Test copied
+Never tso leaves=2
+Asked exists true
+Case P0:0 R y=0 from initial
+ False 0:EAX=0 0:EBX=0
+Case P0:0 R y=1 from P1:0 W y=1
+ False 0:EAX=1 0:EBX=1
+Endcases
+Verdict No
+"""
+
+# Its two cases.
+COPIES = BOTH_ALIKE[BOTH_ALIKE.index("Case"):BOTH_ALIKE.index("Endcases")]
+
 # Of a test, the reason that is right, and what a slip puts in place of some of its bytes.
 OF_ONE_TEXT = (
     ("a case left out", PASSING, PASSED, "Case P1:1 R x=1 from P0:0 W x=1\n False 1:EBX=1\n", "", "leaves=3", "leaves=2"),
@@ -103,6 +126,8 @@ OF_ONE_TEXT = (
     ("fr from the source itself", LOST, KEPT, " False 0:EAX=1", " Cycle P1:0 W x=1 rf P0:0 LR x=1 fr P1:0 W x=1"),
     ("fr from the source itself, of one location", LOST, KEPT, " False 0:EAX=1", " Uniproc P1:0 W x=1 rf P0:0 LR x=1 fr P1:0 W x=1"),
     ("a value that isn't known", LOST, KEPT, "\n Uniproc P0:0 LR x po P0:0 LW x rf P0:0 LR x", "\n False 0:EAX=0"),
+    ("one line for answers that aren't false together", COPIED, BOTH_ALIKE, COPIES,
+     "Case P0:0 R y from initial or P1:0 W y=1\n False 0:EAX=0|1 0:EBX=0|1\n", "leaves=2", "leaves=1"),
     ("an own locked write as of another core", LOST, KEPT, " Uniproc P0:0 LR x po P0:0 LW x rf P0:0 LR x",
      " Cycle P0:0 LR x po P0:0 LW x rf P0:0 LR x"),
 )
@@ -155,8 +180,29 @@ def slips():
         yield name, given, SC, right, changed(right, changes).replace("Never sc", "Never tso", 1)
 
 
+# Of that test, the places of lines `False`, and whether the line is so as it is read.
+AS_READ = (
+    ({"0:EAX": [0], "0:EBX": [0]}, True), ({"0:EAX": [2]}, True), ({"0:EAX": [1]}, False), ({"0:EAX": [2, 3], "0:EBX": [2]}, True),
+    ({"0:EAX": [0, 1], "0:EBX": [0, 1]}, False), ({"0:EAX": [0, 2], "0:EBX": [0, 2]}, True), ({"0:EAX": [0], "0:EBX": [0, 1]}, False),
+    ({"y": [0, 1]}, False), ({}, False),
+)
+
+
+def judge_lines():
+    """Names of lines `False`, each with what is wrong about the judge of such lines: it refuses one that is so, or takes another."""
+    test = reading.read_test(COPIED)
+    for places, is_so in AS_READ:
+        try:
+            refutations.judge_as_read(test, {"step": "false", "places": places})
+            is_taken = True
+        except refutations.Wrong:
+            is_taken = False
+        yield "a line `False` of %s" % places, [] if is_taken == is_so else ["it is %s" % ("taken" if is_taken else "refused")]
+
+
 def judge():
     """Names of slips, each with what is wrong about the judge of reasons: it refuses the right one, or takes the other."""
+    yield from judge_lines()
     for name, given, model, right, wrong in slips():
         test = reading.read_test(given)
         faults = [] if wrong != right else ["the slip changes nothing"]

@@ -31,12 +31,16 @@ program() {
 }
 
 make_checkout() {
-  rm -rf "$room/c" && mkdir -p "$room/c/crates/tso/src" "$room/c/release" && cp "$top/tso" "$room/c/tso" && cd "$room/c" || exit 1
+  rm -rf "$room/c" && mkdir -p "$room/c/crates/tso/src" "$room/c/release" "$room/c/tools" && cd "$room/c" || exit 1
+  cp "$top/tso" tso && cp "$top/tools/digests" tools/digests
   echo "tso:" > crates.txt && echo "fn main" > crates/tso/src/main.rt
   program release release/tso && echo 9.9.9 > release/VERSION
   sha256sum crates.txt crates/tso/src/main.rt > release/SOURCES
-  sha256sum release/SOURCES release/VERSION release/tso > release/SHA256SUMS
+  : > release/PROOFS && echo "a toolchain" > release/TOOLCHAIN
+  sum_release
 }
+
+sum_release() { sha256sum release/PROOFS release/SOURCES release/TOOLCHAIN release/VERSION release/tso > release/SHA256SUMS; }
 
 # A checkout whose last call is remembered: of files that are more than a second old.
 make_remembered() {
@@ -106,7 +110,7 @@ make_remembered
 mkdir "$room/d" && ln -sf "$room/c/tso" "$room/d/tso"
 judge "a link to the script, from another folder" "release" "$(cd / && "$room/d/tso")"
 judge "the script by its name alone, on the path" "release" "$(cd / && PATH=$room/c:$PATH && tso)"
-judge "words and streams are handed on" "a b" "$(printf '#!/bin/sh\necho "$@"\n' > release/tso; sha256sum release/SOURCES release/VERSION release/tso > release/SHA256SUMS; ./tso a b)"
+judge "words and streams are handed on" "a b" "$(printf '#!/bin/sh\necho "$@"\n' > release/tso; sum_release; ./tso a b)"
 
 if command -v cc > /dev/null; then
   make_checkout

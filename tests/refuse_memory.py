@@ -29,7 +29,7 @@ EVERY_FORM = (b"(* a comment *) X86 every-form\n\"a quotation\" Key=value\n{ x=1
               b" P0          | P1               ;\n"
               b" MOV [x],$1  | XCHG [y],EAX     ;\n MOV EBX,[y] | LOCK XADD [z],EBX ;\n MFENCE      | MOV ECX,EAX      ;\n"
               b" MOV EDX,7   | MOV [x],ECX      ;\n MOV [z],EDX |                  ;\nlocations [x; 0:EAX;]\n"
-              b"~exists ((not 0:EAX=1 \\/ true) /\\ (x=1 /\\ ~false))\n")
+              b"~exists ((not 0:EBX=1 \\/ true) /\\ (x=1 /\\ ~false))\n")
 SEEDED = b"0s 1d seed 5 4000\n"
 
 LATE_LOAD = b"X86 t\n{ }\n P0 ;\n MOV [x],$1 ;\n MOV [y],$1 ;\n MOV EAX,[z] ;\n"

@@ -264,7 +264,7 @@ judge_tso() {
   release=$(git_in rev-parse HEAD)
   # No toolchain on the path: only the programs that ./tso itself needs.
   mkdir "$room/path"
-  for word in bash env readlink uname getconf sha256sum cat mktemp mkdir rm install ln find sort sed rmdir grep; do
+  for word in bash env readlink uname getconf sha256sum cat cp flock mktemp mkdir mv rm install ln find sort sed rmdir grep; do
     ln -s "$(command -v "$word")" "$room/path/$word"
   done
   bare=(env "PATH=$room/path")

@@ -157,8 +157,8 @@ def faults_of_told_limits(words, unfinished):
 
 def told_answers():
     """The names of answers to `outcomes` that the reference is told, each with its faults."""
-    for form, words, unfinished in (("text", ["outcomes"], b"Unfinished states=%d\n"),
-                                    ("JSON", ["outcomes", "--json"], b'{"test":"SB","unfinished":{"states":%d}}\n')):
+    for form, words, unfinished in (("text", ["outcomes"], b"Unfinished states=%d\nMet 0\n"),
+                                    ("JSON", ["outcomes", "--json"], b'{"met":[],"test":"SB","unfinished":{"states":%d},"verdict":null}\n')):
         yield "choices that are told, " + form, judging.faults_told(lambda: faults_of_told_ways(words))
         yield "limits that are told, " + form, judging.faults_told(lambda: faults_of_told_limits(words, unfinished))
 

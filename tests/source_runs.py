@@ -43,7 +43,7 @@ def wanted_of(folder):
     verdicts = ["same    SB --depth 32 expected=allowed found=allowed true=1 false=3 states=4",
                 "same    SB+mfences --depth 32 expected=forbidden found=forbidden true=0 false=3 states=3"]
     return {"theory": (COULD_NOT, ["allowed   SB"] + of_theory[:-1] + ["forbidden SB+mfences"] + of_theory[-1:], []),
-            "campaign": (1, ["REFUSED %s - %s" % one for one in refused] + verdicts, []),
+            "campaign": (COULD_NOT, ["REFUSED %s - %s" % one for one in refused] + verdicts, []),
             "hardware": (COULD_NOT, ["Test SB", "Test SB+mfences"], ["hardware: %s isn't judged: %s" % one for one in refused])}
 
 

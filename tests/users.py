@@ -6,9 +6,10 @@
     tests/users.py --renew TREE..    writes tests/data/silent_users.list anew, from what checks left in these trees
 
 What is looked at are the fields of the records that a promise of README.md, docs/REFERENCE.md or docs/PROVED.md reaches
-(tests/believed.py), and the named clauses of the public functions that these pages name. Such a thing is taken up
+(tests/believed.py), and the clauses of the public functions that these pages name, with a name or without. Such a thing is taken up
 
-- by a proof, a lemma or a definition that says `x.field` or `c.call.ensures.clause` (tests/proof_texts.py, by the texts alone);
+- by a proof, a lemma or a definition that says `x.field`, `c.call.ensures.clause`, or `c.call.ensures` of a clause without a name
+  (tests/proof_texts.py, by the texts alone);
 - by a function of `promises` that makes the call, and says the clause again;
 - by a proof that a tactic found, which says nothing in the text. Then tests/data/silent_users.list names the function whose proof it
   is: it has to stand, and to call what the clause is of. What a check leaves of its modules names it (tests/checked_modules.py).
@@ -30,23 +31,26 @@ from judging import TOP
 
 SILENT = os.path.join(TOP, "tests", "data", "silent_users.list")
 # Users are themselves the worked examples, and the functions of `promises` that are no laws, with the definitions that they alone use.
-USERS_THEMSELVES = re.compile(r"worked_examples/|promises/(?:src/(?!laws_of_)|specs/(?:Locked|Searched|inner))")
+USERS_THEMSELVES = re.compile(r"worked_examples/|promises/(?:src/(?!laws_of_)|specs/(?:Locked|Searched|Sources|inner))")
 
 # Nothing in Rattle calls the page's exports: the edits of tests/data/edits/page_exports, which the prover has to refuse, hold them.
 HELD_BY_EDITS = "page_exports"
 WORKED = re.compile(r"worked_|numbers_of_")
+# What a check's modules call the clause of a function that has one alone, without a name.
+UNNAMED = "1"
 METHODS = re.compile(r"`(\w+)`'s methods")
 FUNCTION = re.compile(r"^( *)pub (?:const )?(?:extern \"C\" )?fn (\w+)\b(.*?)^\1(?:\{\n(.*?)^\1\}|\{\}$)", re.M | re.S)
 IMPLEMENTED = re.compile(r"^impl(?:<[^\n]*?>)? ?(?:\w+ for )?(\w+)", re.M)
 
 
 class Clause:
-    """A named clause of a public function: its file below crates/, its type if it is a method, the function, the name, and what it says."""
+    """A clause of a public function: its file below crates/, its type if it is a method, the function, the clause's name, empty where it
+    has none, and what it says."""
 
     def __init__(self, path, kind, function, label, says):
         self.path, self.function, self.label, self.says = path, function, label, says
         self.crate = path.split("/")[0]
-        self.name = "%s %s.%s" % (path, function, label)
+        self.name = " ".join([path, function]) + "." * bool(label) + label
         file = path[:-len(".rt")].partition("/src/")[2]
         place = [file.replace("/", ".")] * (file != "lib") + [kind] * bool(kind) + [function]
         self.proofs = ".".join(["Rattle-%s-proofs" % self.crate, *place])
@@ -117,7 +121,7 @@ def functions():
                 text = file.read()
             for function in FUNCTION.finditer(text):
                 blocks = IMPLEMENTED.findall(text[:function.start()]) if function.group(1) else []
-                clauses = {label: statements.tokens(says) for label, says in proof_texts.ENSURES.findall(function.group(3)) if label}
+                clauses = {label: statements.tokens(says) for label, says in proof_texts.ENSURES.findall(function.group(3))}
                 kind = blocks[-1] if blocks else ""
                 if not passed_on(crate) & {name[:-len(".rt")], kind}:
                     continue
@@ -177,7 +181,7 @@ def stands(user, thing):
         if not os.path.exists(path):
             return False
         with open(path, encoding="utf-8") as file:
-            return "." + (thing.field if isinstance(thing, Field) else thing.label) in file.read()
+            return "." + (thing.field if isinstance(thing, Field) else thing.label or "ensures") in file.read()
     crate, _, name = user.partition("::")
     room = os.path.join(TOP, "crates", crate, "src")
     for file_name in sorted(os.listdir(room)) if os.path.isdir(room) else ():
@@ -245,7 +249,7 @@ class Taking:
     def takes_clause(self, thing):
         """The clause is said of what a call ensures; and the function is the only one with such a clause that is called there, or the
         only one of its name, and the step is named for it."""
-        called = self.clauses.get(thing.label, ())
+        called = self.clauses.get(thing.label or UNNAMED, ())
         if thing.proofs not in called:
             return False
         alike = [name for name in called if name.endswith("." + thing.function)]
@@ -255,7 +259,8 @@ class Taking:
 
     def may_take(self, thing):
         """The module calls the function, and projects something of the clause's name."""
-        return isinstance(thing, Clause) and thing.proofs in self.clauses.get(thing.label, ()) and thing.label in self.projected
+        return (isinstance(thing, Clause) and thing.proofs in self.clauses.get(thing.label or UNNAMED, ())
+                and (thing.label or "ensures") in self.projected)
 
     def takes(self, thing):
         return self.takes_field(thing) if isinstance(thing, Field) else self.takes_clause(thing)

@@ -8,7 +8,7 @@ import re
 
 from cures import followed
 
-SEED, COUNT = 1, 300
+SEED, COUNT = 1, 400
 
 # A slip may be two faults, as `movl $1,(x)` is.
 MOST_CURES = 3
@@ -92,7 +92,7 @@ def jumps(parts):
 def names_label(parts):
     row = parts.chance.choice(parts.rows)
     core = parts.chance.randrange(parts.cores)
-    row[core] = parts.chance.choice(("L0: ", "l1:", "again : ")) + row[core]
+    row[core] = parts.chance.choice(("L0: ", "l1:", "again : ", "0: ", "12:", "P0: ")) + row[core]
     return parts.text()
 
 
@@ -196,9 +196,55 @@ def has_source_first(parts):
                           "lock xaddl %ecx,(y)")
 
 
+def asks_otherwise(parts):
+    """The condition begins with another word."""
+    word = parts.chance.choice(("exits", "exsits", "never", "always", "assert", "for all", "allowed", "forbidden"))
+    return re.sub(r"\bexists\b", word, parts.text())
+
+
+def leaves_open(parts):
+    """A bracket of the condition, or the initial state, has no end."""
+    text = parts.text()
+    return text.replace(")", "") if parts.chance.random() < 0.5 else re.sub(r"(?m)^(\{.*?) *\}$", r"\1", text)
+
+
+def splits_otherwise(parts):
+    """Another sign than the bar stands between two cells."""
+    parts.cores = 2
+    parts.rows = [[parts.cell(), parts.cell()]]
+    lines = list(parts.lines())
+    at = next(at for at, line in enumerate(lines) if line.startswith(" P0")) + 1
+    lines[at] = lines[at].replace("|", parts.chance.choice(("/", "!", "\u2502", "\u00a6")))
+    return "\n".join(lines) + "\n"
+
+
+def ends_no_row(parts):
+    parts.cores, parts.atoms = 2, []
+    parts.rows = [[parts.cell(), parts.cell()] for _ in range(3)]
+    lines = list(parts.lines())
+    at = next(at for at, line in enumerate(lines) if line.startswith(" P0")) + parts.chance.choice((1, 3))
+    lines[at] = lines[at].rstrip(" ;")
+    return "\n".join(lines) + "\n"
+
+
+def has_signed_number(parts):
+    return parts.put_item("a=-1", "b=-7", "[a]=-2147483648")
+
+
+def stands_in_markdown(parts):
+    text = parts.text()
+    return parts.chance.choice(("```\n%s```\n", "```litmus\n%s```\n", "%s```\n")) % text
+
+
+def writes_choices_otherwise(parts):
+    parts.choices = "0s 0d %s 0s" % parts.chance.choice(("s0", "d0", "P0s", "p0d", "0:s", "0S", "0D", "core0s"))
+    return parts.text()
+
+
 SLIPS = (adds_after_lock, computes, jumps, names_label, says_size, does_nothing, says_pointer, moves_between_locations, names_core,
          is_not_ascii, begins_comment, divides_otherwise, has_two_tests, has_other_register, has_other_register_in_cell, has_other_header,
-         has_address, has_source_first)
+         has_address, has_source_first, asks_otherwise, leaves_open, splits_otherwise, ends_no_row, has_signed_number, stands_in_markdown,
+         writes_choices_otherwise)
 
 
 def texts():

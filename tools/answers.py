@@ -11,8 +11,8 @@ def name_of(text):
 
 def fact_of(text, key):
     """What a test's line `KEY=..` says, or None."""
-    found = re.search(r"^%s=(.*?)\s*$" % key, text, re.M)
-    return found.group(1) if found else None
+    found = re.search(r"^%s=(.*)$" % key, text, re.M)
+    return found.group(1).rstrip() if found else None
 
 
 def word_of(true, false):
@@ -21,11 +21,14 @@ def word_of(true, false):
 
 def outcomes(program, text, options, limit):
     """All final states: `states`, a list of values by place, and how many of them make the condition `true` and `false`;
-    `unfinished`, the limit, where there are too many states; or `fault`, what went wrong."""
+    where there are too many states, `unfinished`, the limit, and those that were `met`, and how many of these make the condition `true`;
+    or `fault`, what went wrong."""
     try:
         found = tso.outcomes(text, program=program, further=options, limit=limit)
     except tso.Unfinished as met:
-        return {"unfinished": met.states}
+        # an older program tells no state that it has met
+        states = met.met or []
+        return {"unfinished": met.states, "met": [state.values for state in states], "true": sum(state.holds is True for state in states)}
     except tso.NoAnswer as fault:
         return {"fault": str(fault)}
     return dict(observed(found), states=[state.values for state in found.states])

@@ -104,6 +104,12 @@ def source_of(tests):
     return harness.replace("/* the sizes */", sizes.rstrip()).replace("/* the tests */", table)
 
 
+def is_source(data):
+    """Whether these bytes are such a program."""
+    with open(os.path.join(TOOLS, "hardware.c"), "rb") as file:
+        return data.startswith(file.readline())
+
+
 def read_counts(lines):
     """How often each tuple of values was seen, by the log of the harness's next test, which an empty line ends."""
     seen = {}

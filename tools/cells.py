@@ -3,7 +3,8 @@ import re
 from dataclasses import dataclass
 
 import registers
-from faults import ADDRESSES, NUMBER, OPERANDS, SIZES, Fault, location_in, number_in
+import remedies
+from faults import ADDRESSES, NUMBER, OPERANDS, SIZES, Fault, location_in, number_in, signed_in
 
 LETTERS = {"l": 4, "q": 8}
 
@@ -41,7 +42,8 @@ def cell_in(text):
     lock, mnemonic, rest = bool(word.group(1)), word.group(2).lower(), word.group(3)
     form = re.fullmatch(r"(mov|xchg|xadd)([lqwb]?)|mfence", mnemonic)
     if not form or lock and mnemonic == "mfence":
-        raise Fault("%s: MOV, MFENCE, XCHG and LOCK XADD alone are read" % text, "the instruction %s" % mnemonic.upper())
+        told = remedies.remedy(mnemonic, lock) or "MOV, MFENCE, XCHG and LOCK XADD alone are read"
+        raise Fault("%s: %s" % (text, told), "the instruction %s" % mnemonic.upper())
     if mnemonic == "mfence":
         if rest:
             raise Fault("%s: MFENCE has no operands" % text, OPERANDS)
@@ -61,7 +63,7 @@ def cell_in(text):
 
 def operands_in(cell, text, size):
     """Both operands, the target first, and the bytes that the cell says; `size` is what the letter of its mnemonic says."""
-    if re.search(r"\([^)]*,", text):
+    if re.search(r"\([^()]*,", text):
         raise Fault("%s: addresses with an index aren't read" % cell, "addresses with an index")
     words = [word.strip() for word in text.split(",")]
     if len(words) != 2:
@@ -107,7 +109,7 @@ def operand_in(cell, text):
     text = text[pointer.end():] if pointer else text
     found = re.fullmatch(r"\$?(" + NUMBER + r")", text)
     if found:
-        return number_in(found.group(1)), said
+        return signed_in(found.group(1)), said
     found = re.fullmatch(r"(" + NUMBER + r")?\(\s*(%?\w+)\s*\)", text)
     if found:
         return memory_in(found.group(2), found.group(1) or "0"), said

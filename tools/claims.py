@@ -3,7 +3,7 @@ import re
 
 import litmus
 import registers
-from faults import NUMBER, Fault, number_in
+from faults import NUMBER, Fault, number_in, signed_in
 
 LIST = re.compile(r"\s*locations\s*\[((?:[^\[\]]|\[[^\[\]]*\])*)\]\s*;?")
 TOKEN = re.compile(r"\s*(?:P?(\d+)\s*:\s*(%?\w+)|(\w+)\s*\[\s*(\d+)\s*\]|(" + NUMBER + r")|(\w+)|(=>|<>|!=|/\\|\\/|.))", re.S)
@@ -30,7 +30,7 @@ def token_in(groups, words):
     if array is not None:
         return words.element(array, number_in(number))
     if value is not None:
-        return str(number_in(value))
+        return str(signed_in(value))
     if (word or other) in OTHER_WORDS:
         raise Fault("%s isn't read: %s" % (word or other, OTHER_WORDS[word or other]), "%s in a condition" % (word or other))
     return word or other

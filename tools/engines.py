@@ -5,7 +5,7 @@ import glob
 import logging
 import os
 import queue
-import subprocess
+import shutil
 import sys
 import time
 
@@ -26,27 +26,45 @@ GONE = "the scheduler is gone; the same words go on"
 TRIES = 2
 
 
-def by_processes(program, waiting, processes):
-    """The results of these tasks by processes of this machine, as they come."""
-    waiting, tried = collections.deque(waiting), collections.Counter()
-    running = {}
+class Waiting:
+    """The tasks that wait to be given out; those that come are taken while others are carried out."""
+
+    def __init__(self, coming):
+        self.coming, self.tasks = iter(coming), collections.deque()
+
+    def take_one(self):
+        """Takes one more of those that come. Whether there was one."""
+        task = next(self.coming, None)
+        self.tasks.extend([task] if task else [])
+        return task is not None
+
+    def is_one(self):
+        return bool(self.tasks) or self.take_one()
+
+
+def by_processes(program, coming, processes):
+    """The results of these tasks, which may still be made, by processes of this machine, as they come."""
+    waiting, tried, running = Waiting(coming), collections.Counter(), {}
     with concurrent.futures.ThreadPoolExecutor(processes) as pool:
-        while waiting or running:
-            while waiting and len(running) < 2 * processes:
-                task = waiting.popleft()
-                tried[task.key] += 1
-                running[pool.submit(task.carry_out, program)] = task
-            try:
-                done, _ = concurrent.futures.wait(running, return_when=concurrent.futures.FIRST_COMPLETED)
-            except KeyboardInterrupt:
-                pool.shutdown(wait=False, cancel_futures=True)
-                raise
-            for future in done:
-                task, one = running.pop(future), future.result()
-                if "fault" in one and tried[task.key] < TRIES:
-                    waiting.append(task)
-                else:
-                    yield one
+        try:
+            while waiting.is_one() or running:
+                while len(running) < 2 * processes and waiting.is_one():
+                    task = waiting.tasks.popleft()
+                    tried[task.key] += 1
+                    running[pool.submit(task.carry_out, program)] = task
+                how_long = 0 if waiting.take_one() else None
+                done, _ = concurrent.futures.wait(running, how_long, return_when=concurrent.futures.FIRST_COMPLETED)
+                for future in done:
+                    task, one = running.pop(future), future.result()
+                    if "fault" in one and tried[task.key] < TRIES:
+                        waiting.tasks.append(task)
+                    else:
+                        yield one
+        except BaseException:
+            # what runs has no end of its own that anybody waits for
+            pool.shutdown(wait=False, cancel_futures=True)
+            tso.processes.end_all("stopped")
+            raise
 
 
 class NoCluster(Exception):
@@ -62,11 +80,17 @@ def dask():
     except ImportError:
         pass
     for other in ["/usr/bin/python3"] + sorted(glob.glob("/usr/bin/python3.*[0-9]")):
-        if os.path.exists(other) and subprocess.run([other, "-c", "import distributed"], capture_output=True).returncode == 0:
+        if os.path.exists(other) and tso.processes.answered([other, "-c", "import distributed"]).returncode == 0:
             raise NoCluster("this Python, %s, has no Dask distributed, but %s has: run `%s %s ..`" % (
                 sys.executable, other, other, sys.argv[0]))
     raise NoCluster("this Python, %s, has no Dask distributed; Debian's package python3-distributed has it, for /usr/bin/python3"
                     % sys.executable)
+
+
+# How a worker starts the program: it ends with the worker, whatever ends that.
+BOUND = """#!/bin/sh
+exec setpriv --pdeathsig KILL "$0.program" "$@"
+"""
 
 
 def place_of(worker, digest):
@@ -77,7 +101,7 @@ class Placer:
     """Puts the program in the folder of each worker, also of one that comes later, and looks whether it can run there."""
 
     def __init__(self, program, digest):
-        self.program, self.digest, self.name = program, digest, "tso-" + digest
+        self.program, self.digest, self.name, self.bound = program, digest, "tso-" + digest, BOUND.encode()
         self.wanted = "%d.%d" % sys.version_info[:2]
 
     def setup(self, worker):
@@ -88,8 +112,16 @@ class Placer:
         if not library.startswith("glibc ") or tuple(map(int, library[6:].split("."))) < (2, 34):
             raise RuntimeError("a worker has %s, older than glibc 2.34" % library)
         path = place_of(worker, self.digest)
+        if shutil.which("setpriv"):
+            self.put(path + ".program", self.program)
+            self.put(path, self.bound)
+        else:
+            self.put(path, self.program)
+
+    def put(self, path, content):
+        """Writes a program for a worker, whole, by its name."""
         with open(path + ".new", "wb") as file:
-            file.write(self.program)
+            file.write(content)
         os.chmod(path + ".new", 0o755)
         os.replace(path + ".new", path)
 
@@ -152,7 +184,7 @@ class Cluster:
             raise NoCluster("no scheduler answers at %s: %s" % (address, " ".join(str(fault).split()))) from None
         self.check_versions()
         self.function, self.done, self.given = function_for(digest), queue.SimpleQueue(), {}
-        self.waiting, self.suspects, self.alone = collections.deque(), collections.deque(), False
+        self.waiting, self.suspects, self.alone = Waiting(()), collections.deque(), False
         self.place(program, digest)
 
     def place(self, program, digest):
@@ -237,9 +269,9 @@ class Cluster:
 
     def give_more(self, threads):
         """Keeps each thread with a task and one more before it. What may have ended its workers comes last, and alone."""
-        while self.waiting and len(self.given) < 2 * threads:
-            self.give(self.waiting.popleft())
-        self.alone = self.alone or not self.waiting and not self.given
+        while len(self.given) < 2 * threads and self.waiting.is_one():
+            self.give(self.waiting.tasks.popleft())
+        self.alone = self.alone or not self.waiting.is_one() and not self.given
         if self.alone and self.suspects and not self.given and threads:
             self.give(self.suspects.popleft())
 
@@ -254,15 +286,15 @@ class Cluster:
             return result
         one.failed += 1
         if one.failed < TRIES:
-            self.waiting.append(one)
+            self.waiting.tasks.append(one)
             return None
         return result or one.fault("%s: %s" % (type(fault).__name__, fault))
 
-    def run(self, waiting):
-        """The results of these tasks, as they come."""
-        self.waiting.extend(map(Given, waiting))
+    def run(self, coming):
+        """The results of these tasks, which may still be made, as they come."""
+        self.waiting = Waiting(map(Given, coming))
         workers = Workers(self.threads, self.address, self.say)
-        while self.waiting or self.suspects or self.given:
+        while self.waiting.is_one() or self.suspects or self.given:
             result = self.next_result(workers)
             if result is not None:
                 yield result
@@ -275,7 +307,7 @@ class Cluster:
             if self.client.status != "running":
                 raise NoCluster(GONE)
             self.give_more(workers.threads)
-            found = self.settled(0.5)
+            found = self.settled(0 if self.waiting.take_one() else 0.5)
         except (OSError, self.distributed.CancelledError, self.distributed.TimeoutError, RuntimeError):
             raise NoCluster(GONE) from None
         return None if found is None else self.judge(*found)

@@ -1,19 +1,24 @@
 """A test of herd or diy, for X86 or X86_64, in this project's form; or all that can't be said in it, each with its line."""
+import bisect
 import contextlib
 import re
 
 import claims
+import comments
+import forms
 import litmus
 import registers
+import remedies
 import words
 from cells import Memory, cell_in
-from faults import ADDRESSES, INITIAL, NUMBER, OPERANDS, ROWS, TWICE, Fault, Refused, number_in
+from faults import ADDRESSES, INITIAL, NUMBER, OPERANDS, ROWS, TWICE, Fault, Refused, number_in, word_of
 from litmus import Instruction
 
-HEADER = re.compile(r"(X86(?:_64)?)[ \t]+([^\n]*)(?:\n|\Z)")
-INFORMATION = re.compile(r'"[^"]*"|[A-Za-z][\w \t-]*=[^\n]*')
-ARRAY = re.compile(r"([A-Za-z_][\w ]*?)\s+(\w+)\s*\[\s*(\d+)\s*\]\s*(?:=\s*\{([^{}]*)\})?")
-ITEM = re.compile(r"(?:([A-Za-z_][\w ]*?)\s+)?(?:P?(\d+)\s*:\s*(%?\w+)|\[?\s*(\w+)\s*\]?)(?:\s*=\s*(\S+))?")
+# Faults that are told of one text, and tokens that its condition has, at most.
+MOST_FAULTS, MOST_TOKENS = 200, 20_000
+
+# The line of facts that says which fences a test was left without, each with its core.
+LEFT_OUT = "Left out"
 
 
 def is_address(value):
@@ -22,14 +27,19 @@ def is_address(value):
 
 
 class Importer:
-    """One text on its way: lines are counted by what stands before."""
+    """One text on its way: lines are counted by what stands before. Fences that change nothing are left out, if so asked."""
 
-    def __init__(self, text):
-        self.text = re.split(r"^====$", text.replace("\r", ""), flags=re.M)[0]
-        self.faults, self.names, self.words = [], {}, None
+    def __init__(self, text, leave_out=False):
+        self.length, self.leave_out = len(text), leave_out
+        self.text = forms.DIVIDER.split(text.replace("\r", ""), maxsplit=1)[0]
+        self.faults, self.names, self.words, self.left_out = [], {}, None, []
+        self.breaks = [found.start() for found in re.finditer("\n", self.text)]
 
     def test(self):
         """The test, or Refused."""
+        if self.length > litmus.LONGEST_TEXT:
+            told = "a test's text has at most %d bytes, and this one has %d" % (litmus.LONGEST_TEXT, self.length)
+            self.refuse(1, told, "limits of a test")
         name, facts, opened = self.beginning()
         closed = self.closing(opened)
         items = self.items(opened + 1, closed)
@@ -37,9 +47,9 @@ class Importer:
         columns = self.columns(closed + 1, end)
         tokens, shown = self.condition_tokens(end)
         self.name_registers(items, columns, tokens, shown)
-        initial = self.initial(items)
         programs = [self.program(core, column) for core, column in enumerate(columns)]
-        condition = self.condition(tokens)
+        initial = self.initial(items)
+        condition = self.condition(self.without_signs(tokens))
         for location, line in self.words.too_narrow():
             with self.at(line):
                 raise Fault("%s has words of 4 bytes, and 8 are used: one size alone is read" % location, "more bytes than a word has")
@@ -54,7 +64,7 @@ class Importer:
     # ---- lines and faults
 
     def line(self, place):
-        return 1 + self.text.count("\n", 0, place)
+        return 1 + bisect.bisect_left(self.breaks, place)
 
     def last_line(self):
         return self.line(len(self.text.rstrip()))
@@ -66,6 +76,8 @@ class Importer:
             yield
         except Fault as fault:
             self.faults.append((line, fault))
+            if len(self.faults) >= MOST_FAULTS:
+                self.refuse(line, "the text has more faults than are told", "texts with very many faults")
 
     def refuse(self, line, why, kind):
         """Ends the reading: nothing more of this text can be looked at."""
@@ -75,12 +87,13 @@ class Importer:
 
     def beginning(self):
         """The test's name, its lines of facts, and the place of the initial state. What follows has blanks for comments."""
+        self.comments = comments.Nested(self.text)
         at = self.behind_comments(0)
-        header = HEADER.match(self.text, at)
+        header = forms.HEADER.match(self.text, at)
         if not header:
             self.refuse(self.line(at) if self.text[at:] else 1, "a test begins with X86 NAME or X86_64 NAME", "no header of X86 or X86_64")
         self.words = words.Words(self.text, header.group(1) == "X86_64")
-        name = re.sub(r"\(\*.*?\*\)", "", header.group(2)).strip()
+        name = comments.without_comments(header.group(2), "").strip()
         if not name or len(name) > litmus.LONGEST_NAME or not re.fullmatch(r"[ -~]+", name):
             with self.at(self.line(header.start(1))):
                 raise Fault("a name has 1 to %d printable bytes" % litmus.LONGEST_NAME, "names of tests")
@@ -88,37 +101,33 @@ class Importer:
         while self.text[at:at + 1] != "{":
             if at == len(self.text):
                 self.refuse(self.last_line(), "there is no initial state { .. }", "no initial state")
-            found = INFORMATION.match(self.text, at)
+            found = litmus.FACT.match(self.text, at)
             if found:
                 facts.append(found.group().rstrip())
-            at = self.behind_comments(found.end() if found else re.compile(r"[^\n{]*").match(self.text, at).end())
+            at = self.behind_comments(found.end() if found else forms.REST_OF_LINE.match(self.text, at).end())
         self.blank_comments(at)
         return name, facts, at
 
     def comment_end(self, begin):
-        """The end of the comment that begins here. herd's stand within one another; here they don't, and an end too few says so."""
-        depth = 0
-        for mark in re.compile(r"\(\*|\*\)").finditer(self.text, begin):
-            depth += 1 if mark.group() == "(*" else -1
-            if depth == 0:
-                return mark.end()
-        end = self.text.find("*)", begin)
-        if end < 0:
-            self.refuse(self.line(begin), "a comment isn't closed", "comments that aren't closed")
-        return end + 2
+        """The end of the comment that begins here."""
+        end = self.comments.end(begin)
+        return end or self.refuse(self.line(begin), "a comment isn't closed", "comments that aren't closed")
 
     def behind_comments(self, at):
         """The first place from here on where no white space and no comment stands."""
         while True:
-            at = re.compile(r"\s*").match(self.text, at).end()
+            at = comments.BLANKS.match(self.text, at).end()
             if not self.text.startswith("(*", at):
                 return at
             at = self.comment_end(at)
 
     def blank_comments(self, at):
+        parts, done = [], 0
         while (at := self.text.find("(*", at)) >= 0:
             end = self.comment_end(at)
-            self.text = self.text[:at] + re.sub(r"[^\n]", " ", self.text[at:end]) + self.text[end:]
+            parts += [self.text[done:at], re.sub(r"[^\n]", " ", self.text[at:end])]
+            at = done = end
+        self.text = "".join(parts + [self.text[done:]])
 
     # ---- the initial state
 
@@ -145,14 +154,14 @@ class Importer:
 
     def item(self, item):
         """The place and the text of an item; None where it is empty, or an array."""
-        array = ARRAY.fullmatch(item)
+        array = forms.ARRAY.fullmatch(item)
         if array:
             self.words.add_array(item, *array.groups())
         if array or not item:
             return None
         if "*" in item or re.search(r"\w\s*\[", item):
             raise Fault("%s: arrays and pointers aren't read" % item, "pointers, or arrays of another form")
-        form = ITEM.fullmatch(item)
+        form = forms.ITEM.fullmatch(item)
         if not form:
             raise Fault("%s is no item of an initial state that is read here" % item, INITIAL)
         kind, core, register, location, value = form.groups()
@@ -176,9 +185,9 @@ class Importer:
     def initial(self, items):
         """First words and registers; those of elements come later."""
         found, valued = {}, set()
-        for place, value, line in items:
+        for given, value, line in items:
             with self.at(line):
-                place = self.named(place)
+                place = self.named(given)
                 if isinstance(place, str):
                     found.setdefault(place, 0)
                 if value is None or place is None:
@@ -186,8 +195,14 @@ class Importer:
                 if place in valued:
                     raise Fault("%s is given twice" % litmus.place_text(place), TWICE)
                 valued.add(place)
-                found[place] = number_in(value)
+                found[place] = number_in(value, self.is_word(given))
         return found
+
+    def is_word(self, place):
+        """Whether a place, by its name in the file, has 32 bits and no more."""
+        if isinstance(place, str):
+            return self.words.is_word(place)
+        return registers.whole(place[1]) is not None and registers.whole(place[1])[1] == 4
 
     def named(self, place):
         """A place of the initial state with the name that it has here; None for a register that holds an address, or that has no name
@@ -202,8 +217,7 @@ class Importer:
 
     def end_of_rows(self, begin):
         """The place where the condition begins, or a list of locations."""
-        form = re.compile(r"^\s*(?:~\s*exists|locations|exists|forall|filter|final|forbidden|allowed)\b", re.M)
-        found = form.search(self.text, begin)
+        found = forms.CONDITION.search(self.text, begin)
         return found.start() if found else len(self.text)
 
     def columns(self, begin, end):
@@ -223,15 +237,22 @@ class Importer:
             with self.at(first):
                 if len(cells) != len(found):
                     raise Fault("a row has one cell for each core", ROWS)
-            for column, cell in zip(found, cells):
+            for core, cell in enumerate(cells[:len(found)]):
                 line = self.line(at + len(cell) - len(cell.lstrip()))
                 at += len(cell) + 1
                 if cell.strip():
                     with self.at(line):
-                        column.append((cell_in(" ".join(cell.split())), line))
+                        self.take_cell(core, found[core], " ".join(cell.split()), line)
         if found is None:
             self.refuse(self.line(end), "there are no cores", ROWS)
         return found
+
+    def take_cell(self, core, column, text, line):
+        """Takes the cell of a core, but for a fence that is to be left out."""
+        if self.leave_out and remedies.is_needless(text):
+            self.left_out.append("%d:%s" % (core, text.upper()))
+        else:
+            column.append((cell_in(text), line))
 
     def name_registers(self, items, columns, tokens, shown):
         """Gives each register a name: those of the initial state, of the programs, of the condition, and of the list of locations."""
@@ -286,6 +307,9 @@ class Importer:
             return self.words.place(cell, operand, names.addresses, line)
         if isinstance(operand, str):
             return names.given.get((registers.whole(operand) or [None])[0])
+        if operand < 0:
+            # only of X86 a cell that says no size has words of 32 bits
+            return word_of(operand, "%s: %d" % (cell.text, operand), cell.size == 4 or cell.size is None and not self.words.wide)
         return operand
 
     def instruction(self, cell, values):
@@ -309,18 +333,31 @@ class Importer:
 
     def condition_tokens(self, begin):
         """The tokens of the condition, and what the list of locations names, each with its line."""
-        found, shown, at = [], [], begin
-        while self.text[at:].strip():
+        found, shown, at, end = [], [], begin, len(self.text.rstrip())
+        while at < end:
             asked = claims.LIST.match(self.text, at)
             token = asked or claims.TOKEN.match(self.text, at)
             at = token.end()
             line = self.line(at - 1)
+            if len(found) == MOST_TOKENS:
+                self.refuse(line, "the condition is too long", "limits of a test")
             with self.at(line):
                 if asked:
                     shown += [(place, line) for place in claims.listed(asked.group(1))]
                 else:
                     found.append((claims.token_in(token.groups(), self.words), line))
         return found, shown
+
+    def without_signs(self, tokens):
+        """The tokens with each negative number as the word that it is; what a place is compared with stands after it and a sign."""
+        found = []
+        for at, (token, line) in enumerate(tokens):
+            if isinstance(token, str) and re.fullmatch(r"-\d+", token):
+                with self.at(line):
+                    place = tokens[at - 2][0] if at > 1 else ""
+                    token = str(word_of(int(token), token, self.is_word(place)))
+            found.append((token, line))
+        return found
 
     def condition(self, tokens):
         """The condition; None where there is none, or where it can't be looked at since something is refused."""
@@ -334,12 +371,14 @@ class Importer:
 
     def facts(self, test, shown):
         """The lines of facts: those of the file, what the test calls otherwise, and what its list of locations asks for."""
-        own = tuple(key + "=" for key in (registers.RENAMED, registers.ELEMENTS, litmus.SHOW))
+        own = tuple(key + "=" for key in (registers.RENAMED, registers.ELEMENTS, litmus.SHOW, LEFT_OUT))
         kept = [line for line in test.facts if not line.startswith(own)]
         names = self.renamed(registers.names_in(test.facts))
         for key, is_register in ((registers.RENAMED, True), (registers.ELEMENTS, False)):
             of_key = {theirs: ours for theirs, ours in names.items() if (":" in theirs) == is_register}
             kept += [registers.line_of(key, of_key)] if of_key else []
+        left_out = [word for line in test.facts if line.startswith(LEFT_OUT + "=") for word in line.split("=")[1].split()] + self.left_out
+        kept += ["%s=%s" % (LEFT_OUT, " ".join(left_out))] if left_out else []
         show = self.shown(test, [place for place, _ in shown]) or litmus.show_of(test.facts)
         return kept + (["%s=%s" % (litmus.SHOW, show)] if show else [])
 
@@ -358,10 +397,6 @@ class Importer:
         return "registers" if listed - asked else None
 
     def keep_limits(self, test):
-        for fault, of in ((len(test.programs) > litmus.MOST_CORES, "a test has at most %d cores" % litmus.MOST_CORES),
-                          (any(len(program) > litmus.MOST_INSTRUCTIONS for program in test.programs),
-                           "a core has at most %d instructions" % litmus.MOST_INSTRUCTIONS),
-                          (len(test.locations()) > litmus.MOST_LOCATIONS, "a test has at most %d locations" % litmus.MOST_LOCATIONS)):
+        for of in litmus.beyond_limits(test):
             with self.at(self.last_line()):
-                if fault:
-                    raise Fault(of, "limits of a test")
+                raise Fault(of, "limits of a test")

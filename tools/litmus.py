@@ -6,12 +6,17 @@ and says of a few others, in less detail than the program, that they are none.
 import re
 from dataclasses import dataclass, field
 
+import comments
+
 SHOW = "Show"
 REGISTERS = ("EAX", "EBX", "ECX", "EDX", "ESI", "EDI")
 WORD = 2 ** 32
 
 # What the program takes at most: docs/INPUT.md has the limits.
-MOST_CORES, MOST_LOCATIONS, MOST_INSTRUCTIONS, LONGEST_NAME = 8, 16, 32, 64
+MOST_CORES, MOST_LOCATIONS, MOST_INSTRUCTIONS, LONGEST_NAME, LONGEST_TEXT = 8, 16, 32, 64, 65_536
+
+# Brackets and negations within one another that are read here; the program takes fewer.
+MOST_NESTED = 100
 
 DIVIDER = "===="
 
@@ -164,30 +169,45 @@ def show_of(facts):
     return next((line.partition("=")[2] for line in facts if line in (SHOW + "=registers", SHOW + "=all")), None)
 
 
+def beyond_limits(test):
+    """Of what a test has more than the program takes. Where there are too many cores or instructions, locations aren't looked at."""
+    found = ["a test has at most %d cores" % MOST_CORES] if len(test.programs) > MOST_CORES else []
+    if max(map(len, test.programs)) > MOST_INSTRUCTIONS:
+        found.append("a core has at most %d instructions" % MOST_INSTRUCTIONS)
+    if not found and len(test.locations()) > MOST_LOCATIONS:
+        found.append("a test has at most %d locations" % MOST_LOCATIONS)
+    return found
+
+
 # ---- reading
 
 TOKEN = re.compile(r"\s*(?:(\d+)|([A-Za-z_]\w*)|(/\\|\\/|[=;:\[\]{}|,$~()])|(\S))")
-COMMENT = re.compile(r"\(\*.*?\*\)", re.S)
+HEADER = re.compile(r"X86[ \t]+([^\n]*)(?:\n|$)")
+FACT = re.compile(r'"[^"]*"|[A-Za-z][\w \t-]*=[^\n]*')
+LIST = re.compile(r"\blocations\s*\[")
+
+
+def without_lists(text):
+    return comments.without(text, LIST, lambda found: text.find("]", found.end()) + 1 or None)
 
 
 def read_test(text):
     """The test of an input's first part."""
-    text = re.split(r"^====\r?$", text, flags=re.M)[0]
-    header = re.match(r"(?:\s|\(\*.*?\*\))*X86[ \t]+([^\n]*)(?:\n|$)", text, re.S)
+    text = re.split(r"^====\r?$", text, maxsplit=1, flags=re.M)[0].rstrip()
+    header = HEADER.match(text, comments.blanks_end(text, 0))
     if not header:
         raise BadTest("no line X86 NAME")
-    rest, facts = text[header.end():], []
+    at, facts = header.end(), []
     while True:
-        rest = re.sub(r"\A(?:\s|\(\*.*?\*\))+", "", rest, flags=re.S)
-        if rest.startswith("{"):
+        at = comments.blanks_end(text, at)
+        if text.startswith("{", at):
             break
-        line = re.match(r'"[^"]*"|[A-Za-z][\w \t-]*=[^\n]*', rest)
+        line = FACT.match(text, at)
         if not line:
             raise BadTest("no initial state")
         facts.append(line.group().rstrip("\r"))
-        rest = rest[line.end():]
-    rest = COMMENT.sub(" ", rest)
-    rest = re.sub(r"\blocations\s*\[[^\]]*\]", " ", rest)
+        at = line.end()
+    rest = without_lists(comments.without_comments(text[at:])).rstrip()
     return Reader([found for found in TOKEN.findall(rest) if any(found)]).test(header.group(1).strip(), facts)
 
 
@@ -195,7 +215,7 @@ class Reader:
     """Goes along the tokens of a test, from its initial state on."""
 
     def __init__(self, tokens):
-        self.tokens, self.at = tokens, 0
+        self.tokens, self.at, self.nested = tokens, 0, 0
 
     def peek(self):
         return "".join(self.tokens[self.at]) if self.at < len(self.tokens) else ""
@@ -328,20 +348,27 @@ class Reader:
 
     def unit(self):
         token = self.peek()
-        if token in ("~", "not"):
-            self.take()
-            return "not", self.unit()
-        if token == "(":
-            self.take()
-            claim = self.claim()
-            self.take(")")
-            return claim
+        if token in ("~", "not", "("):
+            return self.nested_unit()
         if token in ("true", "false"):
             self.take()
             return token == "true"
         place = self.place()
         self.take("=")
         return "is", place, self.number()
+
+    def nested_unit(self):
+        """What stands after a negation, or in brackets."""
+        self.nested += 1
+        if self.nested > MOST_NESTED:
+            raise BadTest("the condition is nested too deeply")
+        if self.take() == "(":
+            claim = self.claim()
+            self.take(")")
+        else:
+            claim = "not", self.unit()
+        self.nested -= 1
+        return claim
 
 
 def move(first, second):

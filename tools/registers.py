@@ -13,8 +13,8 @@ OTHERS = re.compile(r"[er]?(?:sp|ip)|[er]?flags|[xyz]mm\d+|st\d?|mm[0-7]|[cdefgs
 
 # The keys of the lines of facts that say what a test calls otherwise than its file.
 RENAMED, ELEMENTS = "Registers", "Elements"
-NAMES = {RENAMED: re.compile(r"(?P<theirs>(?P<core>\d+:)\w+)=(?P<ours>\w+)"),
-         ELEMENTS: re.compile(r"(?P<theirs>\w+\[\d+\])(?P<core>)=(?P<ours>\w+)")}
+NAMES = {RENAMED: re.compile(r"(?<!\w)(?P<theirs>(?P<core>\d+:)\w+)=(?P<ours>\w+)"),
+         ELEMENTS: re.compile(r"(?<!\w)(?P<theirs>\w+\[\d+\])(?P<core>)=(?P<ours>\w+)")}
 
 
 def whole(text):

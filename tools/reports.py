@@ -1,4 +1,6 @@
 """What a campaign tells beside its table: totals, a log in herd's form of all states, and a page for a browser."""
+import base64
+import hashlib
 import html
 import re
 
@@ -24,12 +26,21 @@ class Totals:
 
 # ---- the log
 
+# The last line, of a form that readers of herd7's and litmus7's logs pass over: by it a campaign knows its own log.
+END_OF_LOG = "% Results of a campaign %\n"
+
+
 def log_of(lines):
     """A log of the rows that have states, in the order of the tests' names, and how many rows have none. All states are in herd7's form,
     what seeds met in litmus7's."""
     told = [line for line in lines if "states" in line.members]
     told.sort(key=lambda line: line.members["test"])
-    return "\n".join(map(log_of_line, told)), len(lines) - len(told)
+    return "\n".join([*map(log_of_line, told), END_OF_LOG]), len(lines) - len(told)
+
+
+def is_log(data):
+    """Whether these bytes are a log that a campaign wrote."""
+    return data.endswith(b"\n" + END_OF_LOG.encode())
 
 
 def log_of_line(line):
@@ -77,13 +88,7 @@ def place_named(text):
 
 # ---- the page
 
-PAGE = """<!DOCTYPE html>
-<html lang="en">
-<head>
-<meta charset="utf-8">
-<meta name="viewport" content="width=device-width, initial-scale=1">
-<title>Campaign: %(command)s</title>
-<style>
+STYLE = """
 :root { color-scheme: light dark; }
 body { font: 15px/1.45 system-ui, sans-serif; margin: 2rem auto; max-width: 70rem; padding: 0 1rem; }
 details { border-top: 1px solid #8884; padding: .3rem 0; }
@@ -95,7 +100,22 @@ pre { overflow-x: auto; margin: .5rem 0 .5rem 1.2rem; }
 table { border-collapse: collapse; margin: .5rem 0 .5rem 1.2rem; font-family: ui-monospace, monospace; }
 td, th { padding: .1rem .8rem .1rem 0; text-align: right; font-weight: normal; }
 ul { margin: .5rem 0; }
-</style>
+"""
+
+# The page loads nothing, and carries nothing out: its own style alone counts.
+POLICY = "default-src 'none'; style-src 'sha256-%s'; base-uri 'none'; form-action 'none'; require-trusted-types-for 'script'" % (
+    base64.b64encode(hashlib.sha256(STYLE.encode()).digest()).decode())
+
+BEGINNING_OF_PAGE = """<!DOCTYPE html>
+<html lang="en">
+<head>
+<meta charset="utf-8">
+"""
+TITLE = "\n<title>Campaign: "
+
+PAGE = BEGINNING_OF_PAGE + """<meta http-equiv="Content-Security-Policy" content="%(policy)s">
+<meta name="viewport" content="width=device-width, initial-scale=1">""" + TITLE + """%(command)s</title>
+<style>%(style)s</style>
 </head>
 <body>
 <h1>Campaign: %(command)s</h1>
@@ -106,10 +126,16 @@ ul { margin: .5rem 0; }
 """
 
 
+def is_page(data):
+    """Whether these bytes are a page that a campaign wrote."""
+    return data.startswith(BEGINNING_OF_PAGE.encode()) and TITLE.encode() in data[:1000]
+
+
 def page_of(command, totals, lines):
     """One file of HTML: totals, and each row with its test and its states, those that want to be looked at first."""
     told = "\n".join("<p>%s</p>" % html.escape(line) for line in totals.lines())
-    return PAGE % {"command": html.escape(command), "totals": told, "rows": "\n".join(map(row_of_page, lines))}
+    return PAGE % {"policy": POLICY, "style": STYLE, "command": html.escape(command), "totals": told,
+                   "rows": "\n".join(map(row_of_page, lines))}
 
 
 def row_of_page(line):
@@ -118,7 +144,8 @@ def row_of_page(line):
     parts = ["<ul>%s</ul>" % "".join("<li>%s</li>" % html.escape(why) for why in line.members["why"])] if line.members.get("why") else []
     parts += ["<pre>%s</pre>" % html.escape(line.test)] if line.test else []
     parts += [table_of(line.members["states"])] if line.members.get("states") else []
-    return '<details class="%s"><summary><b>%s</b> %s</summary>\n%s</details>' % (kind, rank, html.escape(rest), "\n".join(parts))
+    return '<details class="%s"><summary><b>%s</b> %s</summary>\n%s</details>' % (
+        kind, html.escape(rank), html.escape(rest), "\n".join(parts))
 
 
 def table_of(states):
@@ -127,6 +154,6 @@ def table_of(states):
         rows = [dict([word.split("=") for word in state.split()], runs=count) for state, count in states.items()]
     else:
         rows = states
-    cells = ["".join("<td>%s</td>" % value for value in row.values()) for row in rows]
+    cells = ["".join("<td>%s</td>" % html.escape(str(value)) for value in row.values()) for row in rows]
     head = "".join("<th>%s</th>" % html.escape(name) for name in rows[0])
     return "<table><tr>%s</tr>%s</table>" % (head, "".join("<tr>%s</tr>" % row for row in cells))

@@ -1,30 +1,131 @@
-"""The file of a campaign's results: a JSON line a task, each once, written as it comes."""
+"""The file of a campaign's results: a JSON line a task, each once, written whole as it comes."""
 import fcntl
 import json
+import os
+import re
+import stat
+
+import outputs
+
+# How each result's line begins, as its members are sorted: no other text is taken for one that was torn.
+BEGINNINGS = (b'{"answer": ', b'{"false": ', b'{"met": ', b'{"options": ')
+LONGEST_BEGINNING = max(map(len, BEGINNINGS))
+
+PLACE = r"(?:\d+:\w+|[A-Za-z_]\w*)"
+STATE = re.compile(r"(?:%s=\d+(?: %s=\d+)*)?" % (PLACE, PLACE), re.ASCII)
+
+
+class NoResults(ValueError):
+    """A file that can't be one of results, or a line of it that is none."""
+
+
+def is_count(value):
+    return type(value) is int and value >= 0
+
+
+def is_states(value):
+    """Whether these are states by their values, or how often each was met."""
+    if isinstance(value, dict):
+        return all(STATE.fullmatch(state) and is_count(count) for state, count in value.items())
+    return isinstance(value, list) and all(isinstance(state, dict) and all(
+        re.fullmatch(PLACE, place, re.ASCII) and is_count(word) for place, word in state.items()) for state in value)
+
+
+def is_asked(value):
+    return value is None or isinstance(value, list) and len(value) == 2 and value[0] in ("exists", "~exists", "forall") and (
+        type(value[1]) is bool)
+
+
+def is_result(one):
+    """Whether a value is what a task of a campaign answers."""
+    if not isinstance(one, dict) or not all(isinstance(one.get(name), str) for name in ("task", "test", "options")):
+        return False
+    if not all(is_count(one[name]) for name in ("true", "false", "unfinished", "leaves") if name in one):
+        return False
+    if not (isinstance(one.get("met", []), list) and is_states(one.get("met", []))):
+        return False
+    if "states" in one and not ({"true", "false"} <= one.keys() and is_states(one["states"])):
+        return False
+    if "answer" in one:
+        return one["answer"] == ("never" if "leaves" in one else "allowed") and is_asked(one.get("asked", "")) and (
+            isinstance(one.get("states", []), list))
+    return "unfinished" in one or isinstance(one.get("states"), list)
+
+
+def is_of(command, one):
+    """Whether a result is one of this command's tasks."""
+    by_seeds, is_open = isinstance(one.get("states"), dict), "unfinished" in one
+    if command == "sweep":
+        return by_seeds and is_open
+    if command == "why":
+        return "answer" in one or is_open and not by_seeds
+    return "answer" not in one and not by_seeds
 
 
 class Results:
     """The results in a file, by task. A torn last line is cut off; two campaigns can't write one file at once."""
 
     def __init__(self, path):
-        self.found, good = {}, 0
-        self.file = open(path, "ab+")
+        self.path, self.found, self.length = path, {}, 0
+        if os.path.exists(path) and not stat.S_ISREG(os.stat(path).st_mode):
+            raise NoResults("results are kept in a file, and %s is none" % path)
+        self.file = open(path, "ab", buffering=0)
         try:
             fcntl.flock(self.file, fcntl.LOCK_EX | fcntl.LOCK_NB)
         except BlockingIOError:
-            raise ValueError("another campaign writes %s" % path) from None
-        self.file.seek(0)
-        for line in self.file:
+            raise NoResults("another campaign writes %s" % path) from None
+        with open(path, "rb") as lines:
+            self.read(lines)
+        self.file.truncate(self.length)
+
+    def read(self, lines):
+        """Takes the results that are there. What is no file of results is told, and stays as it is."""
+        while True:
+            line = lines.readline(LONGEST_BEGINNING)
+            if not line:
+                return
+            if not any(line.startswith(one) or one.startswith(line) for one in BEGINNINGS):
+                raise self.refused()
+            line += b"" if line.endswith(b"\n") else lines.readline()
+            self.take(line)
             if not line.endswith(b"\n"):
-                break
+                return
+
+    def take(self, line):
+        """Takes the result of a line; one that isn't whole is passed over, if it is the beginning of a result."""
+        try:
             one = json.loads(line)
+        except (ValueError, RecursionError):
+            if line.endswith(b"\n"):
+                raise self.refused() from None
+            return
+        if not is_result(one):
+            raise self.refused()
+        if line.endswith(b"\n"):
             self.found[one["task"]] = one
-            good += len(line)
-        self.file.truncate(good)
+            self.length += len(line)
+
+    def refused(self):
+        return NoResults("line %d of %s is no result of a campaign: another file has to have the results" % (
+            len(self.found) + 1, self.path))
+
+    def has(self, task):
+        """Whether there is a result of this task."""
+        one = self.found.get(task.key)
+        if one is not None and "fault" not in one and not is_of(task.command, one):
+            raise NoResults("%s has a result of another command by the name of one of %s" % (self.path, task.command))
+        return one is not None
 
     def add(self, one):
-        """Takes a result. A fault isn't written, so that a campaign that goes on tries its task again."""
+        """Takes a result. A fault isn't written, so that a campaign that goes on tries its task again. Where a line can't be written whole,
+        nothing of it is."""
         self.found[one["task"]] = one
-        if "fault" not in one:
-            self.file.write(json.dumps(one, sort_keys=True).encode("ascii") + b"\n")
-            self.file.flush()
+        if "fault" in one:
+            return
+        line = json.dumps(one, sort_keys=True).encode("ascii") + b"\n"
+        try:
+            outputs.write_whole(self.file.fileno(), line)
+        except OSError as fault:
+            self.file.truncate(self.length)
+            raise OSError(fault.errno, os.strerror(fault.errno), self.path) from None
+        self.length += len(line)

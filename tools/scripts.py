@@ -1,14 +1,18 @@
-"""The scripts of this folder as modules, and how those that people call end."""
+"""The scripts of this folder as modules, and how those that people call begin and end."""
 import importlib.machinery
 import importlib.util
 import os
+import signal
 import sys
 import traceback
 
+import tso.processes
+
 TOOLS = os.path.dirname(os.path.abspath(__file__))
 
-# What a tool ends with: it couldn't answer, or it was interrupted, as shells have it.
-COULD_NOT, INTERRUPTED = 2, 130
+# What a tool ends with: nothing differs, something does, it couldn't judge or write what was asked, or it was interrupted, as shells
+# have it.
+SAME, DIFFERS, COULD_NOT, INTERRUPTED = 0, 1, 2, 130
 
 
 def script(name):
@@ -21,20 +25,123 @@ def script(name):
     return sys.modules[name]
 
 
-def end_with(main, name, faults, stopped="stopped"):
-    """Ends with the status of `main`. Where that is interrupted, or meets one of these faults, one line says so. Any other fault is the
-    tool's own: it is told in full, and the tool couldn't answer."""
+# ---- what is told
+
+def printable(text, kept="\n\t"):
+    """A text with each character that isn't seen, as those that steer a terminal, written as its number."""
+    return text if text.isprintable() else "".join(one if one.isprintable() or one in kept else number_of(one) for one in text)
+
+
+def number_of(character):
+    """A character as its number: a byte of an argument that is no text stands for itself."""
+    number = ord(character)
+    if 0xDC80 <= number <= 0xDCFF:
+        number -= 0xDC00
+    return "\\x%02x" % number if number < 0x100 else "\\u%04x" % number if number < 0x10000 else "\\U%08x" % number
+
+
+class Printable:
+    """A stream for people: what is written to it has no character that isn't seen."""
+
+    def __init__(self, stream):
+        self.stream = stream
+
+    def write(self, text):
+        return self.stream.write(printable(text))
+
+    def __getattr__(self, name):
+        return getattr(self.stream, name)
+
+
+class Closed:
+    """A stream that was closed when the tool began."""
+
+    def __init__(self, name):
+        self.name = name
+
+    def refuse(self, *_):
+        raise OSError("%s is closed" % self.name)
+
+    read = write = refuse
+
+    def flush(self):
+        pass
+
+    def reconfigure(self, **_):
+        pass
+
+
+def open_streams():
+    """Has standard error tell what is seen alone. Where a stream is closed, no file that is opened gets its number."""
+    while (file := os.open(os.devnull, os.O_RDWR)) < 3:
+        os.set_inheritable(file, True)
+    os.close(file)
+    sys.stdin = sys.stdin or Closed("standard input")
+    sys.stdout = sys.stdout or Closed("standard output")
+    sys.stderr = Printable(sys.stderr or open(os.devnull, "w", encoding="ascii", errors="replace"))
+
+
+# ---- the end
+
+class Stopped(BaseException):
+    """A signal that ends the tool, as one from the terminal does."""
+
+
+def heed_signals():
+    """Has the signals that end a process end it as an interrupt does, with what it has started. What is ignored stays so."""
+    def stop(number, _):
+        raise Stopped(number)
+
+    for number in (signal.SIGTERM, signal.SIGHUP):
+        if signal.getsignal(number) == signal.SIG_DFL:
+            signal.signal(number, stop)
+
+
+def forsake_output():
+    """Has what is left for standard output go nowhere: nobody takes it."""
+    os.dup2(os.open(os.devnull, os.O_WRONLY), 1)
+
+
+def tell(name, why):
+    """Says in one line why the tool ends, if there is something to be said and somebody to whom."""
     try:
-        sys.exit(main(sys.argv[1:]))
+        if why is not None:
+            print(printable("%s: %s" % (name, why), kept=""), file=sys.stderr, flush=True)
+    except OSError:
+        os.dup2(os.open(os.devnull, os.O_WRONLY), 2)
+
+
+def status_of(main):
+    """The status with which `main` ends, once standard output has all that it printed."""
+    try:
+        status = main(sys.argv[1:])
+    except SystemExit as end:
+        status = end.code
+    sys.stdout.flush()
+    return status
+
+
+def end_with(main, name, faults, stopped="stopped"):
+    """Ends with the status of `main`. Where that is interrupted, or meets one of these faults, one line says so; where nobody reads its
+    output any more, none does. Any other fault is the tool's own: it is told in full, and the tool couldn't answer."""
+    open_streams()
+    heed_signals()
+    try:
+        sys.exit(status_of(main))
     except KeyboardInterrupt:
         status, why = INTERRUPTED, stopped
+    except Stopped as signalled:
+        status, why = 128 + signalled.args[0], stopped
     except BrokenPipeError:
-        os.dup2(os.open(os.devnull, os.O_WRONLY), sys.stdout.fileno())
-        sys.exit(COULD_NOT)
-    except faults as fault:
+        status, why = COULD_NOT, None
+    except (OSError, *faults) as fault:
         status, why = COULD_NOT, fault
+    except MemoryError:
+        status, why = COULD_NOT, "out of memory"
     except Exception:
         traceback.print_exc()
-        sys.exit(COULD_NOT)
-    print("%s: %s" % (name, why), file=sys.stderr)
+        status, why = COULD_NOT, None
+    tso.processes.end_all(stopped)
+    forsake_output()
+    tell(name, why)
     sys.exit(status)

@@ -5,15 +5,18 @@ import sys
 from dataclasses import dataclass
 
 import answers
+import comments
 import faults
 import importer
 import litmus
 
-# A comment, or a test's first line with its lines of facts: no other test begins within.
-HEADER = re.compile(r'\(\*.*?\*\)|^(X86(?:_64)?[ \t])[^\n]*\n?(?:\s+|\(\*.*?\*\)|"[^"]*"|[A-Za-z][\w \t-]*=[^\n]*)*', re.M | re.S)
+# What begins a comment, or is a test's first line.
+MARK = re.compile(r"\(\*|^X86(?:_64)?[ \t][^\n]*\n?", re.M)
 LIST = re.compile(r"\blocations\s*\[")
-BEFORE_HEADER = re.compile(r"(?:\s|\(\*.*?\*\))*", re.S)
 DIVIDER = re.compile(r"^====\r?$", re.M)
+
+# A file has at most so many bytes: tests for many hours.
+MOST_BYTES = 2 ** 28
 
 
 class NoTests(Exception):
@@ -35,24 +38,49 @@ class Source:
 
 def sources_in(words):
     """The sources that these words stand for, one after the other."""
-    return [source_of(path, line, text) for word in words for path, whole in files_in(word) for line, text in pieces_of(whole)]
+    return list(coming_in(words))
 
 
-def files_in(word, lists=()):
-    """Paths and contents: of a file; of standard input, where the word is -; of all files *.litmus below a folder; or of what a list
-    names, such a word a line, where the word is @LIST. `lists` are those that this word stands in."""
+def coming_in(words):
+    """The same, each as it is asked for; that there are such files is looked at now."""
+    paths = [path for word in words for path in paths_in(word)]
+    return (source_of(path, line, text) for path in paths for line, text in pieces_of(content(path)))
+
+
+def paths_in(word, lists=()):
+    """Paths: of a file; -, for standard input; of all files *.litmus below a folder; or of what a list names, such a word a line, where
+    the word is @LIST. `lists` are those that this word stands in."""
     if word == "-":
-        sys.stdin.reconfigure(encoding="latin-1")
-        yield word, sys.stdin.read()
+        yield word
     elif word.startswith("@"):
-        if word in lists:
+        path = os.path.realpath(word[1:])
+        if path in lists:
             raise NoTests("%s names itself" % word)
         for inner in words_of_list(word[1:]):
-            yield from files_in(inner, (*lists, word))
+            yield from paths_in(inner, (*lists, path))
+    elif os.path.isdir(word):
+        yield from files_below(word)
     else:
-        for path in files_below(word) if os.path.isdir(word) else [word]:
-            with open(path, encoding="latin-1") as file:
-                yield path, file.read()
+        os.stat(word)
+        yield word
+
+
+def content(path):
+    """The text of a file, or of standard input, whose path is -."""
+    if path == "-":
+        sys.stdin.reconfigure(encoding="latin-1")
+        text = sys.stdin.read(MOST_BYTES + 1)
+    else:
+        with open(path, encoding="latin-1") as file:
+            text = file.read(MOST_BYTES + 1)
+    if len(text) > MOST_BYTES:
+        raise NoTests("%s has more than %d bytes" % (path, MOST_BYTES))
+    return text
+
+
+def files_in(word):
+    """Paths and contents of the files that a word stands for."""
+    return ((path, content(path)) for path in paths_in(word))
 
 
 def words_of_list(path):
@@ -77,10 +105,24 @@ def files_below(folder):
     return found
 
 
+def begins_of(text):
+    """The places where tests begin in a text that has several: at their first lines. Within a comment, and within the lines of facts
+    after such a line, none does."""
+    at, last = 0, text.rfind("*)")
+    while mark := MARK.search(text, at):
+        at = mark.end()
+        if mark.group() == "(*":
+            at = comments.comment_end(text, mark.start(), last) or at
+            continue
+        yield mark.start()
+        while found := litmus.FACT.match(text, at := comments.blanks_end(text, at, last)):
+            at = found.end()
+
+
 def pieces_of(text):
     """The tests of a text that has several, one after the other, each with how many lines are before it; without choices or orders. Where
     no line begins a test, the whole text is one piece."""
-    begins = [found.start() for found in HEADER.finditer(text) if found.group(1)] or [BEFORE_HEADER.match(text).end()]
+    begins = list(begins_of(text)) or [comments.blanks_end(text, 0)]
     line, before = 0, 0
     for begin, end in zip(begins, begins[1:] + [len(text)]):
         line, before = line + text.count("\n", before, begin), begin
@@ -101,9 +143,9 @@ def source_of(path, lines_before, text):
 
 
 def native_test(text):
-    """The test of a text in this project's form; None of another one."""
+    """The test of a text in this project's form; None of another one, and of one that is too long."""
     try:
-        return litmus.read_test(text)
+        return litmus.read_test(text) if len(text) <= litmus.LONGEST_TEXT else None
     except (litmus.BadTest, RecursionError):
         return None
 

@@ -39,7 +39,7 @@ class Task:
             return found
         depth = DEPTH_OF_MODEL[self.words[self.words.index("--model") + 1]]
         beside = answers.outcomes(program, self.text, ["--depth", str(depth)] + self.show, self.limit)
-        return dict(found, **{name: beside[name] for name in ("states", "true", "false") if name in beside})
+        return dict(found, **{name: beside[name] for name in ("states", "true", "false") if "states" in beside})
 
 
 class Row:

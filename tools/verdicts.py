@@ -39,10 +39,13 @@ def expected(text, depth, verdict):
     """The verdict that is expected at this depth (None: of a sweep), where TSO's own is this one; None where nothing says so."""
     if verdict != "allowed" or depth in (None, DEEPEST):
         return verdict
-    least = answers.fact_of(text, "Depth")
-    if least is not None and least.isdigit():
+    without_buffers, least = answers.fact_of(text, "SC"), answers.fact_of(text, "Depth")
+    if without_buffers == "allowed" or depth == 0 and without_buffers is not None:
+        # what is allowed without buffers is allowed with them
+        return without_buffers
+    if least is not None and re.fullmatch(r"\d{1,9}", least, re.ASCII):
         return "allowed" if depth >= int(least) else "forbidden"
-    return answers.fact_of(text, "SC") if depth == 0 else None
+    return None
 
 
 class Theory:
@@ -145,7 +148,7 @@ def in_names_of_file(text, line):
     def renamed(said):
         return re.sub(r"\S+(?==\d)", lambda found: names.get(found.group(), found.group()), said)
     for key, found in line.members.items() if names else ():
-        if key == "states" and isinstance(found, list):
+        if key == "met" or key == "states" and isinstance(found, list):
             line.members[key] = [{names.get(place, place): value for place, value in state.items()} for state in found]
         elif key == "states":
             line.members[key] = {renamed(state): count for state, count in found.items()}
@@ -168,7 +171,7 @@ def rank_of(wrong, held):
 def outcomes_line(row, one, due, theory):
     """All outcomes differ where the verdict isn't the one that is due, or where theory has other final states."""
     if "unfinished" in one:
-        return line_of_row(row, OPEN, {"expected": due, "why": ["more than %d states" % one["unfinished"]]})
+        return met_line(row, one, due)
     found = None if one["true"] + one["false"] == 0 else "allowed" if one["true"] else "forbidden"
     why = [] if due in (None, found) else ["the verdict differs"]
     by_states = theory is not None and theory.states is not None and row.depth == DEEPEST
@@ -179,6 +182,16 @@ def outcomes_line(row, one, due, theory):
         why += ["only by theory: " + state_text(state) for state in sorted(by_theory - states, key=sorted)]
     members = {"expected": due, "found": found, "true": one["true"], "false": one["false"], "states": one["states"], "why": why}
     return line_of_row(row, rank_of(why, due is not None or by_states), members)
+
+
+def met_line(row, one, due):
+    """Where there are too many states, what was met is some of all: that the condition can be true is known where it is so in one."""
+    met = one.get("met", [])
+    found = "allowed" if one.get("true") else None
+    why = ["more than %d states" % one["unfinished"], "%d final states were met" % len(met)]
+    is_wrong = found is not None and due == "forbidden"
+    members = {"expected": due, "found": found, "met": met, "why": ["the verdict differs"] * is_wrong + why}
+    return line_of_row(row, DIFFERS if is_wrong else OPEN, members)
 
 
 def those_shown(states, shown):

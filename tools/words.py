@@ -19,7 +19,7 @@ class Words:
     """The words of one text. In a text for X86_64 (`wide`) each name of a register is one."""
 
     def __init__(self, text, wide):
-        self.text, self.wide = text, wide
+        self.wide, self.taken = wide, set(re.findall(r"\w+", text))
         self.arrays, self.elements, self.stated, self.used = {}, {}, {}, {}
 
     def location(self, name):
@@ -38,7 +38,7 @@ class Words:
     def add_array(self, item, kind, name, count, values):
         """Takes an item `TYPE NAME[COUNT]={VALUES}` of an initial state."""
         size, name = size_of_type(item, kind), self.location(name)
-        found = [number_in(value.strip()) for value in values.split(",")] if values and values.strip() else []
+        found = [number_in(value.strip(), size == 4) for value in values.split(",")] if values and values.strip() else []
         count = number_in(count)
         if len(found) > count:
             raise Fault("%s has more values than elements" % item, INITIAL)
@@ -50,9 +50,10 @@ class Words:
             raise Fault("%s[%d] is no element of an array" % (array, number), BEYOND)
         if (array, number) not in self.elements:
             name = "%s_%d" % (array, number)
-            while name in self.elements.values() or re.search(r"\b%s\b" % name, self.text):
+            while name in self.taken:
                 name = name.replace("_%d" % number, "__%d" % number)
             self.elements[array, number] = location_in(name)
+            self.taken.add(name)
             self.stated[name] = self.arrays[array][0]
         return self.elements[array, number]
 
@@ -82,6 +83,10 @@ class Words:
             raise Fault("%s: %s has no address in the initial state: addresses in registers that change aren't read" % (
                 cell.text, register), ADDRESSES)
         return addresses[found[0]]
+
+    def is_word(self, name):
+        """Whether a location has 32 bits: it is said to have so many, or no instruction uses more, once all were looked at."""
+        return self.stated.get(name) == 4 or self.stated.get(name) is None and 8 not in self.used.get(name, ())
 
     def too_narrow(self):
         """Locations that are said to have 32 bits, and of which 64 are used, each with the line. Words of 64 bits may be used by their

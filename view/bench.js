@@ -161,6 +161,7 @@ async function begin() {
     stopTask();
     if (command === 'run') showLongRun(answer, beside, options, input);
     else if (command === 'outcomes' && answer.status === Tso.STATUS.good) showOutcomes(answer, beside, input);
+    else if (command === 'outcomes' && answer.status === Tso.STATUS.unended) showMet(answer, options.depth);
     else if (command === 'why' && answer.status === Tso.STATUS.good) showReason(answer, input);
     else showOpenAnswer(answer);
   } catch (fault) {
@@ -195,6 +196,16 @@ function showOutcomes(answer, beside, test) {
   byId('report-part').hidden = true;
   const said = [observationSentence(outcomes), sequential ? besideSentence(outcomes, sequential) : ''].join(' ').trim();
   byId('states').replaceChildren(html('p', { role: 'status' }, said), outcomesTable(outcomes, sequential, truthsOf(outcomes, test)));
+}
+
+/** Shows what a search had met when it came to its limit: some of the final states, or none. */
+function showMet(answer, depth) {
+  const met = readMet(answer.text);
+  if (met.states.length === 0) return showOpenAnswer(answer);
+  showAnswer(answer);
+  byId('report-part').hidden = true;
+  const truths = met.states.every(({ holds }) => typeof holds === 'boolean') ? met.states.map(({ holds }) => holds) : null;
+  byId('states').replaceChildren(html('p', { role: 'status' }, metSentence(met)), outcomesTable({ ...met, depth }, null, truths));
 }
 
 /** Finds all outcomes of the test, by one click from its run. */

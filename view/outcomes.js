@@ -1,8 +1,8 @@
 'use strict';
 
-// The table of all final states, each with a button for the choices that reach it.
+// The table of all final states, each with a button for the choices that reach it; or of those that were met.
 
-/** What `outcomes --json` says: its states, the observation and the verdict, or how many states weren't enough. */
+/** What `outcomes --json` says: its states, the observation and the verdict; of a search that met its limit how many states weren't enough. */
 function readOutcomes(text) {
   const { states, observation, verdict = null, unfinished, depth } = JSON.parse(text);
   return { states, observation, verdict, unfinished, depth };
@@ -15,6 +15,18 @@ function observationSentence({ states, observation, verdict, depth }) {
   const { word, true: yes, false: no } = observation;
   const said = { Never: 'No run ends', Always: 'Every run ends', Sometimes: 'Some runs end' }[word];
   return `${many} ${where}. ${word}: ${said} in a state that makes the condition's proposition true (true in ${yes} of the states, false in ${no}).${verdictWords(verdict)}`;
+}
+
+/** Of a search that met its limit: the final states that it had met, and a verdict where one of them decides it. A module that is older
+ * tells none. */
+function readMet(text) {
+  const { met = [], verdict = null, unfinished } = JSON.parse(text);
+  return { states: met, verdict, unfinished };
+}
+
+function metSentence({ states, verdict, unfinished }) {
+  const many = states.length === 1 ? 'One of the final states was' : `${states.length} of the final states were`;
+  return `The search kept ${unfinished.states} states, its limit, and didn't end. ${many} met before that; there may be others.${verdictWords(verdict)}`;
 }
 
 const valuesText = values => Object.entries(values).map(([name, word]) => `${name}=${word}`).join(' ');

@@ -48,6 +48,9 @@ STATUSES = {"run": (0, 1, 3), "trace": (0, 1, 3), "sweep": (0, 1, 3), "outcomes"
 # Commands beside whose answer with status 0 a hint may stand.
 HINTED = ("run", "trace", "sweep", "outcomes", "why")
 
+# What a condition may name that keeps its initial value, and the commands of which it comes up; the last is rare beside a search.
+KEPT = {"a location that nothing uses": HINTED, "a register that nothing writes": HINTED, "a location that nothing writes": ("run", "trace")}
+
 AMOUNTS = ("none", "one", "several")
 
 # What `trace --json` has that `trace` and `run --json` haven't: each member, where it says something and where it says nothing.
@@ -74,6 +77,7 @@ ASSERTED = ("nothing", "Ok", "No", "no verdict")
 
 OUTCOMES = {
     "answer of outcomes": ("all states, text", "all states, JSON", "too many states, text", "too many states, JSON"),
+    "verdict of a search that gave up": ("none", "Ok", "No"),
     "states that can be reached": ("fewer than may be kept", "as many as may be kept", "more than may be kept"),
     "final states": AMOUNTS[1:],
     "cores that are alike": ("two or more", "none"),
@@ -107,7 +111,7 @@ def names():
         "depth needed": ("more than there is", "as much as there is", "less than there is"),
         "depth that an order needs": range(litmus.MOST_INSTRUCTIONS),
         "outcome": ("Committed", "Buffered", "Moved", "Asked"),
-        "hint beside status 0": ["never seen", "none"] + ["a location that nothing uses, of " + command for command in HINTED],
+        "hint beside status 0": ["never seen", "none"] + ["%s, of %s" % (kind, command) for kind in KEPT for command in KEPT[kind]],
         "stall": ("Done", "Full", "Fence", "Lock", "Empty", "Bus"),
         "access": ("hits", "misses", "upgrades", "forwards", "write_backs", "flushes"),
         "found": ("M hits by a load", "O hits by a load", "E hits by a load", "S hits by a load", "M hits by a write",

@@ -158,7 +158,8 @@ def answer(words, given, told=b""):
     except Refused as refused:
         test, status, output = None, REFUSED, refused.line + "\n"
     seen.note("status of " + command, status)
-    is_hinted = status == ENDED or status == INVALID and command in SEARCHING
+    is_open = command == "outcomes" and outcomes.is_unfinished(output, settings["json"])
+    is_hinted = (status == ENDED or status == INVALID and command in SEARCHING) and not is_open
     errors = hints.beside(command, settings["json"], settings["depth"], test, output, settings["show"]) if is_hinted else None
     return Answer(status, output.encode(), errors)
 
@@ -176,7 +177,8 @@ def answer_to_input(command, settings, given, told):
         output, ended, verdict = searched(test, command, settings, told)
         is_refuted = settings["assert"] and verdict == "No"
         seen.note("asserted of " + command, "nothing" if not settings["assert"] else verdict or "no verdict")
-        return test, UNFINISHED if not ended else INVALID if is_refuted else ENDED, output
+        is_open = not ended and not (settings["assert"] and verdict)
+        return test, UNFINISHED if is_open else INVALID if is_refuted else ENDED, output
     configuration = Configuration(*(settings[name] for name in Configuration._fields))
     if command == "sweep":
         output, ended = printing.sweep(test, configuration, settings["from"], settings["seeds"], settings["length"])

@@ -16,13 +16,13 @@ def unfit(token):
 
 
 class ConditionReader:
-    """Reads a condition's tokens. `names` are the locations that are known so far; further ones are appended. `places` has
-    for each location the place where the condition names it first."""
+    """Reads a condition's tokens. `names` are the locations that are known so far; further ones are appended. `named` has each atom that
+    names a register or a location, with the place where it does."""
 
     def __init__(self, tokens, names, cores):
         self.tokens, self.names, self.cores = tokens, names, cores
         self.atoms = self.open = 0
-        self.places = {}
+        self.named = []
 
     def take(self):
         return self.tokens.take(WHERE)
@@ -94,13 +94,17 @@ class ConditionReader:
             raise Fault("BadNumber", token.place, "of the condition")
         if setting.core is not None:
             self.counted(token)
-            return "register", core, setting.register, value
+            return self.names_place(("register", core, setting.register, value), token.place)
         location = number_of(setting.location, self.names)
         if location is None:
             raise Fault("TooLarge", token.place, "a 17th location in the condition")
-        self.places.setdefault(location, setting.named)
         self.counted(token)
-        return "location", location, value
+        return self.names_place(("location", location, value), setting.named)
+
+    def names_place(self, atom, place):
+        """The atom, which is noted with its place."""
+        self.named.append((atom, place))
+        return atom
 
     def counted(self, token):
         if self.atoms == litmus.MOST_ATOMS:

@@ -5,6 +5,8 @@ import re
 from . import litmus, printing, seen
 
 UNUSED = "hint: line %d: the condition names %s, which no program uses and no initial state sets: it stays 0\n"
+KEPT_REGISTER = "hint: line %d: the condition names %d:%s, which no instruction of core %d writes: it stays %d\n"
+KEPT_LOCATION = "hint: line %d: the condition names %s, which no instruction writes: it stays %d\n"
 LEFT_OUT = "hint: line %d: locations lists %s, which the states leave out: --show %s shows it\n"
 NEVER = "hint: Never tells of %s only:%s outcomes --depth %d tells of all runs\n"
 MORE_SEEDS = " more seeds (--seeds 1000) take milliseconds, and"
@@ -19,10 +21,11 @@ def beside(command, json, depth, test, output, show=printing.CONDITION):
     """All of standard error: the hint, or nothing. `output` is what is printed for the test; `show` is that of `outcomes`."""
     if json or command not in ("run", "trace", "sweep", "outcomes", "why"):
         return b""
-    if test.unused is not None:
-        seen.note("hint beside status 0", "a location that nothing uses, of " + command)
-        name, line = test.unused
-        return (UNUSED % (line, name)).encode()
+    for kind, told in (("a location that nothing uses", unused(test)), ("a register that nothing writes", kept_register(test)),
+                       ("a location that nothing writes", kept_location(test))):
+        if told is not None:
+            seen.note("hint beside status 0", "%s, of %s" % (kind, command))
+            return told.encode()
     told = left_out(test, show) if command == "outcomes" else None
     if told is not None:
         seen.note("hint beside status 0", "what a list has and no state")
@@ -35,6 +38,32 @@ def beside(command, json, depth, test, output, show=printing.CONDITION):
     runs = int(found[1])
     counted = "1 run" if runs == 1 else "%d runs" % runs
     return (NEVER % (counted, MORE_SEEDS if runs < MOST_SEEDS else "", depth)).encode()
+
+
+def unused(test):
+    """The hint on the first location that the condition alone names, or None."""
+    if test.unused is None:
+        return None
+    line = next(line for atom, line in test.atoms if atom[:2] == ("location", test.unused))
+    return UNUSED % (line, test.locations[test.unused])
+
+
+def kept_register(test):
+    """The hint on the first register of the condition that no instruction of its core writes, or None."""
+    for atom, line in test.atoms:
+        if atom[0] == "register" and not test.is_written(*atom[1:3]):
+            core, register = atom[1:3]
+            return KEPT_REGISTER % (line, core, litmus.REGISTERS[register], core, test.registers[core][register])
+    return None
+
+
+def kept_location(test):
+    """The hint on the first location of the condition that no instruction writes, and that begins with another value than is asked; or
+    None."""
+    for atom, line in test.atoms:
+        if atom[0] == "location" and not test.is_stored(atom[1]) and test.words[atom[1]] != atom[2]:
+            return KEPT_LOCATION % (line, test.locations[atom[1]], test.words[atom[1]])
+    return None
 
 
 def left_out(test, show):

@@ -47,9 +47,9 @@ class Instruction(typing.NamedTuple):
 
 @dataclasses.dataclass
 class Test:
-    """A test as its text spells it. `quantifier` and `proposition` are None where it has no condition. `unused` is the first
-    location that the condition alone names, and the line on which it does so first; None where there is none. `listed` are the names in
-    `locations [..]`, each with a core's number, or None, and its line."""
+    """A test as its text spells it. `quantifier` and `proposition` are None where it has no condition. `unused` is the number
+    of the first location that the condition alone names, or None. `atoms` are those of the condition that name a register or a location,
+    each with its line. `listed` are the names in `locations [..]`, each with a core's number, or None, and its line."""
     name: str
     locations: list
     words: list
@@ -57,11 +57,20 @@ class Test:
     programs: list
     quantifier: typing.Optional[str] = None
     proposition: typing.Optional[tuple] = None
-    unused: typing.Optional[tuple] = None
+    unused: typing.Optional[int] = None
+    atoms: tuple = ()
     listed: tuple = ()
 
     def cores(self):
         return len(self.programs)
+
+    def is_written(self, core, register):
+        """Whether an instruction of a core writes this register of it."""
+        return any(done.kind in REGISTER_WRITERS and done.register == register for done in self.programs[core])
+
+    def is_stored(self, location):
+        """Whether an instruction writes this location."""
+        return any(done.kind in STORES + LOCKED and done.location == location for program in self.programs for done in program)
 
 
 def is_location(name):

@@ -1,7 +1,7 @@
 """What `outcomes` prints: README.md, 'Can it happen at all?', docs/SCRIPTS.md, 'JSON', and docs/MESSAGES.md, 'Too many states'.
 
-Two things are left open there: which of the choices that lead to a state stand beside it, and from how many states on a search gives
-up. Both are taken from an answer that is told, where they are right; all else is said here.
+Three things are left open there: which of the choices that lead to a state stand beside it, from how many states on a search gives
+up, and which final states it has met by then. All are taken from an answer that is told, where they are right; all else is said here.
 """
 import json
 import re
@@ -29,17 +29,17 @@ def answer(test, depth, limit, show, with_json, told):
     states = len(search.reached)
     seen.note("states that can be reached", "%s may be kept" % (
         "fewer than" if states < limit else "as many as" if states == limit else "more than"))
-    unfinished = unfinished_json(test, limit) if with_json else "Unfinished states=%d\n" % limit
-    if states > limit and told == unfinished:
-        seen.note("answer of outcomes", "too many states, " + form_of(with_json))
-        return unfinished, False, None
-    seen.note("answer of outcomes", "all states, " + form_of(with_json))
     found = Found(test, depth, show, search.ends())
+    if states > limit and is_unfinished(told, with_json):
+        seen.note("answer of outcomes", "too many states, " + form_of(with_json))
+        met = Met(found, told, with_json)
+        return met.printed(with_json, limit), False, met.verdict()
+    seen.note("answer of outcomes", "all states, " + form_of(with_json))
     return found.printed(with_json, told), True, found.verdict()
 
 
-def unfinished_json(test, limit):
-    return printing.as_json({"test": test.name, "unfinished": {"states": limit}})
+def is_unfinished(told, with_json):
+    return '"unfinished":' in told if with_json else told.startswith("Unfinished ")
 
 
 class Found:
@@ -107,7 +107,7 @@ class Found:
     def text(self, ways):
         lines = ["Test " + self.test.name, "Outcomes depth=%d states=%d" % (self.depth, len(self.states))]
         for values, way in zip(self.states, ways):
-            lines += ["State" + printing.named(zip(self.looked.names, values)), "By " + way if way else "By"]
+            lines += state_lines(self.looked, values, way)
         if self.test.proposition is not None:
             lines.append(printing.observation_line(self.test, self.observed()))
             lines.append(" ".join(["True", *map(str, self.holding())]))
@@ -123,6 +123,55 @@ class Found:
         if counts is not None:
             states = [dict(state, holds=self.truths[values]) for values, state in zip(self.states, states)]
         return {"test": self.test.name, "depth": self.depth, "states": states, "observation": observed, "verdict": self.verdict()}
+
+
+class Met:
+    """Some of the final states, which an answer tells: those of its states that are found and to which their choices lead, each once."""
+
+    def __init__(self, found, told, with_json):
+        self.found, self.ways = found, {}
+        for values, way in states_in(told, with_json, found.looked.names):
+            if values in found.truths and values not in self.ways:
+                with seen.apart():
+                    self.ways[values] = way if found.leads_to(values, way) else NO_WAY
+        self.states = sorted(self.ways)
+        seen.note("final states of a search that gave up", seen.amount(self.states))
+        seen.note("verdict of a search that gave up", self.verdict() or "none")
+
+    def verdict(self):
+        """herd's word where one of the states decides it, whatever the others are; else None."""
+        truths = [self.found.truths[values] for values in self.states]
+        decides = {"exists": (True, "Ok"), "~exists": (True, "No"), "forall": (False, "No")}
+        truth, word = decides.get(self.found.test.quantifier, (None, None))
+        return word if self.found.test.proposition is not None and truth in truths else None
+
+    def printed(self, with_json, limit):
+        test, looked = self.found.test, self.found.looked
+        if with_json:
+            states = [{"values": dict(zip(looked.names, values)), "choices": self.ways[values]} for values in self.states]
+            if test.proposition is not None:
+                states = [dict(state, holds=self.found.truths[values]) for values, state in zip(self.states, states)]
+            return printing.as_json({"test": test.name, "unfinished": {"states": limit}, "met": states, "verdict": self.verdict()})
+        lines = ["Unfinished states=%d" % limit, "Met %d" % len(self.states)]
+        for values in self.states:
+            lines += state_lines(looked, values, self.ways[values])
+        lines += [] if self.verdict() is None else ["Verdict " + self.verdict()]
+        return "".join(line + "\n" for line in lines)
+
+
+def state_lines(looked, values, way):
+    return ["State" + printing.named(zip(looked.names, values)), "By " + way if way else "By"]
+
+
+def states_in(told, with_json, names):
+    """The values and the choices of each state of an answer; none where it hasn't its form."""
+    if with_json:
+        try:
+            return [(tuple(state["values"][name] for name in names), str(state["choices"])) for state in json.loads(told)["met"]]
+        except (ValueError, LookupError, TypeError):
+            return []
+    return [(tuple(int(pair.rpartition("=")[2]) for pair in values.split()), way)
+            for values, way in re.findall(r"^State((?: \S+=\d+)*)\nBy ?(.*)$", told, re.MULTILINE)]
 
 
 def ways_in(told, with_json):

@@ -50,7 +50,7 @@ class TestReader:
 
     def __init__(self, text):
         self.text = text
-        self.names, self.listed = [], []
+        self.names, self.listed, self.named_before = [], [], 0
         self.settings = []
 
     def test(self):
@@ -63,9 +63,9 @@ class TestReader:
         self.check_cores()
         self.rows()
         self.locations()
-        quantifier, proposition, unused = self.condition()
+        quantifier, proposition, atoms = self.condition()
         return litmus.Test(name, self.names, self.first_words(), self.first_registers(), self.programs, quantifier, proposition,
-                           unused, self.listed)
+                           self.unused(), atoms, self.listed)
 
     # Header line and information lines: INPUT.md, 'Header line', 'Information lines'.
 
@@ -279,20 +279,23 @@ class TestReader:
             return found
 
     def condition(self):
-        """The quantifier, the proposition and a location that nothing before names, or None; after them nothing stands."""
+        """The quantifier, the proposition, and its atoms, each with its line; after them nothing stands."""
         first = self.tokens.look(conditions.WHERE)
-        quantifier = proposition = unused = None
+        quantifier = proposition = None
+        self.named_before, atoms = len(self.names), []
         if first.is_symbol("~") or first.is_word("exists") or first.is_word("forall"):
-            named_before = len(self.names)
             reader = ConditionReader(self.tokens, self.names, len(self.programs))
             quantifier, proposition = reader.quantifier(), reader.proposition()
-            if len(self.names) > named_before:
-                unused = self.names[named_before], self.text.line_of(reader.places[named_before])
+            atoms = [(atom, self.text.line_of(place)) for atom, place in reader.named]
         seen.note("quantifier", quantifier)
         token = self.tokens.look(conditions.WHERE)
         if token.kind != lexing.END:
             raise Fault("Trailing", token.place, "after a condition" if quantifier else "without a condition")
-        return quantifier, proposition, unused
+        return quantifier, proposition, atoms
+
+    def unused(self):
+        """The number of the first location that the condition alone names, or None."""
+        return self.named_before if len(self.names) > self.named_before else None
 
 
 class Cell:

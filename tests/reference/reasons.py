@@ -15,7 +15,8 @@ from .machine import Configuration
 from .orders import FENCE, Entry
 from .outcomes import PLAIN_CHOICES, form_of
 from .reading import Refused
-from .refutations import (Between, Cycle, FalseClaim, First, Known, Reads, Wrong, asked_of, events_of, judge, most_cases, steps_of)
+from .refutations import (Between, Cycle, FalseClaim, First, Known, Reads, Wrong, asked_of, events_of, judge, judge_as_read, most_cases,
+                          steps_of)
 
 # What is printed where the answer that is told is wrong.
 NO_REASON = "a reason\n"
@@ -24,7 +25,7 @@ LEAF_STEPS = ("cycle", "uniproc", "between", "false")
 
 EVENT = r"P[0-7]:[0-9]+ (?:F|(?:LR|LW|R|W) [A-Za-z_][A-Za-z0-9_]*(?:=[0-9]+)?)"
 HOP = re.compile(r" ([a-z]+) (%s)" % EVENT)
-PLACE = re.compile(r" (?:[0-7]:[A-Z]+|[A-Za-z_][A-Za-z0-9_]*)=[0-9|]+")
+PLACE = re.compile(r" (?:[0-7]:[A-Z]+|[A-Za-z_][A-Za-z0-9_]*)=[0-9|]*")
 
 
 # ---- steps as lines
@@ -44,7 +45,7 @@ def read_step(line):
     if word == "False":
         known_form(re.fullmatch("(?:%s)*" % PLACE.pattern, line[depth + len(word):]), line)
         places = (place.strip().split("=") for place in PLACE.findall(line[depth + len(word):]))
-        return dict(step, places={name: [int(word) for word in words.split("|")] for name, words in places})
+        return dict(step, places={name: [int(word) for word in words.split("|") if word] for name, words in places})
     if line[depth:] != "Endcases":
         raise Wrong("no step: " + line)
     return step
@@ -260,6 +261,9 @@ def reason_of(test, model, value):
     if value.get("answer") == "never":
         part, known = Tree(test, value["steps"]).whole(), Known(test, events_of(test))
         judge(part, known, model)
+        for step in value["steps"]:
+            if step["step"] == "false":
+                judge_as_read(test, step)
         steps = steps_of(part, 0, known, model)
         return dict(head_of(test, model, False), steps=steps, leaves=sum(step["step"] in LEAF_STEPS for step in steps))
     return dict(head_of(test, model, True), **allowed_by(test, model, value["choices"]))

@@ -4,6 +4,7 @@ true', and docs/MODELS.md, 'Refutations'.
 A part of a tree is a question, `Reads` or `First`, with a part for each of its answers, or a leaf. A step is what `why --json` has
 it as. What is known in a branch are its answers, and what follows from them of values.
 """
+import itertools
 import typing
 
 from . import litmus, printing
@@ -149,15 +150,7 @@ class Known:
 
     def allows(self, claim, truth):
         """Whether the proposition can have this truth."""
-        form = claim[0]
-        if form == "truth":
-            return claim[1] == truth
-        if form in ("register", "location"):
-            return any(word is None or (word == claim[-1]) == truth for word in self.words_at(claim[:-1]))
-        if form == "not":
-            return self.allows(claim[1], not truth)
-        every = (form == "and") == truth
-        return (all if every else any)(self.allows(part, truth) for part in claim[1])
+        return can_have(claim, truth, self.words_at)
 
     def telling(self, claim, truth):
         """The places that tell that the proposition can't have this truth: of parts of which one suffices those of the first that can't
@@ -182,10 +175,53 @@ class Known:
         looked = printing.Looked(self.test)
         places = [("register",) + place for place in looked.registers] + [("location", place) for place in looked.locations]
         words = {place: self.words_at(place) for place in places if place in telling}
-        return [place for place in places if words.get(place) and None not in words[place]]
+        return [place for place in places if place in words and None not in words[place]]
 
     def place_name(self, place):
         return self.test.locations[place[1]] if place[0] == "location" else "%d:%s" % (place[1], litmus.REGISTERS[place[2]])
+
+
+def can_have(claim, truth, words_at):
+    """Whether a proposition can have this truth, each of its atoms by itself. `words_at` has what a place may hold; None is anything."""
+    form = claim[0]
+    if form == "truth":
+        return claim[1] == truth
+    if form in ("register", "location"):
+        return any(word is None or (word == claim[-1]) == truth for word in words_at(claim[:-1]))
+    if form == "not":
+        return can_have(claim[1], not truth, words_at)
+    every = (form == "and") == truth
+    return (all if every else any)(can_have(part, truth, words_at) for part in claim[1])
+
+
+def places_of(cases):
+    """The places that a line `False` names which closes these cases, each with all values that it has in one of them."""
+    return {place: list(dict.fromkeys(word for case in cases for word in case.words_at(place))) for place in cases[0].places()}
+
+
+def are_enough(claim, places):
+    """Whether a line that names these places says it of all cases: it names one place, or with any of the values at each the proposition is
+    false."""
+    return len(places) == 1 or not can_have(claim, True, lambda place: places.get(place, [None]))
+
+
+def judge_as_read(test, step):
+    """Raises `Wrong` where a line `False` isn't so as it is read: what is asked can be true with one of its values at each place."""
+    names = [place_named(test, name) for name in step["places"]]
+    for chosen in itertools.product(*step["places"].values()):
+        held = dict(zip(names, chosen))
+        if can_have(asked_of(test), True, lambda place, held=held: [held.get(place)]):
+            raise Wrong("what is asked isn't false with %s" % dict(zip(step["places"], chosen)))
+
+
+def place_named(test, name):
+    """The register or location of a name; raises `Wrong` where the test has none."""
+    core, colon, register = name.partition(":")
+    if colon and register in litmus.REGISTERS:
+        return "register", int(core), litmus.REGISTERS.index(register)
+    if name not in test.locations:
+        raise Wrong("no place of the test: " + name)
+    return "location", test.locations.index(name)
 
 
 # ---- whether a tree refutes
@@ -268,12 +304,18 @@ def branches_of(question, known):
 
 
 def groups_of(closed, are_sources):
-    """Branches that a leaf closes, those together which one line `False` closes: sources of a read of which the same places are named."""
+    """Branches that a leaf closes, those together which one line `False` closes: sources of a read of which the same places are named, where
+    one line says it of all."""
     groups = {}
     for at, branch in enumerate(closed):
         alike = are_sources and isinstance(branch[2], FalseClaim)
         groups.setdefault(tuple(branch[1].places()) if alike else at, []).append(branch)
-    return list(groups.values())
+    return [part for group in groups.values() for part in ([group] if share_a_line(group) else [[branch] for branch in group])]
+
+
+def share_a_line(group):
+    cases = [known for _, known, _ in group]
+    return len(group) == 1 or are_enough(cases[0].claim, places_of(cases))
 
 
 def answer_step(word, depth, known, question, answers):
@@ -292,8 +334,7 @@ def leaf_step(leaf, depth, cases, model):
     if isinstance(leaf, Between):
         return {"step": "between", "depth": depth, "read": known.text(leaf.read), "between": known.text(leaf.between),
                 "write": known.text(leaf.write)}
-    places = {known.place_name(place): list(dict.fromkeys(word for case in cases for word in case.words_at(place)))
-              for place in known.places()}
+    places = {known.place_name(place): words for place, words in places_of(cases).items()}
     return {"step": "false", "depth": depth, "places": places}
 
 

@@ -166,7 +166,16 @@ def outcomes_row(bench, folder):
     bench.window.click("#begin")
     bench.wait("!bench.task && byId('hint').textContent")
     faults += differs("too few states", bench.text("#hint"), bench.said(bench.program(test, "outcomes", "--states", "3")[2]))
-    return faults + safety(bench)
+    return faults + faults_of_met(bench, found) + safety(bench)
+
+
+def faults_of_met(bench, found):
+    """Whether some states, of a search that met its limit, are shown as some, with the verdict that one of them decides."""
+    told = {"met": found["states"][:2], "test": found["test"], "unfinished": {"states": 3}, "verdict": "Ok"}
+    bench.value("showMet({ status: 3, text: %s, hint: '' }, 32)" % json.dumps(json.dumps(told)))
+    said = bench.text("#states p")
+    faults = differs("rows of the table of some states", bench.value("document.querySelectorAll('#states tbody tr').length"), 2)
+    return faults + differs("some states", [said.startswith("The search kept 3 states"), "2 of the final states were met" in said, "Ok" in said], [True] * 3)
 
 
 def verdict_row(bench):

@@ -20,6 +20,7 @@ import shutil
 import subprocess
 import sys
 
+from . import processes
 from .faults import BadWords, Failed, NoAnswer, NoProgram, Refused, TookTooLong, Unfinished
 from .records import (Allowed, Asked, Cache, Check, Choices, Condition, Copy, Core, Edge, Holder, Machine, Met, Moment, Never, Observation,
                       Outcomes, Reason, Run, Source, State, Step, Sweep, Trace, Traced, Witness, made)
@@ -29,6 +30,9 @@ ANSWERED, REFUSED, BAD_WORDS, UNFINISHED, NOT_VALID = 0, 1, 2, 3, 4
 
 # The status of ./tso, the script, where it has no program.
 NO_PROGRAM = 70
+
+# Seconds in which a program says what it is.
+TOLD_WITHIN = 10
 
 # The program that a call without `program` asks: its path, once it was looked for.
 default = []
@@ -59,15 +63,18 @@ def is_script(path):
 def told_by_script(path):
     """The program that a script runs, where it tells that; else the script."""
     try:
-        done = subprocess.run([path, "--program"], stdin=subprocess.DEVNULL, capture_output=True, text=True)
+        done = processes.answered([path, "--program"], limit=TOLD_WITHIN)
     except OSError as fault:
         raise NoProgram(str(fault)) from None
+    except subprocess.TimeoutExpired:
+        return path
+    said, errors = (os.fsdecode(text) for text in (done.stdout, done.stderr))
     if done.returncode == NO_PROGRAM:
-        raise NoProgram(done.stderr.strip())
-    told = done.stdout.strip()
+        raise NoProgram(errors.strip())
+    told = said.strip()
     if done.returncode != 0 or not os.path.isfile(told):
         return path
-    sys.stderr.write(done.stderr)
+    sys.stderr.write(errors)
     return told
 
 
@@ -81,7 +88,7 @@ def chosen(program):
 def version(program=None):
     """The program's name and version, or None where it tells none."""
     try:
-        done = subprocess.run([chosen(program), "--version"], stdin=subprocess.DEVNULL, capture_output=True, timeout=10)
+        done = processes.answered([chosen(program), "--version"], limit=TOLD_WITHIN)
     except (OSError, subprocess.TimeoutExpired):
         return None
     # as its help, it is on standard error
@@ -103,7 +110,7 @@ def options(command, program=None):
 def help_of(words, program):
     """What the program says of itself, or of a command."""
     try:
-        done = subprocess.run([chosen(program), *words, "--help"], stdin=subprocess.DEVNULL, capture_output=True)
+        done = processes.answered([chosen(program), *words, "--help"])
     except OSError as fault:
         raise NoProgram(str(fault)) from None
     return (done.stdout + done.stderr).decode("latin-1")
@@ -112,8 +119,7 @@ def help_of(words, program):
 def call(words, given, program=None, limit=None):
     """What the program prints of this command line and input, and the status: ANSWERED, UNFINISHED or NOT_VALID. All else is raised."""
     try:
-        done = subprocess.run([chosen(program), *map(str, words)], input=given.encode("latin-1", "replace"), capture_output=True,
-                              timeout=limit)
+        done = processes.answered([chosen(program), *map(str, words)], given.encode("latin-1", "replace"), limit)
     except subprocess.TimeoutExpired:
         raise TookTooLong(limit) from None
     except OSError as fault:
@@ -126,8 +132,11 @@ def call(words, given, program=None, limit=None):
         raise BadWords(errors.split("\n\n")[0].strip())
     if done.returncode not in (ANSWERED, UNFINISHED, NOT_VALID):
         raise Failed(done.returncode, said or errors)
-    if done.returncode == UNFINISHED and said.startswith("{"):
-        raise Unfinished(json.loads(said), hint and hint.group(1))
+    if said.startswith("{") and (done.returncode == UNFINISHED or "--assert" in words):
+        answered = json.loads(said)
+        # with --assert the status is that of a verdict where a state that was met decides it
+        if "unfinished" in answered:
+            raise Unfinished(answered, hint and hint.group(1))
     return said, done.returncode
 
 

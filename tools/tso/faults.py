@@ -1,7 +1,8 @@
 """What is no answer of the program `tso`: kinds of NoAnswer."""
 import re
+import typing
 
-from .records import Trace, made
+from .records import State, Trace, made
 
 
 class NoAnswer(Exception):
@@ -45,10 +46,12 @@ class Refused(NoAnswer):
 
 class Unfinished(NoAnswer):
     """A limit was met before there was an answer: `states` of outcomes, `cases` of why, or of run and trace the choices `used` before the
-    test's end, of which so many `stalled`; `trace` is that of `trace`. What doesn't apply is None."""
+    test's end, of which so many `stalled`; `trace` is that of `trace`. Of outcomes `met` is a list of the final states that were met, some of
+    all that there are, and `verdict` is Ok or No where one of them decides it. What doesn't apply is None."""
 
     def __init__(self, answer, hint):
         limit = answer["unfinished"]
         super().__init__("unfinished: " + ", ".join("%s=%s" % pair for pair in sorted(limit.items())))
         self.states, self.cases, self.used, self.stalled = map(limit.get, ("states", "cases", "used", "stalled"))
         self.trace, self.hint = made(Trace, answer["trace"]) if "trace" in answer else None, hint
+        self.met, self.verdict = made(typing.Optional[list[State]], answer.get("met")), answer.get("verdict")

@@ -92,8 +92,8 @@ With --show registers it also shows each register that an instruction of its cor
 all, also all locations. --depth is 32 here and 4 in other commands. No program has more than 32 stores,\n\
 so at 32 these are all values that TSO allows, and at 0 all that sequential consistency allows. So Never\n\
 is a proof here: no run of this machine makes the proposition true, and at depth 32 no TSO execution\n\
-does. If outcomes would have to keep more states than --states, it prints only Unfinished: no values,\n\
-and no Never.\n\
+does. If outcomes would have to keep more states than --states, it prints Unfinished, and some of the\n\
+values, those that it met; then Verdict only if one of them decides it.\n\
 \n\
 Exit status: 0 all states are printed, 1 the test was refused, 2 the command line was refused, 3 --states\n\
 was too few, 4 with --assert the verdict is No, 5 memory, input or output failed.\n\

@@ -11,6 +11,7 @@ pub mod ReadBack
 pub mod Searching
 pub mod Counting
 pub mod Ending
+pub mod Appending
 pub mod Completing
 pub mod Finals
 pub mod Allowing

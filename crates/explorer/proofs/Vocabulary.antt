@@ -25,7 +25,7 @@ pub use Rattle.tso_terms.specs.Runs.{stall_count, CoresExist, is_done, all_done,
 pub use Rattle.tso_laws.specs.Eager.{IsEager, IsEagerBy, Avoids, meets}
 pub use Rattle.tso_laws.specs.Closed.{LeadsEagerly, IsAmongStates, IsCovered, IsExpandedEnough, ArePartlyClosed, PartlyClosedStatesMissNone}
 pub use Rattle.explorer.specs.Settled.{LeadsBy, IsSettled, LeadsToForgotten}
-pub use Rattle.explorer.specs.inner.Settled.{Grows, IsKeptState, HaveCores, IsCurrent, LeadOn, IsReachedByChoice, IsVisited, ArePicksVisited, AreLinked, LeadByTurns, IsLinked, IsPath, GoBack, LeadToExchanged, IsInOrder}
+pub use Rattle.explorer.specs.inner.Settled.{Grows, IsKeptState, HaveCores, IsCurrent, LeadOn, AreAppended, IsReachedByChoice, IsVisited, ArePicksVisited, AreLinked, LeadByTurns, IsLinked, IsPath, GoBack, LeadToExchanged, IsInOrder}
 pub use Rattle.flat_machine.specs.declared.snapshot.Snapshot.{Snapshot}
 pub use Rattle.explorer.specs.declared.packed.Packed.{Packed}
 pub use Rattle.explorer.specs.inner.Packed.{state_bytes, state_of_bytes, state_of_packed, Packs, number_bytes, core_bytes, list_bytes, read_word, read_core, read_list, entry_bytes, read_entry, all_bytes, read_all, read_number}

@@ -22,6 +22,7 @@ use crate::fault::ExploreFault;
 use crate::found::{Found, begin};
 use crate::link::path;
 use crate::plan::{Plan, plan_of};
+use crate::running_on::run_on;
 use crate::search::{Extent, expand_all};
 use crate::unpacking::unpack;
 use crate::watching::{Unwatched, Watcher};
@@ -127,13 +128,38 @@ fn search_all<W: Watcher>(
     close(alloc, plan, found, limit)
 }
 
+/// As [`search_all`]. Where more than `limit` states are kept, it runs on from some of them to the end of the test.
+///
+/// Errors: out of memory only.
+fn search_on<W: Watcher>(
+    alloc: Global,
+    plan: &Plan,
+    found: &mut Found,
+    limit: usize,
+    watcher: &mut W,
+) -> Result<(), NoMemory>
+    requires plan { IsPlan plan.now }
+    requires found { IsInOrder plan.now found.old }
+    requires covered { IsCovered plan.now.depth plan.now.test.now plan.now.hidden.now plan.now.alike.items
+        (map state_of_packed found.old.states.keys) (start plan.now.test.now) }
+    ensures found { OnOk result (IsInOrder plan.now found.new) }
+    ensures whole { OnOk result (length found.new.states.keys ≤ limit
+        → MissesNoEnd plan.now.depth plan.now.test.now plan.now.hidden.now plan.now.alike.items found.new.states.keys) }
+{
+    search_all(alloc, plan, found, limit, watcher)?;
+    if found.states.len() <= limit {
+        return Ok(());
+    }
+    run_on(alloc, plan, found)
+}
+
 /// What a search met, whether it came to its end or to its limit.
 #[derive(Drop)]
 pub struct Met {
     /// How far the search came.
     pub extent: Extent,
     /// The final states among the states that it kept, each once, but for hidden registers. Where the search came to its end,
-    /// they are all that there are.
+    /// they are all that there are; where it came to its limit, those that its runs to the end of the test lead to are among them.
     pub final_states: Vec<FinalState>,
     /// How many states the search kept, as [`Exploration`] counts them.
     pub kept: usize,
@@ -141,7 +167,8 @@ pub struct Met {
 
 /// As [`explore`], watched: the watcher is told after each [`STRIDE`] further states that are kept, and when the search is over.
 /// Whatever the watcher does, the answer is the same. Where the machine can reach more states than `limit`, the search
-/// ends there, and answers what it had met. It keeps so many different states that the machine can reach.
+/// ends there, runs on to the end of the test from some of the states that it keeps, and answers what it has met. It keeps so many
+/// different states that the machine can reach.
 ///
 /// Errors: out of memory only.
 pub fn explore_watched<W: Watcher>(
@@ -166,7 +193,7 @@ pub fn explore_watched<W: Watcher>(
     dead_registers_change_nothing();
     runs_stop_where_they_end();
     plan.test.know_limits();
-    let searched = search_all(alloc, &plan, &mut found, limit, watcher);
+    let searched = search_on(alloc, &plan, &mut found, limit, watcher);
     let kept = found.states.len();
     watcher.is_over(kept);
     searched?;

@@ -7,7 +7,8 @@
 //! alone are kept as one: those that nothing reads any more, and that nobody looks at in the end. So
 //! are states that differ by which of some cores that are alike is which; at the end all of those in
 //! which the test has ended are put back. Where there are more states than may be kept, the search ends
-//! there, and answers the final states that it had met.
+//! there. It then runs on from some of those that it keeps, down to the end of the test, and answers the
+//! final states that it has met.
 #![tactic(auto)]
 
 mod alike;
@@ -26,6 +27,7 @@ mod packing;
 mod picking;
 pub mod plan;
 pub mod reached;
+mod running_on;
 pub mod search;
 pub mod situation;
 pub mod stubborn;

@@ -7,13 +7,14 @@ use crate::quotes::first_word;
 use crate::reader::Reader;
 use crate::search_end::SearchEnd;
 use crate::unended::count_instructions;
-use crate::unused::{first_unused, location_named, uses_all_locations};
+use crate::unused::{first_unused, location_named};
+use crate::unwritten::first_unwritten;
 use litmus_reader::Fault;
 use litmus_tokens::tokens_of;
 use order_builder::OrderFault;
 use scheduler::{ChoiceFault, Stalls};
 use std::alloc::Global;
-use tso_terms::{NoMemory, Test};
+use tso_terms::{Core, NoMemory, Reg, Test};
 
 /// What an answer knew of which a hint can be made: what was at fault in an input, and where it stands
 /// there; why a run or a search didn't end; or what may mislead in an answer.
@@ -79,6 +80,21 @@ pub enum Cause {
         first: usize,
         length: usize,
     },
+    /// The condition names a register, after so many bytes of the input, that no instruction of its core writes: it
+    /// keeps this value.
+    UnwrittenRegister {
+        first: usize,
+        core: Core,
+        reg: Reg,
+        value: u32,
+    },
+    /// The condition asks a location for another value than this, which it keeps since no instruction writes it: its
+    /// name there is so many bytes of the input, after so many others.
+    UnwrittenLocation {
+        first: usize,
+        length: usize,
+        value: u32,
+    },
     /// The test lists a register or a location that its states leave out: its name there is so many bytes of
     /// the input, after so many others.
     LeftOut {
@@ -110,22 +126,27 @@ impl Cause {
         }
     }
 
-    /// That the condition of a test, which this text spells, names a location that no program uses and no
-    /// initial state sets; of more than one the first. `None` where there is none.
+    /// What may mislead in the condition of a test, which this text spells: that it names a location that no program
+    /// uses and no initial state sets; else a register that no instruction of its core writes; else that it asks
+    /// another value of a location than the one that it keeps. Of several of one kind the first. `None` where there is
+    /// none.
     ///
     /// Errors: out of memory only.
-    pub fn of_unused_location(
+    pub fn of_condition(
         alloc: Global,
         test: &Test,
         text: &[u8],
     ) -> Result<Option<Cause>, NoMemory> {
-        if uses_all_locations(test) {
+        if test.cond().is_none() {
             return Ok(None);
         }
         let body = body_of(text);
         let tokens = tokens_of(alloc, body)?;
         let ending = tokens_of(alloc, ending_of(body, &tokens))?;
-        Ok(first_unused(test, text, &tokens.items, &ending.items))
+        match first_unused(test, text, &tokens.items, &ending.items) {
+            Some(cause) => Ok(Some(cause)),
+            None => Ok(first_unwritten(test, text, &ending.items)),
+        }
     }
 
     /// That the choices of this text end before the test, on a machine with store buffers or without. These of them

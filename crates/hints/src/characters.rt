@@ -4,17 +4,32 @@
 use crate::line::{Line, Piece};
 use crate::place::Place;
 use crate::quotes::first_bytes;
+use crate::signs::DIVIDER;
 use crate::tables::{Alike, said_of_front};
 
 /// Characters of a test's signs, and what stands for them.
-static SIGNS: [Alike; 7] = [
-    Alike(&["\u{2227}"], "write /\\"),
-    Alike(&["\u{2228}"], "write \\/"),
+static SIGNS: [Alike; 11] = [
+    Alike(&["\u{2227}", "\u{22c0}"], "write /\\"),
+    Alike(&["\u{2228}", "\u{22c1}"], "write \\/"),
     Alike(&["\u{ac}"], "write ~"),
     Alike(&["\u{2203}"], "write exists"),
+    Alike(&["\u{2204}"], "write ~exists"),
     Alike(&["\u{2200}"], "write forall"),
+    Alike(&["\u{2260}"], "that 0:EAX isn't 1 is written ~(0:EAX=1)"),
     Alike(
-        &["\u{201c}", "\u{201d}", "\u{201e}", "\u{ab}", "\u{bb}"],
+        &[
+            "\u{2502}", "\u{a6}", "\u{2503}", "\u{2223}", "\u{ff5c}", "\u{2758}", "\u{2551}",
+        ],
+        "cells are split by the vertical bar |",
+    ),
+    Alike(
+        &["\u{2190}", "\u{2254}"],
+        "a store is MOV [x],$1, a load MOV EAX,[x]",
+    ),
+    Alike(
+        &[
+            "\u{201c}", "\u{201d}", "\u{201e}", "\u{ab}", "\u{bb}", "\u{2018}", "\u{2019}",
+        ],
         "write \" here and at its other end",
     ),
     Alike(
@@ -22,6 +37,14 @@ static SIGNS: [Alike; 7] = [
         "a number has no sign: write -1 as 4294967295",
     ),
 ];
+
+/// Dashes, of which a line is meant as the dividing line.
+static DASHES: [Alike; 1] = [Alike(
+    &[
+        "\u{2013}", "\u{2014}", "\u{2015}", "\u{2500}", "\u{2550}", "\u{2501}",
+    ],
+    DIVIDER,
+)];
 
 /// Characters that look like a space or like nothing, and what stands for them, in any text.
 static BLANKS: [Alike; 2] = [
@@ -39,7 +62,14 @@ static BLANKS: [Alike; 2] = [
 
 /// Says of a byte that isn't printable, and of the character that it begins.
 pub fn say_character(line: &mut Line, place: &Place<'_>, byte: u8) {
-    let said = said_of_front(&SIGNS, place.rest).unwrap_or("it may stand only in a comment");
+    let dashes = if place.is_first_on_line() {
+        said_of_front(&DASHES, place.rest)
+    } else {
+        None
+    };
+    let said = dashes.or(said_of_front(&SIGNS, place.rest)).unwrap_or(
+        "leave it out, or write it in ASCII; it may stand only in a comment",
+    );
     if !says_foreign_at(line, place, said) {
         line.say_number("the byte {} can't stand here", usize::from(byte));
     }

@@ -2,11 +2,11 @@
 
 use crate::characters::says_foreign;
 use crate::divider::begins_order;
-use crate::faults::ONE_TEST;
+use crate::faults::{MARKDOWN, ONE_TEST};
 use crate::hinting::NOTHING_KNOWN;
 use crate::line::{Line, Piece};
-use crate::quotes::{is_all_digits, word};
-use crate::tables::{is_exactly_one_of, is_one_of};
+use crate::quotes::{digits_at, is_all_digits, last_bytes, word};
+use crate::tables::{Alike, is_exactly_one_of, is_one_of, said_of, said_of_front};
 use scheduler::{ChoiceFault, MAX_CHOICES};
 
 /// Says what is at fault in choices of a test with so many cores, with the word.
@@ -91,12 +91,51 @@ fn begin_word<'a>(line: &mut Line, text: &'a [u8], number: usize) -> (&'a [u8], 
     (&[], part)
 }
 
+/// What is said of a word that is no choice, by how it begins.
+static BEGINNINGS: [Alike; 6] = [
+    Alike(
+        &["#", "//", "(*", "/*", "--", ";"],
+        "{}: choices have no comments: leave it out",
+    ),
+    Alike(&["```"], MARKDOWN),
+    Alike(&["X86"], ONE_TEST),
+    Alike(
+        &["="],
+        "{}: an input has only one line ====, between the test and the choices",
+    ),
+    Alike(
+        &["exists", "forall", "~"],
+        "{} begins a condition, which stands before the line ====",
+    ),
+    Alike(
+        &["seed", "rand"],
+        "{}: write seed N M, as seed 1 1000, in small letters with spaces between",
+    ),
+];
+
+/// What is said of a word that is no choice, by the whole of it.
+static WORDS: [Alike; 4] = [
+    Alike(
+        &["seed"],
+        "write two numbers after seed, the seed and how many choices it makes, as in seed 1 1000",
+    ),
+    Alike(
+        &["By", "Choices", "choices:"],
+        "{} is no choice: leave it out, and all but choices as 0s 1s 0d",
+    ),
+    Alike(
+        &["drain", "flush", "commit", "dequeue"],
+        "{} is no choice: that core 0 drains a store is 0d",
+    ),
+    Alike(
+        &["step", "execute", "exec", "issue", "s"],
+        "{} is no choice: that core 0 steps is 0s",
+    ),
+];
+
 fn bad_first(line: &mut Line, word: &[u8]) {
-    let sentence = if is_exactly_one_of(&["seed"], word) {
-        "write two numbers after seed, the seed and how many choices it makes, as in seed 1 1000"
-    } else if is_one_of(&["seed"], word) {
-        "{}: write seed, in small letters"
-    } else if is_all_digits(word) {
+    let is_seed = is_exactly_one_of(&["seed"], word);
+    if is_all_digits(word) {
         // A letter belongs to the number.
         let core = if word.len() < 10 {
             Piece::Shown(word)
@@ -104,41 +143,88 @@ fn bad_first(line: &mut Line, word: &[u8]) {
             Piece::Text("0")
         };
         return line.say_with(
-            "{} lacks its letter: {}s steps that core, {}d drains it",
+            "{} lacks its letter: {}s steps that core, {}d drains it, with no space between",
             &[Piece::Named(word), core, core],
         );
-    } else if word.starts_with(b"=") {
-        "{}: an input has only one line ====, between the test and the choices"
-    } else if word.starts_with(b"X86") {
-        ONE_TEST
-    } else if begins_order(word) {
-        "{} begins an order, which check and witness read: run reads choices"
+    }
+    let said = if begins_order(word) {
+        Some("{} begins an order, which check and witness read: run reads choices")
+    } else if is_seed || !is_one_of(&["seed"], word) {
+        said_of(&WORDS, word)
     } else {
-        return other_first(line, word);
+        None
     };
-    line.say_of(sentence, word);
+    match said.or(said_of_front(&BEGINNINGS, word)) {
+        Some(said) => line.say_of(said, word),
+        None => other_first(line, word),
+    }
 }
 
+/// Of a word that is no choice, by the one number that it has, if it has one.
 fn other_first(line: &mut Line, word: &[u8]) {
-    match word.split_last() {
-        Some((letter, digits)) if matches!(letter, b'S' | b'D') && is_all_digits(digits) => {
-            let letter = [letter.to_ascii_lowercase()];
-            line.say_with(
-                "{}: write {}{}, in small letters",
-                &[
-                    Piece::Named(word),
-                    Piece::Shown(digits),
-                    Piece::Shown(&letter),
-                ],
-            );
-        }
-        _ if word.contains(&b',') || word.contains(&b';') => line.say_of(
-            "{}: only spaces and line ends stand between choices",
-            word,
-        ),
-        _ => line.say_of(
+    if word.contains(&b',') || word.contains(&b';') {
+        return line.say_of("{}: only spaces and line ends stand between choices", word);
+    }
+    let core = digits_at(after_no_digits(word));
+    let after = last_bytes(word, after_no_digits(word).len().saturating_sub(core.len()));
+    if core.is_empty() {
+        return line.say_of(
             "{} is no choice: 0s (core 0 steps), 0d (core 0 drains) or seed N M",
             word,
-        ),
+        );
     }
+    if !digits_at(after_no_digits(after)).is_empty() {
+        return line.say_of(
+            "{} is no choice: 0s (core 0 steps) or 0d (core 0 drains), with spaces between choices",
+            word,
+        );
+    }
+    let small = match word.split_last() {
+        Some((b'S' | b'D', digits)) if is_all_digits(digits) => ", in small letters",
+        _ => "",
+    };
+    let letter = if has_letter(word, b"dD") {
+        "d"
+    } else if has_letter(word, b"sS") {
+        "s"
+    } else {
+        return line.say_with(
+            "{}: write {}s where core {} steps, and {}d where it drains a store",
+            &[
+                Piece::Named(word),
+                Piece::Shown(core),
+                Piece::Shown(core),
+                Piece::Shown(core),
+            ],
+        );
+    };
+    line.say_with(
+        "{}: write {}{}{}",
+        &[
+            Piece::Named(word),
+            Piece::Shown(core),
+            Piece::Text(letter),
+            Piece::Text(small),
+        ],
+    );
+}
+
+/// What stands from the first digit on.
+fn after_no_digits(word: &[u8]) -> &[u8] {
+    for at in 0..word.len() {
+        if word[at].is_ascii_digit() {
+            return &word[at..];
+        }
+    }
+    &[]
+}
+
+/// Whether one of these letters stands in a word.
+fn has_letter(word: &[u8], letters: &[u8]) -> bool {
+    for letter in word {
+        if letters.contains(letter) {
+            return true;
+        }
+    }
+    false
 }

@@ -2,6 +2,7 @@
 //! mislead.
 
 use crate::line::Line;
+use crate::place::Place;
 use crate::quotes::{is_choice, word};
 use crate::reader::Reader;
 use crate::tables::is_exactly_one_of;
@@ -15,11 +16,11 @@ pub struct Asked {
 
 /// Says that the dividing line is missing, where an input without one goes on after its test as it would after such a line.
 /// Whether it does.
-pub fn says_missing_divider(line: &mut Line, asked: Asked, rest: &[u8]) -> bool {
-    let word = word(rest);
+pub fn says_missing_divider(line: &mut Line, asked: Asked, place: &Place<'_>) -> bool {
+    let word = word(place.rest);
     let sentence = if asked.is_divided {
         return false;
-    } else if word.starts_with(b"=") {
+    } else if word.starts_with(b"=") && place.is_first_on_line() {
         "{} is no dividing line: write ==== alone, with no space before or after it"
     } else if is_choice(word) {
         "{} is no part of a test: put a line ==== between the test and the choices"

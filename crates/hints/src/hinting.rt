@@ -16,6 +16,7 @@ use crate::quotes::{first_bytes, last_bytes};
 use crate::search_end::search_ends;
 use crate::unended::{MORE_CASES, NO_CHOICES, choices_end, never_seen};
 use crate::unused::{UNUSED, say_named};
+use crate::unwritten::{keeps_location, keeps_register};
 use std::alloc::Global;
 use tso_terms::NoMemory;
 
@@ -92,6 +93,17 @@ fn say_cause(alloc: Global, line: &mut Line, cause: &Cause, input: &[u8]) -> Res
         Cause::UnusedLocation { first, length } => {
             say_named(line, UNUSED, input, *first, *length);
         }
+        Cause::UnwrittenRegister {
+            first,
+            core,
+            reg,
+            value,
+        } => keeps_register(line, input, *first, (*core, *reg), *value),
+        Cause::UnwrittenLocation {
+            first,
+            length,
+            value,
+        } => keeps_location(line, input, *first, *length, *value),
         Cause::LeftOut {
             first,
             length,

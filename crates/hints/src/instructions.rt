@@ -4,7 +4,175 @@ use crate::tables::Alike;
 
 /// Of what isn't done one instruction after the other.
 pub const STRAIGHT: &str =
-    "{} isn't read: a program has no jumps and no compares; use XCHG to take a lock, and write out each try of a loop";
+    "{} isn't read: a program has no branches, jumps or compares; use XCHG to take a lock, and write out each try of a loop";
+
+/// Of a label.
+pub const LABEL: &str = "{}: is a label, and a program has no jumps: leave it out";
+
+const ARITHMETIC: &str =
+    "{} isn't read: without LOCK it isn't one step. Write a load, as MOV EAX,[x], and a store of the result, as MOV [x],$1; to change a register, MOV EAX,$1";
+
+const STORE: &str = "{} isn't read: a store is MOV [x],$1 or MOV [x],EAX";
+
+const LOAD: &str = "{} isn't read: a load is MOV EAX,[x]";
+
+const FENCE: &str =
+    "{} isn't read: the fence is MFENCE; leave out one that keeps only loads or only stores in order";
+
+/// Instructions and words of other processors and languages, by their whole names.
+pub static OTHERS: [Alike; 13] = [
+    Alike(
+        &[
+            "STORE", "ST", "STR", "STLR", "STW", "SW", "SD", "WRITE", "W", "PUT", "SET", "ASSIGN",
+            "let", "var",
+        ],
+        STORE,
+    ),
+    Alike(
+        &[
+            "LOAD", "LD", "LDR", "LDAR", "LWZ", "LW", "READ", "R", "GET", "FETCH",
+        ],
+        LOAD,
+    ),
+    Alike(
+        &[
+            "FENCE",
+            "MF",
+            "MB",
+            "SYNC",
+            "DMB",
+            "DSB",
+            "ISB",
+            "BARRIER",
+            "MEMBAR",
+            "HWSYNC",
+            "LWSYNC",
+            "F",
+            "smp_mb",
+            "rmb",
+            "wmb",
+            "memory_barrier",
+            "thread_fence",
+            "atomic_thread_fence",
+            "__sync_synchronize",
+            "_mm_mfence",
+        ],
+        FENCE,
+    ),
+    Alike(
+        &[
+            "CAS",
+            "TAS",
+            "TSL",
+            "SWAP",
+            "SWP",
+            "EXCHANGE",
+            "EXCH",
+            "RMW",
+            "test_and_set",
+        ],
+        "{} isn't read: an exchange in one step is XCHG [x],EAX",
+    ),
+    Alike(
+        &[
+            "FAA",
+            "FADD",
+            "LDADD",
+            "FETCH_ADD",
+            "fetch_and_add",
+            "INCREMENT",
+        ],
+        "{} isn't read: an addition in one step is LOCK XADD [x],EAX",
+    ),
+    Alike(
+        &["LOCKXADD", "LOCK_XADD", "LOCKXCHG", "LOCK_XCHG"],
+        "{}: write a space after LOCK: LOCK XADD [x],EAX",
+    ),
+    Alike(
+        &[
+            "if", "while", "for", "do", "else", "goto", "until", "repeat", "switch", "break",
+            "spin", "wait", "endif", "then", "await", "BNE", "BEQ", "CBZ", "CBNZ", "B",
+        ],
+        STRAIGHT,
+    ),
+    Alike(
+        &["LEA"],
+        "{} isn't read: no register can hold an address here: write the location's name in the instruction, as [x]",
+    ),
+    Alike(
+        &["PUSH", "POP"],
+        "{} isn't read: there is no stack: a store is MOV [x],EAX, a load MOV EAX,[x]",
+    ),
+    Alike(
+        &[
+            "MOVZX", "MOVSX", "MOVSXD", "MOVABS", "MOVNTI", "MOVNTDQ", "MOVD", "MOVAPS", "MOVUPS",
+            "MOVDQA", "MOVDQU", "MOVSS", "MOVSD", "MOVDIRI", "MOVBE",
+        ],
+        "{} isn't read: write MOV, which moves a word of 32 bits",
+    ),
+    Alike(
+        &[
+            "MUL", "IMUL", "DIV", "IDIV", "SAL", "SAR", "ROL", "ROR", "ADC", "SBB", "BSWAP",
+        ],
+        ARITHMETIC,
+    ),
+    Alike(
+        &["BT", "BTS", "BTR", "BTC"],
+        "{} isn't read: a lock is taken by XCHG [x],EAX, with 1 in EAX",
+    ),
+    Alike(
+        &[
+            "CPUID",
+            "RDTSC",
+            "RDTSCP",
+            "HLT",
+            "INT",
+            "XBEGIN",
+            "XEND",
+            "XABORT",
+            "SERIALIZE",
+            "WBINVD",
+            "INVD",
+            "CLI",
+            "STI",
+            "SYSCALL",
+            "REP",
+            "UD2",
+            "print",
+            "printf",
+            "skip",
+            "empty",
+            "nothing",
+            "none",
+        ],
+        "{} isn't read: leave it out; if it stands for a fence, write MFENCE",
+    ),
+];
+
+/// By how its name begins, an access in C.
+pub static CALLS: [Alike; 2] = [
+    Alike(
+        &[
+            "atomic_store",
+            "__atomic_store",
+            "WRITE_ONCE",
+            "smp_store",
+            "store_release",
+            "std::atomic",
+        ],
+        STORE,
+    ),
+    Alike(
+        &[
+            "atomic_load",
+            "__atomic_load",
+            "READ_ONCE",
+            "smp_load",
+            "load_acquire",
+        ],
+        LOAD,
+    ),
+];
 
 /// By how its name begins, an instruction that isn't read without LOCK.
 pub static UNLOCKED: [Alike; 6] = [
@@ -29,12 +197,12 @@ pub static UNLOCKED: [Alike; 6] = [
         &[
             "ADD", "INC", "SUB", "DEC", "AND", "OR", "XOR", "NOT", "NEG", "SHL", "SHR",
         ],
-        "{} isn't read: without LOCK it isn't one step. Write a load, as MOV EAX,[x], and a store of the result, as MOV [x],$1; to change a register, MOV EAX,$1",
+        ARITHMETIC,
     ),
 ];
 
 /// By how its name begins, an instruction that isn't read after LOCK.
-pub static LOCKED: [Alike; 4] = [
+pub static LOCKED: [Alike; 5] = [
     Alike(
         &["ADD", "INC"],
         "{} isn't read after LOCK: in a cell before it, put the number that it adds into a free register, as MOV EAX,$1; here write LOCK XADD [x],EAX",
@@ -44,6 +212,10 @@ pub static LOCKED: [Alike; 4] = [
         "{} isn't read after LOCK: in a cell before it, put 4294967296 minus its number into a free register, as MOV EAX,$4294967295; here write LOCK XADD [x],EAX",
     ),
     Alike(&["CMP", "BT"], STRAIGHT),
+    Alike(
+        &["OR", "AND", "XOR", "NOT", "NEG", "ORL", "ANDL"],
+        "{} isn't read after LOCK: for a fence write MFENCE; to write a location in one step XCHG [x],EAX",
+    ),
     Alike(
         &["MOV"],
         "{} can't be locked: LOCK may stand only before XCHG or XADD",
@@ -90,6 +262,12 @@ pub static FORMS: [Alike; 3] = [
         &["MOV"],
         "MOV has the forms MOV [x],$1  MOV [x],EAX  MOV EAX,[x]  MOV EAX,$1  MOV EAX,EBX; from [y] to [x] go through a register: MOV EAX,[y], and in the next cell MOV [x],EAX",
     ),
-    Alike(&["XCHG"], "XCHG has the forms XCHG [x],EAX  XCHG EAX,[x]"),
-    Alike(&["XADD"], "LOCK XADD has the form LOCK XADD [x],EAX"),
+    Alike(
+        &["XCHG"],
+        "XCHG has the forms XCHG [x],EAX  XCHG EAX,[x]: put a number into a register in a cell before it, as MOV EAX,$1",
+    ),
+    Alike(
+        &["XADD"],
+        "LOCK XADD has the form LOCK XADD [x],EAX: put a number into a register in a cell before it, as MOV EAX,$1",
+    ),
 ];

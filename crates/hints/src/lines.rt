@@ -5,12 +5,17 @@ ghost use Rattle.std.specs.Prelude.{IfOk, IfSome, string_bytes};
 ghost use Rattle.hints.specs.Hint.{IsHint};
 
 use crate::line::{Line, Piece};
+use crate::meant::{is_tool, meant_by};
 use crate::printing::printed;
-use crate::quotes::up_to;
+use crate::quotes::{after_byte, is_all_digits, is_choice, up_to};
 use crate::tables::is_exactly_one_of;
 use command_line::{SUBCOMMANDS, Subcommand, Value};
 use std::alloc::Global;
 use tso_terms::NoMemory;
+use tso_terms::names::continues_name;
+
+/// Maximum length of a file's name in a hint, in bytes.
+const MAX_FILE: usize = 160;
 
 /// The hint of a command line that was refused, by its words, the first of which is the program's name.
 /// `None` where nothing more is known of it.
@@ -35,52 +40,215 @@ fn say_line(line: &mut Line, words: &[&str]) {
     if words.contains(&"--help") || words.contains(&"-h") {
         return;
     }
-    if let Some(command) = Subcommand::named(name) {
-        return say_words(line, command, words);
+    match Subcommand::named(name) {
+        Some(command) => say_words(line, command, words),
+        None => say_no_command(line, name),
     }
-    // What is no command may name a file.
+}
+
+/// Of a word in the place of a command: it may be a file, an option, or a command in capitals.
+fn say_no_command(line: &mut Line, name: &str) {
     let word = name.as_bytes();
-    if !word.starts_with(b"-") && (word.contains(&b'.') || word.contains(&b'/')) {
-        line.say_with(
-            "write a command first; tso reads the test from standard input: tso run < {}",
-            &[Piece::Shown(word)],
-        );
+    if is_exactly_one_of(&["help", "--help", "-h", "--version", "-V"], word) {
+        return;
     }
+    for command in &SUBCOMMANDS {
+        if command.name().as_bytes().eq_ignore_ascii_case(word) {
+            return line.say_with(
+                "{}: write {}, in small letters",
+                &[Piece::Named(word), Piece::Text(command.name())],
+            );
+        }
+    }
+    let sentence = if is_exactly_one_of(&["version", "-v", "--Version"], word) {
+        "the version is printed by tso --version"
+    } else if is_tool(word) {
+        "{} is a tool, a program of its own: tso-{} where it is installed"
+    } else if word.starts_with(b"-") {
+        "write a command before its options, as in tso run {} < FILE"
+    } else if word.contains(&b'.') || word.contains(&b'/') {
+        let file = [Piece::Text(shown_file(name))];
+        return line.say_with(
+            "write a command first; tso reads the test from standard input: tso run < {}",
+            &file,
+        );
+    } else {
+        "the commands are run, trace, sweep, outcomes, why, check, witness and tables"
+    };
+    line.say_with(sentence, &[Piece::Shown(word), Piece::Shown(word)]);
 }
 
 /// Of the first word after a command that it hasn't, or of a value that no option lets pass.
 fn say_words(line: &mut Line, command: Subcommand, words: &[&str]) {
-    let mut option: &[u8] = b"";
-    for word in words {
-        let word = word.as_bytes();
-        if is_exactly_one_of(&["--words=3"], word)
-            || (is_exactly_one_of(&["--words"], option) && is_exactly_one_of(&["3"], word))
-        {
+    let mut before = "";
+    for at in 0..words.len() {
+        let word = words[at];
+        if is_three(before, word) {
             line.say("--words is 1, 2 or 4");
-        } else if option.is_empty() {
-            say_word(line, command, word);
+        } else if takes_value(before.as_bytes()) {
+            say_value(line, command, before.as_bytes(), word.as_bytes());
+        } else if word.starts_with('-') {
+            say_option(
+                line,
+                command,
+                word,
+                words.get(at + 1).copied().unwrap_or(""),
+            );
+        } else {
+            say_operand(line, command, before, word);
         }
         if !line.is_empty() {
             return;
         }
-        option = if takes_value(word) { word } else { b"" };
+        before = word;
     }
 }
 
-/// Of a word after a command that is no option's value: of an option, or of a file.
-fn say_word(line: &mut Line, command: Subcommand, word: &[u8]) {
-    if word.starts_with(b"-") {
-        let option = up_to(word, b'=');
-        if command.option_named(option).is_none() {
-            say_owners(line, option);
+/// Of a value that isn't a number, where the option has one.
+fn say_value<'a>(line: &mut Line, command: Subcommand, option: &'a [u8], value: &'a [u8]) {
+    let digits = value
+        .strip_prefix(b"-")
+        .or(value.strip_prefix(b"+"))
+        .unwrap_or(value);
+    if is_all_digits(digits) || value.starts_with(b"--") {
+        return;
+    }
+    if let Some(declared) = command.option_named(option)
+        && let Value::Number(least, most, _) = declared.value
+    {
+        line.say_with(
+            "{} is no number: {} is one from {} to {}",
+            &[
+                Piece::Named(value),
+                Piece::Shown(option),
+                Piece::Number(not_negative(least)),
+                Piece::Number(not_negative(most)),
+            ],
+        );
+    }
+}
+
+fn not_negative(number: i64) -> usize {
+    if number > 0 { number as usize } else { 0 }
+}
+
+/// Whether a word says that lines have three words.
+fn is_three(before: &str, word: &str) -> bool {
+    word == "--words=3" || (before == "--words" && word == "3")
+}
+
+/// Of an option, which the next word stands after.
+fn say_option<'a>(line: &mut Line, command: Subcommand, word: &'a str, next: &'a str) {
+    let bytes = word.as_bytes();
+    let option = up_to(bytes, b'=');
+    if let Some(declared) = command.option_named(option) {
+        if matches!(declared.value, Value::Flag) && bytes.contains(&b'=') {
+            line.say_with(
+                "{} takes no value: leave out what stands after it",
+                &[Piece::Shown(option)],
+            );
+        } else if bytes.contains(&b'=') {
+            say_value(line, command, option, after_byte(bytes, b'='));
         }
         return;
     }
-    let sentence = match command {
-        Subcommand::Tables => "tables reads no input: tso tables --protocol mesi",
-        _ => "tso reads standard input, so don't name a file without <: tso {} < {}",
+    if let Some(sentence) = meant_by(command.name().as_bytes(), option) {
+        return line.say_with(
+            sentence,
+            &[Piece::Shown(option), Piece::Text(shown_file(next))],
+        );
+    }
+    say_owners(line, option);
+    if line.is_empty() {
+        say_hyphens(line, option);
+    }
+    if line.is_empty() {
+        line.say_with(
+            "{} is no option of {}: tso {} --help lists its options",
+            &[
+                Piece::Shown(option),
+                Piece::Text(command.name()),
+                Piece::Text(command.name()),
+            ],
+        );
+    }
+}
+
+/// Of a word after a command that is no option's value, nor begins with a hyphen: of a flag's value, an option without its
+/// hyphens, choices, or a file.
+fn say_operand<'a>(line: &mut Line, command: Subcommand, before: &'a str, word: &'a str) {
+    let bytes = word.as_bytes();
+    let is_file = bytes.contains(&b'.') || bytes.contains(&b'/');
+    say_hyphens(line, up_to(bytes, b'='));
+    if !line.is_empty() {
+        return;
+    }
+    if !is_file && command.option_named(before.as_bytes()).is_some() {
+        line.say_with(
+            "{} takes no value: leave out {}",
+            &[Piece::Text(before), Piece::Shown(bytes)],
+        );
+    } else if is_exactly_one_of(&["help"], bytes) {
+        line.say("write tso ");
+        line.say(command.name());
+        line.say(" --help");
+    } else if matches!(command, Subcommand::Tables) {
+        line.say("tables reads no input: tso tables --protocol mesi");
+    } else if is_choice(bytes) {
+        line.say_with(
+            "{}: choices stand in the input, after the test and a line ====",
+            &[Piece::Shown(bytes)],
+        );
+    } else if !is_file {
+        line.say_with(
+            "{} stands after no option: an option has two hyphens, and a test is read from standard input: tso {} < FILE",
+            &[Piece::Shown(bytes), Piece::Text(command.name())],
+        );
+    } else {
+        line.say_with(
+            "tso reads standard input, so don't name a file without <: tso {} < {}",
+            &[Piece::Text(command.name()), Piece::Text(shown_file(word))],
+        );
+    }
+}
+
+/// Of an option of some command with another number of hyphens than two, with dashes, or in capitals.
+fn say_hyphens(line: &mut Line, option: &[u8]) {
+    let name = without_hyphens(option);
+    let shown = if option.starts_with(b"\xe2") {
+        name
+    } else {
+        option
     };
-    line.say_with(sentence, &[Piece::Text(command.name()), Piece::Shown(word)]);
+    for command in &SUBCOMMANDS {
+        for options in &[command.options(), command.further_options()] {
+            for declared in *options {
+                if declared.name.as_bytes().eq_ignore_ascii_case(name) && line.is_empty() {
+                    line.say_with(
+                        "{}: an option is written in small letters after two hyphens: --{}",
+                        &[Piece::Shown(shown), Piece::Text(declared.name)],
+                    );
+                }
+            }
+        }
+    }
+}
+
+/// An option's name without the hyphens or the dash before it.
+fn without_hyphens(option: &[u8]) -> &[u8] {
+    for dash in &[
+        b"---".as_slice(),
+        b"--",
+        b"-",
+        b"\xe2\x80\x93",
+        b"\xe2\x80\x94",
+        b"\xe2\x88\x92",
+    ] {
+        if let Some(name) = option.strip_prefix(*dash) {
+            return name;
+        }
+    }
+    option
 }
 
 /// Of an option that other commands have, if any has it.
@@ -116,6 +284,25 @@ fn takes_value(word: &[u8]) -> bool {
     for command in &SUBCOMMANDS {
         if let Some(declared) = command.option_named(word) {
             return !matches!(declared.value, Value::Flag);
+        }
+    }
+    true
+}
+
+/// A word as a hint names a file: the whole of it, or FILE where the line has no room for it, or a shell would read more
+/// than a name in it.
+fn shown_file(word: &str) -> &str {
+    if word.is_empty() || word.len() > MAX_FILE || !is_plain(word.as_bytes()) {
+        "FILE"
+    } else {
+        word
+    }
+}
+
+fn is_plain(word: &[u8]) -> bool {
+    for byte in word {
+        if !continues_name(*byte) && !b"./+-,:@=%".contains(byte) {
+            return false;
         }
     }
     true

@@ -1,110 +1,130 @@
-//! What is said of a fault before the rows of a test: in its header line, before its initial state or in that, and of what
-//! doesn't end.
+//! What is said of a fault before the rows of a test: in its header line or before its initial state; and of what doesn't end.
 
-use crate::characters::{say_character, says_foreign};
+use crate::characters::says_foreign;
 use crate::divider::{Asked, says_missing_divider};
-use crate::faults::{COMMENT, CONNECTIVES, says_foreign_register, says_hexadecimal};
+use crate::faults::{COMMENT, MARKDOWN};
 use crate::line::{Line, Piece};
-use crate::operands::percent;
 use crate::place::Place;
-use crate::quotes::{begins_with_letter, is_bare, up_to, word};
+use crate::quotes::{
+    begins_with_letter, first_bytes, has, is_all_digits, is_bare, last_bytes, up_to, word,
+};
 use crate::reader::Reader;
-use crate::tables::{Alike, is_exactly_one_of, is_one_of, said_of, said_of_front};
+use crate::signs::bad_byte;
+use crate::tables::{Alike, is_exactly_one_of, said_of, said_of_front};
 use tso_terms::limits::MAX_NAME;
-use tso_terms::names::{continues_name, is_location_name};
+use tso_terms::names::continues_name;
 
 /// Words that begin a test of another kind.
 static HEADERS: [Alike; 4] = [
-    Alike(&["X86"], "{}: write X86, in capitals"),
     Alike(
-        &["X86_64"],
-        "{} tests aren't read: tools/import turns them into X86 tests; if you do so by hand, begin with X86 and a name, and use EAX, EBX, ECX, EDX, ESI, EDI",
+        &[
+            "X86", "i386", "i486", "i586", "i686", "80386", "8086", "IA32", "IA-32", "x86-32",
+            "x86_32",
+        ],
+        "{}: write X86, in capitals",
     ),
     Alike(
         &[
-            "AArch64", "ARM", "PPC", "Power", "MIPS", "RISCV", "RISC-V", "S390", "Alpha", "SPARC",
+            "X86_64", "x86-64", "x8664", "AMD64", "x64", "EM64T", "Intel64",
         ],
-        "{} is another processor: a test begins with X86, a space and its name; tools/import turns an X86_64 test into an X86 test",
+        "{} tests aren't read: the tool import turns them into X86 tests; if you do so by hand, begin with X86 and a name, and use EAX, EBX, ECX, EDX, ESI, EDI",
     ),
     Alike(
-        &["C", "CPP", "C11", "LISA", "Bell", "LLVM", "JAVA", "ASL"],
-        "{} is a language: a test begins with X86, a space and its name; tools/import turns an X86_64 test into an X86 test",
+        &[
+            "AArch64",
+            "ARM",
+            "ARM64",
+            "ARMv8",
+            "ARMv7",
+            "PPC",
+            "PPC64",
+            "Power",
+            "PowerPC",
+            "MIPS",
+            "MIPS64",
+            "RISCV",
+            "RISC-V",
+            "RV64",
+            "S390",
+            "S390X",
+            "Alpha",
+            "SPARC",
+            "IA64",
+            "LOONGARCH",
+        ],
+        "{} is another processor: write its programs as X86 instructions, below a line X86 NAME; the tool import takes X86_64 tests alone",
+    ),
+    Alike(
+        &[
+            "C", "CPP", "C++", "C11", "LISA", "Bell", "LLVM", "JAVA", "ASL", "LK", "Rust",
+        ],
+        "{} is a language: write its programs as X86 instructions, below a line X86 NAME; the tool import takes X86_64 tests alone",
     ),
 ];
 
-/// Words that stand after the rows of a test as it isn't read.
-static KEYWORDS: [Alike; 6] = [
-    Alike(&["exist", "exists"], "{} is no instruction: write exists"),
-    Alike(&["forall"], "{} is no instruction: write forall"),
+/// What begins a line that isn't a header.
+static NO_HEADERS: [Alike; 3] = [
+    Alike(&["```"], MARKDOWN),
+    Alike(&["//", "/*", "#", "--", ";", "%"], COMMENT),
     Alike(
-        &["location", "locations"],
-        "{} is no instruction: write locations",
+        &["{", "\"", "P0", "MOV"],
+        "no header: write a first line X86 NAME before it, as X86 SB",
     ),
-    Alike(&["not"], "{} exists isn't read: write ~exists"),
-    Alike(&["forbidden"], "{} isn't read: write ~exists"),
-    Alike(
-        &["filter", "final"],
-        "{} isn't read: a condition is exists, ~exists or forall",
-    ),
-];
-
-/// Types of items in tests of other programs.
-const TYPES: [&str; 10] = [
-    "int",
-    "char",
-    "short",
-    "long",
-    "unsigned",
-    "signed",
-    "volatile",
-    "const",
-    "atomic_int",
-    "_Atomic",
 ];
 
 /// What has no end, by what it begins with.
 static OPENERS: [Alike; 4] = [
     Alike(&["(*"], "no *) ends the comment that begins here"),
     Alike(&["\""], "no \" ends the quotation that begins here"),
-    Alike(&["{"], "no } ends the initial state"),
-    Alike(&["["], "no ] ends locations ["),
-];
-
-/// What begins no token, and what is meant by it.
-static SIGNS: [Alike; 5] = [
     Alike(
-        &["--", ".."],
-        "the dividing line between a test and its choices is ==== alone",
+        &["{"],
+        "no } closes the { that begins the initial state here",
     ),
-    Alike(&["//", "#"], COMMENT),
-    Alike(
-        &["*)"],
-        "*) ends no comment here: a comment ends at its first *) and can't contain another comment",
-    ),
-    Alike(&["-"], "a number has no sign: values are 0 to 4294967295"),
-    Alike(&["&", "!", "/", "\\", "<", ">"], CONNECTIVES),
+    Alike(&["["], "no ] closes the [ of locations"),
 ];
 
 /// Of a header line.
 pub fn no_header(line: &mut Line, asked: Reader, place: &Place<'_>) {
     let rest = place.rest;
+    let header = up_to(rest, b'\n');
     if rest.is_empty() {
         line.say_with(
             "no test: give one on standard input, as in: tso {} < FILE",
             &[Piece::Text(asked.name())],
         );
+    } else if rest.starts_with(b"\xff\xfe")
+        || rest.starts_with(b"\xfe\xff")
+        || first_bytes(rest, 4).contains(&0)
+    {
+        line.say(
+            "the file is in UTF-16: save it as UTF-8, or convert it: iconv -f UTF-16 -t UTF-8 FILE",
+        );
     } else if rest.starts_with(b"\xef\xbb\xbf") {
         line.say("a byte order mark stands before X86: save the file without it");
-    } else if !says_foreign(line, up_to(rest, b'\n'), "a test's name is in ASCII") {
+    } else if header
+        .strip_suffix(b"\r")
+        .unwrap_or(header)
+        .contains(&b'\r')
+    {
+        line.say("the lines end in CR alone: convert them: tr '\\r' '\\n' < FILE");
+    } else if !says_foreign(line, header, "a test's name is in ASCII") {
         let first = word(rest);
-        let sentence = if is_exactly_one_of(&["X86"], first) {
-            "write a space and the test's name after X86, in printable ASCII"
-        } else {
-            said_of(&HEADERS, first).unwrap_or(
-                "a test begins with X86, a space and its name, and not with {}",
-            )
-        };
-        line.say_of(sentence, first);
+        line.say_of(said_of_header(rest, first), first);
+    }
+}
+
+/// What is said of a header line in ASCII, by its first word.
+fn said_of_header(rest: &[u8], first: &[u8]) -> &'static str {
+    if is_exactly_one_of(&["X86"], first) {
+        return "write a space and the test's name after X86, in printable ASCII";
+    }
+    if let Some(said) = said_of(&HEADERS, first).or(said_of_front(&NO_HEADERS, rest)) {
+        return said;
+    }
+    if first_bytes(first, 3).eq_ignore_ascii_case(b"X86") {
+        "{}: write X86 alone, a space and the test's name"
+    } else {
+        "a test begins with X86, a space and its name, and not with {}: write a first line X86 NAME"
     }
 }
 
@@ -115,11 +135,33 @@ pub fn unclosed(line: &mut Line, asked: Asked, place: &Place<'_>) {
         line.say(
             "the test ends before its initial state: write { } between the first line and the row P0 | P1 ;",
         );
-    } else if let Some(said) = said_of_front(&OPENERS, place.rest).or(said_of(&KEYWORDS, token)) {
+    } else if let Some(said) = said_of_front(&OPENERS, place.rest) {
         line.say_of(said, token);
-    } else if !says_missing_divider(line, asked, place.rest) {
-        line.say_of("no ; ends the row that begins with {}", token);
+        if place.rest.starts_with(b"(*")
+            && begins_with_letter(last_bytes(place.rest, place.rest.len().saturating_sub(2)))
+        {
+            line.say("; a location is written without *, as [x]");
+        }
+    } else if !says_missing_divider(line, asked, place) {
+        let sentence = if is_bare_condition(place) {
+            "a condition begins with exists, ~exists or forall: write one before {}"
+        } else {
+            "no ; ends the row that begins with {}: a row ends with ;"
+        };
+        line.say_of(sentence, token);
     }
+}
+
+/// Whether the row at a place may be a condition without the word that begins it.
+fn is_bare_condition(place: &Place<'_>) -> bool {
+    let line = place.whole_line();
+    place.rest.starts_with(b"(")
+        || has(line, b"/\\")
+        || has(line, b"\\/")
+        || (place.after_token().starts_with(b":")
+            && is_all_digits(place.token)
+            && line.contains(&b'='))
+        || (place.after_token().starts_with(b"=") && !has(line, b":="))
 }
 
 /// Of what begins no token, or stands where it can't before the initial state.
@@ -149,43 +191,16 @@ pub fn bad_token(line: &mut Line, place: &Place<'_>) {
         [byte, ..] => return bad_byte(line, place, *byte),
     }
     // What stands there begins a token.
-    line.say_of(
-        "{} stands before the initial state { }: only \"..\", KEY=.. and comments may stand there",
-        token,
-    );
+    line.say_of(said_before_braces(place), token);
 }
 
-fn bad_byte(line: &mut Line, place: &Place<'_>, byte: u8) {
-    if byte == b'#' && is_exactly_one_of(&[","], place.last_word) {
-        return line.say("a value is written with $: MOV [x],$1");
-    }
-    if let Some(said) = said_of_front(&SIGNS, place.rest) {
-        return line.say_of(said, place.token);
-    }
-    match byte {
-        b'%' => percent(line, place),
-        b'!'..=b'~' => line.say_of("{} can't stand here", place.token),
-        _ => say_character(line, place, byte),
-    }
-}
-
-/// Of an item of the initial state.
-pub fn bad_init(line: &mut Line, place: &Place<'_>) {
-    let last = place.last_word;
-    if says_hexadecimal(line, place) {
-        return;
-    }
-    if is_one_of(&TYPES, last) || (last.ends_with(b"_t") && is_location_name(last)) {
-        line.say_of(
-            "{} is a type, and items have no types here: leave it out; if the item has no value, leave out the whole item, since 0 is its value",
-            last,
-        );
-    } else if !says_foreign_register(line, place) {
-        let sentence = if is_exactly_one_of(&["="], last) && begins_with_letter(place.token) {
-            "{} is no number, and no register can hold an address here: write the location's name in the instruction, as [x]; tools/import turns such a test into this form"
-        } else {
-            "{} doesn't fit: an item is x=1, [x]=1 or 0:EAX=1, and ; stands between items"
-        };
-        line.say_of(sentence, place.token);
+/// What is said of a token that stands before the initial state.
+fn said_before_braces(place: &Place<'_>) -> &'static str {
+    if is_exactly_one_of(&["P0"], place.token) {
+        "{} stands before the initial state: write { } in a line above, also where all begins as 0"
+    } else if place.rest.starts_with(b"(") || place.rest.starts_with(b"[") {
+        "{} stands before the initial state, which is written in { }"
+    } else {
+        "{} stands before the initial state { }: only \"..\", KEY=.. and comments may stand there; put values into the braces, and other text into (* .. *)"
     }
 }

@@ -1,9 +1,11 @@
 //! What is said of orders: the line at fault, and what an order's text needs there.
 
 use crate::characters::says_foreign;
+use crate::faults::MARKDOWN;
 use crate::hinting::NOTHING_KNOWN;
 use crate::line::Line;
-use crate::quotes::{after_byte, first_word, is_all_digits, is_choice, up_to};
+use crate::quotes::{after_byte, first_bytes, first_word, has, is_all_digits, is_choice, up_to};
+use crate::tables::{Alike, said_of_front};
 use litmus_tokens::word as word_value;
 use order_builder::OrderFault;
 
@@ -25,6 +27,8 @@ pub fn say_order(
                 "no line is Order: give the report that run prints without --json"
             } else if is_choice(word) {
                 "no line is Order: {} is a choice; check and witness read an order, as run prints it"
+            } else if word.eq_ignore_ascii_case(b"Order") || word.starts_with(b"Order") {
+                "no line is Order alone: write it so, with nothing before or after it on its line"
             } else {
                 "no line is Order: an order begins with this line and ends with a line Endorder n, as run prints it"
             };
@@ -68,7 +72,9 @@ fn bad_line(line: &mut Line, unknown_location: bool, entry: &[u8]) {
     if says_foreign(line, entry, "an order, as run prints it, is in ASCII") {
         return;
     }
-    if entry.starts_with(b"Endorder") {
+    if let Some(sentence) = said_of_blanks(entry) {
+        line.say(sentence);
+    } else if first_bytes(entry, 3).eq_ignore_ascii_case(b"end") {
         line.say_of(
             "{}: the order ends with Endorder, one space and the number of entries",
             entry,
@@ -76,14 +82,59 @@ fn bad_line(line: &mut Line, unknown_location: bool, entry: &[u8]) {
     } else if let Some(number) = number_out_of_range(entry) {
         line.say_of("{}: a core and a place are numbers from 0 to 255", number);
     } else if unknown_location && let Some(name) = location_in(entry) {
-        line.say_of("{} is no location of the test", name);
-    } else {
         line.say_of(
-            "{} is no entry: P0:1 R x=0 with R, W, LR or LW, or P0:1 F",
-            entry,
+            if name.starts_with(b"[") {
+                "{}: a location is written without [ ] in an order"
+            } else {
+                "{} is no location of the test"
+            },
+            name,
         );
+    } else {
+        line.say_of(said_of_entry(entry), entry);
     }
 }
+
+/// What is said of blanks on a line of an order, if they are at fault.
+fn said_of_blanks(line: &[u8]) -> Option<&'static str> {
+    if line.ends_with(b" ") || line.ends_with(b"\t") {
+        Some("a blank ends this line: leave it out")
+    } else if line.starts_with(b" ") || line.starts_with(b"\t") {
+        Some("a blank begins this line: leave it out")
+    } else if has(line, b"  ") || line.contains(&b'\t') {
+        Some("one space stands between the parts of a line, as in P0:1 R x=0")
+    } else {
+        None
+    }
+}
+
+/// What is said of a line that is no entry.
+fn said_of_entry(entry: &[u8]) -> &'static str {
+    if let Some(said) = said_of_front(&BEGINNINGS, entry) {
+        said
+    } else if entry.ends_with(b";") || entry.ends_with(b",") || entry.ends_with(b".") {
+        "{}: nothing stands after an entry: leave out its last byte"
+    } else if has(entry, b"FENCE") || has(entry, b"fence") {
+        "{} is no entry: a fence is P0:1 F"
+    } else if is_all_digits(after_byte(entry, b'='))
+        && word_value(after_byte(entry, b'=')).is_none()
+    {
+        "{}: a value is at most 4294967295"
+    } else if has(entry, b"=0x") || has(entry, b"=-") {
+        "{}: a value is decimal and has no sign, as in P0:1 R x=0"
+    } else {
+        "{} is no entry: P0:1 R x=0 with R, W, LR or LW, or P0:1 F"
+    }
+}
+
+/// How lines begin that have no entry.
+static BEGINNINGS: [Alike; 2] = [
+    Alike(
+        &["#", "//", "(*", "/*", ";", "--"],
+        "{}: an order has no comments: leave this line out",
+    ),
+    Alike(&["```"], MARKDOWN),
+];
 
 /// The core or the place of an entry that is over 255.
 fn number_out_of_range(entry: &[u8]) -> Option<&[u8]> {

@@ -1,6 +1,6 @@
 //! The place of a fault in a text: a refusal has the line alone, and a hint names what stands there.
 
-use crate::quotes::{after_last, last_bytes, last_word, token};
+use crate::quotes::{after_last, last_bytes, last_word, token, up_to};
 use litmus_tokens::line_of;
 
 /// A text in two: what stands before a place, and what stands from there on.
@@ -47,6 +47,27 @@ impl<'a> Place<'a> {
     pub fn from_last(&self, stops: &[u8]) -> &'a [u8] {
         let count = after_last(self.before, stops).len();
         last_bytes(self.text, self.rest.len().saturating_add(count))
+    }
+
+    /// The line on which it is, from its beginning to its end.
+    pub fn whole_line(&self) -> &'a [u8] {
+        up_to(self.from_last(b"\n"), b'\n')
+    }
+
+    /// What stands before it on its line, without white space at its end.
+    pub fn line_before(&self) -> &'a [u8] {
+        after_last(self.before, b"\n").trim_ascii_end()
+    }
+
+    /// Whether nothing but white space stands before it on its line.
+    pub fn is_first_on_line(&self) -> bool {
+        self.line_before().is_empty()
+    }
+
+    /// What stands after its token, without white space before it.
+    pub fn after_token(&self) -> &'a [u8] {
+        let count = self.rest.len().saturating_sub(self.token.len());
+        last_bytes(self.rest, count).trim_ascii_start()
     }
 
     /// Which character of its line it is, from 1.

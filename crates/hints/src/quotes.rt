@@ -21,7 +21,7 @@ pub fn last_bytes(bytes: &[u8], count: usize) -> &[u8] {
 
 /// Whether these are digits, one or more.
 pub fn is_all_digits(bytes: &[u8]) -> bool {
-    !bytes.is_empty() && digits(bytes).len() == bytes.len()
+    !bytes.is_empty() && digits_at(bytes).len() == bytes.len()
 }
 
 /// Whether these are letters, digits and underscores, one or more.
@@ -31,7 +31,7 @@ pub fn is_bare(bytes: &[u8]) -> bool {
 
 /// The name or the digits at the front, as long as they go; or `/\` or `\/`; or else one byte.
 pub fn token(text: &[u8]) -> &[u8] {
-    let digits = digits(text);
+    let digits = digits_at(text);
     let name = digits_and_letters(text);
     if !digits.is_empty() {
         digits
@@ -45,7 +45,7 @@ pub fn token(text: &[u8]) -> &[u8] {
 }
 
 /// The digits at the front.
-fn digits(text: &[u8]) -> &[u8] {
+pub fn digits_at(text: &[u8]) -> &[u8] {
     for at in 0..text.len() {
         if !text[at].is_ascii_digit() {
             return &text[..at];
@@ -125,6 +125,24 @@ pub fn last_word(text: &[u8]) -> &[u8] {
         count = count.saturating_add(1);
     }
     last_bytes(text, count.max(1))
+}
+
+/// Whether these bytes stand somewhere in a text.
+pub fn has(text: &[u8], wanted: &[u8]) -> bool {
+    for at in 0..text.len() {
+        if text[at..].starts_with(wanted) {
+            return true;
+        }
+    }
+    false
+}
+
+/// Whether a text ends with a letter, a digit or an underscore.
+pub fn ends_with_name(text: &[u8]) -> bool {
+    match text.last() {
+        Some(last) => continues_name(*last),
+        None => false,
+    }
 }
 
 /// Whether a text begins with a letter.

@@ -1,5 +1,5 @@
-//! What is said of a search that ended at its limit: what it had met up to there, and what to ask for instead. What was met is
-//! no answer, but people have waited for it, and one state that was looked for may be all that they want to know.
+//! What is said of a search that ended at its limit: how many final states it had met, and what to ask for instead. What was met is
+//! a part of all that there is, but one state that was looked for may be all that people want to know.
 
 ghost use Rattle.std.specs.Prelude.{◌≡◌, ◌⊎◌, [], IfOk, string_bytes};
 ghost use Rattle.hints.specs.Hint.{IsRunsLine, longest_runs_line};
@@ -38,7 +38,7 @@ pub struct SearchEnd {
     pub is_raisable: bool,
     /// Whether the machine has store buffers, which may be less deep.
     pub is_buffered: bool,
-    /// How many final states it had met.
+    /// How many final states it had met that look different.
     pub finals: usize,
     /// Whether one of them was looked for.
     pub sighting: Sighting,
@@ -47,7 +47,7 @@ pub struct SearchEnd {
 /// Of a search that ended at its limit.
 pub fn search_ends(line: &mut Line, end: &SearchEnd) {
     let met = match end.finals {
-        0 => Piece::Text("no"),
+        0 => Piece::Text("none"),
         finals => Piece::Number(finals),
     };
     let limit = match (end.is_raisable, end.is_buffered) {
@@ -61,15 +61,15 @@ pub fn search_ends(line: &mut Line, end: &SearchEnd) {
         _ => "name fewer atoms in the condition; tso why needs no states",
     };
     let met_words = match (end.finals, &end.sighting) {
-        (0, _) | (1, Sighting::NoCondition) => "state was met",
-        (1, Sighting::None) => "state was met, which makes the proposition false",
-        (1, Sighting::Met(_)) => "state was met, which makes the proposition true",
-        (_, Sighting::NoCondition) => "states were met",
-        (_, Sighting::None) => "states were met, none of which makes the proposition true",
-        (_, Sighting::Met(_)) => "states were met, one of which makes the proposition true",
+        (0, _) | (1, Sighting::NoCondition) => "was met",
+        (1, Sighting::None) => "was met, which makes the proposition false",
+        (1, Sighting::Met(_)) => "was met, which makes the proposition true",
+        (_, Sighting::NoCondition) => "were met",
+        (_, Sighting::None) => "were met, none of which makes the proposition true",
+        (_, Sighting::Met(_)) => "were met, one of which makes the proposition true",
     };
     line.say_with(
-        "the machine can reach more than {} states, {}{}; {} final {}",
+        "the machine can reach more than {} states, {}{}; {} of the final states {}",
         &[
             Piece::Number(end.most as usize),
             Piece::Text(limit),

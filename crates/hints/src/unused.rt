@@ -1,6 +1,8 @@
 //! A location that a condition names, and that nothing else of its test does. Its name is probably misspelt: its word is
 //! then 0 in every run, and the answer says nothing.
 
+ghost use Rattle.std.specs.Prelude.{◌<◌, IfSome, length};
+
 use crate::body::is_name;
 use crate::cause::Cause;
 use crate::line::{Line, Piece};
@@ -21,7 +23,9 @@ pub fn say_named(line: &mut Line, sentence: &str, input: &[u8], first: usize, le
 }
 
 /// The location of a test that has this name.
-pub fn location_named(test: &Test, name: &[u8]) -> Option<Loc> {
+pub fn location_named(test: &Test, name: &[u8]) -> Option<Loc>
+    ensures { IfSome result (λ loc. loc.0 < length test.now.locations) }
+{
     for loc in 0..test.locations() {
         if test.location_name(Loc(loc)).as_bytes() == name {
             return Some(Loc(loc));
@@ -54,16 +58,6 @@ pub fn first_unused(
         return None;
     }
     None
-}
-
-/// Whether each location is used by a program.
-pub fn uses_all_locations(test: &Test) -> bool {
-    for loc in 0..test.locations() {
-        if !is_used(test, Loc(loc)) {
-            return false;
-        }
-    }
-    true
 }
 
 /// Whether a program uses a location.

@@ -1,5 +1,6 @@
 -- What a text ends in; and that it ends in one verdict at most.
 use Rattle.promises.proofs.PrintedVocabulary.{◌≡◌, ℕ, Bool, true, false, List, [], ◌∷◌, ◌++◌, drop, refl, sym, ap, subst, ◌∙◌, suc, arith, length, append-nil, list_all, flat_map, append_cancel_right, append_assoc, length-append, Data, string, Members, no_members, member, object, compact_text, codes, line, escape_byte, verdict_word, PrintsVerdict, quoted, members_text}
+use Rattle.serde_json.specs.Data.{null}
 use Rattle.promises.proofs.Cutting.{unlike}
 use Rattle.promises.proofs.Digits.{is_other, there}
 
@@ -69,6 +70,13 @@ no-verdict-line verdict text plain e = there 10 e.0 (codes "Verdict " ++ verdict
     cut true is = append_cancel_right text (e.0 ++ 10 ∷ codes "Verdict Ok") (10 ∷ []) (is ∙ sym (append_assoc e.0 (10 ∷ codes "Verdict Ok") (10 ∷ [])))
     cut false is = append_cancel_right text (e.0 ++ 10 ∷ codes "Verdict No") (10 ∷ []) (is ∙ sym (append_assoc e.0 (10 ∷ codes "Verdict No") (10 ∷ [])))
 
+-- an object whose verdict is `null` has none
+pub no-verdict-null : (verdict : Bool) (text : List ℕ) → EndsIn (codes ",\"verdict\":null}\n") text → EndsIn (verdict_tail true verdict) text → ⊥
+no-verdict-null verdict text p q =
+    let last = subst (λ (l : List ℕ). EndsIn l text) (sym (append_assoc (codes ",\"verdict\":\"") (verdict_word verdict) (codes "\"}\n"))) q in
+    unlike 0 (codes "l}\n") (codes "\"}\n") refl
+    (one-tail text (codes "l}\n") (codes "\"}\n") refl (shorter text (codes ",\"verdict\":nul") (codes "l}\n") p) (shorter text (codes ",\"verdict\":\"" ++ verdict_word verdict) (codes "\"}\n") last))
+
 -- an object whose last member is an object has none
 pub no-verdict-member : (verdict : Bool) (text : List ℕ) → EndsIn (codes "}}\n") text → EndsIn (verdict_tail true verdict) text → ⊥
 no-verdict-member verdict text p q =
@@ -96,6 +104,17 @@ verdict-end false text e = with-more text (members_text true (member (codes "ver
 abbrev last_in : Data → Members
 last_in (object (member k d ms)) = last_of ms
 last_in _ = no_members
+
+-- an object whose last member is `null`
+null-end : (text : List ℕ) → EndsIn (members_text true (member (codes "verdict") null no_members)) text → EndsIn (codes ",\"verdict\":null}\n") (line text)
+unfolding escape_byte
+null-end text e = with-more text (members_text true (member (codes "verdict") null no_members)) (10 ∷ []) e
+
+pub object-ends-undecided : (value : Data) → last_in value ≡ member (codes "verdict") null no_members → EndsIn (codes ",\"verdict\":null}\n") (line (compact_text value))
+object-ends-undecided (object (member k d ms)) last =
+    let tail = members_text true (member (codes "verdict") null no_members) in
+    null-end _ (behind (123 ∷ quoted k) _ tail (behind (58 ∷ compact_text d) _ tail (subst (λ l. EndsIn (members_text true l) (members_text true ms)) last (members-end ms))))
+object-ends-undecided _ last = absurd cc
 
 -- an object whose last member is a verdict
 pub object-ends : (verdict : Bool) (value : Data) → last_in value ≡ member (codes "verdict") (string (verdict_word verdict)) no_members → EndsIn (verdict_tail true verdict) (line (compact_text value))

@@ -1,45 +1,18 @@
 -- A JSON object with a member for each location tells the words, wherever the bytes of the names belong.
 use Rattle.promises.proofs.PrintedVocabulary.{◌≡◌, ◌≢◌, ℕ, Bool, true, false, not, cond, ◌||◌, List, [], ◌∷◌, length, All, refl, sym, ap, subst, ◌∙◌, arith, decimal, bytes_eq, nat_cmp, match_ordering, is_eq, slice_cmp, Ordering, Less, Equal, Greater, and_parts, decimal_injective, All-head, All-tail, Members, no_members, member, put, outline, members_outline, are_distinct, is_among, IsWord, bytes_eq-Decides, count, memory_members}
-use Rattle.std.proofs.lemmas.Cmp.{nat_list_cmp_total, tied_itself}
-use Rattle.std.proofs.lemmas.Map.Lookups.{exact_bytes}
 use Rattle.json.specs.Json as json
+use Rattle.promises.proofs.JsonKeys.{found, own-value, other-value}
 use Rattle.promises.proofs.JsonTexts.{text_in}
 
 -- the text at a key
 abbrev named : List ℕ → json.Members → List ℕ
-named k json.no_members = []
-named k (json.member l j ms) = cond (is_eq (slice_cmp nat_cmp k l)) (text_in j) (named k ms)
+named k ms = text_in (found k ms)
 
 own-text : (k : List ℕ) (w : ℕ) (ms : Members) → named k (members_outline (put k (count w) ms)) ≡ decimal w
-own-text k w no_members = ap (λ o. cond (is_eq o) (decimal w) []) (tied_itself nat_list_cmp_total k)
-own-text k w (member l d ms) = by_order (slice_cmp nat_cmp k l) refl (own-text k w ms)
-  where
-    by_order : (o : Ordering) → slice_cmp nat_cmp k l ≡ o → named k (members_outline (put k (count w) ms)) ≡ decimal w
-        → named k (members_outline (match_ordering o (member k (count w) (member l d ms)) (member l (count w) ms) (member l d (put k (count w) ms)))) ≡ decimal w
-    by_order Less is further = ap (λ o. cond (is_eq o) (decimal w) (named k (members_outline (member l d ms)))) (tied_itself nat_list_cmp_total k)
-    by_order Equal is further = ap (λ o. cond (is_eq o) (decimal w) (named k (members_outline ms))) is
-    by_order Greater is further = ap (λ o. cond (is_eq o) (text_in (outline d)) (named k (members_outline (put k (count w) ms)))) is ∙ further
-
-skipped : (other k text rest : List ℕ) → other ≢ k → cond (is_eq (slice_cmp nat_cmp other k)) text rest ≡ rest
-skipped other k text rest differ = by_order (slice_cmp nat_cmp other k) refl
-  where
-    by_order : (r : Ordering) → slice_cmp nat_cmp other k ≡ r → cond (is_eq r) text rest ≡ rest
-    by_order Less is = refl
-    by_order Equal is = absurd (differ (exact_bytes other k is))
-    by_order Greater is = refl
+own-text k w ms = ap text_in (own-value k (count w) ms)
 
 other-text : (other k : List ℕ) (w : ℕ) (ms : Members) → other ≢ k → named other (members_outline (put k (count w) ms)) ≡ named other (members_outline ms)
-other-text other k w no_members differ = skipped other k (decimal w) [] differ
-other-text other k w (member l d ms) differ = by_order (slice_cmp nat_cmp k l) refl (other-text other k w ms differ)
-  where
-    by_order : (o : Ordering) → slice_cmp nat_cmp k l ≡ o → named other (members_outline (put k (count w) ms)) ≡ named other (members_outline ms)
-        → named other (members_outline (match_ordering o (member k (count w) (member l d ms)) (member l (count w) ms) (member l d (put k (count w) ms))))
-        ≡ named other (members_outline (member l d ms))
-    by_order Less is further = skipped other k (decimal w) (named other (members_outline (member l d ms))) differ
-    by_order Equal is further =
-        let apart : other ≢ l = λ same. differ (same ∙ sym (exact_bytes k l is)) in
-        skipped other l (decimal w) (named other (members_outline ms)) apart ∙ sym (skipped other l (text_in (outline d)) (named other (members_outline ms)) apart)
-    by_order Greater is further = ap (λ o. cond (is_eq (slice_cmp nat_cmp other l)) (text_in (outline d)) o) further
+other-text other k w ms differ = ap text_in (other-value other k (count w) ms differ)
 
 or-true : (b : Bool) → (b || true) ≡ true
 or-true true = refl

@@ -1,7 +1,7 @@
 -- The verdict that stands at the end of what `outcomes` and `why` print.
-use Rattle.promises.proofs.PrintedVocabulary.{◌≡◌, ℕ, Bool, true, false, List, [], ◌∷◌, ◌++◌, refl, sym, ap, subst, length, Some, decimal, append_assoc, string, no_members, member, compact_text, codes, line, test_line, Litmus, Condition, Named, frequency, escape_byte, unfinished_outcomes_json, Outcome, outcomes_line, outcome_lines, condition_lines, held_in, failed_in, true_in, is_met_in, printed_numbers, observation_line, true_line, verdict_word, is_well, outcomes_verdict_value, verdict_line, EndsInNumbers, outcomes_in, outcomes_value, unfinished_search_in}
+use Rattle.promises.proofs.PrintedVocabulary.{◌≡◌, ℕ, Bool, true, false, List, [], ◌∷◌, ◌++◌, refl, sym, ap, subst, length, Some, decimal, append_assoc, string, no_members, member, compact_text, codes, line, test_line, Litmus, Condition, Named, frequency, escape_byte, Outcome, outcomes_line, outcome_lines, condition_lines, held_in, failed_in, true_in, is_met_in, printed_numbers, observation_line, true_line, verdict_word, is_well, outcomes_verdict_value, verdict_line, EndsInNumbers, outcomes_in, outcomes_value}
 use Rattle.promises.proofs.Digits.{both-other, number-in-line}
-use Rattle.promises.proofs.Endings.{EndsIn, behind, with-more, verdict_tail, no-verdict-line, no-verdict-member, object-ends}
+use Rattle.promises.proofs.Endings.{EndsIn, behind, with-more, verdict_tail, object-ends}
 
 -- ---- a verdict behind a line
 
@@ -50,22 +50,9 @@ outcomes-end false t names condition depth outcomes is =
 outcomes-end true t names condition depth outcomes is =
     object-ends (is_well condition.quantifier (is_met_in (Some condition) outcomes)) (outcomes_value t names depth outcomes) (ap (λ c. member (codes "verdict") (outcomes_verdict_value c (is_met_in c outcomes)) no_members) is)
 
--- a search that met its limit prints none
-unfinished-text : (t : Litmus) (limit : ℕ)
-    → unfinished_outcomes_json t limit ≡ line (codes "{\"test\":" ++ (compact_text (string t.name) ++ (codes ",\"unfinished\":" ++ (((codes "{\"states\":" ++ decimal limit) ++ codes "}") ++ codes "}"))))
-unfolding escape_byte
-unfinished-text t limit = refl
-
 -- an object in an object ends in two brackets
 nested-flat : (front name key number : List ℕ) → line (front ++ (name ++ (key ++ ((number ++ codes "}") ++ codes "}")))) ≡ (front ++ (name ++ (key ++ number))) ++ codes "}}\n"
 nested-flat front name key number = simp append_assoc
 
 pub nested : (front name key number : List ℕ) → EndsIn (codes "}}\n") (line (front ++ (name ++ (key ++ ((number ++ codes "}") ++ codes "}")))))
 nested front name key number = (front ++ (name ++ (key ++ number)), nested-flat front name key number)
-
-pub none-unfinished : (json verdict : Bool) (t : Litmus) (limit : ℕ) → EndsIn (verdict_tail json verdict) (unfinished_search_in json t limit) → ⊥
-none-unfinished false verdict t limit e =
-    no-verdict-line verdict (codes "Unfinished states=" ++ decimal limit) (both-other 10 (codes "Unfinished states=") (decimal limit) refl (number-in-line limit)) e
-none-unfinished true verdict t limit e =
-    no-verdict-member verdict (unfinished_outcomes_json t limit)
-    (subst (EndsIn (codes "}}\n")) (sym (unfinished-text t limit)) (nested (codes "{\"test\":") (compact_text (string t.name)) (codes ",\"unfinished\":") (codes "{\"states\":" ++ decimal limit))) e

@@ -19,6 +19,7 @@ pub mod Counted
 pub mod Reports
 pub mod Sweeps
 pub mod JsonNumbers
+pub mod JsonKeys
 pub mod JsonMemory
 pub mod JsonReports
 pub mod PrintedRuns
@@ -26,8 +27,9 @@ pub mod PrintedMachines
 pub mod Keys
 pub mod OutcomeLines
 pub mod Endings
-pub mod Words
 pub mod LastLines
+pub mod MetEnds
+pub mod Words
 pub mod ReasonEnds
 pub mod Meaning
 pub mod Claims
@@ -57,4 +59,7 @@ pub mod ReadAnswers
 pub mod ReadLeaves
 pub mod ReadCases
 pub mod ReadingBack
+pub mod AsRead
+pub mod FalseValues
 pub mod PrintedTrees
+pub mod SourcesTold

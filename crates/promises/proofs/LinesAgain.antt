@@ -1,5 +1,5 @@
 -- The two lines of each state stand in the text of `outcomes`.
-use Rattle.promises.proofs.Vocabulary.{◌≡◌, ◌∙◌, ℕ, Bool, false, List, [], ◌∷◌, ◌++◌, length, refl, sym, ap, subst, codes, append_assoc, Litmus, Choice, Step, Drain, ProtocolKind, Configuration}
+use Rattle.promises.proofs.Vocabulary.{◌≡◌, ◌∙◌, ℕ, Bool, false, List, [], ◌∷◌, ◌++◌, ◌⊎◌, inl, inr, length, refl, sym, ap, subst, codes, append_assoc, Litmus, Choice, Step, Drain, ProtocolKind, Configuration}
 use Rattle.std.specs.Fmt.{decimal}
 use Rattle.std.specs.List.{AllByRecursion}
 use Rattle.std.proofs.lemmas.List.Elements.{All-from_recursion, recursion_from_All}
@@ -7,9 +7,11 @@ use Rattle.scheduler.specs.Printed.{printed_after, printed_choices}
 use Rattle.tso_report.specs.Report.{line, test_line}
 use Rattle.tso_report.specs.declared.named.Named.{Named}
 use Rattle.tso_report.specs.ShownNames.{names_shown}
-use Rattle.tso_report.specs.declared.show.Show.{Show}
 use Rattle.search_report.specs.Outcomes.{Outcome, shown_values, outcomes_line, state_line, by_line, outcome_lines, outcomes_text, condition_lines}
-use Rattle.tso_cli.specs.Revisited.{IsRevisited, AreRevisited}
+use Rattle.search_report.specs.MetOutcomes.{unfinished_outcomes_line, met_line, decided_line, met_text}
+use Rattle.search_report.specs.Outcomes.{is_met_in}
+use Rattle.command_line.specs.Search.{Search}
+use Rattle.tso_cli.specs.Revisited.{IsRevisited, AreRevisited, ShowsOutcomes}
 use Rattle.tso_cli.specs.SweepHeadline.{HasPart}
 use Rattle.promises.specs.Searched.{line_by, IsRunAgain, LinesAreRunAgain}
 
@@ -58,6 +60,21 @@ all-stand t names depth outcomes =
     subst (λ (text : List ℕ). AllByRecursion (λ o. HasPart text (both_lines t names o)) outcomes) (append_assoc first second (outcome_lines t names outcomes ++ last))
     (lines-stand t names (first ++ second) outcomes last)
 
+some-stand : (t : Litmus) (names : List Named) (limit : ℕ) (outcomes : List Outcome) → AllByRecursion (λ o. HasPart (met_text t names limit outcomes) (both_lines t names o)) outcomes
+some-stand t names limit outcomes =
+    let first = unfinished_outcomes_line limit in
+    let second = met_line (length outcomes) in
+    let last = decided_line t.condition (is_met_in t.condition outcomes) in
+    subst (λ (text : List ℕ). AllByRecursion (λ o. HasPart text (both_lines t names o)) outcomes) (append_assoc first second (outcome_lines t names outcomes ++ last))
+    (lines-stand t names (first ++ second) outcomes last)
+
+shown-stand : (t : Litmus) (s : Search) (out : List ℕ) (outcomes : List Outcome) → ShowsOutcomes false t s out outcomes
+    → AllByRecursion (λ o. HasPart out (both_lines t (names_shown s.show t) o)) outcomes
+shown-stand t s out outcomes (inl is) =
+    subst (λ (text : List ℕ). AllByRecursion (λ o. HasPart text (both_lines t (names_shown s.show t) o)) outcomes) (sym is) (all-stand t (names_shown s.show t) s.depth outcomes)
+shown-stand t s out outcomes (inr is) =
+    subst (λ (text : List ℕ). AllByRecursion (λ o. HasPart text (both_lines t (names_shown s.show t) o)) outcomes) (sym is) (some-stand t (names_shown s.show t) s.states outcomes)
+
 -- ---- each is run again
 
 module _ (kind : ProtocolKind) (c : Configuration) (json : Bool) (test : List ℕ) (t : Litmus) (names : List Named) (out : List ℕ) where
@@ -81,16 +98,15 @@ module _ (kind : ProtocolKind) (c : Configuration) (json : Bool) (test : List �
     again rest stand.1 revisited.1,
   )
 
-pub lines-again : (kind : ProtocolKind) (c : Configuration) (show : Show) (json : Bool) (test out : List ℕ) → AreRevisited kind c show json false test out → LinesAreRunAgain kind c show json test out
-lines-again kind c show json test out r =
+pub lines-again : (kind : ProtocolKind) (c : Configuration) (s : Search) (json : Bool) (test out : List ℕ) → AreRevisited kind c s json false test out → LinesAreRunAgain kind c s json test out
+lines-again kind c s json test out r =
     let t = r.t in
-    let names = names_shown show t in
-    let stand = subst (λ (text : List ℕ). AllByRecursion (λ o. HasPart text (both_lines t names o)) r.outcomes) (sym r.printed) (all-stand t names c.depth r.outcomes) in
+    let names = names_shown s.show t in
     record {
       t = t;
       spelled = r.spelled;
       outcomes = r.outcomes;
       text = r.printed;
       each = All-from_recursion (λ o. IsRunAgain kind c json t names test out (printed_choices o.choices)) r.outcomes
-          (again kind c json test t names out r.outcomes stand (recursion_from_All (IsRevisited kind c json test t names) r.outcomes r.each));
+          (again kind c json test t names out r.outcomes (shown-stand t s out r.outcomes r.printed) (recursion_from_All (IsRevisited kind c json test t names) r.outcomes r.each));
     }

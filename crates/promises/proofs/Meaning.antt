@@ -1,5 +1,6 @@
 -- What the word of a condition means: for each end of the machine's runs, and for each execution.
-use Rattle.promises.proofs.PrintedVocabulary.{◌≡◌, ℕ, ◌<◌, Bool, true, false, List, [], ◌∷◌, get_or, refl, sym, ap, subst, ◌∙◌, zero, suc, arith, ◌+◌, length, Some, ◌==◌, cond, map, not, Contains, eqb-true, list_all, codes, count_by, Litmus, IsTest, All-contains, Condition, Claim, truth_of, sum_by-cons, Named, frequency, run, names_shown, values_at, Outcome, shown_values, held_in, failed_in, PrintsWord, IsSoEverywhere, IsSoSomewhere, IsSoNowhere, IsAlwaysSo, IsSometimesSo, WordMeans, final_words, final_registers, registers_in, IsEnd, EndsAreWhatTsoAllows, SpellsTest, TruthIsShown, parts_of, Leads, made-of, Search, shown_after, PrintsAllOutcomes, HeadlineOfOutcomes, all, too_many}
+use Rattle.promises.proofs.PrintedVocabulary.{◌≡◌, ℕ, ◌<◌, Bool, true, false, List, [], ◌∷◌, All, get_or, refl, sym, ap, subst, ◌∙◌, zero, suc, arith, ◌+◌, length, Some, ◌==◌, cond, map, not, Contains, eqb-true, list_all, codes, count_by, Litmus, IsTest, All-contains, Condition, Claim, truth_of, sum_by-cons, Named, frequency, run, names_shown, values_at, Outcome, shown_values, held_in, failed_in, PrintsWord, IsSoEverywhere, IsSoSomewhere, IsSoNowhere, IsAlwaysSo, IsSometimesSo, WordMeans, final_words, final_registers, registers_in, IsEnd, EndsAreWhatTsoAllows, SpellsTest, TruthIsShown, parts_of, Leads, made-of, Search, shown_after, PrintsAllOutcomes, PrintsSomeOutcomes, HeadlineOfOutcomes, all, too_many, AreSomeOf}
+use Rattle.tso_laws.specs.Outcomes.{IsSequentiallyConsistent}
 use Rattle.promises.proofs.Cutting.{unlike}
 use Rattle.promises.proofs.Digits.{is_other}
 use Rattle.promises.proofs.Words.{is_unquoted, word-is, word-isnt}
@@ -98,9 +99,25 @@ module _ (t : Litmus) (condition : Condition) (s : Search) (json : Bool) (out : 
         there truth each (final_registers t order) (final_words t order) ((p.sequential none (shown_after t names order)).1 (order, consistent, refl));
   }
 
-  pub somewhere : (truth : Bool) (o : Outcome) → Contains p.outcomes o → truth_of o.registers o.memory condition.claim ≡ truth → IsSoSomewhere t s.depth condition.claim truth
+-- ---- of states that were printed, all or some
+
+-- each is reached, and without store buffers it is that of a sequentially consistent execution
+pub record AreReachable (t : Litmus) (s : Search) (outcomes : List Outcome) : Type 0 where
+  pub reached : All (Leads t s.depth) outcomes
+  pub sequential : s.depth ≡ 0 → AreSomeOf t (names_shown s.show t) outcomes (IsSequentiallyConsistent t)
+
+pub all-reachable : (t : Litmus) (s : Search) (json : Bool) (out : List ℕ) (p : PrintsAllOutcomes t s json out) → AreReachable t s p.outcomes
+all-reachable t s json out p = record { reached = p.all.reached; sequential = λ none values. (p.sequential none values).0 }
+
+pub some-reachable : (t : Litmus) (s : Search) (json : Bool) (out : List ℕ) (p : PrintsSomeOutcomes t s json out) → AreReachable t s p.outcomes
+some-reachable t s json out p = record { reached = p.some.reached; sequential = p.sequential }
+
+module _ (t : Litmus) (condition : Condition) (s : Search) (outcomes : List Outcome) (laws : EndsAreWhatTsoAllows) (shown : TruthIsShown) (test : IsTest t)
+    (is : t.condition ≡ Some condition) (p : AreReachable t s outcomes) where
+  pub somewhere : (truth : Bool) (o : Outcome) → Contains outcomes o → truth_of o.registers o.memory condition.claim ≡ truth → IsSoSomewhere t s.depth condition.claim truth
   somewhere truth o has so =
-      let lead = All-contains (Leads t s.depth) p.outcomes o p.all.reached has in
+      let names = names_shown s.show t in
+      let lead = All-contains (Leads t s.depth) outcomes o p.reached has in
       let end : IsEnd t s.depth o.registers o.memory = record { choices = o.choices; cores = lead.cores; ended = lead.ended; registers_are = lead.registers_are; memory_is = lead.memory_is } in
       record {
         runs = (
@@ -119,8 +136,11 @@ module _ (t : Litmus) (condition : Condition) (s : Search) (json : Bool) (out : 
                   ∙ ap (λ memory. truth_of o.registers memory condition.claim) allowed.memory_is ∙ so,
             );
         sequential = λ none.
-            let found = (p.sequential none (shown_values names o)).0 (mapped (shown_values names) p.outcomes o has) in
-            (found.0, found.1, same-truth o (final_registers t found.0) (final_words t found.0) (sym found.2) ∙ so);
+            let found = p.sequential none (shown_values names o) (mapped (shown_values names) outcomes o has) in (
+              found.0,
+              found.1,
+              shown s.show t condition (record { registers = final_registers t found.0; memory = final_words t found.0; choices = [] }) o test is found.2 ∙ so,
+            );
       }
 
 -- ---- of an input
@@ -147,7 +167,7 @@ means word Meant plain tells within laws shown search json assert input out t co
     by (all p) =
         tells t condition search json out laws shown (within (parts_of input).test t spelled) is p
         (word-is json t (names_shown search.show t) condition search.depth p.outcomes word is plain.spaceless plain.unquoted (subst (PrintsWord json word) p.printed says))
-    by (too_many more printed) = absurd (word-isnt json t search.states word (subst (PrintsWord json word) printed says))
+    by (too_many more p) = absurd (word-isnt json t (names_shown search.show t) condition search.states p.outcomes word is (subst (PrintsWord json word) p.printed says))
 
 pub not-true : (b : Bool) → not b ≡ false → b ≡ true
 not-true true is = refl
@@ -173,6 +193,6 @@ sometimes-means = means (codes "Sometimes") IsSometimesSo (record { spaceless = 
     let both = is-sometimes (held_in condition.claim p.outcomes) (failed_in condition.claim p.outcomes) word in
     let held = some-counted (λ o. truth_of o.registers o.memory condition.claim) p.outcomes both.0 in
     let failed = some-counted (λ o. not (truth_of o.registers o.memory condition.claim)) p.outcomes both.1 in (
-      somewhere t condition s json out laws shown test is p true held.0 held.1 held.2,
-      somewhere t condition s json out laws shown test is p false failed.0 failed.1 (not-false _ failed.2),
+      somewhere t condition s p.outcomes laws shown test is (all-reachable t s json out p) true held.0 held.1 held.2,
+      somewhere t condition s p.outcomes laws shown test is (all-reachable t s json out p) false failed.0 failed.1 (not-false _ failed.2),
     ))

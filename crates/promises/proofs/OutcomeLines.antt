@@ -13,7 +13,7 @@ choice-in-line : (c : Choice) → list_all (is_other 10) (printed_choice c) ≡ 
 choice-in-line (Step core) = both-other 10 (decimal core.0) (codes "s") (number-in-line core.0) refl
 choice-in-line (Drain core) = both-other 10 (decimal core.0) (codes "d") (number-in-line core.0) refl
 
-choices-in-line : (cs : List Choice) → list_all (is_other 10) (printed_after cs) ≡ true
+pub choices-in-line : (cs : List Choice) → list_all (is_other 10) (printed_after cs) ≡ true
 choices-in-line [] = refl
 choices-in-line (c ∷ cs) = both-other 10 (printed_choice c) (printed_after cs) (choice-in-line c) (choices-in-line cs)
 

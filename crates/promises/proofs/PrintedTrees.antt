@@ -1,8 +1,11 @@
 -- The tree that is read from steps is the same of steps of which the same is told, so the printed lines and the JSON value tell it.
-use Rattle.promises.proofs.PrintedVocabulary.{◌≡◌, ℕ, true, List, [], ◌∷◌, ◌++◌, refl, sym, ap, subst, ◌∙◌, Option, Some, None, map, flat_map, Litmus, Entry, Node, asked_claim, OnLocation, Globally, refutes, ReasonStep, Case, So, Leaf, Endcases, steps_of, Answer, From, Before, Closing, Uniproc, Cycle, Amid, False, option_map, Event, told_event, told_edge, told_answer, told_closing, told_reason_step, told_by_value, Edge, Reply, Reads, entry_of_event, replies_in, source_in, leaf_in, ReadPart, Closed, Cases, nodes_of, parts_before, parts_in, tree_of, LinesTellTheirTree, PrintedTreesRefute, ValuesTellTheirTree, PrintedValuesRefute}
+use Rattle.promises.proofs.PrintedVocabulary.{◌≡◌, ℕ, Bool, true, false, get_or, drop, All, All-head, All-tail, All-cons, All-nil, IsTest, Model, Claim, ReasonStepFits, items_outline, items_of, step_value, IsSoAsRead, PrintedFalseLinesAreSo, PrintedFalseValuesAreSo, List, [], ◌∷◌, ◌++◌, refl, sym, ap, subst, ◌∙◌, Option, Some, None, map, flat_map, Litmus, Entry, Node, asked_claim, OnLocation, Globally, refutes, ReasonStep, Case, So, Leaf, Endcases, steps_of, Answer, From, Before, Closing, Uniproc, Cycle, Amid, False, option_map, Event, told_event, told_edge, told_answer, told_closing, told_reason_step, told_by_value, Edge, Reply, Reads, entry_of_event, replies_in, source_in, leaf_in, ReadPart, Closed, Cases, nodes_of, parts_before, parts_in, tree_of, LinesTellTheirTree, PrintedTreesRefute, ValuesTellTheirTree, PrintedValuesRefute}
 use mathlib.Core.Path.{ap₂}
 use Rattle.promises.proofs.ReasonLines.{lines-tell}
-use Rattle.promises.proofs.ReasonValues.{values-tell}
+use Rattle.promises.proofs.ReasonValues.{values-tell, step-values}
+use Rattle.promises.proofs.JsonTexts.{first_item, more_items, has_item, uneven}
+use Rattle.promises.proofs.AsRead.{IsSo, steps-so}
+use Rattle.promises.proofs.FalseValues.{value-so}
 use Rattle.promises.proofs.ReasonsFit.{steps-fit}
 use Rattle.promises.proofs.ReadingBack.{steps-refute}
 
@@ -86,3 +89,54 @@ values-refute model t nodes steps test is d p c e =
     let made = steps_of model t (asked_claim t.condition) nodes in
     subst (λ (tree : List Node). refutes model t (asked_claim t.condition) tree ≡ true) (sym (values-tell-trees model t steps made test p (steps-fit model t nodes test is) c d e))
     (steps-refute model t (asked_claim t.condition) nodes is)
+
+-- ---- lines `False`
+
+so-told : (claim : Claim) (s : ReasonStep) → IsSoAsRead claim s → IsSoAsRead claim (told_reason_step s)
+so-told claim (Case depth a) so = tt
+so-told claim (So depth a) so = tt
+so-told claim (Leaf depth (Uniproc edges)) so = tt
+so-told claim (Leaf depth (Cycle edges)) so = tt
+so-told claim (Leaf depth (Amid r v w)) so = tt
+so-told claim (Leaf depth (False places)) so = so
+so-told claim (Endcases depth) so = tt
+
+told-so : (claim : Claim) (s : ReasonStep) → IsSoAsRead claim (told_reason_step s) → IsSoAsRead claim s
+told-so claim (Case depth a) so = tt
+told-so claim (So depth a) so = tt
+told-so claim (Leaf depth (Uniproc edges)) so = tt
+told-so claim (Leaf depth (Cycle edges)) so = tt
+told-so claim (Leaf depth (Amid r v w)) so = tt
+told-so claim (Leaf depth (False places)) so = so
+told-so claim (Endcases depth) so = tt
+
+abbrev is_there : List ReasonStep → Bool
+is_there [] = false
+is_there (s ∷ ss) = true
+
+all-so : (claim : Claim) (steps made : List ReasonStep) → map told_reason_step steps ≡ map told_reason_step made → All (IsSo claim) made → All (IsSoAsRead claim) steps
+all-so claim [] made e all = All-nil (IsSoAsRead claim)
+all-so claim (s ∷ steps) [] e all = absurd (let uneven = ap is_there e in let no : ⊥ = cc in no)
+all-so claim (s ∷ steps) (m ∷ made) e all =
+    let here : told_reason_step s ≡ told_reason_step m = ap (λ (l : List ReasonStep). get_or l 0 s) e in
+    All-cons (IsSoAsRead claim) s steps (told-so claim s (subst (IsSoAsRead claim) (sym here) (so-told claim m (All-head (IsSo claim) m made all).0)))
+    (all-so claim steps made (ap (drop 1) e) (All-tail (IsSo claim) m made all))
+
+pub false-lines-so : PrintedFalseLinesAreSo
+false-lines-so model t nodes steps test is p e =
+    let made = steps_of model t (asked_claim t.condition) nodes in
+    all-so (asked_claim t.condition) steps made (lines-tell model t steps made test p (steps-fit model t nodes test is) e) (steps-so model t nodes test is)
+
+all-values-so : (model : Model) (t : Litmus) (test : IsTest t) (claim : Claim) (steps made : List ReasonStep) → All (ReasonStepFits model t) steps → All (ReasonStepFits model t) made
+    → items_outline (items_of (map (step_value t) steps)) ≡ items_outline (items_of (map (step_value t) made)) → All (IsSo claim) made → All (IsSoAsRead claim) steps
+all-values-so model t test claim [] made p q e all = All-nil (IsSoAsRead claim)
+all-values-so model t test claim (s ∷ steps) [] p q e all = uneven (ap has_item e)
+all-values-so model t test claim (s ∷ steps) (m ∷ made) p q e all =
+    All-cons (IsSoAsRead claim) s steps
+    (value-so t test model claim m s (All-head (ReasonStepFits model t) m made q) (All-head (ReasonStepFits model t) s steps p) (sym (ap first_item e)) (All-head (IsSo claim) m made all))
+    (all-values-so model t test claim steps made (All-tail (ReasonStepFits model t) s steps p) (All-tail (ReasonStepFits model t) m made q) (ap more_items e) (All-tail (IsSo claim) m made all))
+
+pub false-values-so : PrintedFalseValuesAreSo
+false-values-so model t nodes steps test is d p c e =
+    let made = steps_of model t (asked_claim t.condition) nodes in
+    all-values-so model t test (asked_claim t.condition) steps made p (steps-fit model t nodes test is) (step-values model t steps made p (steps-fit model t nodes test is) c d e) (steps-so model t nodes test is)

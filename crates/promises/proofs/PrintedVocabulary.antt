@@ -57,21 +57,22 @@ pub use Rattle.std.proofs.lemmas.Bool.Decides.{nat_tests}
 pub use Rattle.std.proofs.lemmas.List.Folds.{list_all-append, list_any-append}
 pub use Rattle.tso_report.specs.ShownNames.{is_shown, names_shown, values_at}
 pub use Rattle.tso_report.specs.declared.show.Show.{Show}
-pub use Rattle.search_report.specs.OutcomesJson.{key_of, states_value, observed_value, observation_value, unfinished_outcomes_json, value_members, holds_in, with_holds, state_value, outcomes_value}
+pub use Rattle.search_report.specs.OutcomesJson.{key_of, states_value, observed_value, observation_value, value_members, holds_in, with_holds, state_value, outcomes_value}
 pub use Rattle.scheduler.specs.Printed.{printed_choice, printed_after, printed_choices}
-pub use Rattle.search_report.specs.Outcomes.{Outcome, shown_values, outcomes_line, outcome_lines, condition_lines, unfinished_outcomes_line, held_in, failed_in, true_in, is_met_in, printed_numbers, observation_line, true_line, by_line, state_line, true_from}
+pub use Rattle.search_report.specs.Outcomes.{Outcome, shown_values, outcomes_line, outcome_lines, condition_lines, held_in, failed_in, true_in, is_met_in, printed_numbers, observation_line, true_line, by_line, state_line, true_from}
 pub use Rattle.search_report.proofs.Alike.{alike}
 pub use Rattle.promises.specs.Outcomes.{OutcomesTellTheirStates, OutcomesTellTheirTests, OutcomesFit, PrintedStatesFit}
 pub use Rattle.search_report.specs.Verdict.{verdict_word, is_well, outcomes_verdict_value, verdict_line, is_met, is_as_claimed}
-pub use Rattle.promises.specs.Verdicts.{PrintsVerdict, EndsInNumbers, IsAsClaimed, IsNotAsClaimed, VerdictMeans, VerdictsAgree, StatusTells, TrueNamesTrueStates, HoldsTellsTrueStates}
-pub use Rattle.search_report.specs.PrintedOutcomes.{outcomes_in, unfinished_search_in}
+pub use Rattle.promises.specs.Verdicts.{PrintsVerdict, EndsInNumbers, IsAsClaimed, IsNotAsClaimed, VerdictMeans, VerdictsAgree, StatusTells, StatusTellsNoVerdict, TrueNamesTrueStates, HoldsTellsTrueStates}
+pub use Rattle.search_report.specs.MetOutcomes.{unfinished_search_in}
+pub use Rattle.search_report.specs.PrintedOutcomes.{outcomes_in}
 pub use Rattle.promises.specs.Observed.{EndsInWord, HasWordInObject, PrintsWord, IsSoEverywhere, IsSoSomewhere, IsSoNowhere, IsAlwaysSo, IsSometimesSo, WordMeans}
 pub use Rattle.relational_model.specs.Candidates.{Candidate, events_from}
 pub use Rattle.refutation_laws.specs.Refutations.{Node, asked_claim, ReadsFrom, ComesFirst, OnLocation, Globally, Between, FalseClaim, sources_of, is_node, branches, close, refutes}
 pub use Rattle.refutation_laws.specs.declared.model.Model.{Model}
-pub use Rattle.search_report.specs.Steps.{ReasonStep, Case, So, Leaf, Endcases, steps_of, leaves_in, Answer, From, Before, Closing, Uniproc, Cycle, Amid, False, event_at, edges_back, edges_of, is_leaf, leaf_steps, replies, with_reply, Part, Branch, branches_with, is_closed, write_of_answer, answer_at, are_alike, groups, known_of_case, closed_case, case_steps, so_steps, rest_steps, question_steps, grown, is_false_source, is_source, is_false, answer_of_case, answer_of_branch, parts_of_nodes}
+pub use Rattle.search_report.specs.Steps.{ReasonStep, Case, So, Leaf, Endcases, steps_of, leaves_in, Answer, From, Before, Closing, Uniproc, Cycle, Amid, False, event_at, edges_back, edges_of, is_leaf, leaf_steps, replies, with_reply, Part, Branch, branches_with, is_closed, write_of_answer, answer_at, are_alike, groups, known_of_case, one_case, share_a_line, closed_case, case_steps, so_steps, rest_steps, question_steps, grown, is_false_source, is_source, is_false, answer_of_case, answer_of_branch, parts_of_nodes}
 pub use Rattle.search_report.specs.ReasonText.{model_name, truth_asked, asked_line, never_line, reason_step_line, blanks, answer_text, closing_text, from_line, reads_of, coherence_lines, values_left, location_text, entry_text, event_text, relation_text, hop_text, cycle_text, source_text, or_text, sources_text, bar_text, words_text, place_text}
-pub use Rattle.search_report.specs.ReasonJson.{asked_value, step_value, edge_value, answer_value, place_members, never_value_of, allowed_value, unfinished_reason_json, cycle_value}
+pub use Rattle.search_report.specs.ReasonJson.{asked_value, step_value, edge_value, answer_value, place_members, never_value_of, never_json_line, allowed_value, unfinished_reason_json, cycle_value}
 pub use Rattle.tso_terms.specs.FinalState.{final_words, final_registers}
 pub use Rattle.tso_terms.specs.FlatMachine.{registers_in, chosen, CoreState, State, Effect, is_none_pending, stalled, advanced_with, stored, load_value, effect_by, idle, program_of, core_of, effect_of, memory_after, applied, started, start, step_of}
 pub use Rattle.tso_laws.specs.Outcomes.{IsEnd, EndsAreWhatTsoAllows}
@@ -80,7 +81,7 @@ pub use Rattle.search_report.specs.Laws.{TruthIsShown}
 pub use Rattle.tso_cli.specs.Dividing.{parts_of}
 pub use Rattle.tso_cli.proofs.FoundOutcomes.{Leads, made-of}
 pub use Rattle.command_line.specs.Search.{Search}
-pub use Rattle.tso_cli.specs.OutcomesHeadline.{shown_after, PrintsAllOutcomes, HeadlineOfOutcomes, all, too_many, AreExactly}
+pub use Rattle.tso_cli.specs.OutcomesHeadline.{shown_after, PrintsAllOutcomes, PrintsSomeOutcomes, HeadlineOfOutcomes, all, too_many, AreSomeOf, AreExactly}
 pub use Rattle.refutation_laws.specs.declared.model.Model.TheVariants.{Tso, Sequential}
 pub use Rattle.order_builder.proofs.NameLaws.{all_of_location, location_again}
 pub use Rattle.protocol_tables.specs.declared.requests.Transient.TheVariants.{IsD, ImD, SmD}
@@ -134,5 +135,5 @@ pub use Rattle.search_report.specs.declared.replies.Reply.{Reply}
 pub use Rattle.search_report.specs.declared.replies.Reply.TheVariants.{Reads, First}
 pub use Rattle.basic_laws.proofs.Lists.{Each, each-map, each-append, each-left, each-right}
 pub use Rattle.refutation_laws.proofs.Soundness.{itself, bare-same}
-pub use Rattle.promises.specs.ReadBack.{entry_of_event, replies_in, ReadCase, same_source, same_reply, source_in, leaf_in, ReadPart, Closed, Cases, nodes_with, nodes_of, cases_with, parts_before, parts_in, question_answered, tree_of, StepsOfRefutationsRefute, LinesTellTheirTree, PrintedTreesRefute, ValuesTellTheirTree, PrintedValuesRefute}
+pub use Rattle.promises.specs.ReadBack.{entry_of_event, replies_in, ReadCase, same_source, same_reply, source_in, leaf_in, ReadPart, Closed, Cases, nodes_with, nodes_of, cases_with, parts_before, parts_in, question_answered, tree_of, StepsOfRefutationsRefute, LinesTellTheirTree, PrintedTreesRefute, ValuesTellTheirTree, PrintedValuesRefute, HasOneOfEach, IsSoAsRead, PrintedFalseLinesAreSo, PrintedFalseValuesAreSo}
 pub use Rattle.trace_report.specs.Shown.{ShownStep}

@@ -1,5 +1,5 @@
 -- The cases of one question, as they are read from its steps: each answer has a case, and its part closes it.
-use Rattle.promises.proofs.PrintedVocabulary.{◌≡◌, ℕ, Bool, true, false, List, [], ◌∷◌, ◌++◌, refl, sym, ap, subst, ◌∙◌, ◌+◌, cond, map, ◌||◌, append-nil, flat_map, list_any, and_parts, and_from, or_right, filter, Litmus, Claim, Node, FalseClaim, is_node, branches, close, Model, ReasonStep, Case, So, Endcases, replies, with_reply, Part, Branch, is_closed, are_alike, groups, closed_case, case_steps, so_steps, rest_steps, is_false_source, is_source, is_false, answer_of_case, answer_of_branch, Known, Reply, Each, each-map, each-append, replies_in, ReadCase, same_reply, leaf_in, ReadPart, Closed, Cases, nodes_with, nodes_of, cases_with, parts_before, parts_in}
+use Rattle.promises.proofs.PrintedVocabulary.{◌≡◌, ℕ, Bool, true, false, List, [], ◌∷◌, ◌++◌, refl, sym, ap, subst, ◌∙◌, ◌+◌, cond, map, ◌||◌, append-nil, flat_map, list_any, and_parts, and_from, or_right, filter, Litmus, Claim, Node, FalseClaim, is_node, branches, close, Model, ReasonStep, Case, So, Endcases, replies, with_reply, Part, Branch, is_closed, is_leaf, are_alike, groups, one_case, share_a_line, closed_case, case_steps, so_steps, rest_steps, is_false_source, is_source, is_false, answer_of_case, answer_of_branch, Known, Reply, Each, each-map, each-append, replies_in, ReadCase, same_reply, leaf_in, ReadPart, Closed, Cases, nodes_with, nodes_of, cases_with, parts_before, parts_in}
 use Rattle.std.proofs.Common.{append_assoc}
 use Rattle.refutation_laws.proofs.Composing.{side-by-side}
 use Rattle.promises.proofs.PlainAnswers.{plain-reply, reply-alike, close-alike}
@@ -125,14 +125,15 @@ module _ (model : Model) (t : Litmus) (claim : Claim) where
         (ap (parts_before t (Case depth (answer_of_branch t b))) (ap (parts_in t) (append_assoc below tail ss) ∙ (r.is ∙ ap (λ (ps : List ReadPart). r.part ∷ ps) old.is))
         ∙ ap (λ (cs : List ReadCase). Cases (cs ++ old.cases) ∷ parts_in t ss) (one-case (nodes_of t r.part) b))
 
-    joined : (b : Branch) (bs : List Branch) (steps ss : List ReasonStep) → CasesRead ((b ∷ []) ∷ (bs ∷ [])) steps ss → CasesRead ((b ∷ bs) ∷ []) steps ss
-    joined b bs steps ss old = record { cases = old.cases; is = old.is; closes = old.closes; given = ((old.given.0.0, old.given.1.0), tt) }
+    joined : (b : Branch) (bs : List Branch) (groups : List (List Branch)) (steps ss : List ReasonStep) → CasesRead ((b ∷ []) ∷ (bs ∷ groups)) steps ss
+        → CasesRead ((b ∷ bs) ∷ groups) steps ss
+    joined b bs groups steps ss old = record { cases = old.cases; is = old.is; closes = old.closes; given = ((old.given.0.0, old.given.1.0), old.given.1.1) }
 
     many-read : (depth : ℕ) (bs : List Branch) (ss : List ReasonStep) → Each BranchReads bs → CasesRead (bs ∷ []) (flat_map (case_steps t depth) bs ++ (Endcases depth ∷ [])) ss
     many-read depth [] ss reads = record { cases = []; is = refl; closes = tt; given = (tt, tt) }
     many-read depth (b ∷ bs) ss reads =
         let later = flat_map (case_steps t depth) bs in
-        joined b bs (flat_map (case_steps t depth) (b ∷ bs) ++ (Endcases depth ∷ [])) ss
+        joined b bs [] (flat_map (case_steps t depth) (b ∷ bs) ++ (Endcases depth ∷ [])) ss
         (subst (λ (steps : List ReasonStep). CasesRead ((b ∷ []) ∷ (bs ∷ [])) steps ss) (sym (append_assoc (case_steps t depth b) later (Endcases depth ∷ [])))
         (case-before depth b (bs ∷ []) (later ++ (Endcases depth ∷ [])) ss reads.0 (many-read depth bs ss reads.1)))
 
@@ -185,17 +186,44 @@ module _ (model : Model) (t : Litmus) (claim : Claim) where
           alike-close b others reads.1 alike.1,
         )
 
-    closed-read : (depth : ℕ) (b : Branch) (others : List Branch) (groups : List (List Branch)) (tail ss : List ReasonStep) → GroupReads (b ∷ others) → CasesRead groups tail ss
-        → CasesRead ((b ∷ others) ∷ groups) (closed_case model t claim depth k (b ∷ others) ++ tail) ss
-    closed-read depth b others groups tail ss reads old =
+    together-read : (depth : ℕ) (b : Branch) (others : List Branch) (groups : List (List Branch)) (tail ss : List ReasonStep) → GroupReads (b ∷ others) → CasesRead groups tail ss
+        → CasesRead ((b ∷ others) ∷ groups) (one_case model t claim depth k (b ∷ others) ++ tail) ss
+    together-read depth b others groups tail ss reads old =
         let a = answer_of_case t k b others in
         let l = leaf-line t model claim (depth + 1) b.known (map (λ (c : Branch). c.known) (b ∷ others)) b.part.root reads.1 in
-        with-these (plain-node b.part.root ∷ []) (b ∷ others) groups tail (closed_case model t claim depth k (b ∷ others) ++ tail) ss reads.0
+        with-these (plain-node b.part.root ∷ []) (b ∷ others) groups tail (one_case model t claim depth k (b ∷ others) ++ tail) ss reads.0
         (leaf-closes t model claim b.known b.part.root reads.1 reads.0.0.part.node, alike-close b others reads.0.1 reads.2) old
         (ap (λ (ls : List ReasonStep). parts_before t (Case depth a) (parts_in t ((ls ++ tail) ++ ss))) l.line
         ∙ (ap (λ (ps : List ReadPart). parts_before t (Case depth a) (Closed (leaf_in l.closing) ∷ ps)) old.is
         ∙ (ap (λ (m : Node). Cases (cases_with (m ∷ []) a ++ old.cases) ∷ parts_in t ss) l.leaf
         ∙ ap (λ (cs : List ReadCase). Cases (cs ++ old.cases) ∷ parts_in t ss) (group-cases (plain-node b.part.root ∷ []) b others reads))))
+
+    -- those that one line may close are closed by a leaf
+    all-closed : (b : Branch) (others : List Branch) → GroupReads (b ∷ others) → Each (λ (c : Branch). is_closed c ≡ true) (b ∷ others)
+    all-closed b others reads = (reads.1, by others reads.2)
+      where
+        by : (cs : List Branch) → Each (λ (c : Branch). are_alike t claim b c ≡ true) cs → Each (λ (c : Branch). is_closed c ≡ true) cs
+        by [] alike = tt
+        by (c ∷ cs) alike = (ap is_leaf (false-root c (alike-parts t claim b c alike.0).second), by cs alike.1)
+
+    each-read : (depth : ℕ) (bs : List Branch) (groups : List (List Branch)) (tail ss : List ReasonStep) → Each BranchReads bs → Each (λ (c : Branch). is_closed c ≡ true) bs
+        → CasesRead groups tail ss → CasesRead (bs ∷ groups) (flat_map (λ (c : Branch). one_case model t claim depth k (c ∷ [])) bs ++ tail) ss
+    each-read depth [] groups tail ss reads closed old = record { cases = old.cases; is = old.is; closes = old.closes; given = (tt, old.given) }
+    each-read depth (b ∷ bs) groups tail ss reads closed old =
+        let later = flat_map (λ (c : Branch). one_case model t claim depth k (c ∷ [])) bs in
+        joined b bs groups (flat_map (λ (c : Branch). one_case model t claim depth k (c ∷ [])) (b ∷ bs) ++ tail) ss
+        (subst (λ (steps : List ReasonStep). CasesRead ((b ∷ []) ∷ (bs ∷ groups)) steps ss) (sym (append_assoc (one_case model t claim depth k (b ∷ [])) later tail))
+        (together-read depth b [] (bs ∷ groups) (later ++ tail) ss ((reads.0, tt), closed.0, tt) (each-read depth bs groups tail ss reads.1 closed.1 old)))
+
+    -- together, or each by itself
+    closed-read : (depth : ℕ) (b : Branch) (others : List Branch) (groups : List (List Branch)) (tail ss : List ReasonStep) → GroupReads (b ∷ others) → CasesRead groups tail ss
+        → CasesRead ((b ∷ others) ∷ groups) (closed_case model t claim depth k (b ∷ others) ++ tail) ss
+    closed-read depth b others groups tail ss reads old = by (share_a_line t claim (b ∷ others))
+      where
+        by : (x : Bool) → CasesRead ((b ∷ others) ∷ groups)
+            (cond x (one_case model t claim depth k (b ∷ others)) (flat_map (λ (c : Branch). one_case model t claim depth k (c ∷ [])) (b ∷ others)) ++ tail) ss
+        by true = together-read depth b others groups tail ss reads old
+        by false = each-read depth (b ∷ others) groups tail ss reads.0 (all-closed b others reads) old
 
     pub groups-read : (depth : ℕ) (groups others : List (List Branch)) (tail ss : List ReasonStep) → Each GroupReads groups → CasesRead others tail ss
         → CasesRead (groups ++ others) (flat_map (closed_case model t claim depth k) groups ++ tail) ss

@@ -186,7 +186,7 @@ no-register t core reg loc rest other test known e =
     (digits-are continues_name (decimal core.0) digit-name (all-digits core.0)) (all_of_location t loc test known) refl refl flat in
     unlike 0 (codes ":" ++ (name_of reg ++ 61 ∷ rest)) (61 ∷ other) refl cut.1
 
-key-cut : (t : Litmus) (a b : Named) (rest other : List ℕ) → IsTest t → IsNamed t a → IsNamed t b → key_of t a ++ 61 ∷ rest ≡ key_of t b ++ 61 ∷ other → (a ≡ b) × (rest ≡ other)
+pub key-cut : (t : Litmus) (a b : Named) (rest other : List ℕ) → IsTest t → IsNamed t a → IsNamed t b → key_of t a ++ 61 ∷ rest ≡ key_of t b ++ 61 ∷ other → (a ≡ b) × (rest ≡ other)
 key-cut t (Register core reg) (Register core' reg') rest other test p q e =
     let flat = sym (register-flat (decimal core.0) (name_of reg) (61 ∷ rest)) ∙ (e ∙ register-flat (decimal core'.0) (name_of reg') (61 ∷ other)) in
     let x = name_of reg ++ 61 ∷ rest in

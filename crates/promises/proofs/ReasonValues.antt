@@ -1,5 +1,5 @@
 -- The JSON value of a reason tells its steps.
-use Rattle.promises.proofs.PrintedVocabulary.{◌≡◌, ℕ, ◌^◌, ◌<◌, false, List, [], ◌∷◌, ◌++◌, get_or, refl, sym, ap, ◌∙◌, Option, arith, All, Some, None, ◌==◌, map, if◌then◌else◌, IfSome, decimal_injective, max_depth, string, array, outline, items_outline, members_outline, codes, IsNumber-decimal, count, Litmus, IsTest, All-head, All-tail, Condition, items_of, key_of, Model, ReasonStep, Case, So, Leaf, Endcases, leaves_in, Answer, From, Before, Uniproc, Cycle, Amid, False, event_text, relation_text, source_text, asked_value, step_value, edge_value, answer_value, place_members, never_value_of, option_map, on_location, global_in, Relation, Event, told_event, EventFits, told_edge, told_answer, LeadFrom, CycleFits, CaseFits, PlaceFits, told_by_value, depth_in, AreCounted, ReasonValuesTellTheirSteps, Place, Edge, ReasonStepFits, cycle_value}
+use Rattle.promises.proofs.PrintedVocabulary.{◌≡◌, ℕ, ◌^◌, ◌<◌, false, List, [], ◌∷◌, ◌++◌, get_or, refl, sym, ap, ◌∙◌, Option, arith, All, Some, None, ◌==◌, map, if◌then◌else◌, IfSome, decimal_injective, max_depth, string, array, outline, items_outline, members_outline, codes, IsNumber-decimal, count, Litmus, IsTest, All-head, All-tail, Condition, items_of, key_of, Model, ReasonStep, Case, So, Leaf, Endcases, leaves_in, Answer, From, Before, Uniproc, Cycle, Amid, False, event_text, relation_text, source_text, asked_value, step_value, edge_value, answer_value, place_members, never_value_of, never_json_line, option_map, on_location, global_in, Relation, Event, told_event, EventFits, told_edge, told_answer, LeadFrom, CycleFits, CaseFits, PlaceFits, told_by_value, depth_in, AreCounted, ReasonValuesTellTheirSteps, Place, Edge, ReasonStepFits, cycle_value}
 use Rattle.json.specs.Json as json
 use Rattle.promises.proofs.Lists.{both-fit}
 use Rattle.promises.proofs.Cutting.{unlike}
@@ -84,10 +84,10 @@ kind_by first second =
     if first == 115 then 2 else if first == 117 then 3 else if first == 98 then 5 else if first == 102 then 6 else if first == 101 then 7
     else if second == 97 then 1 else 4
 
-abbrev kind_in : json.Json → ℕ
+abbrev pub kind_in : json.Json → ℕ
 kind_in j = kind_by (get_or (word_in (members_in j)) 0 0) (get_or (word_in (members_in j)) 1 0)
 
-abbrev kind_of : ReasonStep → ℕ
+abbrev pub kind_of : ReasonStep → ℕ
 kind_of (Case depth answer) = 1
 kind_of (So depth answer) = 2
 kind_of (Leaf depth (Uniproc es)) = 3
@@ -96,7 +96,7 @@ kind_of (Leaf depth (Amid r v w)) = 5
 kind_of (Leaf depth (False places)) = 6
 kind_of (Endcases depth) = 7
 
-kind-there : (t : Litmus) (s : ReasonStep) → kind_in (outline (step_value t s)) ≡ kind_of s
+pub kind-there : (t : Litmus) (s : ReasonStep) → kind_in (outline (step_value t s)) ≡ kind_of s
 kind-there t (Case depth (From r ws)) = refl
 kind-there t (So depth (From r ws)) = refl
 kind-there t (Leaf depth (Uniproc es)) = refl
@@ -183,11 +183,17 @@ never-back model t ss p c =
     let steps = all-back 4 (Fits model t) (step_value t) ss (reason-step-back model t) (both-fit (ReasonStepFits model t) IsShallow ss p c.depths) in
     (tt, (asked, (IsNumber-decimal (leaves_in ss) c.few, (tt, (steps, (tt, (verdict-back 5 t.condition false, tt)))))))
 
-pub values-tell : ReasonValuesTellTheirSteps
-values-tell model t xs ys test p q c d e =
+-- the values of the steps, one by one
+pub step-values : (model : Model) (t : Litmus) (xs ys : List ReasonStep) → All (ReasonStepFits model t) xs → All (ReasonStepFits model t) ys → AreCounted xs → AreCounted ys
+    → never_json_line model t xs ≡ never_json_line model t ys → items_outline (items_of (map (step_value t) xs)) ≡ items_outline (items_of (map (step_value t) ys))
+step-values model t xs ys p q c d e =
     let a = never_value_of model t xs in
     let b = never_value_of model t ys in
     let x = deeper 6 max_depth (outline a) (omega arith) (never-back model t xs p c) in
     let y = deeper 6 max_depth (outline b) (omega arith) (never-back model t ys q d) in
+    ap (λ (j : json.Json). items_in (value_at 4 j)) (line-told a b x y e)
+
+pub values-tell : ReasonValuesTellTheirSteps
+values-tell model t xs ys test p q c d e =
     items-told (Fits model t) (step_value t) told_by_value (λ s u f g same. step-told model t s u test f.0 g.0 f.1 g.1 same) xs ys
-    (both-fit (ReasonStepFits model t) IsShallow xs p c.depths) (both-fit (ReasonStepFits model t) IsShallow ys q d.depths) (ap (λ (j : json.Json). items_in (value_at 4 j)) (line-told a b x y e))
+    (both-fit (ReasonStepFits model t) IsShallow xs p c.depths) (both-fit (ReasonStepFits model t) IsShallow ys q d.depths) (step-values model t xs ys p q c d e)

@@ -1,10 +1,10 @@
 -- The steps of a refutation fit its test.
-use Rattle.promises.proofs.PrintedVocabulary.{◌≡◌, ℕ, Bool, true, false, List, [], ◌∷◌, ◌++◌, drop, refl, ap, subst, zero, suc, ◌≤◌, Option, arith, inl, inr, ◌+◌, length, All, Some, None, cond, map, not, ◌||◌, IfSome, list_all, flat_map, list_any, and_parts, length-map, filter, all_registers, Litmus, IsTest, All-head, All-tail, All-weaker, All-map, All-cons, All-nil, All-filter, All-append, Claim, IsWord, Reg, Entry, Named, Register, Location, looked_at, named_register, named_registers, named_locations, is_looked_at, Node, asked_claim, ReadsFrom, ComesFirst, OnLocation, Globally, Between, FalseClaim, sources_of, is_node, branches, close, Model, ReasonStep, Case, So, Endcases, steps_of, event_at, edges_back, edges_of, is_leaf, leaf_steps, replies, with_reply, Part, Branch, branches_with, is_closed, write_of_answer, answer_at, are_alike, groups, known_of_case, closed_case, case_steps, so_steps, rest_steps, question_steps, grown, writes_to, on_location, global_in, relates, is_edge, is_cycle, leads_back, Relation, Event, EventFits, IsRelationAmong, LeadFrom, CycleFits, CaseFits, IsNamed, PlaceFits, StepsOfRefutationsFit, PrintedRefutationsTellTheirSteps, words_at, known_among, unseen, suffices, place_with_values, places_in, Known, events_of, is_event, nothing, with_source, first_that_relates, Reply, Reads, First, parts_of_nodes, ReasonStepFits}
+use Rattle.promises.proofs.PrintedVocabulary.{◌≡◌, ℕ, Bool, true, false, List, [], ◌∷◌, ◌++◌, drop, refl, ap, subst, zero, suc, ◌≤◌, Option, arith, inl, inr, ◌+◌, length, All, Some, None, cond, map, not, ◌||◌, IfSome, list_all, flat_map, list_any, and_parts, length-map, filter, all_registers, Litmus, IsTest, All-head, All-tail, All-weaker, All-map, All-cons, All-nil, All-filter, All-append, Claim, IsWord, Reg, Entry, Named, Register, Location, looked_at, named_register, named_registers, named_locations, is_looked_at, Node, asked_claim, ReadsFrom, ComesFirst, OnLocation, Globally, Between, FalseClaim, sources_of, is_node, branches, close, Model, ReasonStep, Case, So, Endcases, steps_of, event_at, edges_back, edges_of, is_leaf, leaf_steps, replies, with_reply, Part, Branch, branches_with, is_closed, write_of_answer, answer_at, are_alike, groups, known_of_case, one_case, share_a_line, closed_case, case_steps, so_steps, rest_steps, question_steps, grown, writes_to, on_location, global_in, relates, is_edge, is_cycle, leads_back, Relation, Event, EventFits, IsRelationAmong, LeadFrom, CycleFits, CaseFits, IsNamed, PlaceFits, StepsOfRefutationsFit, PrintedRefutationsTellTheirSteps, words_at, known_among, unseen, suffices, place_with_values, places_in, Known, events_of, is_event, nothing, with_source, first_that_relates, Reply, Reads, First, parts_of_nodes, ReasonStepFits}
 use Rattle.promises.proofs.KnownWords.{MayBeWord, either, value-fits, register-word, location-words}
 use Rattle.promises.proofs.ReasonLines.{lines-tell}
 use Rattle.promises.proofs.EventsFit.{IsEventFor, events-fit, event-fits}
 
-all-flat : {A B : Type 0} (P : B → Type 0) (f : A → List B) (xs : List A) → All (λ x. All P (f x)) xs → All P (flat_map f xs)
+pub all-flat : {A B : Type 0} (P : B → Type 0) (f : A → List B) (xs : List A) → All (λ x. All P (f x)) xs → All P (flat_map f xs)
 all-flat P f [] all = All-nil P
 all-flat {A} P f (x ∷ xs) all = All-append P (f x) (flat_map f xs) (All-head (λ (y : A). All P (f y)) x xs all) (all-flat P f xs (All-tail (λ (y : A). All P (f y)) x xs all))
 
@@ -201,14 +201,21 @@ module _ (t : Litmus) (test : IsTest t) where
         (All-cons (All BranchFits) (b ∷ filter (are_alike t claim b) bs) (groups t claim (before ++ (b ∷ [])) bs)
         (All-cons BranchFits b (filter (are_alike t claim b) bs) (All-head BranchFits b bs all) (All-filter (are_alike t claim b) BranchFits bs later)) more)
 
-    closed-fits : (depth : ℕ) (k : Known) (bs : List Branch) → All BranchFits bs → All (ReasonStepFits model t) (closed_case model t claim depth k bs)
-    closed-fits depth k [] all = All-nil (ReasonStepFits model t)
-    closed-fits depth k (b ∷ bs) all =
+    together-fits : (depth : ℕ) (k : Known) (bs : List Branch) → All BranchFits bs → All (ReasonStepFits model t) (one_case model t claim depth k bs)
+    together-fits depth k [] all = All-nil (ReasonStepFits model t)
+    together-fits depth k (b ∷ bs) all =
         let first = All-head BranchFits b bs all in
         let given = All-map ReplyFits (λ (c : Branch). c.reply) (b ∷ bs) (All-weaker BranchFits (λ (c : Branch). ReplyFits c.reply) (λ c fits. fits.reply) (b ∷ bs) all) in
         All-cons (ReasonStepFits model t) (Case depth _) (leaf_steps model t claim (depth + 1) b.known (map (λ (c : Branch). c.known) (b ∷ bs)) b.part.root)
         (answer-fits (known_of_case k (b ∷ bs)) b.reply (map (λ (c : Branch). c.reply) (b ∷ bs)) first.reply given)
         (leaf-fits b.known b.part.root first.part.node (depth + 1) (map (λ (c : Branch). c.known) (b ∷ bs)))
+
+    closed-fits : (depth : ℕ) (k : Known) (bs : List Branch) → All BranchFits bs → All (ReasonStepFits model t) (closed_case model t claim depth k bs)
+    closed-fits depth k bs all =
+        either (All (ReasonStepFits model t)) (share_a_line t claim bs) (one_case model t claim depth k bs) (flat_map (λ (b : Branch). one_case model t claim depth k (b ∷ [])) bs)
+        (together-fits depth k bs all)
+        (all-flat (ReasonStepFits model t) (λ (b : Branch). one_case model t claim depth k (b ∷ [])) bs
+        (All-weaker BranchFits (λ (b : Branch). All (ReasonStepFits model t) (one_case model t claim depth k (b ∷ []))) (λ b fits. together-fits depth k (b ∷ []) (All-cons BranchFits b [] fits (All-nil BranchFits))) bs all))
 
     answered : (b : Branch) → BranchFits b → CaseFits t (answer_at t b.known b.reply (b.reply ∷ []))
     answered b fits = answer-fits b.known b.reply (b.reply ∷ []) fits.reply (All-cons ReplyFits b.reply [] fits.reply (All-nil ReplyFits))

@@ -1,5 +1,7 @@
 -- The word that is printed of a condition is that of its counts.
-use Rattle.promises.proofs.PrintedVocabulary.{◌≡◌, ℕ, Bool, true, false, List, [], ◌∷◌, ◌++◌, get_or, refl, sym, ap, subst, ◌∙◌, arith, length, Some, ◌==◌, cond, decimal, list_all, is_ascii_digit, append_cancel_left, append_cancel_right, append_assoc, Data, string, no_members, member, object, compact_text, codes, line, test_line, count, Litmus, Condition, Named, frequency, escape, escape_byte, states_value, observed_value, observation_value, unfinished_outcomes_json, Outcome, outcomes_line, outcome_lines, condition_lines, unfinished_outcomes_line, held_in, failed_in, true_in, is_met_in, printed_numbers, verdict_word, is_well, outcomes_verdict_value, outcomes_in, unfinished_search_in, EndsInWord, HasWordInObject, PrintsWord}
+use Rattle.promises.proofs.PrintedVocabulary.{◌≡◌, ℕ, Bool, true, false, List, [], ◌∷◌, ◌++◌, get_or, refl, sym, ap, subst, ◌∙◌, arith, length, Some, ◌==◌, cond, decimal, list_all, is_ascii_digit, append_cancel_left, append_cancel_right, append_assoc, Data, string, no_members, member, object, compact_text, codes, line, test_line, count, Litmus, Condition, Named, frequency, escape, escape_byte, states_value, observed_value, observation_value, Outcome, outcomes_line, outcome_lines, condition_lines, held_in, failed_in, true_in, is_met_in, printed_numbers, verdict_word, is_well, outcomes_verdict_value, outcomes_in, unfinished_search_in, EndsInWord, HasWordInObject, PrintsWord}
+use Rattle.search_report.specs.MetOutcomes.{met_json}
+use Rattle.promises.proofs.MetEnds.{no-word, numbers-in-line, said-flat, verdict-in-line}
 use Rattle.promises.proofs.Cutting.{Stops, run-cut}
 use Rattle.promises.proofs.Digits.{all-digits, is_other, number-no-space, number-in-line, both-other, there, last-cut}
 
@@ -29,13 +31,6 @@ three-flat : (test first states name word held failed numbers verdict : List ℕ
     ++ 10 ∷ (codes "True" ++ numbers)) ++ 10 ∷ (codes "Verdict " ++ verdict)) ++ 10 ∷ [])
 three-flat test first states name word held failed numbers verdict = simp append_assoc
 
--- the same where it is said what they end in
-said-flat : (front word held failed numbers verdict : List ℕ)
-    → front ++ (codes " " ++ (word ++ (codes " " ++ (held ++ (codes " " ++ (line failed ++ (codes "True" ++ (line numbers ++ (codes "Verdict " ++ line verdict)))))))))
-    ≡ (((front ++ (codes " " ++ (word ++ (codes " " ++ (held ++ (codes " " ++ failed))))))
-    ++ 10 ∷ (codes "True" ++ numbers)) ++ 10 ∷ (codes "Verdict " ++ verdict)) ++ 10 ∷ []
-said-flat front word held failed numbers verdict = simp append_assoc
-
 with-feed : (front word held failed : List ℕ) → (front ++ (codes " " ++ (word ++ (codes " " ++ (held ++ (codes " " ++ failed)))))) ++ 10 ∷ []
     ≡ front ++ (codes " " ++ (word ++ (codes " " ++ (held ++ (codes " " ++ line failed)))))
 with-feed front word held failed = simp append_assoc
@@ -48,14 +43,6 @@ last-word front other word again h f k g p q e =
     let failed = last-cut 32 _ _ _ _ (both-other 32 (decimal f) (10 ∷ []) (number-no-space f) refl) (both-other 32 (decimal g) (10 ∷ []) (number-no-space g) refl) flat in
     let held = last-cut 32 _ _ _ _ (number-no-space h) (number-no-space k) failed.0 in
     (last-cut 32 _ _ _ _ p q held.0).1
-
-numbers-in-line : (numbers : List ℕ) → list_all (is_other 10) (printed_numbers numbers) ≡ true
-numbers-in-line [] = refl
-numbers-in-line (n ∷ ns) = both-other 10 (codes " " ++ decimal n) (printed_numbers ns) (number-in-line n) (numbers-in-line ns)
-
-verdict-in-line : (verdict : Bool) → list_all (is_other 10) (codes "Verdict " ++ verdict_word verdict) ≡ true
-verdict-in-line true = refl
-verdict-in-line false = refl
 
 in-lines : (t : Litmus) (names : List Named) (condition : Condition) (depth : ℕ) (outcomes : List Outcome) (word : List ℕ) → list_all (is_other 32) word ≡ true
     → EndsInWord word (test_line t ++ (outcomes_line depth (length outcomes) ++ (outcome_lines t names outcomes ++ condition_lines t.name (Some condition) outcomes)))
@@ -79,15 +66,6 @@ in-lines t names condition depth outcomes word plain says =
     let first = last-cut 10 (front ++ seen) (says.front ++ said) numbers others (numbers-in-line (true_in condition.claim outcomes)) (numbers-in-line says.numbers) before.0 in
     last-word front says.front (frequency h f) word h f says.held says.failed (frequency-no-space h f) plain
     (sym (with-feed front (frequency h f) (decimal h) (decimal f)) ∙ (ap (λ (l : List ℕ). l ++ 10 ∷ []) first.0 ∙ with-feed says.front word (decimal says.held) (decimal says.failed)))
-
--- a search that met its limit has one line
-no-word : (limit : ℕ) (word : List ℕ) → EndsInWord word (unfinished_outcomes_line limit) → ⊥
-no-word limit word says =
-    let before = (says.front ++ (codes " " ++ (word ++ (codes " " ++ (decimal says.held ++ (codes " " ++ decimal says.failed)))))) ++ 10 ∷ (codes "True" ++ printed_numbers says.numbers) in
-    let verdict = codes "Verdict " ++ verdict_word says.as_claimed in
-    let flat = says.text ∙ said-flat says.front word (decimal says.held) (decimal says.failed) (printed_numbers says.numbers) (verdict_word says.as_claimed) in
-    let text = append_cancel_right (codes "Unfinished states=" ++ decimal limit) (before ++ 10 ∷ verdict) (10 ∷ []) flat in
-    there 10 before verdict (subst (λ (l : List ℕ). list_all (is_other 10) l ≡ true) text (number-in-line limit))
 
 -- ---- JSON
 
@@ -163,12 +141,12 @@ in-object t names condition depth outcomes word plain says =
     ∙ object-flat (decimal depth) (decimal f) (decimal h) (frequency h f) (compact_text (states_value t names outcomes)) (compact_text (string t.name)) verdict in
     same-word depth says.depth f says.failed h says.held (frequency h f) word _ _ (frequency-unquoted h f) plain (sym flat ∙ says.text)
 
-third-byte : (t : Litmus) (limit : ℕ) → get_or (unfinished_outcomes_json t limit) 2 0 ≡ 116
+third-byte : (t : Litmus) (names : List Named) (limit : ℕ) (outcomes : List Outcome) → get_or (met_json t names limit outcomes) 2 0 ≡ 109
 unfolding escape_byte
-third-byte t limit = refl
+third-byte t names limit outcomes = refl
 
-no-word-in-object : (t : Litmus) (limit : ℕ) (word : List ℕ) → HasWordInObject word (unfinished_outcomes_json t limit) → ⊥
-no-word-in-object t limit word says = omega (arith, sym (third-byte t limit) ∙ ap (λ (l : List ℕ). get_or l 2 0) says.text)
+no-word-in-object : (t : Litmus) (names : List Named) (limit : ℕ) (outcomes : List Outcome) (word : List ℕ) → HasWordInObject word (met_json t names limit outcomes) → ⊥
+no-word-in-object t names limit outcomes word says = omega (arith, sym (third-byte t names limit outcomes) ∙ ap (λ (l : List ℕ). get_or l 2 0) says.text)
 
 -- ---- either form
 
@@ -188,6 +166,7 @@ word-is false t names condition depth outcomes word is plain unquoted says =
 word-is true t names condition depth outcomes word is plain unquoted says =
     in-object t names condition depth outcomes word unquoted (subst (λ (text : List ℕ). HasWordInObject word text) (of-condition t names condition depth outcomes is) says)
 
-pub word-isnt : (json : Bool) (t : Litmus) (limit : ℕ) (word : List ℕ) → PrintsWord json word (unfinished_search_in json t limit) → ⊥
-word-isnt false t limit word says = no-word limit word says
-word-isnt true t limit word says = no-word-in-object t limit word says
+pub word-isnt : (json : Bool) (t : Litmus) (names : List Named) (condition : Condition) (limit : ℕ) (outcomes : List Outcome) (word : List ℕ) → t.condition ≡ Some condition
+    → PrintsWord json word (unfinished_search_in json t names limit outcomes) → ⊥
+word-isnt false t names condition limit outcomes word is says = no-word t names condition limit outcomes word is says
+word-isnt true t names condition limit outcomes word is says = no-word-in-object t names limit outcomes word says

@@ -10,4 +10,5 @@ pub mod Traces
 pub mod TracedMachines
 pub mod Reasons
 pub mod ReadBack
+pub mod Sources
 pub mod inner

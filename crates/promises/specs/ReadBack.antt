@@ -1,10 +1,12 @@
 -- The tree that the steps of a refutation tell, read back from the last step to the first. Of a step only its events count: no value,
 -- no relation, no place and no depth. Whoever wrote the steps, the tree can be held against `refutes`.
-use Rattle.std.specs.Prelude.{◌≡◌, ◌&&◌, Bool, true, false, if◌then◌else◌, All, List, [], ◌∷◌, ◌++◌, map, Option, Some, None}
+use Rattle.std.specs.Prelude.{ℕ, ◌≡◌, ◌&&◌, Bool, true, false, if◌then◌else◌, All, Contains, List, [], ◌∷◌, ◌++◌, map, Option, Some, None}
 use Rattle.std.specs.List.{flat_map}
 use Rattle.std.specs.Option.{option_map}
-use Rattle.promises.specs.Vocabulary.{Amid, Answer, asked_claim, bare, Before, Between, Case, Claim, Closing, ComesFirst, Cycle, Edge, Endcases, Event, False, FalseClaim, From, Globally, IsTest, Leaf, Litmus, Model, never_lines, never_text, Node, OnLocation, ReadsFrom, ReasonStep, refutes, replies, same_event, So, steps_of, Uniproc}
+use Rattle.promises.specs.Vocabulary.{Amid, Answer, asked_claim, bare, Before, Between, Case, Claim, Closing, ComesFirst, Cycle, Edge, Endcases, Event, False, FalseClaim, From, Globally, IsTest, Leaf, Litmus, Model, never_lines, never_text, Node, OnLocation, ReadsFrom, ReasonStep, refutes, replies, same_event, So, steps_of, truth_of, Uniproc}
 use Rattle.tso_terms.specs.declared.execution.Entry.{Entry}
+use Rattle.tso_report.specs.Tally.{shown_value}
+use Rattle.search_report.specs.Places.{Place}
 use Rattle.search_report.specs.declared.replies.Reply.{Reply}
 use Rattle.search_report.specs.declared.replies.Reply.TheVariants.{Reads, First}
 use Rattle.search_report.specs.ReasonJson as json
@@ -90,6 +92,18 @@ parts_in t (s ∷ ss) = parts_before t s (parts_in t ss)
 abbrev pub tree_of : Litmus → List ReasonStep → List Node
 tree_of t steps = flat_map (nodes_of t) (parts_in t steps)
 
+-- ---- lines `False`
+
+-- a final state in which each of these places has one of its values
+abbrev pub HasOneOfEach : List (List ℕ) → List ℕ → List Place → Type 0
+HasOneOfEach registers memory places = All (λ (p : Place). Contains p.values (shown_value registers memory p.named)) places
+
+-- A line `False` is so as it is read: in each such state the claim is false, whatever else there is. Other steps say nothing of it.
+abbrev pub IsSoAsRead : Claim → ReasonStep → Type 0
+IsSoAsRead claim (Leaf depth (False places)) =
+    (registers : List (List ℕ)) (memory : List ℕ) → HasOneOfEach registers memory places → truth_of registers memory claim ≡ false
+IsSoAsRead claim _ = Unit {0}
+
 -- ---- laws
 
 -- the tree that is read from the steps of a refutation refutes too
@@ -125,3 +139,17 @@ PrintedValuesRefute =
     → IsTest t → refutes model t (asked_claim t.condition) nodes ≡ true → AreCounted (steps_of model t (asked_claim t.condition) nodes)
     → All (ReasonStepFits model t) steps → AreCounted steps
     → json.never_json_line model t steps ≡ json.never_json model t nodes → refutes model t (asked_claim t.condition) (tree_of t steps) ≡ true
+
+-- and so is each line `False`, whichever steps are read from the lines, or from the JSON value
+abbrev pub PrintedFalseLinesAreSo : Type 0
+PrintedFalseLinesAreSo =
+    (model : Model) (t : Litmus) (nodes : List Node) (steps : List ReasonStep)
+    → IsTest t → refutes model t (asked_claim t.condition) nodes ≡ true → All (ReasonStepFits model t) steps
+    → never_lines model t steps ≡ never_text model t nodes → All (IsSoAsRead (asked_claim t.condition)) steps
+
+abbrev pub PrintedFalseValuesAreSo : Type 0
+PrintedFalseValuesAreSo =
+    (model : Model) (t : Litmus) (nodes : List Node) (steps : List ReasonStep)
+    → IsTest t → refutes model t (asked_claim t.condition) nodes ≡ true → AreCounted (steps_of model t (asked_claim t.condition) nodes)
+    → All (ReasonStepFits model t) steps → AreCounted steps
+    → json.never_json_line model t steps ≡ json.never_json model t nodes → All (IsSoAsRead (asked_claim t.condition)) steps

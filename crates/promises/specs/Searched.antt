@@ -1,5 +1,5 @@
 -- The lines of `outcomes`, and what `run` answers to them.
-use Rattle.std.specs.Prelude.{ℕ, ◌≡◌, Bool, List, [], ◌∷◌, ◌++◌, All, Some, codes}
+use Rattle.std.specs.Prelude.{ℕ, ◌≡◌, ◌⊎◌, Bool, List, [], ◌∷◌, ◌++◌, All, Some, codes}
 use Rattle.tso_terms.specs.Litmus.{Litmus}
 use Rattle.litmus_reader.specs.Spelling.{SpellsTest}
 use Rattle.scheduler.specs.Printed.{printed_choices}
@@ -9,8 +9,9 @@ use Rattle.tso_report.specs.Shown.{ShownRun}
 use Rattle.tso_report.specs.Report.{line}
 use Rattle.tso_report.specs.declared.named.Named.{Named}
 use Rattle.tso_report.specs.ShownNames.{names_shown, values_at}
-use Rattle.tso_report.specs.declared.show.Show.{Show}
 use Rattle.search_report.specs.Outcomes.{Outcome, state_line, outcomes_text}
+use Rattle.search_report.specs.MetOutcomes.{met_text}
+use Rattle.command_line.specs.Search.{Search}
 use Rattle.command_line.specs.declared.settings.Settings.TheVariants as settings
 use Rattle.tso_cli.specs.Dividing.{joined_parts}
 use Rattle.tso_cli.specs.RunTexts.{report_in}
@@ -41,9 +42,9 @@ IsRunAgain kind c json t names test out choices =
     → StandsAbove t names kind c json out choices answer × (status ≡ Good)
 
 -- so it is with each state of the given test whose lines the text has
-pub record LinesAreRunAgain (kind : ProtocolKind) (c : Configuration) (show : Show) (json : Bool) (test out : List ℕ) : Type 0 where
+pub record LinesAreRunAgain (kind : ProtocolKind) (c : Configuration) (s : Search) (json : Bool) (test out : List ℕ) : Type 0 where
   pub t : Litmus
   pub spelled : SpellsTest test t
   pub outcomes : List Outcome
-  pub text : out ≡ outcomes_text t (names_shown show t) c.depth outcomes
-  pub each : All (λ o. IsRunAgain kind c json t (names_shown show t) test out (printed_choices o.choices)) outcomes
+  pub text : (out ≡ outcomes_text t (names_shown s.show t) s.depth outcomes) ⊎ (out ≡ met_text t (names_shown s.show t) s.states outcomes)
+  pub each : All (λ o. IsRunAgain kind c json t (names_shown s.show t) test out (printed_choices o.choices)) outcomes

@@ -1,6 +1,6 @@
 -- Whether a condition is as it claims: what `Verdict` and `True` mean, for the machine's runs at that depth and for what TSO allows; and
 -- that the status says the same where that is asserted. (Primer, chapter 4, for the axioms, and chapter 3 for sequential consistency.)
-use Rattle.std.specs.Prelude.{ℕ, ◌+◌, ◌≡◌, ◌<◌, ◌≤◌, ◌↔◌, Bool, true, false, List, ◌++◌, length, Some, Contains, slice_get, codes}
+use Rattle.std.specs.Prelude.{ℕ, ◌+◌, ◌≡◌, ◌⊎◌, ◌<◌, ◌≤◌, ◌↔◌, Bool, true, false, List, ◌++◌, length, Some, Contains, slice_get, codes}
 use Rattle.promises.specs.Vocabulary.{Claim, Condition, Exists, Forall, InputHeadline, IsTest, line, Litmus, longest_input, Named, names_shown, NotExists, Outcome, parts_of, printed_numbers, Quantifier, Search, shown_values, SpellsTest, truth_of, values_at, verdict_word}
 use Rattle.refutation_laws.specs.Models.{depth_of}
 use Rattle.search_report.specs.OutcomesJson.{holds_in}
@@ -8,6 +8,7 @@ use Rattle.command_line.specs.Explanation.{Explanation}
 use Rattle.command_line.specs.declared.settings.Settings.{Settings}
 use Rattle.command_line.specs.declared.settings.Settings.TheVariants as settings
 use Rattle.tso_cli.specs.declared.answer.Status.{Status}
+use Rattle.tso_cli.specs.declared.answer.Status.TheVariants.{Good, Unended}
 use Rattle.tso_cli.specs.Answers.{IsAnswer}
 use Rattle.tso_cli.specs.OutcomesHeadline.{PrintsAllOutcomes}
 use Rattle.promises.specs.Observed.{IsSoEverywhere, IsSoSomewhere}
@@ -68,6 +69,13 @@ StatusTells s json word told =
     (input out : List ℕ) (status : Status) (t : Litmus) (condition : Condition)
     → length input ≤ longest_input → SpellsTest (parts_of input).test t → t.condition ≡ Some condition
     → IsAnswer s (Some input) out status → PrintsVerdict json word out → status ≡ told
+
+-- an answer that has a verdict is a success, or tells that a search met its limit
+abbrev pub StatusTellsNoVerdict : Settings → Bool → List ℕ → Type 0
+StatusTellsNoVerdict s json word =
+    (input out : List ℕ) (status : Status) (t : Litmus) (condition : Condition)
+    → length input ≤ longest_input → SpellsTest (parts_of input).test t → t.condition ≡ Some condition
+    → IsAnswer s (Some input) out status → PrintsVerdict json word out → (status ≡ Good) ⊎ (status ≡ Unended)
 
 -- ---- the states in which the proposition is true
 

@@ -3,6 +3,7 @@
 
 ghost use Rattle.std.specs.Prelude.{◌++◌, ◌+◌, ◌↔◌, ◌≡◌, ◌≢◌, List, Some, false, length, take, true, ℕ};
 ghost use Rattle.machine_core.specs.Hits.{IsHit};
+ghost use Rattle.machine_core.specs.Owners.{IsOwner};
 ghost use Rattle.machine_core.specs.Uses.{IsHitUse, IsUseFor, use_at};
 ghost use Rattle.multiprocessor.specs.Caches.{Caches, hits_by};
 ghost use Rattle.protocol_tables.specs.Laws.{WritesInPlace};
@@ -11,7 +12,7 @@ ghost use Rattle.protocol_tables.specs.declared.requests.Request.TheVariants.{Ge
 ghost use Rattle.protocol_tables.specs.declared.state.State.TheVariants.{I};
 ghost use Rattle.snoop_bus.specs.Accesses.{LoadsAt, WritesAt, contents_of, load_of, memory_of, would_hit, write_of};
 ghost use Rattle.snoop_bus.specs.Asks.{hits, in_halves, tag_at};
-ghost use Rattle.snoop_bus.specs.Bus.{BusModel, IsCoherent, IsFree, words_of};
+ghost use Rattle.snoop_bus.specs.Bus.{BusModel, IsCoherent, IsFree, counted_copies, words_of};
 ghost use Rattle.cache_set.specs.CacheTags.{TagSets};
 ghost use Rattle.snoop_bus.specs.Rows.{table_of_rows};
 ghost use Rattle.snoop_bus.specs.WholeAccesses.{LoadsInHalves, WritesInHalves};
@@ -32,7 +33,9 @@ ghost use Rattle.tso_terms.specs.Together.{put_together};
 ghost use Rattle.basic_laws.specs.Types.{Bus, Atomic, Choice, Entry, LR, LW, Core, Loc};
 ghost use Rattle.tso_terms.specs.declared.choice.Bus as kind;
 
-use machine_core::bus_laws::{accesses_are_what_is_counted, hits_are_told_beforehand};
+use machine_core::bus_laws::{
+    accesses_are_what_is_counted, hits_are_told_beforehand, one_owner_at_most,
+};
 use snoop_bus::whole_accesses::halves_leave_what_whole_accesses_do;
 use tso_laws::{atomic_runs_are_flat_runs, what_holds_so_far_on_either_bus};
 
@@ -46,6 +49,14 @@ pub fn hits_are_those_that_are_told()
         → tag_at core line caches ≢ Some I → IsHit (in_halves t GetM core line caches) ↔ (hits t core line true caches ≡ true) }
 {
     hits_are_told_beforehand();
+}
+
+/// Where copies are coherent, no two cores have a dirty one of a line.
+pub fn no_line_has_two_owners()
+    ensures { (b : BusModel) (line i j : ℕ) → IsCoherent b → IsOwner (counted_copies b) line i → IsOwner (counted_copies b) line j
+        → i ≢ j → ⊥ }
+{
+    one_owner_at_most();
 }
 
 /// What is counted of a choice is its access, a hit exactly where the caches answer so.

@@ -1,6 +1,6 @@
 //! What the headline says of each command, field by field.
 
-ghost use Rattle.std.specs.Prelude.{◌+◌, ◌<◌, ◌^◌, ◌≡◌, ◌≢◌, ◌≤◌, All, Bool, IfSome, List, if◌then◌else◌, is_some, length, true, ℕ};
+ghost use Rattle.std.specs.Prelude.{◌+◌, ◌<◌, ◌^◌, ◌⊎◌, ◌≡◌, ◌≢◌, ◌≤◌, All, Bool, IfSome, List, if◌then◌else◌, is_some, length, true, ℕ};
 ghost use Rattle.scheduler.specs.Plan.{Plan, most_seeds};
 ghost use Rattle.command_line.specs.Search.{Search};
 ghost use Rattle.command_line.specs.declared.settings.Settings.{Settings};
@@ -17,6 +17,7 @@ ghost use Rattle.litmus_reader.specs.declared.fault.TextFault.{TextFault};
 ghost use Rattle.multiprocessor.specs.Configuration.{Configuration};
 ghost use Rattle.order_builder.specs.Spelling.{SpellsOrder};
 ghost use Rattle.tso_laws.specs.Outcomes.{IsSequentiallyConsistent};
+ghost use Rattle.search_report.specs.MetOutcomes.{unfinished_search_in};
 ghost use Rattle.search_report.specs.PrintedOutcomes.{outcomes_in};
 ghost use Rattle.protocol_tables.specs.Names.{protocol_name};
 ghost use Rattle.protocol_tables.specs.PrintedTable.{printed_table};
@@ -26,7 +27,6 @@ ghost use Rattle.scheduler.specs.Grammar.{SpellsChoices};
 ghost use Rattle.scheduler.specs.Limits.{most_choices};
 ghost use Rattle.scheduler.specs.Printed.{printed_choices};
 ghost use Rattle.tso_report.specs.ShownNames.{names_shown, values_at};
-ghost use Rattle.tso_report.specs.declared.show.Show.{Show};
 ghost use Rattle.machine_runs.specs.Runs.{AnswersFit, run_under};
 ghost use Rattle.sweep_runs.specs.Counting.{SweepAnswersFit, sweep_counts};
 ghost use Rattle.tso_cli.specs.Answers.{IsTableAnswer};
@@ -107,11 +107,12 @@ pub fn a_table_is_printed()
 
 /// Choices of a printed state end there when they are run.
 pub fn printed_choices_end_in_printed_states()
-    ensures printed_states { (kind : ProtocolKind) (c : Configuration) (show : Show) (json told : Bool) (test out : List ℕ)
-        (said : AreRevisited kind c show json told test out) → out ≡ outcomes_in told said.t (names_shown show said.t) c.depth said.outcomes }
-    ensures each { (kind : ProtocolKind) (c : Configuration) (show : Show) (json told : Bool) (test out : List ℕ)
-        (said : AreRevisited kind c show json told test out)
-        → All (IsRevisited kind c json test said.t (names_shown show said.t)) said.outcomes }
+    ensures printed_states { (kind : ProtocolKind) (c : Configuration) (s : Search) (json told : Bool) (test out : List ℕ)
+        (said : AreRevisited kind c s json told test out) → (out ≡ outcomes_in told said.t (names_shown s.show said.t) s.depth said.outcomes)
+        ⊎ (out ≡ unfinished_search_in told said.t (names_shown s.show said.t) s.states said.outcomes) }
+    ensures each { (kind : ProtocolKind) (c : Configuration) (s : Search) (json told : Bool) (test out : List ℕ)
+        (said : AreRevisited kind c s json told test out)
+        → All (IsRevisited kind c json test said.t (names_shown s.show said.t)) said.outcomes }
     ensures printed { (t : Litmus) (names : List Named) (kind : ProtocolKind) (c : Configuration) (json : Bool) (values out : List ℕ)
         (said : ReportsValues t names kind c json values out) → out ≡ report_in json t kind c said.shown }
     ensures values_are { (t : Litmus) (names : List Named) (kind : ProtocolKind) (c : Configuration) (json : Bool) (values out : List ℕ)

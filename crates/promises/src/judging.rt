@@ -1,14 +1,18 @@
 //! How often an order is looked at while it is judged: three looks for each entry, so no pair of entries is compared with
-//! every other.
+//! every other. And whether nodes are judged to refute.
 
-ghost use Rattle.std.specs.Prelude.{◌≡◌, ◌≢◌, ◌+◌, ◌*◌, ◌<◌, ◌≤◌, IfErr, IsOkUnless, OnOk, length};
+ghost use Rattle.std.specs.Prelude.{◌≡◌, ◌≢◌, ◌+◌, ◌*◌, ◌<◌, ◌≤◌, IfErr, IfOk, IsOkUnless, OnOk, length, map};
 ghost use Rattle.tso_terms.specs.Axioms.{IsTsoExecution};
+ghost use Rattle.refutation_laws.specs.Refutations as spec;
+ghost use Rattle.refutations.specs.Trees.{node_of};
 ghost use Rattle.order_breaches.specs.FirstBreach.{IsFirstBreach, IsJudged};
 
 use axiom_checker::{Breach, check_counted, check_order};
+use refutation_laws::Model;
+use refutations::{Node, refutes};
 use std::alloc::Global;
 use std::sync::ledger::{Blank, Ledger};
-use tso_terms::{Execution, Test, Watched};
+use tso_terms::{Execution, NoMemory, Test, Watched};
 
 /// Judging an order takes at most three looks for each of its entries.
 pub fn three_looks_for_each_entry<L: Ledger>(
@@ -47,4 +51,16 @@ pub fn an_order_is_judged(alloc: Global, test: &Test, execution: &Execution) -> 
     ensures first { IfErr result (λ b. b ≢ Breach.NoMemory → IsFirstBreach test.now execution.now.order.items b) }
 {
     check_order(alloc, test, execution)
+}
+
+/// Nodes are judged to refute what a test asks exactly where they do by the definition.
+pub fn nodes_are_judged(
+    alloc: Global,
+    test: &Test,
+    model: Model,
+    nodes: &[Node],
+) -> Result<bool, NoMemory>
+    ensures { IfOk result (λ b. b ≡ spec.refutes model test.now (spec.asked_claim test.now.condition) (map node_of nodes.now)) }
+{
+    refutes(alloc, test, model, nodes)
 }

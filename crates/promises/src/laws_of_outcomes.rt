@@ -4,10 +4,11 @@
 ghost use Rattle.std.specs.Prelude.{Bool, true, false, codes};
 ghost use Rattle.promises.specs.Observed.{WordMeans, IsSoNowhere, IsAlwaysSo, IsSometimesSo};
 ghost use Rattle.promises.specs.Outcomes.{OutcomesTellTheirStates, OutcomesTellTheirTests, PrintedStatesFit};
-ghost use Rattle.promises.specs.Verdicts.{VerdictMeans, IsAsClaimed, IsNotAsClaimed, VerdictsAgree, StatusTells};
+ghost use Rattle.promises.specs.Verdicts.{VerdictMeans, IsAsClaimed, IsNotAsClaimed, VerdictsAgree, StatusTells, StatusTellsNoVerdict};
 ghost use Rattle.promises.specs.Verdicts.{TrueNamesTrueStates, HoldsTellsTrueStates};
 ghost use Rattle.command_line.specs.Explanation.{Explanation};
 ghost use Rattle.command_line.specs.Search.{Search};
+ghost use Rattle.search_report.specs.Verdict.{verdict_word};
 ghost use Rattle.command_line.specs.declared.settings.Settings.{Settings};
 ghost use Rattle.tso_cli.specs.declared.answer.Status.TheVariants.{Good, NotAsClaimed};
 
@@ -47,12 +48,13 @@ pub fn both_commands_print_one_verdict()
     truth_is_shown();
 }
 
-/// Where it is asserted that the condition is as it claims, the status of an answer with `Verdict No` tells that it isn't; with
-/// `Verdict Ok`, and where nothing is asserted, the status is that of success.
+/// Where it is asserted that the condition is as it claims, the status of an answer with `Verdict No` tells that it isn't, and with
+/// `Verdict Ok` it is that of success. Where nothing is asserted, it is that of success too, unless a search met its limit.
 pub fn statuses_tell_the_verdict()
     ensures outcomes_no { (search : Search) (json : Bool) → StatusTells (Settings.Outcomes search json true) json (codes "No") NotAsClaimed }
-    ensures outcomes_ok { (search : Search) (json assert : Bool) → StatusTells (Settings.Outcomes search json assert) json (codes "Ok") Good }
-    ensures outcomes_unasserted { (search : Search) (json : Bool) → StatusTells (Settings.Outcomes search json false) json (codes "No") Good }
+    ensures outcomes_ok { (search : Search) (json : Bool) → StatusTells (Settings.Outcomes search json true) json (codes "Ok") Good }
+    ensures outcomes_unasserted { (search : Search) (json verdict : Bool)
+        → StatusTellsNoVerdict (Settings.Outcomes search json false) json (verdict_word verdict) }
     ensures why_no { (plan : Explanation) (json : Bool) → StatusTells (Settings.Why plan json true) json (codes "No") NotAsClaimed }
     ensures why_ok { (plan : Explanation) (json assert : Bool) → StatusTells (Settings.Why plan json assert) json (codes "Ok") Good }
     ensures why_unasserted { (plan : Explanation) (json : Bool) → StatusTells (Settings.Why plan json false) json (codes "No") Good }

@@ -6,7 +6,7 @@ ghost use Rattle.search_report.specs.Worked.{between_asked, n6_asked, n6_refuted
 ghost use Rattle.refutation_laws.specs.Worked.{between_refuted, lost, n6_refuted, other_first, passed, passing_refuted};
 ghost use Rattle.refutation_laws.specs.declared.model.Model.TheVariants.{Tso};
 ghost use Rattle.promises.specs.ReadBack.{tree_of, LinesTellTheirTree, PrintedTreesRefute, StepsOfRefutationsRefute};
-ghost use Rattle.promises.specs.ReadBack.{PrintedValuesRefute, ValuesTellTheirTree};
+ghost use Rattle.promises.specs.ReadBack.{PrintedFalseLinesAreSo, PrintedFalseValuesAreSo, PrintedValuesRefute, ValuesTellTheirTree};
 ghost use Rattle.promises.specs.Reasons.{ReasonsTellTheirTests, ReasonsTellTheirSteps, ReasonValuesTellTheirSteps};
 ghost use Rattle.promises.specs.Reasons.{StepsOfRefutationsFit, PrintedRefutationsTellTheirSteps};
 
@@ -35,13 +35,16 @@ pub fn steps_of_reasons_fit_their_test()
 {}
 
 /// The tree that is read back from the steps of a refutation refutes too. Its printed lines tell one tree, whatever steps are read from
-/// them, and so does its JSON value. So whoever reads what is printed can hold it against `refutes`, and needs no program.
+/// them, and so does its JSON value. So whoever reads what is printed can hold it against `refutes`, and needs no program. Each line `False`
+/// is so as it is read, by its places and values alone.
 pub fn printed_trees_refute()
     ensures steps { StepsOfRefutationsRefute }
     ensures lines { LinesTellTheirTree }
     ensures printed { PrintedTreesRefute }
     ensures values { ValuesTellTheirTree }
     ensures printed_values { PrintedValuesRefute }
+    ensures false_lines { PrintedFalseLinesAreSo }
+    ensures false_values { PrintedFalseValuesAreSo }
 {}
 
 /// Of the literature's small tests the tree that is read back is the one that was printed: of message passing, of what n6 doesn't

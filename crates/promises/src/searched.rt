@@ -19,7 +19,8 @@ ghost use Rattle.command_line.specs.Search.{Search};
 ghost use Rattle.command_line.specs.declared.settings.Settings.{Settings};
 ghost use Rattle.tso_cli.specs.Dividing.{parts_of, IsJoinable};
 ghost use Rattle.tso_cli.specs.declared.answer.Status.{Status};
-ghost use Rattle.tso_cli.specs.Answers.{IsAnswer, IsPrinted};
+ghost use Rattle.tso_cli.specs.declared.answer.Status.TheVariants.{Refused};
+ghost use Rattle.tso_cli.specs.Answers.{IsAnswer};
 ghost use Rattle.tso_cli.specs.OneSearch.{AreOneSearch};
 ghost use Rattle.promises.specs.Searched.{LinesAreRunAgain};
 
@@ -114,8 +115,8 @@ pub fn what_is_not_shown_is_hidden(
 pub fn each_line_by_leads_to_the_line_above()
     ensures { (kind : ProtocolKind) (c : Configuration) (search : Search) (json assert : Bool) (input out : List ℕ) (status : Status)
         → c.bus ≡ Atomic → search.depth ≡ c.depth → IsWithinLimits (Settings.Run kind c json) → IsJoinable (parts_of input).test
-        → IsPrinted status → IsAnswer (Settings.Outcomes search false assert) (Some input) out status
-        → LinesAreRunAgain kind c search.show json (parts_of input).test out }
+        → ¬ (status ≡ Refused) → IsAnswer (Settings.Outcomes search false assert) (Some input) out status
+        → LinesAreRunAgain kind c search json (parts_of input).test out }
 {
     searches_reach_their_states();
 }

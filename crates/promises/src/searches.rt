@@ -1,13 +1,16 @@
 //! All final states: what a search finds, and what is printed of it: no state is missed, and none is printed that can't be
 //! reached.
 
-ghost use Rattle.std.specs.Prelude.{◌≡◌, ◌↔◌, ℕ, Bool, IfErr, IfOk, List, [], Some, slice_get};
+ghost use Rattle.std.specs.Prelude.{◌≡◌, ◌↔◌, ◌⊎◌, ℕ, Bool, true, IfErr, IfOk, List, [], Some, slice_get};
 ghost use Rattle.tso_terms.specs.Condition.{Condition, truth_of};
 ghost use Rattle.tso_terms.specs.Litmus.{Litmus, IsTest};
 ghost use Rattle.basic_laws.specs.Types.{Atomic, Choice};
 ghost use Rattle.tso_laws.specs.Outcomes.{IsAllowedByTso, IsAllowedSequentially};
 ghost use Rattle.tso_terms.specs.FlatMachine.{State};
+ghost use Rattle.tso_terms.specs.Runs.{run};
+ghost use Rattle.tso_laws.specs.Closed.{AreClosed, IsAlikeOneOf};
 ghost use Rattle.tso_laws.specs.Dead as dead;
+ghost use Rattle.tso_laws.specs.Exchanged.{AreAllAlike};
 ghost use Rattle.explorer.specs.Settled.{LeadsToForgotten, LeadsBy};
 ghost use Rattle.explorer.specs.FinalStates.{AreReached, HaveEveryEnd, HasMoreStates, AreDistinct, AreWhatTsoAllows, AreWhatSequentialConsistencyAllows, AreAmong, Have};
 ghost use Rattle.search_report.specs.Hidden.{AreNotShown};
@@ -21,10 +24,11 @@ ghost use Rattle.command_line.specs.Limits.{IsWithinLimits};
 ghost use Rattle.command_line.specs.Search.{Search};
 ghost use Rattle.command_line.specs.declared.settings.Settings.{Settings};
 ghost use Rattle.tso_cli.specs.Answers.{IsAnswer, IsPrinted};
-ghost use Rattle.tso_cli.specs.OneText.{ShowTheSameStates};
+ghost use Rattle.tso_cli.specs.OneText.{ShowTheSameStates, ShowsPart};
 ghost use Rattle.tso_cli.specs.Dividing.{parts_of, IsJoinable};
 ghost use Rattle.tso_cli.specs.Revisited.{AreRevisited};
 ghost use Rattle.tso_cli.specs.declared.answer.Status.{Status};
+ghost use Rattle.tso_cli.specs.declared.answer.Status.TheVariants.{Refused};
 ghost use Rattle.tso_report.specs.ShownNames.{names_shown};
 ghost use Rattle.tso_report.specs.declared.show.Show.{Show};
 
@@ -33,7 +37,7 @@ use search_report::alike_outcomes::{outcomes_are_one_but_for_choices, truth_is_s
 use std::alloc::Global;
 use tso_cli::answers::inputs_have_one_answer;
 use tso_cli::round_trips::searches_reach_their_states;
-use tso_laws::dead_registers_change_nothing;
+use tso_laws::{closed_states_miss_none, dead_registers_change_nothing};
 use tso_terms::Test;
 
 /// Each state that a search finds is reached, and none that runs end in is missed; or the machine can reach more than may be kept.
@@ -76,6 +80,15 @@ pub fn what_is_kept_is_reached_but_for_dead_registers()
     dead_registers_change_nothing();
 }
 
+/// Of states that are closed under choices one is what a run that ends leaves, but for dead registers and swapped identical cores.
+pub fn closed_states_have_each_end()
+    ensures { (depth : ℕ) (t : Litmus) (hidden : List (List Bool)) (pairs : List (ℕ × ℕ)) (states : List State) (choices : List Choice)
+        → IsTest t → AreAllAlike t hidden pairs → AreClosed depth t hidden pairs states → (run t depth choices).ended ≡ true
+        → IsAlikeOneOf t hidden pairs states (run t depth choices).state }
+{
+    closed_states_miss_none();
+}
+
 /// Of two states that look alike the condition's proposition is true in both, or in none.
 pub fn states_that_look_alike_have_one_truth()
     ensures { (show : Show) (t : Litmus) (condition : Condition) (o p : Outcome) → IsTest t → t.condition ≡ Some condition
@@ -96,12 +109,12 @@ pub fn the_same_states_are_printed_alike()
     outcomes_are_one_but_for_choices();
 }
 
-/// Two answers of `outcomes` that print states print the same ones, with one status.
+/// Two answers of `outcomes` that print states print the same ones, with one status; or one of them says that it prints some.
 pub fn two_answers_show_the_same_states()
     ensures { (search : Search) (json assert : Bool) (input out other : List ℕ) (status again : Status) → IsPrinted status → IsPrinted again
         → IsAnswer (Settings.Outcomes search json assert) (Some input) out status
         → IsAnswer (Settings.Outcomes search json assert) (Some input) other again
-        → ShowTheSameStates search json out other × (status ≡ again) }
+        → (ShowTheSameStates search json out other × (status ≡ again)) ⊎ (ShowsPart search json out ⊎ ShowsPart search json other) }
 {
     inputs_have_one_answer();
 }
@@ -110,8 +123,8 @@ pub fn two_answers_show_the_same_states()
 pub fn printed_choices_end_in_their_states()
     ensures { (kind : ProtocolKind) (c : Configuration) (search : Search) (json told assert : Bool) (input out : List ℕ) (status : Status)
         → c.bus ≡ Atomic → search.depth ≡ c.depth → IsWithinLimits (Settings.Run kind c json) → IsJoinable (parts_of input).test
-        → IsPrinted status → IsAnswer (Settings.Outcomes search told assert) (Some input) out status
-        → AreRevisited kind c search.show json told (parts_of input).test out }
+        → ¬ (status ≡ Refused) → IsAnswer (Settings.Outcomes search told assert) (Some input) out status
+        → AreRevisited kind c search json told (parts_of input).test out }
 {
     searches_reach_their_states();
 }

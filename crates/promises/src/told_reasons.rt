@@ -1,16 +1,18 @@
 //! What the printed lines of a refutation tell of each step, part by part.
 
-ghost use Rattle.std.specs.Prelude.{◌≡◌, ◌<◌, ℕ, All, List, map, true};
+ghost use Rattle.std.specs.Prelude.{◌≡◌, ◌<◌, ℕ, All, Contains, List, false, map, true};
 ghost use Rattle.promises.specs.ReadBack.{tree_of};
 ghost use Rattle.promises.specs.Reasons.{ReasonStepFits, depth_in, told_by_value, told_edge, told_event, told_reason_step};
 ghost use Rattle.search_report.specs.ReasonJson.{never_json, never_json_line};
 ghost use Rattle.search_report.specs.ReasonText.{never_lines, never_text};
-ghost use Rattle.search_report.specs.Steps.{ReasonStep, leaves_in, steps_of};
+ghost use Rattle.search_report.specs.Places.{Place};
+ghost use Rattle.search_report.specs.Steps.{False, Leaf, ReasonStep, leaves_in, steps_of};
 ghost use Rattle.search_report.specs.declared.steps.Edge.{Edge};
 ghost use Rattle.search_report.specs.declared.steps.Event.{Event};
 ghost use Rattle.refutation_laws.specs.Refutations.{Node, asked_claim, refutes};
 ghost use Rattle.refutation_laws.specs.declared.model.Model.{Model};
-ghost use Rattle.tso_terms.specs.Condition.{Claim};
+ghost use Rattle.tso_report.specs.Tally.{shown_value};
+ghost use Rattle.tso_terms.specs.Condition.{Claim, truth_of};
 ghost use Rattle.tso_terms.specs.Litmus.{IsTest, Litmus};
 
 use crate::{
@@ -69,6 +71,26 @@ pub fn a_tree_is_read_back()
         → leaves_in (steps_of model t (asked_claim t.condition) nodes) < 18446744073709551616
         → All (λ s. depth_in s < 18446744073709551616) (steps_of model t (asked_claim t.condition) nodes)
         → never_json_line model t steps ≡ never_json model t nodes → refutes model t (asked_claim t.condition) (tree_of t steps) ≡ true }
+{
+    printed_trees_refute();
+}
+
+/// Of a line `False` that is read from what is printed of a refutation: where at the end each place that it names has one of the values that it
+/// names there, what the test asks is false. So it is of the lines, and of the JSON value.
+pub fn a_false_line_is_so()
+    ensures lines { (model : Model) (t : Litmus) (nodes : List Node) (steps : List ReasonStep) (depth : ℕ) (places : List Place)
+        (registers : List (List ℕ)) (memory : List ℕ) → IsTest t → refutes model t (asked_claim t.condition) nodes ≡ true
+        → All (ReasonStepFits model t) steps → never_lines model t steps ≡ never_text model t nodes
+        → Contains steps (Leaf depth (False places)) → All (λ p. Contains p.values (shown_value registers memory p.named)) places
+        → truth_of registers memory (asked_claim t.condition) ≡ false }
+    ensures values { (model : Model) (t : Litmus) (nodes : List Node) (steps : List ReasonStep) (depth : ℕ) (places : List Place)
+        (registers : List (List ℕ)) (memory : List ℕ) → IsTest t → refutes model t (asked_claim t.condition) nodes ≡ true
+        → leaves_in (steps_of model t (asked_claim t.condition) nodes) < 18446744073709551616
+        → All (λ s. depth_in s < 18446744073709551616) (steps_of model t (asked_claim t.condition) nodes)
+        → All (ReasonStepFits model t) steps → leaves_in steps < 18446744073709551616 → All (λ s. depth_in s < 18446744073709551616) steps
+        → never_json_line model t steps ≡ never_json model t nodes
+        → Contains steps (Leaf depth (False places)) → All (λ p. Contains p.values (shown_value registers memory p.named)) places
+        → truth_of registers memory (asked_claim t.condition) ≡ false }
 {
     printed_trees_refute();
 }

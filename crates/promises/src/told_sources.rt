@@ -8,9 +8,13 @@ ghost use Rattle.protocol_tables.specs.declared.requests.Request.{Request};
 ghost use Rattle.protocol_tables.specs.declared.state.State.{State};
 ghost use Rattle.cache_set.specs.Requests.{snoop_column};
 ghost use Rattle.trace_report.specs.OwnWords.{own_words};
-ghost use Rattle.trace_report.specs.Supplied.{found_at, supplies};
+ghost use Rattle.trace_report.specs.Steps.{trace_step_of};
+ghost use Rattle.trace_report.specs.Supplied.{found_at, supplied_by, supplies};
 ghost use Rattle.trace_report.specs.SupplyLaws.{NobodySupplies, copy_on};
-ghost use Rattle.trace_report.specs.declared.supplied.Source.TheVariants.{Bus, Cache, Memory, Other};
+ghost use Rattle.trace_report.specs.declared.supplied.Source.{Source};
+ghost use Rattle.trace_report.specs.declared.supplied.Source.TheVariants.{Buffer, Bus, Cache, Memory, Other};
+ghost use Rattle.promises.specs.Sources.{IsNoBuffer, LineIsFound};
+ghost use Rattle.basic_laws.specs.Types.{Choice};
 ghost use Rattle.tso_terms.specs.declared.instruction.Core.{Core};
 
 use trace_report::memory_words::sources_are_told;
@@ -35,3 +39,11 @@ pub fn words_are_found_where_it_is_told()
 {
     sources_are_told();
 }
+
+/// Where the word of a step is found: where the buffer is told, the core's own stores answered it; any other place that is told is that of
+/// the line which the choice reads.
+pub fn a_word_is_found_with_its_line()
+    ensures buffer { (m : Running) (choice : Choice) → supplied_by m choice ≡ Some Buffer → (trace_step_of m choice).forwarded ≡ true }
+    ensures line { (m : Running) (choice : Choice) (source : Source) → IsNoBuffer source → supplied_by m choice ≡ Some source
+        → LineIsFound m choice source }
+{}

@@ -15,7 +15,7 @@ ghost use Rattle.search_report.specs.OutcomesJson.{holds_in};
 ghost use Rattle.search_report.specs.Verdict.{verdict_word};
 ghost use Rattle.promises.specs.Observed.{truth_after};
 ghost use Rattle.promises.specs.Verdicts.{IsAsClaimed, IsNotAsClaimed, NamesTrueStates, NumbersOfTrueStates};
-ghost use Rattle.promises.specs.Verdicts.{EndsInNumbers, EndsInVerdict, EndsInVerdictMember, PrintsVerdict, StatusTells, VerdictMeans, VerdictsAgree};
+ghost use Rattle.promises.specs.Verdicts.{EndsInNumbers, EndsInVerdict, EndsInVerdictMember, PrintsVerdict, StatusTells, StatusTellsNoVerdict, VerdictMeans, VerdictsAgree};
 ghost use Rattle.tso_report.specs.ShownNames.{names_shown, values_at};
 ghost use Rattle.tso_cli.specs.OutcomesHeadline.{PrintsAllOutcomes};
 ghost use Rattle.tso_terms.specs.Axioms.{IsTsoExecution};
@@ -90,11 +90,13 @@ pub fn why_and_outcomes_agree()
     both_commands_print_one_verdict();
 }
 
-/// With `Verdict No` the status is 4 where that is asserted; with `Verdict Ok`, and where nothing is asserted, 0.
+/// With `Verdict No` the status is 4 where that is asserted, and with `Verdict Ok` 0; where nothing is asserted it is 0, or 3 of a search
+/// that met its limit.
 pub fn a_status_tells_the_verdict()
     ensures outcomes_no { (search : Search) (json : Bool) → StatusTells (Settings.Outcomes search json true) json (codes "No") NotAsClaimed }
-    ensures outcomes_ok { (search : Search) (json assert : Bool) → StatusTells (Settings.Outcomes search json assert) json (codes "Ok") Good }
-    ensures outcomes_unasserted { (search : Search) (json : Bool) → StatusTells (Settings.Outcomes search json false) json (codes "No") Good }
+    ensures outcomes_ok { (search : Search) (json : Bool) → StatusTells (Settings.Outcomes search json true) json (codes "Ok") Good }
+    ensures outcomes_unasserted { (search : Search) (json verdict : Bool)
+        → StatusTellsNoVerdict (Settings.Outcomes search json false) json (verdict_word verdict) }
     ensures why_no { (plan : Explanation) (json : Bool) → StatusTells (Settings.Why plan json true) json (codes "No") NotAsClaimed }
     ensures why_ok { (plan : Explanation) (json assert : Bool) → StatusTells (Settings.Why plan json assert) json (codes "Ok") Good }
     ensures why_unasserted { (plan : Explanation) (json : Bool) → StatusTells (Settings.Why plan json false) json (codes "No") Good }

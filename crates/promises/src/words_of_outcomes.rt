@@ -5,13 +5,15 @@ ghost use Rattle.explorer.specs.FinalStates.{HasMoreStates};
 ghost use Rattle.command_line.specs.Search.{Search};
 ghost use Rattle.search_report.specs.Laws.{OutcomesAreAlike};
 ghost use Rattle.search_report.specs.Outcomes.{Outcome};
-ghost use Rattle.search_report.specs.PrintedOutcomes.{outcomes_in, unfinished_search_in};
+ghost use Rattle.search_report.specs.MetOutcomes.{unfinished_search_in};
+ghost use Rattle.search_report.specs.PrintedOutcomes.{outcomes_in};
 ghost use Rattle.tso_laws.specs.Outcomes.{IsSequentiallyConsistent};
 ghost use Rattle.promises.specs.Observed.{IsSoEverywhere, IsSoSomewhere, WordMeans, truth_after, truth_after_run};
 ghost use Rattle.promises.specs.Outcomes.{OutcomesFit, ShowTheSame};
 ghost use Rattle.scheduler.specs.Printed.{printed_choices};
 ghost use Rattle.tso_report.specs.ShownNames.{names_shown};
-ghost use Rattle.tso_cli.specs.OneSearch.{ShowOneSearch, ShowsNoState, without_choices};
+ghost use Rattle.tso_cli.specs.Outcomes.{AreSomeOutcomes};
+ghost use Rattle.tso_cli.specs.OneSearch.{ShowOneSearch, ShowsSomeStates, without_choices};
 ghost use Rattle.tso_laws.specs.Depth.{needed};
 ghost use Rattle.tso_terms.specs.Axioms.{IsTsoExecution};
 ghost use Rattle.tso_terms.specs.Condition.{Claim};
@@ -90,8 +92,8 @@ pub fn what_shows_the_same()
         → map (λ o. printed_choices o.choices) outcomes ≡ map (λ o. printed_choices o.choices) others }
 {}
 
-/// Texts of one search show states that are alike, and are one text but for the choices; a text without states says that there are
-/// more than may be kept.
+/// Texts of one search show states that are alike, and are one text but for the choices; a text with some of the states says that the
+/// machine can reach more than may be kept.
 pub fn texts_of_one_search()
     ensures first { (t : Litmus) (s : Search) (json again : Bool) (out other : List ℕ) (said : ShowOneSearch t s json again out other)
         → out ≡ outcomes_in json t (names_shown s.show t) s.depth said.outcomes }
@@ -103,7 +105,9 @@ pub fn texts_of_one_search()
         (said : ShowOneSearch t s json again out other) → (form : Bool)
         → outcomes_in form t (names_shown s.show t) s.depth (map without_choices said.outcomes)
         ≡ outcomes_in form t (names_shown s.show t) s.depth (map without_choices said.others) }
-    ensures more { (t : Litmus) (s : Search) (json : Bool) (out : List ℕ) → ShowsNoState t s json out → HasMoreStates t s.depth s.states }
-    ensures unfinished { (t : Litmus) (s : Search) (json : Bool) (out : List ℕ) → ShowsNoState t s json out
-        → out ≡ unfinished_search_in json t s.states }
+    ensures more { (t : Litmus) (s : Search) (json : Bool) (out : List ℕ) → ShowsSomeStates t s json out → HasMoreStates t s.depth s.states }
+    ensures unfinished { (t : Litmus) (s : Search) (json : Bool) (out : List ℕ) (said : ShowsSomeStates t s json out)
+        → out ≡ unfinished_search_in json t (names_shown s.show t) s.states said.outcomes }
+    ensures some { (t : Litmus) (s : Search) (json : Bool) (out : List ℕ) (said : ShowsSomeStates t s json out)
+        → AreSomeOutcomes t (names_shown s.show t) s.depth said.outcomes }
 {}

@@ -1,5 +1,5 @@
 -- Cases that a leaf closes at once: those that one line closes together, and the groups that they make.
-use Rattle.search_report.proofs.Vocabulary.{map_push, map-map, ℕ, suc, zero, ◌+◌, ◌-◌, ◌&&◌, ◌≡◌, ◌≤◌, ◌<◌, Bool, true, false, not, cond, List, [], ◌∷◌, ◌++◌, length, take, drop, get_or, map, refl, sym, ap, ◌∙◌, arith, subst, append_assoc, take_all, drop_all, length-drop, filter, flat_map, list_any, list_all, Litmus, Claim, Known, asked_claim, known_of, Named, looked_at, suffices, name_the_same, Branch, are_alike, groups, is_false_source, known_of_case, reason_step_of, Reply, Refutation, Closed, IsClosed, BranchesAreClosed, closed_branch, same_truths, alike, known_alike, rest_of, drop-cons}
+use Rattle.search_report.proofs.Vocabulary.{map_push, map-map, ℕ, suc, zero, ◌+◌, ◌-◌, ◌&&◌, ◌||◌, ◌≡◌, ◌≤◌, ◌<◌, Bool, true, false, not, cond, List, [], ◌∷◌, ◌++◌, length, take, drop, get_or, map, refl, sym, ap, ◌∙◌, arith, subst, append_assoc, take_all, drop_all, length-drop, filter, flat_map, list_any, list_all, Litmus, Claim, Known, asked_claim, known_of, Named, looked_at, suffices, name_the_same, places_in, are_enough, Branch, are_alike, groups, share_a_line, one_case, closed_case, Model, is_false_source, known_of_case, reason_step_of, Reply, Refutation, Closed, IsClosed, BranchesAreClosed, closed_branch, same_truths, alike, known_alike, rest_of, drop-cons}
 use Rattle.search_report.specs.Steps as spec
 use Rattle.search_report.specs.declared.steps.Step as declared
 
@@ -153,6 +153,74 @@ module _ (tree : Refutation) (looked : tree.places.now ≡ looked_at tree.test.n
         ∷ groups tree.test.now (asked_claim tree.test.now.condition) (map (closed_branch tree) (take j cs)) (map (closed_branch tree) (drop j cs))
     unfolding rest_of
     grouped front same b e h = step front same b e ∙ ap (λ (x : Bool). cond x rest (group ∷ rest)) h
+
+-- ---- whether one line says it of a group
+
+none-picked : (p : Branch → Bool) (bs : List Branch) → list_any p bs ≡ false → filter p bs ≡ []
+none-picked p [] none = refl
+none-picked p (b ∷ bs) none = by (p b) none (none-picked p bs)
+  where
+    by : (x : Bool) → (x || list_any p bs) ≡ false → (list_any p bs ≡ false → filter p bs ≡ []) → cond x (b ∷ filter p bs) (filter p bs) ≡ []
+    by true none further = absurd (let no : ⊥ = cc in no)
+    by false none further = further none
+
+some-picked : (p : Branch → Bool) (bs : List Branch) → list_any p bs ≡ true → filter p bs ≡ [] → ⊥
+some-picked p [] some is = let no : ⊥ = cc in no
+some-picked p (b ∷ bs) some is = by (p b) some is (some-picked p bs)
+  where
+    by : (x : Bool) → (x || list_any p bs) ≡ true → cond x (b ∷ filter p bs) (filter p bs) ≡ [] → (list_any p bs ≡ true → filter p bs ≡ [] → ⊥) → ⊥
+    by true some is further = let no : ⊥ = cc in no
+    by false some is further = further some is
+
+alone-shares : (t : Litmus) (claim : Claim) (b : Branch) (bs : List Branch) → bs ≡ [] → share_a_line t claim (b ∷ bs) ≡ true
+alone-shares t _ b [] is = refl
+alone-shares t _ b (c ∷ bs) is = absurd (let no : ⊥ = cc in no)
+
+several-share : (t : Litmus) (claim : Claim) (b : Branch) (bs : List Branch) → (bs ≡ [] → ⊥)
+    → share_a_line t claim (b ∷ bs) ≡ are_enough claim (places_in t claim b.known (map (λ (d : Branch). d.known) (b ∷ bs)))
+several-share t _ b [] is = absurd (is refl)
+several-share t _ b (c ∷ bs) is = refl
+
+module _ (tree : Refutation) (looked : tree.places.now ≡ looked_at tree.test.now) (a : Closed) (is : IsClosed tree a) (bs : List Closed) (all : BranchesAreClosed tree bs) where
+  pub shares-alone : list_any (λ (c : Closed). alike a.leaf c.leaf) bs ≡ false
+      → share_a_line tree.test.now (asked_claim tree.test.now.condition) (closed_branch tree a ∷ rest_of tree a bs) ≡ true
+  unfolding rest_of
+  shares-alone none =
+      alone-shares tree.test.now (asked_claim tree.test.now.condition) (closed_branch tree a) (rest_of tree a bs)
+      (none-picked (are_alike tree.test.now (asked_claim tree.test.now.condition) (closed_branch tree a)) (map (closed_branch tree) bs) (sym (any-is tree looked a is bs all) ∙ none))
+
+  pub shares-several : list_any (λ (c : Closed). alike a.leaf c.leaf) bs ≡ true
+      → share_a_line tree.test.now (asked_claim tree.test.now.condition) (closed_branch tree a ∷ rest_of tree a bs)
+      ≡ are_enough (asked_claim tree.test.now.condition) (places_in tree.test.now (asked_claim tree.test.now.condition) (known_of a.leaf.given.answers) (known_alike a.leaf bs))
+  unfolding rest_of
+  shares-several some =
+      several-share tree.test.now (asked_claim tree.test.now.condition) (closed_branch tree a) (rest_of tree a bs)
+      (some-picked (are_alike tree.test.now (asked_claim tree.test.now.condition) (closed_branch tree a)) (map (closed_branch tree) bs) (sym (any-is tree looked a is bs all) ∙ some))
+      ∙ ap (λ ks. are_enough (asked_claim tree.test.now.condition) (places_in tree.test.now (asked_claim tree.test.now.condition) (known_of a.leaf.given.answers) ks))
+      (sym (known-is tree looked a is bs all))
+
+  -- those that are alike
+  pub rest-is : rest_of tree a bs ≡ map (closed_branch tree) (filter (λ (c : Closed). alike a.leaf c.leaf) bs)
+  unfolding rest_of
+  rest-is = sym (filter-is tree looked a is bs all)
+
+pub rest-none : (tree : Refutation) (a : Closed) → rest_of tree a [] ≡ []
+unfolding rest_of
+rest-none tree a = refl
+
+module _ (model : Model) (t : Litmus) (claim : Claim) (d : ℕ) (k : Known) (bs : List Branch) where
+  pub printed-together : share_a_line t claim bs ≡ true → closed_case model t claim d k bs ≡ one_case model t claim d k bs
+  printed-together is =
+      ap (λ (x : Bool). cond x (one_case model t claim d k bs) (flat_map (λ (b : Branch). one_case model t claim d k (b ∷ [])) bs)) is
+
+  pub printed-apart : share_a_line t claim bs ≡ false → closed_case model t claim d k bs ≡ flat_map (λ (b : Branch). one_case model t claim d k (b ∷ [])) bs
+  printed-apart is =
+      ap (λ (x : Bool). cond x (one_case model t claim d k bs) (flat_map (λ (b : Branch). one_case model t claim d k (b ∷ [])) bs)) is
+
+-- the first by itself, and then the others
+pub first-and-others : {X : Type 0} (old mid new first others whole : List X) → mid ≡ old ++ first → new ≡ mid ++ others → first ++ others ≡ whole → new ≡ old ++ whole
+first-and-others old mid new first others whole e f is =
+    f ∙ (ap (λ xs. xs ++ others) e ∙ (append_assoc old first others ∙ ap (λ xs. old ++ xs) is))
 
 -- ---- one answer, or several
 

@@ -6,8 +6,10 @@ pub mod Numbering
 pub mod Writing
 pub mod NoFloatsInOutcomes
 pub mod Printing
+pub mod MeetingLimit
 pub mod Members
 pub mod Showing
+pub mod FalseLines
 pub mod Alike
 pub mod Hiding
 mod Staying

@@ -11,7 +11,7 @@ holds : (h : Option Bool) (members : Members) → members_have_float members ≡
 holds None ms none = none
 holds (Some b) ms none = none
 
-states : (t : Litmus) (names : List Named) (outcomes : List Outcome) → has_float (states_value t names outcomes) ≡ false
+pub states : (t : Litmus) (names : List Named) (outcomes : List Outcome) → has_float (states_value t names outcomes) ≡ false
 states t names [] = refl
 states t names (o ∷ outcomes) =
     let shown = value_members t names (shown_values names o) in
@@ -24,7 +24,7 @@ observation : (o : Option Condition) (outcomes : List Outcome) → has_float (ob
 observation None outcomes = refl
 observation (Some condition) outcomes = refl
 
-verdict : (o : Option Condition) (allowed : Bool) → has_float (outcomes_verdict_value o allowed) ≡ false
+pub verdict : (o : Option Condition) (allowed : Bool) → has_float (outcomes_verdict_value o allowed) ≡ false
 verdict None allowed = refl
 verdict (Some condition) allowed = refl
 

@@ -19,7 +19,7 @@ core-there core Edi = inr (inr (inr (inr (inr (inl refl)))))
 at-or-after : (m n : ℕ) → (n ≤ m) ⊎ (m < n)
 at-or-after m n = ⊎_elim (λ is. inl is.1) (λ is. inr is.1) (leb_tells n m)
 
-register-there : (core count c : ℕ) (reg : Reg) → core ≤ c → c < core + count → Member (named_register c reg) (named_registers core count)
+pub register-there : (core count c : ℕ) (reg : Reg) → core ≤ c → c < core + count → Member (named_register c reg) (named_registers core count)
 register-there core zero c reg low high = absurd (omega (arith, low, high))
 register-there core (suc count) c reg low high = by_place (at-or-after core c) (register-there (core + 1) count c reg)
   where
@@ -31,7 +31,7 @@ register-there core (suc count) c reg low high = by_place (at-or-after core c) (
     by_place (inr later) further =
         member-right (named_register c reg) (map (named_register core) all_registers) (named_registers (core + 1) count) (further (omega (arith, later)) (omega (arith, high)))
 
-location-there : (loc count l : ℕ) → loc ≤ l → l < loc + count → Member (named_location l) (named_locations loc count)
+pub location-there : (loc count l : ℕ) → loc ≤ l → l < loc + count → Member (named_location l) (named_locations loc count)
 location-there loc zero l low high = absurd (omega (arith, low, high))
 location-there loc (suc count) l low high = by_place (at-or-after loc l) (location-there (loc + 1) count l)
   where
@@ -47,7 +47,7 @@ same-at f g (x ∷ xs) n are (inr m) = same-at f g xs n (ap (λ values. drop 1 v
 
 -- ---- the truth follows from what is named
 
-eq-self : (n : ℕ) → (n == n) ≡ true
+pub eq-self : (n : ℕ) → (n == n) ≡ true
 eq-self n = ⊎_elim (λ is. is.0) (λ differs. absurd (differs.1 refl)) (eqb_tells n n)
 
 or-left : (a b : Bool) → a ≡ true → a || b ≡ true

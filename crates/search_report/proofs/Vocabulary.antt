@@ -46,14 +46,15 @@ pub use Rattle.serde_json.specs.declared.value.Value.{the_lemmas}
 pub use Rattle.scheduler.specs.Printed.{printed_choices}
 pub use Rattle.refutation_laws.specs.Known.{Known, nothing}
 pub use Rattle.refutation_laws.specs.Refutations.{asked_claim, sources_of}
+pub use Rattle.refutation_laws.specs.Values.{can_be}
 pub use Rattle.refutation_laws.specs.declared.model.Model.{Model}
 pub use Rattle.refutations.specs.Trees.{node_of}
-pub use Rattle.search_report.specs.Steps.{Part, grown, replies, branches_with, Branch, are_alike, groups, is_false_source, known_of_case, closed_case, ReasonStep, is_leaf, is_closed, with_reply, so_steps, case_steps, rest_steps, leaf_steps, Answer, From, Before, Closing, Uniproc, Cycle, Amid, False, Leaf, write_of_answer}
+pub use Rattle.search_report.specs.Steps.{Part, grown, replies, branches_with, Branch, are_alike, groups, is_false_source, known_of_case, one_case, share_a_line, closed_case, ReasonStep, is_leaf, is_closed, with_reply, so_steps, case_steps, rest_steps, leaf_steps, Answer, From, Before, Closing, Uniproc, Cycle, Amid, False, Leaf, write_of_answer}
 pub use Rattle.search_report.specs.declared.replies.Reply.{Reply}
 pub use Rattle.search_report.specs.declared.parts.Refutation.{Refutation}
 pub use Rattle.search_report.specs.inner.Parts.{parts_of_nodes_from, first_part, parts_of_refutation, branch_in, AreNext, IsNextPart, AreBelow, IsLayoutReady, root_at}
 pub use Rattle.refutations.specs.inner.Trees.{known_of, relations_of}
-pub use Rattle.search_report.specs.Places.{suffices, name_the_same, Place, place_with_values, words_at, distinct, unseen, known_among}
+pub use Rattle.search_report.specs.Places.{suffices, name_the_same, places_in, are_enough, Place, place_with_values, words_at, distinct, unseen, known_among}
 pub use Rattle.search_report.specs.Views.{reason_step_of, place_of}
 pub use Rattle.search_report.specs.declared.closed.Closed.{Closed}
 pub use Rattle.search_report.specs.inner.Closed.{IsClosed, BranchesAreClosed, closed_branch, same_truths, alike, known_alike}

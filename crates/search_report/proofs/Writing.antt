@@ -12,7 +12,7 @@ Is t names k = (k.0 ≡ shown_values names k.1) × IsOutcomeOf t k.1
 
 -- ---- as if the values weren't kept beside the states
 
-lines-shown : (t : Litmus) (names : List Named) (kept : List (List ℕ × Outcome)) → AreShown t names kept → kept_lines t names kept ≡ outcome_lines t names (values_of kept)
+pub lines-shown : (t : Litmus) (names : List Named) (kept : List (List ℕ × Outcome)) → AreShown t names kept → kept_lines t names kept ≡ outcome_lines t names (values_of kept)
 lines-shown t names [] shown = refl
 lines-shown t names (k ∷ kept) shown =
     ap (λ v. state_line t names v ++ (by_line k.1.choices ++ kept_lines t names kept)) (All-head (Is t names) k kept shown).0
@@ -27,7 +27,7 @@ values-shown t names (k ∷ kept) shown =
 
 -- ---- the text, put together from its parts
 
-four-parts : (a b c d first second third all : List ℕ) → first ≡ a → second ≡ first ++ b → third ≡ second ++ c → all ≡ third ++ d → all ≡ a ++ (b ++ (c ++ d))
+pub four-parts : (a b c d first second third all : List ℕ) → first ≡ a → second ≡ first ++ b → third ≡ second ++ c → all ≡ third ++ d → all ≡ a ++ (b ++ (c ++ d))
 four-parts a b c d first second third all is_first is_second is_third is =
     is ∙ (ap (λ x. x ++ d) (is_third ∙ ap (λ x. x ++ c) (is_second ∙ ap (λ x. x ++ b) is_first))
     ∙ (append_assoc (a ++ b) c d ∙ append_assoc a b (c ++ d)))

@@ -3,6 +3,7 @@ pub mod Outcomes
 pub mod OutcomesJson
 pub mod Hidden
 pub mod PrintedOutcomes
+pub mod MetOutcomes
 pub mod Laws
 pub mod Vocabulary
 pub mod Places

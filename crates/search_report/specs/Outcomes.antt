@@ -102,7 +102,3 @@ condition_lines name condition outcomes =
 abbrev pub outcomes_text : Litmus → List Named → ℕ → List Outcome → List ℕ
 outcomes_text t names depth outcomes =
     test_line t ++ (outcomes_line depth (length outcomes) ++ (outcome_lines t names outcomes ++ condition_lines t.name t.condition outcomes))
-
--- `Unfinished states=N`: the search met its limit, and all that is printed is this line
-abbrev pub unfinished_outcomes_line : ℕ → List ℕ
-unfinished_outcomes_line limit = codes "Unfinished states=" ++ line (decimal limit)

@@ -69,15 +69,6 @@ outcomes_value t names depth outcomes =
     (member (codes "test") (string t.name)
     (member (codes "verdict") (outcomes_verdict_value t.condition (is_met_in t.condition outcomes)) no_members)))))
 
--- a search that met its limit
-abbrev pub unfinished_outcomes_value : Litmus → ℕ → Data
-unfinished_outcomes_value t limit =
-    object (member (codes "test") (string t.name)
-    (member (codes "unfinished") (object (member (codes "states") (count limit) no_members)) no_members))
-
 -- what is printed: the compact text of the value, on one line
 abbrev pub outcomes_json : Litmus → List Named → ℕ → List Outcome → List ℕ
 outcomes_json t names depth outcomes = line (compact_text (outcomes_value t names depth outcomes))
-
-abbrev pub unfinished_outcomes_json : Litmus → ℕ → List ℕ
-unfinished_outcomes_json t limit = line (compact_text (unfinished_outcomes_value t limit))

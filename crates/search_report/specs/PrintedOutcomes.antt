@@ -1,21 +1,15 @@
--- What `outcomes` prints, in either form: lines of text, or a JSON value on one line. Both show the same states.
+-- What `outcomes` prints of a search that ended, in either form: lines of text, or a JSON value on one line. Both show the same states.
 use Rattle.std.specs.Prelude.{ℕ, ◌≡◌, Bool, true, false, List}
 use Rattle.tso_terms.specs.Litmus.{Litmus}
 use Rattle.explorer.specs.declared.final_states.FinalState.{FinalState}
 use Rattle.tso_report.specs.declared.named.Named.{Named}
 use Rattle.search_report.specs.Verdict.{is_as_claimed}
-use Rattle.search_report.specs.Outcomes.{Outcome, ArePrinted, is_met_in, outcomes_text, unfinished_outcomes_line}
-use Rattle.search_report.specs.OutcomesJson.{outcomes_json, unfinished_outcomes_json}
+use Rattle.search_report.specs.Outcomes.{Outcome, ArePrinted, is_met_in, outcomes_text}
+use Rattle.search_report.specs.OutcomesJson.{outcomes_json}
 
--- of a search that ended
 abbrev pub outcomes_in : Bool → Litmus → List Named → ℕ → List Outcome → List ℕ
 outcomes_in false t names depth outcomes = outcomes_text t names depth outcomes
 outcomes_in true t names depth outcomes = outcomes_json t names depth outcomes
-
--- of a search that met its limit
-abbrev pub unfinished_search_in : Bool → Litmus → ℕ → List ℕ
-unfinished_search_in false t limit = unfinished_outcomes_line limit
-unfinished_search_in true t limit = unfinished_outcomes_json t limit
 
 -- what was printed are these final states by the values at these names, those that look alike once; and it was told whether the condition
 -- is as it claims

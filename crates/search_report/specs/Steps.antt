@@ -11,7 +11,7 @@ use Rattle.search_report.specs.declared.replies.Reply.{Reply}
 use Rattle.search_report.specs.declared.replies.Reply.TheVariants.{Reads, First}
 use Rattle.search_report.specs.declared.steps.Event.{Event}
 use Rattle.search_report.specs.declared.steps.Edge.{Edge}
-use Rattle.search_report.specs.Places.{Place, places_in, name_the_same}
+use Rattle.search_report.specs.Places.{Place, places_in, name_the_same, are_enough}
 
 -- ---- what is printed
 
@@ -132,7 +132,7 @@ is_source (First w v) = false
 abbrev pub is_false_source : Branch → Bool
 is_false_source b = is_source b.reply && is_false b.part.root
 
--- one line `False` closes both: they are sources of a read, and the same places are named
+-- one line `False` may close both: they are sources of a read, and the same places are named
 abbrev pub are_alike : Litmus → Claim → Branch → Branch → Bool
 are_alike t claim b c = is_false_source b && is_false_source c && name_the_same t claim b.known c.known
 
@@ -153,11 +153,23 @@ known_of_case k _ = k
 abbrev pub answer_of_case : Litmus → Known → Branch → List Branch → Answer
 answer_of_case t k b bs = answer_at t (known_of_case k (b ∷ bs)) b.reply (map (λ (c : Branch). c.reply) (b ∷ bs))
 
--- a case that a leaf closes
-abbrev pub closed_case : Model → Litmus → Claim → ℕ → Known → List Branch → List ReasonStep
-closed_case model t claim depth k [] = []
-closed_case model t claim depth k (b ∷ bs) =
+-- the answers of branches that a leaf closes, in one line, and the leaf
+abbrev pub one_case : Model → Litmus → Claim → ℕ → Known → List Branch → List ReasonStep
+one_case model t claim depth k [] = []
+one_case model t claim depth k (b ∷ bs) =
     Case depth (answer_of_case t k b bs) ∷ leaf_steps model t claim (depth + 1) b.known (map (λ (c : Branch). c.known) (b ∷ bs)) b.part.root
+
+-- one line `False` says all of these branches, which are alike
+abbrev pub share_a_line : Litmus → Claim → List Branch → Bool
+share_a_line t claim (b ∷ (c ∷ bs)) = are_enough claim (places_in t claim b.known (map (λ (d : Branch). d.known) (b ∷ (c ∷ bs))))
+share_a_line t claim bs = true
+
+-- what is printed of branches that are alike: one case where one line says it of all, else a case for each
+abbrev pub closed_case : Model → Litmus → Claim → ℕ → Known → List Branch → List ReasonStep
+closed_case model t claim depth k bs =
+    if share_a_line t claim bs
+    then one_case model t claim depth k bs
+    else flat_map (λ (b : Branch). one_case model t claim depth k (b ∷ [])) bs
 
 -- what is printed of the answer of one branch
 abbrev pub answer_of_branch : Litmus → Branch → Answer

@@ -1,6 +1,7 @@
 //! What is shown of an answer, and of a place by which a leaf closes a case.
 
-ghost use Rattle.std.specs.Prelude.{◌≡◌, IfOk, length};
+ghost use Rattle.std.specs.Prelude.{◌≡◌, IfOk, length, map};
+ghost use Rattle.refutation_laws.specs.Refutations.{asked_claim};
 ghost use Rattle.refutations.specs.inner.Trees.{known_of};
 ghost use Rattle.tso_report.specs.inner.Tally.{NameExists};
 ghost use Rattle.search_report.specs.Places as places;
@@ -12,7 +13,7 @@ ghost use Rattle.search_report.specs.inner.Closed.{IsGiven, BranchesAreClosed, k
 use crate::closed::{Closed, Given, Leaf, are_alike};
 use crate::leaves::event_at;
 use crate::parts::Refutation;
-use crate::places::{distinct_words, words_at};
+use crate::places::{distinct_words, suffices, words_at};
 use crate::replies::Reply;
 use crate::steps::{Answer, Event, Place};
 use std::alloc::Global;
@@ -64,7 +65,7 @@ fn write_of_answer(tree: Refutation<'_>, given: &Given, reply: Reply) -> Option<
 /// A place, and the values that it may have in these cases: in that of a leaf, and in those that are alike.
 ///
 /// Errors: out of memory only.
-pub fn place_in(
+fn place_in(
     alloc: Global,
     tree: Refutation<'_>,
     leaf: &Leaf,
@@ -86,4 +87,28 @@ pub fn place_in(
     }
     let values = distinct_words(alloc, &words)?;
     Ok(Place { named, values })
+}
+
+/// The places that a line `False` names which closes the case of a leaf, and those that are alike.
+///
+/// Errors: out of memory only.
+pub fn places_in(
+    alloc: Global,
+    tree: Refutation<'_>,
+    leaf: &Leaf,
+    others: &[Closed],
+) -> Result<Vec<Place>, NoMemory>
+    requires tree { IsLayoutReady tree }
+    requires given { IsGiven tree.test.now leaf.now.given }
+    requires others { BranchesAreClosed tree others.now }
+    ensures { IfOk result (λ all. map place_of all.items ≡ places.places_in tree.entry.test.now (asked_claim tree.entry.test.now.condition)
+        (known_of leaf.now.given.answers) (known_alike leaf.now others.now)) }
+{
+    let mut all = Vec::new(alloc);
+    for named in tree.places {
+        if suffices(alloc, tree, &leaf.given, *named)? {
+            all.push(place_in(alloc, tree, leaf, others, *named)?)?;
+        }
+    }
+    Ok(all)
 }

@@ -9,7 +9,7 @@ ghost use Rattle.scheduler.specs.Printed.{printed_choices};
 ghost use Rattle.explorer.specs.declared.final_states.FinalState.{FinalState};
 ghost use Rattle.tso_report.specs.inner.Tally.{NameExists};
 ghost use Rattle.search_report.specs.Outcomes.{outcome_of};
-ghost use Rattle.search_report.specs.OutcomesJson.{value_members, state_value, states_value, holds_in, observation_value, outcomes_json, unfinished_outcomes_json};
+ghost use Rattle.search_report.specs.OutcomesJson.{value_members, state_value, states_value, holds_in, observation_value, outcomes_json};
 ghost use Rattle.search_report.specs.inner.ShownOutcomes.{AreNamesOf, IsOutcomeOf, kept_of, AreShown};
 
 use crate::counted_states::counts_of;
@@ -21,7 +21,6 @@ use scheduler::choices_text;
 use serde_json::Value;
 use std::alloc::Global;
 use tso_report::arrays::Array;
-use tso_report::json::unfinished_search_json;
 use tso_report::members::{Datum, object_of, word_value};
 use tso_report::named::Named;
 use tso_report::objects::Object;
@@ -67,19 +66,6 @@ pub fn outcomes_json(alloc: Global, found: &Found<'_, '_>) -> Result<String, NoM
         .line()
 }
 
-/// The line of a search that met its limit, as JSON: the test, and how many states that is.
-///
-/// Errors: out of memory only.
-pub fn unfinished_outcomes_json(
-    alloc: Global,
-    test: &Test,
-    limit: usize,
-) -> Result<String, NoMemory>
-    ensures { IfOk result (λ text. string_bytes text ≡ unfinished_outcomes_json test.now limit) }
-{
-    unfinished_search_json(alloc, test, "states", limit as u64)
-}
-
 fn observation_value(
     alloc: Global,
     test: &Test,
@@ -103,7 +89,10 @@ fn observation_value(
     }
 }
 
-fn states_value(
+/// The states, each as an object.
+///
+/// Errors: out of memory only.
+pub fn states_value(
     alloc: Global,
     test: &Test,
     names: &[Named],

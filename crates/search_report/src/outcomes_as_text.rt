@@ -5,7 +5,7 @@ ghost use Rattle.std.specs.Prelude.{◌≡◌, ◌++◌, IfOk, OnOk, string_byte
 ghost use Rattle.std.specs.Fmt.{decimal};
 ghost use Rattle.tso_terms.specs.Condition.{claim_of};
 ghost use Rattle.std.specs.Map.{values_of};
-ghost use Rattle.search_report.specs.Outcomes.{outcomes_line, state_line, by_line, printed_numbers, true_in, condition_lines, outcomes_text, unfinished_outcomes_line};
+ghost use Rattle.search_report.specs.Outcomes.{outcomes_line, state_line, by_line, printed_numbers, true_in, condition_lines, outcomes_text};
 ghost use Rattle.search_report.specs.inner.ShownOutcomes.{AreNamesOf, AllHave, kept_of, AreShown};
 ghost use Rattle.search_report.specs.inner.WrittenOutcomes.{kept_lines};
 
@@ -45,22 +45,6 @@ pub fn outcomes_text(
     Ok(text)
 }
 
-/// The line of a search that met its limit.
-///
-/// Errors: out of memory only.
-pub fn unfinished_text(alloc: Global, limit: usize) -> Result<String, NoMemory>
-    ensures { IfOk result (λ text. string_bytes text ≡ unfinished_outcomes_line limit) }
-{
-    let pieces = [
-        Piece::Text("Unfinished states="),
-        Piece::Number(limit as u64),
-        Piece::Text("\n"),
-    ];
-    let mut text = String::new(alloc);
-    write_pieces(&mut text, &pieces)?;
-    Ok(text)
-}
-
 /// `Outcomes depth=D states=N`.
 fn write_outcomes(text: &mut String, depth: u8, states: usize) -> Result<(), NoMemory>
     ensures { OnOk result (string_bytes text.new ≡ string_bytes text.old ++ outcomes_line depth states) }
@@ -76,7 +60,9 @@ fn write_outcomes(text: &mut String, depth: u8, states: usize) -> Result<(), NoM
 }
 
 /// Two lines for each state.
-fn write_states(
+///
+/// Errors: out of memory only.
+pub fn write_states(
     text: &mut String,
     test: &Test,
     names: &[Named],

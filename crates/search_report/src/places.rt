@@ -106,9 +106,6 @@ pub fn words_at(
 fn are_known(words: &[Option<u32>]) -> bool
     ensures { result ≡ spec.are_known words.now }
 {
-    let Some(_) = words.split_first() else {
-        return false;
-    };
     for w in words {
         if w.is_none() {
             return false;

@@ -1,16 +1,15 @@
-//! The final states of a test as they are printed: lines of text, or a JSON value on one line. A search that met its limit
-//! prints no state at all.
+//! All final states of a test as they are printed: lines of text, or a JSON value on one line.
 
 ghost use Rattle.std.specs.Prelude.{◌≡◌, IfOk, string_bytes};
 ghost use Rattle.std.specs.Map.{values_of};
 ghost use Rattle.explorer.specs.FinalStates.{AreReached};
 ghost use Rattle.tso_report.specs.ShownNames as shown;
-ghost use Rattle.search_report.specs.PrintedOutcomes.{PrintsOutcomes, outcomes_in, unfinished_search_in};
+ghost use Rattle.search_report.specs.PrintedOutcomes.{PrintsOutcomes, outcomes_in};
 ghost use Rattle.search_report.specs.inner.ShownOutcomes.{AreNamesOf, AreShown, kept_of};
 
 use crate::outcomes::{Outcomes, outcomes_of};
-use crate::outcomes_as_json::{Found, outcomes_json, unfinished_outcomes_json};
-use crate::outcomes_as_text::{outcomes_text, unfinished_text};
+use crate::outcomes_as_json::{Found, outcomes_json};
+use crate::outcomes_as_text::outcomes_text;
 use crate::verdict::{is_as_claimed, is_met_in};
 use explorer::FinalState;
 use std::alloc::Global;
@@ -79,24 +78,5 @@ fn text_of(
         outcomes_json(alloc, &found)
     } else {
         outcomes_text(alloc, test, depth, names, outcomes)
-    }
-}
-
-/// What is printed where the search met its limit, `limit` states of the machine: one line with that
-/// number, as text or with `json` as a JSON value.
-///
-/// Errors: out of memory only.
-pub fn unfinished_report(
-    alloc: Global,
-    test: &Test,
-    limit: usize,
-    json: bool,
-) -> Result<String, NoMemory>
-    ensures { IfOk result (λ text. string_bytes text ≡ unfinished_search_in json test.now limit) }
-{
-    if json {
-        unfinished_outcomes_json(alloc, test, limit)
-    } else {
-        unfinished_text(alloc, limit)
     }
 }

@@ -24,7 +24,7 @@ abbrev pub NobodySupplies : Running → ℕ → Type 0
 NobodySupplies m line = (core : ℕ) → core < length m.test.programs → supplies (copy_on m core line) ≢ true
 
 -- a copy supplies its line exactly where the row of its state does so in the table of each protocol, at either request; and what is
--- told of a line that a core is to read is so: its own cache has a copy; or it has none and awaits the line; or the other core that
+-- told of a line that a core is to read is so: its own cache has a copy; or it has none while an access is awaited; or the other core that
 -- is told supplies it; or nobody does. Then the words that a trace tells of memory are those that are seen
 pub record SourcesAreTold : Type 0 where
   pub tables : (kind : ProtocolKind) (request : Request) (state : State) → (snoop_column (table_of kind) request state).supplies ≡ supplies (Some state)

@@ -1,16 +1,22 @@
-//! What a person at a terminal sees of a search while it goes on, on standard error: one line that is written over, and gone at
-//! the end. Where standard error is no terminal, nothing is written.
+//! What a person at a terminal sees while a command goes on, on standard error: that it waits for a test; and of a search one line that
+//! is written over, and gone at the end. Where standard error is no terminal, nothing is written.
 
-use std::io::{IsTerminal, Write};
+use std::io::IsTerminal;
+use std::rt::Stderr;
 use tso_cli::Watcher;
+
+/// What a command says that waits for what a person types.
+const READING: &str = "reading a test from the terminal; Ctrl-D ends it";
 
 /// What takes the line away: as many spaces as it can be long.
 const ERASED: &str = "\r                                                                      \r";
 
 /// Tells how far a search is, and remembers how many states it kept.
 #[derive(Drop)]
-pub struct Teller<'a> {
-    rt: &'a HostRuntime,
+pub struct Teller {
+    errors: Stderr,
+    /// Whether a person types the input.
+    is_typed: bool,
     /// Whether standard error is a terminal.
     is_seen: bool,
     /// Whether the line stands there.
@@ -19,14 +25,27 @@ pub struct Teller<'a> {
     kept: usize,
 }
 
-impl<'a> Teller<'a> {
-    /// No search goes on.
-    pub fn new(rt: &'a HostRuntime) -> Teller<'a> {
+impl Teller {
+    /// No search goes on. Whether a person types the input is known of standard input.
+    pub fn new(is_typed: bool, errors: Stderr) -> Teller {
         Teller {
-            rt,
-            is_seen: rt.stderr().is_terminal(),
+            errors,
+            is_typed,
+            is_seen: errors.is_terminal(),
             stands: false,
             kept: 0,
+        }
+    }
+
+    /// Where it tells.
+    pub fn errors(&self) -> Stderr {
+        self.errors
+    }
+
+    /// Tells a person who is to type the input that the command waits for it.
+    pub fn tell_reading(&self) {
+        if self.is_typed && self.is_seen {
+            let _ = self.errors.println(READING);
         }
     }
 
@@ -36,10 +55,12 @@ impl<'a> Teller<'a> {
     }
 }
 
-impl Watcher for Teller<'_> {
+impl Watcher for Teller {
     fn goes_on(&mut self, kept: usize, finals: usize) {
         if self.is_seen {
-            let _ = eprint!(self.rt; "\rsearching: {kept} states kept, {finals} final states met");
+            let _ = print!(self.errors;
+                "\rsearching: {kept} states kept, {finals} final states met"
+            );
             self.stands = true;
         }
     }
@@ -47,7 +68,7 @@ impl Watcher for Teller<'_> {
     fn is_over(&mut self, kept: usize) {
         self.kept = kept;
         if self.stands {
-            let _ = self.rt.eprint(ERASED);
+            let _ = self.errors.print(ERASED);
             self.stands = false;
         }
     }

@@ -1,9 +1,10 @@
 -- What a search answers, from what it says of the ends of runs.
-use Rattle.tso_cli.proofs.Vocabulary.{◌≡◌, ◌∙◌, ℕ, zero, suc, Bool, List, [], ◌∷◌, Some, map, All, Contains, slice_get, refl, sym, ap, subst, arith, AllByRecursion, slice_get_within, get_or_from_slice_get, Litmus, AreReached, HaveEveryEnd, FinalState, names_shown, values_at, PrintsOutcomes, status_of_verdict, IsOutcomesAnswer, found, is_claimed_of, Status}
+use Rattle.tso_cli.proofs.Vocabulary.{◌≡◌, ◌∙◌, ℕ, zero, suc, Bool, List, [], ◌∷◌, Some, map, All, Contains, slice_get, refl, sym, ap, subst, arith, AllByRecursion, slice_get_within, get_or_from_slice_get, Litmus, AreReached, HaveEveryEnd, FinalState, names_shown, values_at, PrintsOutcomes, PrintsMet, HasMoreStates, status_of_verdict, IsOutcomesAnswer, found, too_many, is_claimed_of, Status}
+use Rattle.tso_cli.specs.Verdicts.{status_of_met}
 use Rattle.std.proofs.lemmas.List.Elements.{All-weaker, All-contains, All-from_recursion}
 use Rattle.tso_laws.specs.Outcomes.{IsEnd, LeadToEnd}
 use Rattle.tso_report.specs.declared.named.Named.{Named}
-use Rattle.search_report.specs.Outcomes.{Outcome, outcome_of, shown_values}
+use Rattle.search_report.specs.Outcomes.{Outcome, outcome_of, shown_values, is_met_in}
 use Rattle.search_report.specs.Hidden.{AreNotShown}
 use Rattle.command_line.specs.Search.{Search}
 use Rattle.tso_cli.specs.inner.Searched.{ShowEveryEnd}
@@ -72,4 +73,14 @@ search-answers t s json assert as_claimed finals out status reached every prints
       ascending = prints.printed.ascending;
       reached = all-lead t s.depth finals prints.outcomes reached prints.printed.found;
       complete = no-end-missing t names s.depth finals prints.outcomes every prints.printed.complete;
+    })))
+
+pub search-meets : (t : Litmus) (s : Search) (json assert met : Bool) (finals : List FinalState) (out : List ℕ) (status : Status) → HasMoreStates t s.depth s.states → AreReached t s.depth finals
+    → PrintsMet t (names_shown s.show t) s.states json finals out met → status ≡ status_of_met assert t.condition met → IsOutcomesAnswer t s json assert out status
+search-meets t s json assert met finals out status more reached prints is =
+    subst (λ how. IsOutcomesAnswer t s json assert out how) (sym (is ∙ ap (status_of_met assert t.condition) prints.met))
+    (subst (λ text. IsOutcomesAnswer t s json assert text (status_of_met assert t.condition (is_met_in t.condition prints.outcomes))) (sym prints.text)
+    (too_many prints.outcomes more (record {
+      ascending = prints.printed.ascending;
+      reached = all-lead t s.depth finals prints.outcomes reached prints.printed.found;
     })))

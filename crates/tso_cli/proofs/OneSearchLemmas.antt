@@ -1,10 +1,10 @@
 -- What the headline decides of `outcomes`.
-use Rattle.tso_cli.proofs.Vocabulary.{◌≡◌, ◌∙◌, ◌<◌, ◌≤◌, ◌⊎◌, inl, inr, ℕ, Bool, true, false, List, [], ◌∷◌, ◌++◌, map, length, Contains, Option, Some, None, refl, sym, ap, subst, ForSome, nat_cmp, slice_cmp, IsStrictlySortedBy, length-map, Litmus, IsTest, Condition, Choice, SpellsTest, TextFault, test_line, Named, names_shown, verdict_line, outcomes_verdict_value, Outcome, shown_values, held_in, failed_in, is_met_in, outcomes_in, OutcomesAreAlike, OutcomesOfTheSameValuesAreAlike, Search, longest_input, Parts, parts_of, test_refusal, HeadlineOfOutcomes, all, PartsHeadline, InputHeadline, AreReadOneWay, true_in, outcomes_line, state_line, by_line, outcome_lines, observation_line, true_line, condition_lines}
+use Rattle.tso_cli.proofs.Vocabulary.{◌≡◌, ◌∙◌, ◌<◌, ◌≤◌, ◌⊎◌, inl, inr, ℕ, Bool, true, false, List, [], ◌∷◌, ◌++◌, map, length, Contains, Option, Some, None, refl, sym, ap, subst, ForSome, nat_cmp, slice_cmp, IsStrictlySortedBy, length-map, HasMoreStates, Litmus, IsTest, Condition, Choice, SpellsTest, TextFault, test_line, Named, names_shown, verdict_line, outcomes_verdict_value, Outcome, shown_values, held_in, failed_in, is_met_in, outcomes_in, OutcomesAreAlike, OutcomesOfTheSameValuesAreAlike, Search, longest_input, Parts, parts_of, test_refusal, HeadlineOfOutcomes, all, PartsHeadline, InputHeadline, AreReadOneWay, true_in, outcomes_line, state_line, by_line, outcome_lines, observation_line, true_line, condition_lines}
 use Rattle.litmus_reader.specs.Spelling.{IsRefused as IsRefusedTest}
 use Rattle.search_report.specs.OutcomesJson.{state_value, holds_in, observation_value}
 use Rattle.command_line.specs.declared.settings.Settings.TheVariants as settings
-use Rattle.tso_cli.specs.OutcomesHeadline.{too_many}
-use Rattle.tso_cli.specs.OneSearch.{without_choices, AreOneSearch, one_text, both_show, first_shows_none, second_shows_none}
+use Rattle.tso_cli.specs.OutcomesHeadline.{PrintsSomeOutcomes, too_many}
+use Rattle.tso_cli.specs.OneSearch.{without_choices, AreOneSearch, ShowsSomeStates, one_text, both_show, first_shows_some, second_shows_some}
 use Rattle.tso_cli.proofs.OneTextLemmas.{AreDecided, sizes}
 use Rattle.tso_cli.proofs.Revisited.{each-there, same-met}
 
@@ -92,10 +92,13 @@ module _ (t : Litmus) (names : List Named) (depth : ℕ) (outcomes others : List
 abbrev Ascends : List (List ℕ) → Type 0
 Ascends values = IsStrictlySortedBy (slice_cmp nat_cmp) values
 
+shows-some : (t : Litmus) (s : Search) (json : Bool) (out : List ℕ) → HasMoreStates t s.depth s.states → PrintsSomeOutcomes t s json out → ShowsSomeStates t s json out
+shows-some t s json out more p = record { outcomes = p.outcomes; more = more; some = p.some; printed = p.printed }
+
 one-search : (test : List ℕ) (t : Litmus) (s : Search) (json again : Bool) (out other : List ℕ) → OutcomesOfTheSameValuesAreAlike → IsTest t → SpellsTest test t
     → HeadlineOfOutcomes t s json out → HeadlineOfOutcomes t s again other → AreOneSearch test s json again out other
-one-search test t s json again out other law is spelled (too_many more line) q = first_shows_none t spelled (record { more = more; printed = line })
-one-search test t s json again out other law is spelled (all p) (too_many more line) = second_shows_none t spelled (record { more = more; printed = line })
+one-search test t s json again out other law is spelled (too_many more p) q = first_shows_some t spelled (shows-some t s json out more p)
+one-search test t s json again out other law is spelled (all p) (too_many more q) = second_shows_some t spelled (shows-some t s again other more q)
 one-search test t s json again out other law is spelled (all p) (all q) =
     let names = names_shown s.show t in
     let there = each-there t names s.depth p.outcomes q.outcomes p.all q.all in

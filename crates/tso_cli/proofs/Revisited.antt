@@ -1,41 +1,42 @@
 -- What `outcomes` prints, once more; and what `run` answers to its choices.
-use Rattle.tso_cli.proofs.Vocabulary.{◌≡◌, ◌∙◌, ℕ, Bool, List, map, length, Contains, Option, Some, None, refl, sym, ap, subst, arith, ForSome, All-weaker, All-contains, Litmus, Condition, run, Atomic, SpellsTest, printed_choices, ProtocolKind, Configuration, Named, names_shown, values_at, Outcome, shown_values, held_in, failed_in, is_met_in, outcomes_in, OutcomesAreAlike, OutcomesOfTheSameValuesAreAlike, Search, IsInputAnswer, too_large, refused, answered, IsPrinted, ShowTheSameStates, AreAllOutcomes, IsOutcomesAnswer, is_claimed_of, found, too_many, parts_of, joined_parts, counts_under, shown_of, Status, AreReadOneWay}
+use Rattle.tso_cli.proofs.Vocabulary.{◌≡◌, ◌∙◌, ℕ, Bool, List, map, length, Contains, Option, Some, None, refl, sym, ap, subst, arith, ForSome, All, All-weaker, All-contains, ◌⊎◌, inl, inr, Litmus, IsTest, Condition, run, Atomic, SpellsTest, printed_choices, ProtocolKind, Configuration, Named, names_shown, values_at, Outcome, shown_values, held_in, failed_in, is_met_in, outcomes_in, OutcomesAreAlike, OutcomesOfTheSameValuesAreAlike, Search, IsInputAnswer, too_large, refused, answered, IsPrinted, ShowTheSameStates, AreAllOutcomes, IsOutcomesAnswer, is_claimed_of, found, too_many, parts_of, joined_parts, counts_under, shown_of, Status, AreReadOneWay}
 use Rattle.tso_cli.specs.Verdicts.{status_of_verdict}
-use Rattle.tso_cli.specs.Revisited.{IsRevisited, AreRevisited}
+use Rattle.tso_cli.specs.OneSearch.{ShowsSomeStates}
+use Rattle.tso_cli.specs.OneText.{ShowsPart}
+use Rattle.tso_cli.specs.Revisited.{IsRevisited, AreRevisited, ShowsOutcomes}
+use Rattle.tso_cli.specs.declared.answer.Status.TheVariants.{Refused}
 use Rattle.command_line.specs.declared.settings.Settings.TheVariants as settings
-use Rattle.tso_cli.proofs.PrintedLemmas.{refused-is-none, unended-is-none}
+use Rattle.tso_cli.proofs.PrintedLemmas.{refused-is-none}
 use Rattle.tso_cli.proofs.OutcomesLemmas.{Searches, end-of, few-to-end, choices-spell}
 use Rattle.tso_cli.proofs.Replayed.{choices-short, replayed-joined}
 use Rattle.tso_cli.proofs.WitnessLemmas.{Reaching}
 use Rattle.tso_cli.proofs.FoundOutcomes.{Leads, made-of}
 
--- ---- where `outcomes` finds all states
+-- ---- which states `outcomes` shows
 
-record Found (search : Search) (json assert : Bool) (input out : List ℕ) (status : Status) : Type 0 where
-  t : Litmus
+record Found (t : Litmus) (search : Search) (json assert : Bool) (out : List ℕ) (status : Status) : Type 0 where
   outcomes : List Outcome
-  spelled : SpellsTest (parts_of input).test t
   are : AreAllOutcomes t (names_shown search.show t) search.depth outcomes
   is : out ≡ outcomes_in json t (names_shown search.show t) search.depth outcomes
   ended : status ≡ status_of_verdict assert (is_claimed_of t outcomes)
 
-all-found : (t : Litmus) (search : Search) (json assert : Bool) (input out : List ℕ) (status : Status) → SpellsTest (parts_of input).test t → IsPrinted status
-    → IsOutcomesAnswer t search json assert out status → Found search json assert input out status
-all-found t search json assert input _ _ spelled good (found outcomes are) = record {
-  t = t;
-  outcomes = outcomes;
-  spelled = spelled;
-  are = are;
-  is = refl;
-  ended = refl;
-}
-all-found t search json assert input _ _ spelled good (too_many more) = absurd (unended-is-none good)
+-- all states of a test that is spelled, or some
+record Shows (search : Search) (json assert : Bool) (input out : List ℕ) (status : Status) : Type 0 where
+  t : Litmus
+  spelled : SpellsTest (parts_of input).test t
+  states : Found t search json assert out status ⊎ ShowsSomeStates t search json out
 
-states-found : (search : Search) (json assert : Bool) (input out : List ℕ) (status : Status) → IsPrinted status
-    → IsInputAnswer (settings.Outcomes search json assert) input out status → Found search json assert input out status
-states-found search json assert input _ _ good (too_large large) = absurd (refused-is-none good)
-states-found search json assert input _ _ good (refused fault small is) = absurd (refused-is-none good)
-states-found search json assert input _ _ good (answered t out status small spelled is) = all-found t search json assert input out status spelled good is
+states-of : (t : Litmus) (search : Search) (json assert : Bool) (out : List ℕ) (status : Status) → IsOutcomesAnswer t search json assert out status
+    → Found t search json assert out status ⊎ ShowsSomeStates t search json out
+states-of t search json assert _ _ (found outcomes are) = inl (record { outcomes = outcomes; are = are; is = refl; ended = refl })
+states-of t search json assert _ _ (too_many outcomes more are) = inr (record { outcomes = outcomes; more = more; some = are; printed = refl })
+
+states-shown : (search : Search) (json assert : Bool) (input out : List ℕ) (status : Status) → ¬ (status ≡ Refused)
+    → IsInputAnswer (settings.Outcomes search json assert) input out status → Shows search json assert input out status
+states-shown search json assert input _ _ good (too_large large) = absurd (good refl)
+states-shown search json assert input _ _ good (refused fault small is) = absurd (good refl)
+states-shown search json assert input _ _ good (answered t out status small spelled is) =
+    record { t = t; spelled = spelled; states = states-of t search json assert out status is }
 
 -- ---- the same states
 
@@ -56,30 +57,46 @@ same-met (Some c) outcomes others held failed = rw (held c refl, failed c refl) 
 pub same-claimed : (t : Litmus) (names : List Named) (outcomes others : List Outcome) → OutcomesAreAlike t names outcomes others → is_claimed_of t outcomes ≡ is_claimed_of t others
 same-claimed t names outcomes others alike = rw (same-met t.condition outcomes others alike.held alike.failed) refl
 
+module _ (search : Search) (json assert : Bool) (out other : List ℕ) (status again : Status) (law : OutcomesOfTheSameValuesAreAlike) (t : Litmus) (test : IsTest t)
+    (f : Found t search json assert out status) (g : Found t search json assert other again) where
+  abbrev names : List Named
+  names = names_shown search.show t
+
+  alike-found : OutcomesAreAlike t names f.outcomes g.outcomes
+  alike-found =
+      law search.show t f.outcomes g.outcomes test f.are.ascending g.are.ascending
+      (λ values. (each-there t names search.depth f.outcomes g.outcomes f.are g.are values, each-there t names search.depth g.outcomes f.outcomes g.are f.are values))
+
+  same-found : ShowTheSameStates search json out other × (status ≡ again)
+  same-found = (
+    record { t = t; outcomes = f.outcomes; others = g.outcomes; first = f.is; second = g.is; alike = alike-found },
+    f.ended ∙ (ap (status_of_verdict assert) (same-claimed t names f.outcomes g.outcomes alike-found) ∙ sym g.ended),
+  )
+
+not-refused : (status : Status) → IsPrinted status → ¬ (status ≡ Refused)
+not-refused status good is = refused-is-none (subst IsPrinted is good)
+
 pub same-states-shown : (search : Search) (json assert : Bool) (input out other : List ℕ) (status again : Status) → AreReadOneWay → OutcomesOfTheSameValuesAreAlike
     → IsPrinted status → IsPrinted again → IsInputAnswer (settings.Outcomes search json assert) input out status
-    → IsInputAnswer (settings.Outcomes search json assert) input other again → ShowTheSameStates search json out other × (status ≡ again)
-same-states-shown search json assert input out other status again texts law good fine is too =
-    let f = states-found search json assert input out status good is in
-    let g = states-found search json assert input other again fine too in
-    let names = names_shown search.show f.t in
-    let one : g.t ≡ f.t = texts.one_test (parts_of input).test g.t f.t g.spelled f.spelled in
-    let more : AreAllOutcomes f.t names search.depth g.outcomes = subst (λ t. AreAllOutcomes t (names_shown search.show t) search.depth g.outcomes) one g.are in
-    let alike : OutcomesAreAlike f.t names f.outcomes g.outcomes =
-    law search.show f.t f.outcomes g.outcomes (texts.test (parts_of input).test f.t f.spelled) f.are.ascending more.ascending
-    (λ values. (each-there f.t names search.depth f.outcomes g.outcomes f.are more values, each-there f.t names search.depth g.outcomes f.outcomes more f.are values)) in
-    let claimed : is_claimed_of f.t f.outcomes ≡ is_claimed_of g.t g.outcomes =
-    same-claimed f.t names f.outcomes g.outcomes alike ∙ ap (λ t. is_claimed_of t g.outcomes) (sym one) in (
-      record {
-        t = f.t;
-        outcomes = f.outcomes;
-        others = g.outcomes;
-        first = f.is;
-        second = g.is ∙ ap (λ (t : Litmus). outcomes_in json t (names_shown search.show t) search.depth g.outcomes) one;
-        alike = alike;
-      },
-      f.ended ∙ (ap (status_of_verdict assert) claimed ∙ sym g.ended),
-    )
+    → IsInputAnswer (settings.Outcomes search json assert) input other again
+    → (ShowTheSameStates search json out other × (status ≡ again)) ⊎ (ShowsPart search json out ⊎ ShowsPart search json other)
+same-states-shown search json assert input out other status again texts law good fine is too = by f.states states-too
+  where
+    f : Shows search json assert input out status
+    f = states-shown search json assert input out status (not-refused status good) is
+
+    g : Shows search json assert input other again
+    g = states-shown search json assert input other again (not-refused again fine) too
+
+    states-too : Found f.t search json assert other again ⊎ ShowsSomeStates f.t search json other
+    states-too =
+        subst (λ t. Found t search json assert other again ⊎ ShowsSomeStates t search json other) (texts.one_test (parts_of input).test g.t f.t g.spelled f.spelled) g.states
+
+    by : Found f.t search json assert out status ⊎ ShowsSomeStates f.t search json out → Found f.t search json assert other again ⊎ ShowsSomeStates f.t search json other
+        → (ShowTheSameStates search json out other × (status ≡ again)) ⊎ (ShowsPart search json out ⊎ ShowsPart search json other)
+    by (inl a) (inl b) = inl (same-found search json assert out other status again law f.t (texts.test (parts_of input).test f.t f.spelled) a b)
+    by (inl a) (inr q) = inr (inr (f.t, q))
+    by (inr p) q = inr (inl (f.t, p))
 
 -- ---- what `run` answers
 
@@ -104,19 +121,31 @@ one-revisited kind c json test t names o texts reaching searches atomic spelled 
       answers.1,
     )
 
+-- which states are printed, and that each is reached
+record Reached (t : Litmus) (search : Search) (told : Bool) (out : List ℕ) : Type 0 where
+  outcomes : List Outcome
+  reached : All (Leads t search.depth) outcomes
+  shows : ShowsOutcomes told t search out outcomes
+
+states-reached : (t : Litmus) (search : Search) (told assert : Bool) (out : List ℕ) (status : Status) → Found t search told assert out status ⊎ ShowsSomeStates t search told out
+    → Reached t search told out
+states-reached t search told assert out status (inl f) = record { outcomes = f.outcomes; reached = f.are.reached; shows = inl f.is }
+states-reached t search told assert out status (inr s) = record { outcomes = s.outcomes; reached = s.some.reached; shows = inr s.printed }
+
 pub revisited : (kind : ProtocolKind) (c : Configuration) (search : Search) (json told assert : Bool) (input out : List ℕ) (status : Status) → AreReadOneWay → Reaching → Searches → c.bus ≡ Atomic
     → search.depth ≡ c.depth → ((rest : List ℕ) → parts_of (joined_parts (parts_of input).test rest) ≡ record { test = (parts_of input).test; rest = rest })
-    → IsPrinted status → IsInputAnswer (settings.Outcomes search told assert) input out status → AreRevisited kind c search.show json told (parts_of input).test out
+    → ¬ (status ≡ Refused) → IsInputAnswer (settings.Outcomes search told assert) input out status → AreRevisited kind c search json told (parts_of input).test out
 revisited kind c search json told assert input out status texts reaching searches atomic depth separated good is =
-    let f = states-found search told assert input out status good is in
+    let f = states-shown search told assert input out status good is in
     let names = names_shown search.show f.t in
+    let states = states-reached f.t search told assert out status f.states in
     record {
       t = f.t;
       spelled = f.spelled;
-      outcomes = f.outcomes;
-      printed = f.is ∙ ap (λ d. outcomes_in told f.t names d f.outcomes) depth;
+      outcomes = states.outcomes;
+      printed = states.shows;
       each = All-weaker (Leads f.t search.depth) (IsRevisited kind c json (parts_of input).test f.t names)
           (λ o lead. one-revisited kind c json (parts_of input).test f.t names o texts reaching searches atomic f.spelled (separated (printed_choices o.choices))
           (subst (λ d. Leads f.t d o) depth lead))
-          f.outcomes f.are.reached;
+          states.outcomes states.reached;
     }

@@ -53,7 +53,7 @@ pub use Rattle.tso_report.specs.declared.named.Named.{Named}
 pub use Rattle.tso_report.specs.ShownNames.{names_shown, values_at}
 pub use Rattle.search_report.specs.Outcomes.{Outcome, shown_values, held_in, failed_in, is_met_in, true_in, outcomes_line, state_line, by_line, outcome_lines, observation_line, true_line, condition_lines}
 pub use Rattle.command_line.specs.Search.{Search}
-pub use Rattle.tso_cli.specs.Outcomes.{AreAllOutcomes, IsOutcomesAnswer, found, is_claimed_of, too_many}
+pub use Rattle.tso_cli.specs.Outcomes.{AreAllOutcomes, AreSomeOutcomes, IsOutcomesAnswer, found, is_claimed_of, too_many}
 pub use Rattle.tso_cli.specs.OutcomesHeadline.{HeadlineOfOutcomes, all}
 pub use Rattle.refutation_laws.specs.Models.{IsExecutionOf, depth_of}
 pub use Rattle.command_line.specs.Explanation.{Explanation}
@@ -61,7 +61,8 @@ pub use Rattle.tso_cli.specs.Why.{IsWhyAnswer, allowed, never}
 pub use Rattle.tso_cli.specs.WhyHeadline.{PrintsRefutation, PrintsExecutionOf, HeadlineOfReasons}
 pub use Rattle.litmus_reader.specs.Spelling.{SpellsTest}
 pub use Rattle.search_report.specs.Verdict.{verdict_line, outcomes_verdict_value}
-pub use Rattle.search_report.specs.PrintedOutcomes.{outcomes_in, PrintsOutcomes, unfinished_search_in}
+pub use Rattle.search_report.specs.MetOutcomes.{PrintsMet, unfinished_search_in}
+pub use Rattle.search_report.specs.PrintedOutcomes.{outcomes_in, PrintsOutcomes}
 pub use Rattle.search_report.specs.Laws.{OutcomesAreAlike, OutcomesOfTheSameValuesAreAlike}
 pub use Rattle.tso_terms.specs.Standing.{StandsIn}
 pub use Rattle.tso_laws.specs.Entries.{FitsTest}

@@ -7,7 +7,10 @@ use Rattle.tso_cli.specs.declared.answer.Status.{Status}
 use Rattle.tso_cli.specs.declared.answer.Status.TheVariants.{Good, Invalid, NotAsClaimed, Refused, Unended}
 use Rattle.command_line.specs.declared.settings.Settings.TheVariants as settings
 
--- whether an answer that was printed may mislead: final states in lines that people read may; JSON, a verdict and choices don't
+-- whether an answer that was printed may mislead: final states in lines that people read may; JSON, a verdict and choices don't.
+-- They may where the condition names a location that nothing uses, a register that no instruction of its core writes, or a location
+-- that no instruction writes and that is asked for another value than it begins with; where a list of the test is left out; or where a
+-- sweep never met what is asked
 abbrev pub may_mislead : Settings → Bool
 may_mislead (settings.Run kind config json) = not json
 may_mislead (settings.Trace kind config json) = not json

@@ -1,7 +1,8 @@
 -- What the headline leaves open of `outcomes`: two texts of which it holds, each as lines or as JSON. They show the same states of the
--- input's own test, and differ in the choices that lead there alone.
+-- input's own test, and differ in the choices that lead there alone; or one of them says that it shows some of them.
 use Rattle.std.specs.Prelude.{ℕ, ◌≡◌, Bool, List, [], map}
 use Rattle.tso_cli.specs.Vocabulary.{HasMoreStates, Litmus, names_shown, Outcome, outcomes_in, OutcomesAreAlike, Search, SpellsTest, unfinished_search_in}
+use Rattle.tso_cli.specs.Outcomes.{AreSomeOutcomes}
 
 -- the same state, with no choices
 abbrev pub without_choices : Outcome → Outcome
@@ -18,14 +19,16 @@ pub record ShowOneSearch (t : Litmus) (s : Search) (json again : Bool) (out othe
       → outcomes_in form t (names_shown s.show t) s.depth (map without_choices outcomes)
       ≡ outcomes_in form t (names_shown s.show t) s.depth (map without_choices others)
 
--- the text shows no state: it says that the machine can reach more of them than may be kept
-pub record ShowsNoState (t : Litmus) (s : Search) (json : Bool) (out : List ℕ) : Type 0 where
+-- the text says that the machine can reach more states than may be kept, and shows some final states
+pub record ShowsSomeStates (t : Litmus) (s : Search) (json : Bool) (out : List ℕ) : Type 0 where
+  pub outcomes : List Outcome
   pub more : HasMoreStates t s.depth s.states
-  pub printed : out ≡ unfinished_search_in json t s.states
+  pub some : AreSomeOutcomes t (names_shown s.show t) s.depth outcomes
+  pub printed : out ≡ unfinished_search_in json t (names_shown s.show t) s.states outcomes
 
--- two texts are one, the same refusal; or both show the states of the test that was given; or one of them shows none
+-- two texts are one, the same refusal; or both show all states of the test that was given; or one of them shows some
 pub data AreOneSearch (test : List ℕ) (s : Search) (json again : Bool) (out other : List ℕ) : Type 0 where
   one_text : out ≡ other → AreOneSearch test s json again out other
   both_show : (t : Litmus) → SpellsTest test t → ShowOneSearch t s json again out other → AreOneSearch test s json again out other
-  first_shows_none : (t : Litmus) → SpellsTest test t → ShowsNoState t s json out → AreOneSearch test s json again out other
-  second_shows_none : (t : Litmus) → SpellsTest test t → ShowsNoState t s again other → AreOneSearch test s json again out other
+  first_shows_some : (t : Litmus) → SpellsTest test t → ShowsSomeStates t s json out → AreOneSearch test s json again out other
+  second_shows_some : (t : Litmus) → SpellsTest test t → ShowsSomeStates t s again other → AreOneSearch test s json again out other

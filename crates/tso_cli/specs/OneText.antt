@@ -2,12 +2,13 @@
 -- go wrong unnoticed.
 use Rattle.std.specs.Prelude.{ℕ, ◌≡◌, ◌⊎◌, Bool, true, false, List, ◌++◌, length}
 use Rattle.tso_cli.specs.Vocabulary.{Choice, Configuration, Entry, head, json_ended, json_report, LeadTo, Litmus, names_shown, Outcome, outcomes_in, OutcomesAreAlike, ProtocolKind, Search, Settings, ShownRun, SpellsChoices, trace_text}
+use Rattle.tso_cli.specs.OneSearch.{ShowsSomeStates}
 use Rattle.tso_cli.specs.RunTexts.{report_in}
 use Rattle.trace_report.specs.Shown.{ShownStep as Step}
 use Rattle.command_line.specs.declared.settings.Settings.TheVariants as settings
 
--- its answer is one text; of `outcomes` it isn't said which of the choices that lead to a state are printed, nor of which tests the
--- states are too many, where they are more than may be kept; of `why` not which refutation or which execution is printed
+-- its answer is one text; of `outcomes` it isn't said which of the choices that lead to a state are printed, nor, where the machine can
+-- reach more states than may be kept, whether some states are printed or all; of `why` not which refutation or which execution is printed
 abbrev pub GivesOneAnswer : Settings → Type 0
 GivesOneAnswer (settings.Outcomes search json assert) = ⊥
 GivesOneAnswer (settings.Why plan json assert) = ⊥
@@ -54,7 +55,7 @@ abbrev pub AreOneTrace : ProtocolKind → Configuration → Bool → List ℕ �
 AreOneTrace kind c false out other = (out ≡ other) ⊎ TraceOneExecution kind c out other
 AreOneTrace kind c true out other = (out ≡ other) ⊎ TraceOneObject kind c out other
 
--- two texts of `outcomes` show final states of one test that are alike; which choices lead to them may differ
+-- two texts of `outcomes` show all final states of one test, and these are alike; which choices lead to them may differ
 pub record ShowTheSameStates (s : Search) (json : Bool) (out other : List ℕ) : Type 0 where
   pub t : Litmus
   pub outcomes : List Outcome
@@ -62,6 +63,10 @@ pub record ShowTheSameStates (s : Search) (json : Bool) (out other : List ℕ) :
   pub first : out ≡ outcomes_in json t (names_shown s.show t) s.depth outcomes
   pub second : other ≡ outcomes_in json t (names_shown s.show t) s.depth others
   pub alike : OutcomesAreAlike t (names_shown s.show t) outcomes others
+
+-- a text of `outcomes` says that it shows some final states of a test
+abbrev pub ShowsPart : Search → Bool → List ℕ → Type 0
+ShowsPart s json out = (t : Litmus) × ShowsSomeStates t s json out
 
 -- two texts spell choices of one test that lead to one order at this depth; which choices they are may differ
 pub record ReachOneOrder (depth : ℕ) (out other : List ℕ) : Type 0 where

@@ -1,8 +1,7 @@
 -- The choices that `outcomes` prints, handed to `run`: they end in the state that was printed, so every state can be seen
 -- to come up.
-use Rattle.std.specs.Prelude.{◌≡◌, ℕ, Bool, List, All, Some}
-use Rattle.tso_cli.specs.Vocabulary.{Configuration, Litmus, Named, names_shown, Outcome, outcomes_in, printed_choices, ProtocolKind, shown_values, ShownRun, SpellsTest, values_at}
-use Rattle.tso_report.specs.declared.show.Show.{Show}
+use Rattle.std.specs.Prelude.{◌≡◌, ◌⊎◌, ℕ, Bool, List, All, Some}
+use Rattle.tso_cli.specs.Vocabulary.{Configuration, Litmus, Named, names_shown, Outcome, outcomes_in, printed_choices, ProtocolKind, Search, shown_values, ShownRun, SpellsTest, unfinished_search_in, values_at}
 use Rattle.command_line.specs.declared.settings.Settings.TheVariants as settings
 use Rattle.tso_cli.specs.Answers.{IsAnswer}
 use Rattle.tso_cli.specs.Dividing.{joined_parts}
@@ -27,10 +26,15 @@ IsRevisited kind c json test t names o =
     → IsAnswer (settings.Run kind c json) (Some (joined_parts test (printed_choices o.choices))) answer status
     → ReportsValues t names kind c json (shown_values names o) answer × (status ≡ Good)
 
+-- what was printed shows these outcomes, as all that there are, or as some
+abbrev pub ShowsOutcomes : Bool → Litmus → Search → List ℕ → List Outcome → Type 0
+ShowsOutcomes told t s out outcomes =
+    (out ≡ outcomes_in told t (names_shown s.show t) s.depth outcomes) ⊎ (out ≡ unfinished_search_in told t (names_shown s.show t) s.states outcomes)
+
 -- so it is with each state of the given test that was printed
-pub record AreRevisited (kind : ProtocolKind) (c : Configuration) (show : Show) (json told : Bool) (test out : List ℕ) : Type 0 where
+pub record AreRevisited (kind : ProtocolKind) (c : Configuration) (s : Search) (json told : Bool) (test out : List ℕ) : Type 0 where
   pub t : Litmus
   pub spelled : SpellsTest test t
   pub outcomes : List Outcome
-  pub printed : out ≡ outcomes_in told t (names_shown show t) c.depth outcomes
-  pub each : All (IsRevisited kind c json test t (names_shown show t)) outcomes
+  pub printed : ShowsOutcomes told t s out outcomes
+  pub each : All (IsRevisited kind c json test t (names_shown s.show t)) outcomes

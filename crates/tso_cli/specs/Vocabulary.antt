@@ -42,7 +42,8 @@ pub use Rattle.trace_report.specs.TracedRun.{json_ended, json_last_step, json_un
 pub use Rattle.tso_report.specs.ShownNames.{names_shown, values_at}
 pub use Rattle.search_report.specs.Laws.{OutcomesAreAlike}
 pub use Rattle.search_report.specs.Outcomes.{is_met_in, Outcome, outcome_of, shown_values}
-pub use Rattle.search_report.specs.PrintedOutcomes.{outcomes_in, unfinished_search_in}
+pub use Rattle.search_report.specs.MetOutcomes.{unfinished_search_in}
+pub use Rattle.search_report.specs.PrintedOutcomes.{outcomes_in}
 pub use Rattle.search_report.specs.Verdict.{is_as_claimed}
 pub use Rattle.search_report.specs.PrintedReasons.{refutation_in, ShowsExecution, unfinished_cases_in}
 pub use Rattle.command_line.specs.Explanation.{Explanation}

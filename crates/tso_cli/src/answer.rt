@@ -16,7 +16,8 @@ use tso_terms::NoMemory;
 /// How a command ended.
 #[derive(Clone, Copy, PartialEq, Eq)]
 pub enum Status {
-    /// The test ended, the order is valid, or what was asked for was printed.
+    /// The test ended, the order is valid, or what was asked for was printed. Of a search that met its limit, a state
+    /// was met by which the condition is as it claims, of which the status was to tell.
     Good,
     /// A text was refused.
     Refused,
@@ -25,8 +26,8 @@ pub enum Status {
     Unended,
     /// The order isn't valid, or needs deeper store buffers than a witness was asked for.
     Invalid,
-    /// What was asked for was printed, and the test's condition isn't as it claims, of which the status was to
-    /// tell: `exists` is so nowhere, `~exists` somewhere, or `forall` not everywhere.
+    /// The test's condition isn't as it claims, of which the status was to tell: `exists` is so nowhere,
+    /// `~exists` somewhere, or `forall` not everywhere.
     NotAsClaimed,
 }
 

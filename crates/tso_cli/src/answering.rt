@@ -122,7 +122,7 @@ fn warning_of(
 ) -> Result<Option<Cause>, NoMemory> {
     match status {
         Status::Good | Status::NotAsClaimed if may_mislead(settings) => {
-            match Cause::of_unused_location(alloc, test, spelling)? {
+            match Cause::of_condition(alloc, test, spelling)? {
                 Some(cause) => Ok(Some(cause)),
                 None => match settings {
                     Settings::Outcomes { search, .. } => {

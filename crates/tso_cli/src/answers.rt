@@ -1,14 +1,14 @@
 //! Laws of answers: there is one to an input, it meets the headline, and what it shows fits its test. Each is the contract of a
 //! function that does nothing: who calls it knows it.
 
-ghost use Rattle.std.specs.Prelude.{◌≡◌, ℕ, Bool, List, Option, Some};
+ghost use Rattle.std.specs.Prelude.{◌≡◌, ◌⊎◌, ℕ, Bool, List, Option, Some};
 ghost use Rattle.tso_terms.specs.Runs.{run};
 ghost use Rattle.tso_cli.specs.Answers.{IsAnswer, IsPrinted};
 ghost use Rattle.tso_cli.specs.Fitting.{ChoicesAreCounted, EndedRunsFit, SweptCountsFit};
 ghost use Rattle.tso_cli.specs.Headline.{Headline};
 ghost use Rattle.tso_cli.specs.inner.ReadOneWay.{AreReadOneWay};
 ghost use Rattle.command_line.specs.Limits.{IsWithinLimits};
-ghost use Rattle.tso_cli.specs.OneText.{GivesOneAnswer, ShowTheSameStates};
+ghost use Rattle.tso_cli.specs.OneText.{GivesOneAnswer, ShowTheSameStates, ShowsPart};
 ghost use Rattle.command_line.specs.Search.{Search};
 ghost use Rattle.tso_cli.specs.declared.answer.Status.{Status};
 ghost use Rattle.command_line.specs.declared.settings.Settings.{Settings};
@@ -57,9 +57,9 @@ pub(crate) fn texts_are_read_one_way()
 }
 
 /// There is one answer to an input: the same bytes, and the same status. Of `outcomes` it isn't said which of the choices that
-/// lead to a state are printed; nor, where the machine can reach more states than may be kept, whether they are told as too many.
-/// Where they aren't, the states are the same, in the same order, and so are the counts, the verdict and the status. Of `why` it isn't said which refutation or
-/// which execution is printed.
+/// lead to a state are printed; nor, where the machine can reach more states than may be kept, whether some states are printed or
+/// all. Where both print all, the states are the same, in the same order, and so are the counts, the verdict and the status. Of
+/// `why` it isn't said which refutation or which execution is printed.
 pub fn inputs_have_one_answer()
     ensures commands { (s : Settings) (input out other : List ℕ) (status again : Status)
         → GivesOneAnswer s → IsAnswer s (Some input) out status → IsAnswer s (Some input) other again → (out ≡ other) × (status ≡ again) }
@@ -67,7 +67,7 @@ pub fn inputs_have_one_answer()
         → IsPrinted status → IsPrinted again
         → IsAnswer (Settings.Outcomes search json assert) (Some input) out status
         → IsAnswer (Settings.Outcomes search json assert) (Some input) other again
-        → ShowTheSameStates search json out other × (status ≡ again) }
+        → (ShowTheSameStates search json out other × (status ≡ again)) ⊎ (ShowsPart search json out ⊎ ShowsPart search json other) }
 {
     texts_are_read_one_way();
     outcomes_of_the_same_values_are_alike();

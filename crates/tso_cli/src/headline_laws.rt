@@ -23,7 +23,7 @@ use search_report::alike_outcomes::outcomes_of_the_same_values_are_alike;
 /// ends, and of `witness` where it finds no choices. Of a run that ended it leaves open how many choices were used,
 /// stalled and left over, and the counts of the caches, and nothing else; of choices that lead to an
 /// order, which they are. Of `outcomes` it leaves open which choices lead to each state, and, where the machine can reach more
-/// states than may be kept, whether any are shown; lines and JSON of one test show the same states. Of `why` it leaves open which
+/// states than may be kept, whether all are shown or some; lines and JSON of one test show the same states, where both show all. Of `why` it leaves open which
 /// refutation or which execution is printed, and, where a limit is too small, whether one is; never is it the one and the other.
 pub fn headlines_leave_one_text()
     ensures runs { (kind : ProtocolKind) (c : Configuration) (json : Bool) (input out other : List ℕ)

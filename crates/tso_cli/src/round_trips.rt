@@ -28,7 +28,7 @@ ghost use Rattle.machine_runs.specs.Simulation.{IsEndingOf};
 ghost use Rattle.tso_cli.specs.Witness.{witness_line, IsWitness, IsEndingAlong, HasEndedWith, ReportsOrder};
 ghost use Rattle.machine_runs.specs.declared.driving.Ending.{Ending};
 ghost use Rattle.tso_cli.specs.declared.answer.Status.{Status};
-ghost use Rattle.tso_cli.specs.declared.answer.Status.TheVariants.{Good};
+ghost use Rattle.tso_cli.specs.declared.answer.Status.TheVariants.{Good, Refused};
 ghost use Rattle.command_line.specs.declared.settings.Settings.{Settings};
 
 use crate::answers::texts_are_read_one_way;
@@ -130,14 +130,14 @@ pub fn witnesses_reach_their_orders()
     joined_parts_are_separated();
 }
 
-/// The choices that `outcomes` prints for a state, handed to `run` at the same depth on the atomic bus with the same test, are
+/// The choices that `outcomes` prints for a state, of all that there are or of some, handed to `run` at the same depth on the atomic bus with the same test, are
 /// answered with the report of a run that ended with the printed values, and with the status of success, whatever the protocol and
 /// the shape of the caches: no choice stalled, and none was left over.
 pub fn searches_reach_their_states()
     ensures { (kind : ProtocolKind) (c : Configuration) (search : Search) (json told assert : Bool) (input out : List ℕ) (status : Status)
         → c.bus ≡ Atomic → search.depth ≡ c.depth → IsWithinLimits (Settings.Run kind c json) → IsJoinable (parts_of input).test
-        → IsPrinted status → IsAnswer (Settings.Outcomes search told assert) (Some input) out status
-        → AreRevisited kind c search.show json told (parts_of input).test out }
+        → ¬ (status ≡ Refused) → IsAnswer (Settings.Outcomes search told assert) (Some input) out status
+        → AreRevisited kind c search json told (parts_of input).test out }
 {
     texts_are_read_one_way();
     every_execution_is_reached();

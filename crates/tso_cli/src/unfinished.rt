@@ -1,5 +1,5 @@
-//! What a search had met that ended at its limit, for the hint beside its answer. The answer says no state, so that nobody
-//! takes a part for the whole; but that a state was met is so whatever else there is.
+//! What a search had met that ended at its limit, for the hint beside its answer. That a state was met is so whatever else
+//! there is.
 
 ghost use Rattle.std.specs.Prelude.{◌≡◌, ◌<◌, ◌≤◌, All, Some, length};
 ghost use Rattle.tso_terms.specs.Condition.{NamesExist, claim_of};
@@ -14,7 +14,8 @@ use tso_laws::ended_runs_are_executions;
 use tso_terms::{Cond, NoMemory, Test, cond_holds};
 
 /// Of what the hint is made beside the answer of a search that ended at its limit and had met these final states: how many
-/// they are, and, of the first that makes the condition's proposition true, the choices that lead there.
+/// look different, as the answer counts them, and, of the first that makes the condition's proposition true, the choices that lead
+/// there.
 ///
 /// Errors: out of memory only.
 pub fn cause_of_end(
@@ -22,6 +23,7 @@ pub fn cause_of_end(
     test: &Test,
     search: SearchPlan,
     finals: &[FinalState],
+    count: usize,
 ) -> Result<Cause, NoMemory>
     requires { AreReached test.now search.depth finals.now }
 {
@@ -42,7 +44,7 @@ pub fn cause_of_end(
         most: search.states(),
         is_raisable: search.states() < MAX_STATES,
         is_buffered: search.depth() > 0,
-        finals: finals.len(),
+        finals: count,
         sighting,
     }))
 }

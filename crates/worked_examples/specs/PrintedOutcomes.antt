@@ -14,6 +14,8 @@ use Rattle.tso_report.specs.declared.named.Named.TheVariants.{Location}
 use Rattle.tso_report.specs.ShownNames.{names_shown}
 use Rattle.tso_report.specs.declared.show.Show.TheVariants.{Condition}
 use Rattle.search_report.specs.Outcomes.{Outcome, condition_lines, outcomes_text}
+use Rattle.search_report.specs.MetOutcomes.{decided_line, met_json, met_text}
+use Rattle.search_report.specs.Outcomes.{is_met_in}
 use Rattle.search_report.specs.OutcomesJson.{outcomes_json}
 use Rattle.worked_examples.specs.Written.{loc_x, loc_y, step, drain, six}
 
@@ -74,6 +76,47 @@ printed_object =
     ++ (codes "{\"choices\":\"1s 1d 1s 0s 0s 0d\",\"holds\":false,\"values\":{\"0:EAX\":1,\"1:EAX\":0}},"
     ++ (codes "{\"choices\":\"0s 0d 1s 1d 0s 1s\",\"holds\":false,\"values\":{\"0:EAX\":1,\"1:EAX\":1}}],"
     ++ codes "\"test\":\"SB\",\"verdict\":\"Ok\"}\n"))))
+
+-- ---- of a search that met its limit
+
+-- two of the four were met
+abbrev pub two : List Outcome
+two =
+    record { registers = six 0 0 0 0 0 0 ∷ six 0 0 0 0 0 0 ∷ []; memory = 1 ∷ 1 ∷ []; choices = step 0 ∷ step 0 ∷ step 1 ∷ step 1 ∷ drain 0 ∷ drain 1 ∷ [] }
+    ∷ record { registers = six 1 0 0 0 0 0 ∷ six 0 0 0 0 0 0 ∷ []; memory = 1 ∷ 1 ∷ []; choices = step 1 ∷ drain 1 ∷ step 1 ∷ step 0 ∷ step 0 ∷ drain 0 ∷ [] }
+    ∷ []
+
+abbrev pub met : List ℕ
+met = met_text store_buffering (names_shown Condition store_buffering) 6 two
+
+abbrev pub met_lines_of_it : List ℕ
+met_lines_of_it =
+    codes "Unfinished states=6\nMet 2\n"
+    ++ (codes "State 0:EAX=0 1:EAX=0\nBy 0s 0s 1s 1s 0d 1d\n"
+    ++ (codes "State 0:EAX=1 1:EAX=0\nBy 1s 1d 1s 0s 0s 0d\n"
+    ++ codes "Verdict Ok\n"))
+
+abbrev pub met_as_json : List ℕ
+met_as_json = met_json store_buffering (names_shown Condition store_buffering) 6 two
+
+abbrev pub met_object : List ℕ
+met_object =
+    codes "{\"met\":["
+    ++ (codes "{\"choices\":\"0s 0s 1s 1s 0d 1d\",\"holds\":true,\"values\":{\"0:EAX\":0,\"1:EAX\":0}},"
+    ++ (codes "{\"choices\":\"1s 1d 1s 0s 0s 0d\",\"holds\":false,\"values\":{\"0:EAX\":1,\"1:EAX\":0}}],"
+    ++ codes "\"test\":\"SB\",\"unfinished\":{\"states\":6},\"verdict\":\"Ok\"}\n"))
+
+-- where none was met nothing is decided
+abbrev pub none_met : List ℕ
+none_met = met_text store_buffering (names_shown Condition store_buffering) 6 []
+
+abbrev pub none_as_json : List ℕ
+none_as_json = met_json store_buffering (names_shown Condition store_buffering) 6 []
+
+-- what two states decide of a condition
+abbrev pub decided_of : Quantifier → Claim → List ℕ
+decided_of quantifier claim =
+    let condition = Some (record { quantifier = quantifier; claim = claim }) in decided_line condition (is_met_in condition two)
 
 -- ---- what is shown
 

@@ -34,7 +34,10 @@ pub use limits::{numbers_of_machines, numbers_of_tests, numbers_of_texts};
 pub use names::{worked_location_names, worked_register_names, worked_test_names};
 pub use order::{worked_due_values, worked_kinds_of_entries, worked_pairs, worked_program_order};
 pub use outcomes::{worked_outcomes, worked_stalls};
-pub use printed_outcomes::{worked_printed_states, worked_shown_values, worked_verdicts};
+pub use printed_outcomes::{
+    worked_decided_verdicts, worked_met_states, worked_printed_states, worked_shown_values,
+    worked_verdicts,
+};
 pub use refusals::{
     worked_ending_refusals, worked_header_refusals, worked_initial_refusals,
     worked_limits_of_texts, worked_table_refusals,

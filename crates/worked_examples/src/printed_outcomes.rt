@@ -8,6 +8,7 @@ ghost use Rattle.tso_terms.specs.Condition.{NotClaim};
 ghost use Rattle.basic_laws.specs.Types.{Exists, NotExists, Forall, Ebx};
 ghost use Rattle.worked_examples.specs.PrintedOutcomes.{both_zero, one_is_two, said_of, three_lines, register};
 ghost use Rattle.worked_examples.specs.PrintedOutcomes.{printed, printed_lines_of_it, printed_json, printed_object};
+ghost use Rattle.worked_examples.specs.PrintedOutcomes.{met, met_lines_of_it, met_as_json, met_object, none_met, none_as_json, decided_of};
 ghost use Rattle.worked_examples.specs.PrintedOutcomes.{all_kinds, without_condition, written_registers, both_locations};
 
 /// What is printed of the four final states of store buffering, byte for byte.
@@ -26,6 +27,25 @@ pub fn worked_verdicts()
         ≡ three_lines (codes "Observation SB Sometimes 3 1") (codes "True 2 3 4") (codes "Verdict No") }
     ensures forall_four { said_of Forall (NotClaim one_is_two)
         ≡ three_lines (codes "Observation SB Always 4 0") (codes "True 1 2 3 4") (codes "Verdict Ok") }
+{}
+
+/// What is printed of two of them, where the search met its limit; and where it had met none.
+pub fn worked_met_states()
+    ensures lines { met ≡ met_lines_of_it }
+    ensures object { met_as_json ≡ met_object }
+    ensures no_lines { none_met ≡ codes "Unfinished states=6\nMet 0\n" }
+    ensures no_object { none_as_json ≡ codes "{\"met\":[],\"test\":\"SB\",\"unfinished\":{\"states\":6},\"verdict\":null}\n" }
+{}
+
+/// Each quantifier, of what is so in one of two states that were met, in none and in both: a verdict stands there only where no further
+/// state can change it.
+pub fn worked_decided_verdicts()
+    ensures exists_one { decided_of Exists both_zero ≡ codes "Verdict Ok\n" }
+    ensures exists_none { decided_of Exists one_is_two ≡ [] }
+    ensures not_one { decided_of NotExists both_zero ≡ codes "Verdict No\n" }
+    ensures not_none { decided_of NotExists one_is_two ≡ [] }
+    ensures forall_one { decided_of Forall both_zero ≡ codes "Verdict No\n" }
+    ensures forall_both { decided_of Forall (NotClaim one_is_two) ≡ [] }
 {}
 
 /// What is shown: what the condition names, also what instructions of its core write, also all locations. A store and a fence write no

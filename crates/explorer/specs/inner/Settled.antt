@@ -38,6 +38,12 @@ pub record IsCurrent (states : List Packed) (at : ℕ) (current : Snapshot) : Ty
   pub stands : slice_get states at ≡ Some kept
   pub state_is : state_of_packed kept ≡ state_of_snapshot current
 
+-- choices were appended that lead from the old state to the new one
+pub record AreAppended (depth : ℕ) (t : Litmus) (old new : State) (before after : List Choice) : Type 0 where
+  pub made : List Choice
+  pub leads : LeadsBy depth t old made new
+  pub appended : after ≡ before ++ made
+
 -- choices lead to a state that is the kept one once its dead registers are forgotten and then cores that are alike exchanged
 pub record LeadToExchanged (depth : ℕ) (t : Litmus) (hidden : List (List Bool)) (state : State) (choices : List Choice) (exchanges : List (ℕ × ℕ)) (kept : State) : Type 0 where
   pub last : State

@@ -1,5 +1,5 @@
 use Rattle.promises.proofs.PrintedVocabulary.{true, false, ◌∙◌}
-use Rattle.promises.proofs.Claims.{TextsAreDecided, outcomes-tell, why-tells, ok-is-good}
+use Rattle.promises.proofs.Claims.{TextsAreDecided, outcomes-tell, outcomes-tell-nothing, why-tells, ok-is-good}
 use Rattle.promises.proofs.laws_of_outcomes.statuses_tell_the_verdict.Goals as goal
 
 pub returns : goal.returns
@@ -9,10 +9,9 @@ returns c =
       never_both = c.test_is_spelled_once.ensures.never_both;
     } in
     record {
-      outcomes_no = λ search json. outcomes-tell search json true false decided;
-      outcomes_ok = λ search json assert input out status t condition small spelled is answer says.
-          outcomes-tell search json assert true decided input out status t condition small spelled is answer says ∙ ok-is-good assert;
-      outcomes_unasserted = λ search json. outcomes-tell search json false false decided;
+      outcomes_no = λ search json. outcomes-tell search json false decided;
+      outcomes_ok = λ search json. outcomes-tell search json true decided;
+      outcomes_unasserted = λ search json verdict. outcomes-tell-nothing search json verdict decided;
       why_no = λ plan json. why-tells plan json true false decided;
       why_ok = λ plan json assert input out status t condition small spelled is answer says.
           why-tells plan json assert true decided input out status t condition small spelled is answer says ∙ ok-is-good assert;

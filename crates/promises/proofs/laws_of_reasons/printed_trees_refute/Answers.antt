@@ -1,5 +1,5 @@
 use Rattle.promises.proofs.ReadingBack.{steps-refute}
-use Rattle.promises.proofs.PrintedTrees.{lines-tell-trees, printed-refute, values-tell-trees, values-refute}
+use Rattle.promises.proofs.PrintedTrees.{lines-tell-trees, printed-refute, values-tell-trees, values-refute, false-lines-so, false-values-so}
 use Rattle.promises.proofs.laws_of_reasons.printed_trees_refute.Goals as goal
 
 pub returns-clause-steps : goal.returns-clause-steps
@@ -16,3 +16,9 @@ returns-clause-values c = values-tell-trees
 
 pub returns-clause-printed_values : goal.returns-clause-printed_values
 returns-clause-printed_values c = values-refute
+
+pub returns-clause-false_lines : goal.returns-clause-false_lines
+returns-clause-false_lines c = false-lines-so
+
+pub returns-clause-false_values : goal.returns-clause-false_values
+returns-clause-false_values c = false-values-so

@@ -17,3 +17,6 @@ returns-clause-more c = λ t s json out none. none.more
 
 pub returns-clause-unfinished : goal.returns-clause-unfinished
 returns-clause-unfinished c = λ t s json out none. none.printed
+
+pub returns-clause-some : goal.returns-clause-some
+returns-clause-some c = λ t s json out said. said.some

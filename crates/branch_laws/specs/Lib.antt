@@ -1,0 +1,10 @@
+pub mod Trees
+pub mod Branching
+pub mod TreeMachine
+pub mod Rounds
+pub mod Additions
+pub mod Bounds
+pub mod SamePaths
+pub mod Shown
+pub mod Laws
+pub mod WorkedTests

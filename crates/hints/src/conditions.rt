@@ -1,0 +1,216 @@
+//! What is said of a fault in a condition, or after the end of a test: signs and words of other languages have the form that
+//! stands for them here.
+
+use crate::body::{body_of, ending_of};
+use crate::divider::{Asked, says_missing_divider};
+use crate::faults::{CONNECTIVES, IMPLICATION, LEAVE_OUT, says_hexadecimal, unfit};
+use crate::items::{PLAIN_DIGITS, says_foreign_register};
+use crate::keywords::begins_instruction;
+use crate::line::{Line, Piece};
+use crate::place::Place;
+use crate::quotes::{is_all_digits, is_bare, is_choice, word};
+use crate::signs::DIVIDER;
+use crate::tables::{Alike, is_exactly_one_of, is_one_of, said_of};
+use litmus_tokens::{Symbol, is_symbol, line_of, tokens_of};
+use std::alloc::Global;
+use tso_terms::names::is_location_name;
+use tso_terms::{NoMemory, Reg};
+
+/// The form of conditions.
+const CONDITION: &str =
+    ": a condition is exists, ~exists or forall, and then atoms as 0:EAX=1, x=1 or true, joined by /\\ and \\/";
+
+const JOIN: &str = "{}: parts of a condition are joined by /\\ for and, \\/ for or";
+
+const REGISTER_ALONE: &str = "{}: a register is written after its core and a colon, as 0:EAX";
+
+/// What is said of a token that stands after the end of a condition.
+static AFTER: [Alike; 4] = [
+    Alike(
+        &["locations", "location"],
+        "{} stands after the condition: write locations [ .. ] before it",
+    ),
+    Alike(
+        &["exists", "forall"],
+        "a second condition begins here: a test has one, whose parts are joined by /\\ and \\/",
+    ),
+    Alike(&["not", "xor", "implies", "iff"], JOIN),
+    Alike(
+        &[
+            "Order",
+            "Observation",
+            "State",
+            "Outcomes",
+            "Machine",
+            "Verdict",
+            "Test",
+            "Registers",
+            "Memory",
+            "Endorder",
+            "Sweep",
+        ],
+        "{} begins a line of a report, which is no part of a test: leave out from here on",
+    ),
+];
+
+/// Of a condition.
+///
+/// Errors: out of memory only.
+pub fn bad_condition(alloc: Global, line: &mut Line, place: &Place<'_>) -> Result<(), NoMemory> {
+    if place.rest.is_empty() || (place.is_first_on_line() && is_choice(word(place.rest))) {
+        if let Some(number) = line_of_open_bracket(alloc, place)? {
+            line.say_number("no ) closes the ( of line {}", number);
+            return Ok(());
+        }
+    }
+    if !says_foreign_form(line, place)
+        && !says_foreign_register(line, place)
+        && !says_misfit(line, place)
+    {
+        unfit(line, place, "the test ends within its condition", CONDITION);
+    }
+    Ok(())
+}
+
+/// The line of the last `(` before a place that no `)` closes, if there is one.
+///
+/// Errors: out of memory only.
+fn line_of_open_bracket(alloc: Global, place: &Place<'_>) -> Result<Option<usize>, NoMemory> {
+    let body = body_of(place.before);
+    let tokens = tokens_of(alloc, body)?;
+    let ending = tokens_of(alloc, ending_of(body, &tokens))?;
+    let mut closed = 0usize;
+    for at in (0..ending.items.len()).rev() {
+        let token = &ending.items[at];
+        if is_symbol(Symbol::CloseRound, token) {
+            closed = closed.saturating_add(1);
+        } else if is_symbol(Symbol::OpenRound, token) {
+            if closed == 0 {
+                return Ok(Some(line_of(place.before, token.remaining)));
+            }
+            closed = closed.saturating_sub(1);
+        }
+    }
+    Ok(None)
+}
+
+/// Says of a number or a connective of another form, within a condition or after it. Whether one stands there.
+fn says_foreign_form(line: &mut Line, place: &Place<'_>) -> bool {
+    let (token, rest) = (place.token, place.rest);
+    if says_hexadecimal(line, place) {
+        return true;
+    }
+    let sentence = if is_one_of(&["|", "and", "or"], token)
+        || (is_exactly_one_of(&["="], token) && is_exactly_one_of(&["="], place.last_word))
+    {
+        CONNECTIVES
+    } else if rest.starts_with(b"=>") || rest.starts_with(b"==>") {
+        IMPLICATION
+    } else {
+        return false;
+    };
+    line.say_of(sentence, token);
+    true
+}
+
+/// Says of a token that doesn't fit, by what stands before it, where that tells what was meant. Whether it does.
+fn says_misfit(line: &mut Line, place: &Place<'_>) -> bool {
+    let (token, last) = (place.token, place.last_word);
+    let (sentence, named) = match token.first() {
+        Some(b',' | b';') => (JOIN, token),
+        Some(b':') if is_one_of(&["exists", "forall"], last) => (LEAVE_OUT, token),
+        Some(b':') if is_bare(last) => (
+            "{}: an atom has = between a place and one number, as 0:EAX=1 or x=1",
+            token,
+        ),
+        Some(b'{' | b'[') if is_one_of(&["exists", "forall"], last) => {
+            ("{}: only ( ) stand around parts of a condition", token)
+        }
+        Some(b'$') => ("{}: a number stands without $ in a condition", token),
+        Some(b'(') if is_exactly_one_of(&["~"], last) => (
+            "write ~exists in place of ~ alone",
+            token,
+        ),
+        Some(b')' | b'/' | b'\\') => return says_valueless(line, last),
+        Some(b'[') if is_exactly_one_of(&[":"], last) => {
+            ("{}: a location stands without a core, as x=1", token)
+        }
+        Some(first) if first.is_ascii_alphabetic() || *first == b'_' => return says_misplaced_name(
+            line, place,
+        ),
+        Some(first) if first.is_ascii_digit() && is_exactly_one_of(&["["], last) => {
+            (
+                "[ stands before {}: only ( ) stand around parts of a condition",
+                token,
+            )
+        }
+        Some(_) => return false,
+        None => return says_valueless(line, last),
+    };
+    line.say_of(sentence, named);
+    true
+}
+
+/// Says of a name without a value before an end, or of a truth in capitals. Whether that is what stands there.
+fn says_valueless(line: &mut Line, last: &[u8]) -> bool {
+    let sentence = if is_one_of(&["true", "false"], last) {
+        "{}: true and false are written in small letters"
+    } else if is_bare(last) && !is_one_of(&["exists", "forall", "not"], last) {
+        "{} has no value: an atom is x=1 or 0:EAX=1"
+    } else {
+        return false;
+    };
+    line.say_of(sentence, last);
+    true
+}
+
+/// Says of a name that doesn't fit. Whether it is known what was meant.
+fn says_misplaced_name(line: &mut Line, place: &Place<'_>) -> bool {
+    let (token, last) = (place.token, place.last_word);
+    let sentence = if is_one_of(&["forall"], token) && is_exactly_one_of(&["~"], last) {
+        "~{} isn't read: write exists, and ~( ) around what follows"
+    } else if is_one_of(&["exists", "forall"], token) {
+        "{} begins a second condition: a test has one, whose parts are joined by /\\ and \\/"
+    } else if is_exactly_one_of(&["="], last) {
+        "{}: an atom has a number after =, as x=1: compare each of two places with one number"
+    } else if place.before.ends_with(last) && is_all_digits(last) {
+        PLAIN_DIGITS
+    } else if Reg::from_name(token).is_some() || is_one_of(&["ESP", "EBP", "RAX", "RBX"], token) {
+        REGISTER_ALONE
+    } else {
+        return false;
+    };
+    line.say_of(sentence, token);
+    true
+}
+
+/// Of what stands after the end of a test.
+pub fn trailing(line: &mut Line, asked: Asked, place: &Place<'_>) {
+    if says_missing_divider(line, asked, place) || says_foreign_form(line, place) {
+        return;
+    }
+    let token = place.token;
+    let first = token.first().copied().unwrap_or(b' ');
+    let is_own_line = place.is_first_on_line();
+    if is_own_line && (place.rest.starts_with(b"~~") || token.starts_with(b"__")) {
+        line.say(DIVIDER);
+    } else if let Some(said) = said_of(&AFTER, token) {
+        line.say_of(said, token);
+    } else if begins_instruction(token) {
+        line.say_of("{} stands after the condition: rows stand before it", token);
+    } else if matches!(first, b'(' | b',' | b'[' | b'~') || first.is_ascii_digit() {
+        line.say_of(JOIN, token);
+    } else if !is_own_line && is_location_name(token) {
+        line.say_with(
+            "{} stands after the end of the condition: join a further atom by /\\ or \\/, and leave other words out",
+            &[Piece::Named(token)],
+        );
+    } else {
+        let sentence = if is_own_line && is_bare(token) && !asked.is_divided {
+            "{} stands after the end of the test: leave it out, or put a line ==== before it if choices begin here"
+        } else {
+            "{} stands after the end of the test: leave it out"
+        };
+        line.say_of(sentence, token);
+    }
+}

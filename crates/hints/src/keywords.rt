@@ -1,0 +1,168 @@
+//! What is said of a row that is none: a condition in other words, or a comment in another form. Where a row may stand, the
+//! reader takes all that begins no condition for a row.
+
+use crate::faults::COMMENT;
+use crate::instructions::{FORMS, SIZED, UNLOCKED};
+use crate::line::Line;
+use crate::place::Place;
+use crate::quotes::{begins_with_letter, digits_and_letters};
+use crate::signs::is_core;
+use crate::tables::{Alike, is_one_of, said_of};
+
+const NEVER: &str =
+    "{} begins no condition: write ~exists before what must never be, or exists before what may be";
+
+const ALWAYS: &str = "{} begins no condition: write forall before what must always be";
+
+const SOMETIMES: &str =
+    "{} begins no condition: write exists, or ~exists before what must never be";
+
+/// Words that stand after the rows of a test as it isn't read.
+static KEYWORDS: [Alike; 9] = [
+    Alike(
+        &[
+            "exist", "exists", "exits", "exit", "exsits", "exsists", "exisits", "exsist", "exixts",
+            "eixsts", "exitst", "existss",
+        ],
+        "{} is no instruction: write exists",
+    ),
+    Alike(
+        &["forall", "foral", "foralls", "for_all"],
+        "{} is no instruction: write forall",
+    ),
+    Alike(
+        &["location", "locations", "locs"],
+        "{} is no instruction: write locations, and [ .. ] after it",
+    ),
+    Alike(
+        &[
+            "never",
+            "forbidden",
+            "notexists",
+            "not_exists",
+            "nexists",
+            "noexists",
+            "impossible",
+            "no",
+            "disallowed",
+            "prohibited",
+        ],
+        NEVER,
+    ),
+    Alike(
+        &[
+            "always",
+            "invariant",
+            "all",
+            "required",
+            "require",
+            "requires",
+            "must",
+            "ensure",
+            "ensures",
+        ],
+        ALWAYS,
+    ),
+    Alike(
+        &["assert", "assertion", "assume", "verify"],
+        "{} begins no condition: write ~exists before what must never be, or forall before what must always be",
+    ),
+    Alike(
+        &[
+            "allowed",
+            "allow",
+            "sometimes",
+            "possible",
+            "maybe",
+            "may",
+            "can",
+            "condition",
+            "cond",
+            "expect",
+            "expected",
+            "observed",
+            "observe",
+            "result",
+            "results",
+            "outcome",
+            "there",
+            "check",
+            "query",
+            "E",
+        ],
+        SOMETIMES,
+    ),
+    Alike(
+        &["filter", "final", "with", "when", "where", "given"],
+        "{} isn't read: a condition is exists, ~exists or forall",
+    ),
+    Alike(
+        &[
+            "Observation",
+            "State",
+            "States",
+            "Order",
+            "Machine",
+            "Outcomes",
+            "Verdict",
+            "Positive",
+            "Witnesses",
+            "Hash",
+            "Histogram",
+            "Ok",
+        ],
+        "{} begins a line of a report, which is no part of a test: leave out from here on",
+    ),
+];
+
+/// Says of the row at a place that it is a condition in other words, or a comment. Whether that is known.
+pub fn says_no_row(line: &mut Line, place: &Place<'_>) -> bool {
+    let (token, rest) = (place.token, place.after_token());
+    if let Some(said) = said_of(&KEYWORDS, token) {
+        line.say_of(said, token);
+    } else if is_core(token) && !rest.starts_with(b":") {
+        line.say_of(
+            "{} begins no row: one row names all cores: P0 | P1 ;",
+            token,
+        );
+    } else if is_one_of(&["not", "for"], token) {
+        return says_of_two_words(line, token, digits_and_letters(rest));
+    } else if follows_row(place) && begins_with_letter(token) && !is_instruction(token) {
+        line.say(COMMENT);
+    } else {
+        return false;
+    }
+    true
+}
+
+/// Says of a quantifier that is written as two words. Whether these are such words.
+fn says_of_two_words(line: &mut Line, first: &[u8], second: &[u8]) -> bool {
+    let sentence = if is_one_of(&["for"], first) && is_one_of(&["all"], second) {
+        "for all is one word here: write forall"
+    } else if is_one_of(&["not"], first) && is_one_of(&["exists", "exist"], second) {
+        "not exists isn't read: write ~exists"
+    } else if is_one_of(&["not"], first) && is_one_of(&["forall"], second) {
+        "not forall isn't read: write exists, and ~( ) around what follows"
+    } else {
+        return false;
+    };
+    line.say(sentence);
+    true
+}
+
+/// Whether the end of a row stands before a place on its line.
+fn follows_row(place: &Place<'_>) -> bool {
+    place.line_before().ends_with(b";")
+}
+
+/// Whether a word is an instruction's name, of one that is read or not.
+pub fn is_instruction(word: &[u8]) -> bool {
+    begins_instruction(word) || said_of(&UNLOCKED, word).is_some()
+}
+
+/// Whether an instruction that is read begins with this word, perhaps with the size of its operands.
+pub fn begins_instruction(word: &[u8]) -> bool {
+    is_one_of(&["LOCK", "MFENCE"], word)
+        || said_of(&FORMS, word).is_some()
+        || said_of(&SIZED, word).is_some()
+}

@@ -1,0 +1,161 @@
+//! A register or a location that a condition names, and that no instruction writes: it keeps its initial value, so what is
+//! asked of it is settled before any run, and the answer says little. Probably another one is meant.
+
+ghost use Rattle.std.specs.Prelude.{◌<◌, IfSome, length};
+
+use crate::cause::Cause;
+use crate::line::{Line, Piece};
+use crate::place::Place;
+use crate::quotes::first_bytes;
+use crate::unused::location_named;
+use litmus_tokens::{Lexeme, Symbol, Token, is_symbol, word};
+use tso_terms::{Action, Core, Loc, Reg, Test};
+
+/// Says that a register, which stands after so many bytes of an input, keeps this value.
+pub fn keeps_register(line: &mut Line, input: &[u8], first: usize, named: (Core, Reg), value: u32) {
+    let (core, reg) = named;
+    let core = Piece::Number(usize::from(core.0));
+    line.say_with(
+        "line {}: the condition names {}:{}, which no instruction of core {} writes: it stays {}",
+        &[
+            Piece::Number(place_in(input, first).line()),
+            core,
+            Piece::Text(reg.name()),
+            core,
+            Piece::Number(value as usize),
+        ],
+    );
+}
+
+/// Says that a location, whose name is so many bytes of an input, after so many others, keeps this value.
+pub fn keeps_location(line: &mut Line, input: &[u8], first: usize, length: usize, value: u32) {
+    let place = place_in(input, first);
+    line.say_with(
+        "line {}: the condition names {}, which no instruction writes: it stays {}",
+        &[
+            Piece::Number(place.line()),
+            Piece::Named(first_bytes(place.rest, length)),
+            Piece::Number(value as usize),
+        ],
+    );
+}
+
+fn place_in(input: &[u8], first: usize) -> Place<'_> {
+    Place::new(input, input.len().saturating_sub(first))
+}
+
+/// The first register that no instruction of its core writes, by the tokens of the condition of a test, which this text
+/// spells; else the first location that keeps another value than is asked.
+pub fn first_unwritten(test: &Test, text: &[u8], condition: &[Token<'_>]) -> Option<Cause> {
+    match first_register(test, text, condition) {
+        Some(cause) => Some(cause),
+        None => first_location(test, text, condition),
+    }
+}
+
+fn first_register(test: &Test, text: &[u8], condition: &[Token<'_>]) -> Option<Cause> {
+    for at in 2..condition.len() {
+        let [number, colon, name] = [condition[at - 2], condition[at - 1], condition[at]];
+        if is_symbol(Symbol::Colon, &colon)
+            && let Some((core, reg)) = register_of(test, number.lexeme, name.lexeme)
+            && !writes_register(test, core, reg)
+        {
+            return Some(Cause::UnwrittenRegister {
+                first: text.len().saturating_sub(number.remaining),
+                core,
+                reg,
+                value: test.initial_register(core, reg),
+            });
+        }
+    }
+    None
+}
+
+/// The register with this name, of the core of the test with this number.
+fn register_of(test: &Test, number: Lexeme<'_>, name: Lexeme<'_>) -> Option<(Core, Reg)>
+    ensures { IfSome result (λ found. found.0.0 < length test.now.programs) }
+{
+    let (Lexeme::Number(digits), Lexeme::Name(name)) = (number, name) else {
+        return None;
+    };
+    match (word(digits), Reg::from_name(name)) {
+        (Some(core), Some(reg)) if core < u32::from(test.cores()) => Some((Core(core as u8), reg)),
+        _ => None,
+    }
+}
+
+fn first_location(test: &Test, text: &[u8], condition: &[Token<'_>]) -> Option<Cause> {
+    for at in 1..condition.len() {
+        if is_symbol(Symbol::Equals, &condition[at])
+            && let Some((name, remaining)) = name_ending_at(condition, at - 1)
+            && let Some(loc) = location_named(test, name)
+            && !is_asked(condition, at, test.initial_word(loc))
+            && !writes_location(test, loc)
+        {
+            return Some(Cause::UnwrittenLocation {
+                first: text.len().saturating_sub(remaining),
+                length: name.len(),
+                value: test.initial_word(loc),
+            });
+        }
+    }
+    None
+}
+
+/// The name that a location's form ends with there, as `x` or `[x]`, and how many bytes stand from it on.
+fn name_ending_at<'a>(tokens: &[Token<'a>], at: usize) -> Option<(&'a [u8], usize)> {
+    for back in 0..2 {
+        match tokens.get(at.saturating_sub(back)) {
+            Some(token) => match token.lexeme {
+                Lexeme::Name(name) => return Some((name, token.remaining)),
+                Lexeme::Symbol(Symbol::CloseSquare) => {}
+                _ => return None,
+            },
+            None => return None,
+        }
+    }
+    None
+}
+
+/// Whether the number after this token is this value.
+fn is_asked(tokens: &[Token<'_>], at: usize, value: u32) -> bool {
+    match tokens.get(at.saturating_add(1)) {
+        Some(token) =>
+            matches!(token.lexeme, Lexeme::Number(digits) if word(digits) == Some(value)),
+        None => false,
+    }
+}
+
+/// Whether an instruction of a core writes its register.
+fn writes_register(test: &Test, core: Core, reg: Reg) -> bool
+    requires { core.0 < length test.now.programs }
+{
+    for instr in test.program(core) {
+        match instr.action() {
+            Action::Load(other, _) | Action::Move(other, _) | Action::Lock(_, other, _) => {
+                if other.index() == reg.index() {
+                    return true;
+                }
+            }
+            Action::Store(..) | Action::Fence => {}
+        }
+    }
+    false
+}
+
+/// Whether an instruction writes a location.
+fn writes_location(test: &Test, loc: Loc) -> bool {
+    for core in 0..test.cores() {
+        for instr in test.program(Core(core)) {
+            match instr.action() {
+                Action::Store(other, _) | Action::Lock(other, _, _) => {
+                    if other == loc {
+                        return true;
+                    }
+                }
+                Action::Load(..) | Action::Move(..) | Action::Fence => {}
+            }
+        }
+    }
+    false
+}

@@ -1,0 +1,4 @@
+pub mod Turns
+pub mod Chain
+pub mod Sums
+pub mod Worked

@@ -1,0 +1,17 @@
+/* C11=forbidden */
+/* exists o1_0=1 /\ o1_1=0 */
+#include <stdatomic.h>
+
+atomic_int x;
+int o1_0, o1_1;
+
+void P0(void)
+{
+  atomic_store_explicit(&x, 1, memory_order_relaxed);
+}
+
+void P1(void)
+{
+  o1_0 = atomic_load_explicit(&x, memory_order_relaxed);
+  o1_1 = atomic_load_explicit(&x, memory_order_relaxed);
+}

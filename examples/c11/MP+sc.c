@@ -1,0 +1,18 @@
+/* C11=forbidden */
+/* exists o1_0=1 /\ o1_1=0 */
+#include <stdatomic.h>
+
+atomic_int x, y;
+int o1_0, o1_1;
+
+void P0(void)
+{
+  atomic_store_explicit(&x, 1, memory_order_seq_cst);
+  atomic_store_explicit(&y, 1, memory_order_seq_cst);
+}
+
+void P1(void)
+{
+  o1_0 = atomic_load_explicit(&y, memory_order_seq_cst);
+  o1_1 = atomic_load_explicit(&x, memory_order_seq_cst);
+}

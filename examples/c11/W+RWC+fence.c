@@ -1,0 +1,26 @@
+/* C11=forbidden */
+/* exists o1_0=1 /\ o1_1=0 /\ o2_0=0 */
+#include <stdatomic.h>
+
+atomic_int x, y, z;
+int o1_0, o1_1, o2_0;
+
+void P0(void)
+{
+  atomic_store_explicit(&x, 1, memory_order_relaxed);
+  atomic_store_explicit(&z, 1, memory_order_release);
+}
+
+void P1(void)
+{
+  o1_0 = atomic_load_explicit(&z, memory_order_acquire);
+  atomic_thread_fence(memory_order_seq_cst);
+  o1_1 = atomic_load_explicit(&y, memory_order_relaxed);
+}
+
+void P2(void)
+{
+  atomic_store_explicit(&y, 1, memory_order_relaxed);
+  atomic_thread_fence(memory_order_seq_cst);
+  o2_0 = atomic_load_explicit(&x, memory_order_relaxed);
+}

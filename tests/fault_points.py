@@ -1,0 +1,105 @@
+"""Breaks a command at each system call by which it changes a file: every process is killed after the call, or the disk is full from it on,
+or the call alone fails, or a signal comes. The tracer is failing_files.c.
+
+A script makes a fresh copy of what the command works on for each point, breaks the command there, and then judges what is left, by
+`tree`. It is for whole command lines in any language: the calls of each process that the command starts are counted together.
+
+    done, changes = fault_points.changes(command)            # nothing is broken
+    for kind, number in fault_points.points(changes):
+        done, _ = fault_points.broken(kind, number, command)
+"""
+import collections
+import functools
+import os
+import random
+import shlex
+import shutil
+import stat
+import subprocess
+import tempfile
+
+import starts
+
+KILL, FULL, FAIL, INT, TERM, HUP = "kill", "full", "fail", "int", "term", "hup"
+SIGNALS = (INT, TERM, HUP)
+
+# What the tracer says where it couldn't run a command.
+NOT_RUN = 125
+
+# A call that changes a file: its name, whether it needs room on the disk, and the path, or the number of the open file, that it changes.
+Change = collections.namedtuple("Change", "name needs_room what")
+
+
+@functools.cache
+def tracer():
+    """The path of the tracer, built; None, with a word, where it can't be built or may not trace."""
+    compiler = shlex.split(os.environ.get("CC") or "cc")
+    made = os.path.join(starts.room().name, "failing_files")
+    source = os.path.join(starts.TESTS, "failing_files.c")
+    if shutil.which(compiler[0]) is None:
+        print("no C compiler is there to build tests/failing_files.c")
+        return None
+    done = subprocess.run(compiler + ["-O1", "-o", made, source], stdout=subprocess.PIPE, stderr=subprocess.STDOUT, text=True)
+    if done.returncode == 0:
+        done = subprocess.run([made, "none", "0", os.devnull, "true"], stdout=subprocess.PIPE, stderr=subprocess.STDOUT, text=True)
+    if done.returncode != 0:
+        print("tests/failing_files.c can't be built, or may not trace here:\n%s" % done.stdout)
+        return None
+    return made
+
+
+def broken(kind, number, command, given=b"", **options):
+    """The answer of a command that is broken so at its change of this number, and all changes that it tried. Its process group ends with
+    it. The options are those of subprocess.run, as cwd and env."""
+    with tempfile.NamedTemporaryFile(dir=starts.room().name) as notes:
+        words = [tracer(), kind, str(number), notes.name] + command
+        done = subprocess.run(words, input=given, stdout=subprocess.PIPE, stderr=subprocess.PIPE, timeout=starts.PATIENCE, check=False,
+                              **options)
+        lines = notes.read().decode(errors="surrogateescape").splitlines()
+    if done.returncode == NOT_RUN:
+        raise OSError("the tracer: %s" % done.stderr.decode(errors="replace"))
+    return done, [Change(name, room == "room", what) for name, room, what in (line.split(" ", 2) for line in lines)]
+
+
+def changes(command, given=b"", **options):
+    """The answer of a command that isn't broken, and the changes that it makes."""
+    return broken("none", 0, command, given, **options)
+
+
+def points(made, kinds=(KILL, FULL)):
+    """The points at which a command that makes these changes can be broken, pairs of a kind and a number: a disk is full where a change
+    needs room."""
+    return [(kind, number) for kind in kinds for number, change in enumerate(made, 1) if change.needs_room or kind != FULL]
+
+
+def drawn(all_points, seed, count):
+    """So many of these points, drawn by the seed; all, where they aren't more. They keep their order."""
+    if len(all_points) <= count:
+        return list(all_points)
+    chosen = random.Random(seed).sample(range(len(all_points)), count)
+    return [all_points[at] for at in sorted(chosen)]
+
+
+def tree(folder):
+    """What stands in a folder, by its name there: kind and mode, and the bytes of a file or the target of a link."""
+    found = {}
+    for above, folders, files in os.walk(os.fsencode(folder)):
+        for name in folders + files:
+            path = os.path.join(above, name)
+            mode = os.lstat(path).st_mode
+            content = b""
+            if stat.S_ISLNK(mode):
+                content = os.readlink(path)
+            elif stat.S_ISREG(mode):
+                with open(path, "rb") as file:
+                    content = file.read()
+            found[os.path.relpath(path, os.fsencode(folder))] = stat.filemode(mode), content
+    return found
+
+
+def differences(wanted, found):
+    """What differs between two trees, a line each: the first few."""
+    names = sorted(name for name in wanted.keys() | found.keys() if wanted.get(name) != found.get(name))
+    words = {(True, False): "lost", (False, True): "left", (True, True): "changed"}
+    told = ["%s: %s" % (words[name in wanted, name in found], os.fsdecode(name)) for name in names]
+    return told[:5] + (["%d more" % (len(told) - 5)] if len(told) > 5 else [])

@@ -1,0 +1,306 @@
+"""What the second program (tests/reference) makes of definitions: for each of them a function of the values of tests/worked_terms.py."""
+from reference import axioms, candidates, choices, conditions, lexing, litmus, machine, reading, refutations, witness
+from reference.orders import Entry
+from worked_terms import NONE, TRUE, Made, Record, curried, truth
+
+KINDS = {"StoreImm": litmus.STORE_NUMBER, "StoreReg": litmus.STORE_REGISTER, "Load": litmus.LOAD, "SetImm": litmus.SET_NUMBER,
+         "SetReg": litmus.SET_REGISTER, "Fence": litmus.FENCE, "Xchg": litmus.EXCHANGE, "Xadd": litmus.ADD}
+# The arguments of each instruction, in the order in which a definition has them.
+ARGUMENTS = {"StoreImm": ("location", "source"), "StoreReg": ("location", "source"), "Load": ("register", "location"), "SetImm": ("register", "source"),
+             "SetReg": ("register", "source"), "Fence": (), "Xchg": ("location", "register"), "Xadd": ("location", "register")}
+UNIPROC_ALONE = "uniproc forbids the candidate"
+QUANTIFIERS = {"exists": "Exists", "~exists": "NotExists", "forall": "Forall"}
+
+
+def text(codes):
+    return bytes(codes).decode("latin-1")
+
+
+def codes(said):
+    return tuple(said.encode("latin-1"))
+
+
+# ---- values of definitions, as the second program has them
+
+
+def register_number(register):
+    return litmus.REGISTERS.index(register[0].upper())
+
+
+def argument_of(value):
+    return register_number(value) if isinstance(value, Made) else value["0"] if isinstance(value, Record) else value
+
+
+def instruction_of(made):
+    named = dict(zip(ARGUMENTS[made[0]], map(argument_of, made[1:])))
+    return litmus.Instruction(KINDS[made[0]], **named)
+
+
+def test_of(t):
+    programs = [[instruction_of(one) for one in program] for program in t["programs"]]
+    return litmus.Test(text(t["name"]), list(map(text, t["locations"])), list(t["words"]), list(map(list, t["registers"])), programs)
+
+
+def entry_of(e):
+    return Entry(e["core"]["0"], e["place"], e["kind"][0], e["loc"]["0"], e["value"])
+
+
+def choice_of(made):
+    return made[1]["0"], choices.STEP if made[0] == "Step" else choices.DRAIN
+
+
+# ---- what the second program has, as values of definitions
+
+
+def number(value):
+    return Record({"0": value})
+
+
+def entry_value(entry):
+    return Record(core=number(entry.core), place=entry.place, kind=Made((entry.kind,)), loc=number(entry.location), value=entry.value)
+
+
+def choice_value(choice):
+    return Made(("Step" if choice[1] == choices.STEP else "Drain", number(choice[0])))
+
+
+def argument_value(field, value, kind):
+    if field == "register" or field == "source" and kind in (litmus.STORE_REGISTER, litmus.SET_REGISTER):
+        return Made((litmus.REGISTERS[value].capitalize(),))
+    return number(value) if field == "location" else value
+
+
+def instruction_value(instruction):
+    name = next(name for name, kind in KINDS.items() if kind == instruction.kind)
+    return Made((name, *(argument_value(field, getattr(instruction, field), instruction.kind) for field in ARGUMENTS[name])))
+
+
+def claim_value(proposition):
+    kind, *parts = proposition
+    if kind in ("and", "or"):
+        name, (found, *more) = ("AndClaim" if kind == "and" else "OrClaim"), map(claim_value, parts[0])
+        for claim in more:
+            found = Made((name, found, claim))
+        return found
+    if kind == "register":
+        return Made(("RegClaim", parts[0], Made((litmus.REGISTERS[parts[1]].capitalize(),)), parts[2]))
+    if kind == "truth":
+        return Made(("TruthClaim", truth(parts[0])))
+    return Made(("NotClaim", claim_value(parts[0]))) if kind == "not" else Made(("LocClaim", *parts))
+
+
+def condition_value(test):
+    if test.proposition is None:
+        return NONE
+    return Made(("Some", Record(quantifier=Made((QUANTIFIERS[test.quantifier],)), claim=claim_value(test.proposition))))
+
+
+def test_value(test):
+    programs = tuple(tuple(map(instruction_value, program)) for program in test.programs)
+    return Record(name=codes(test.name), locations=tuple(map(codes, test.locations)), words=tuple(test.words),
+                  registers=tuple(map(tuple, test.registers)), programs=programs, condition=condition_value(test))
+
+
+# ---- texts
+
+
+def told(spelled):
+    """The refusal of a text that spells no test, with its line, and what stands from the place of its fault on."""
+    given = lexing.Text(bytes(spelled))
+    try:
+        reading.TestReader(given).test()
+    except lexing.Fault as fault:
+        refusal = Record(line=given.line_of(fault.place), why=Made((fault.name,)))
+        return Made(("Some", Record({"0": refusal, "1": spelled[fault.place:]})))
+    return NONE
+
+
+def spells_test(spelled, t):
+    return test_value(reading.TestReader(lexing.Text(bytes(spelled))).test()) == t
+
+
+# ---- orders, runs, candidates
+
+
+def is_execution(t, order):
+    return axioms.first_breach(test_of(t), list(map(entry_of, order))) is None
+
+
+def keeps_all_order(order):
+    entries = list(map(entry_of, order))
+    return not any(late.is_before(early) for at, late in enumerate(entries) for early in entries[:at])
+
+
+def read_values(entries):
+    found = {}
+    for entry in entries:
+        if entry.is_read():
+            found.setdefault(entry[:3], entry.value)
+    return found
+
+
+def final_registers(t, order):
+    test, reads = test_of(t), read_values(map(entry_of, order))
+    return tuple(tuple(axioms.thread(test, core, reads)[1]) for core in range(test.cores()))
+
+
+def final_words(t, order):
+    words = list(t["words"])
+    for entry in map(entry_of, order):
+        if entry.is_write():
+            words[entry.location] = entry.value
+    return tuple(words)
+
+
+class Told:
+    """Caches that answer whether an access hits as they are told; they have the words of the machine's own caches."""
+
+    def __init__(self, caches):
+        self.caches, self.answer = caches, None
+
+    def __getattr__(self, name):
+        return getattr(self.caches, name)
+
+    def hits(self, core, location, write):
+        return self.answer
+
+
+class Attempts(machine.Machine):
+    """A machine whose choices come with the answers whether their accesses hit. It counts what is made and what waits for the bus alone."""
+
+    def __init__(self, t, bus, depth, attempts):
+        super().__init__(test_of(t), machine.Configuration(depth=depth, bus=bus[0].lower()))
+        self.caches = Told(self.caches)
+        self.used = self.stalled = self.for_bus = self.waited = 0
+        for attempt in attempts:
+            if self.has_ended():
+                break
+            self.caches.answer = attempt["hits"] == TRUE
+            self.attempt(*choice_of(attempt["choice"]))
+        self.unused = len(attempts) - self.used
+
+    def attempt(self, core, action):
+        made = len(self.order)
+        self.used += 1
+        self.stalled += not self.choose(core, action)
+        waits = self.outcome == machine.BUS
+        is_first_part = [entry.kind for entry in self.order[made:]] == ["LR"]
+        self.waited += waits
+        self.for_bus += waits or self.outcome == machine.ASKED or is_first_part
+
+    def core_value(self, number):
+        core = self.cores[number]
+        pending = (Entry(number, store.place, "W", store.location, store.value) for store in core.pending)
+        return Record(place=core.place, registers=tuple(core.registers), pending=tuple(map(entry_value, pending)))
+
+    def run(self):
+        memory = tuple(self.caches.final_words(len(self.test.words)))
+        state = Record(memory=memory, cores=tuple(map(self.core_value, range(len(self.cores)))))
+        return Record(ended=truth(self.has_ended()), state=state, commits=tuple(map(entry_value, self.order)), used=self.used,
+                      stalled=self.stalled, unused=self.unused)
+
+
+def run(t, depth, made):
+    return Attempts(t, ("atomic",), depth, [Record(choice=choice, hits=TRUE) for choice in made]).run()
+
+
+def run_on(bus, t, depth, attempts):
+    return Record(run=Attempts(t, bus, depth, attempts).run())
+
+
+def candidate_of(test, c):
+    reads, entries, sources = list(map(list, c["reads"])), [], {}
+    for core in range(test.cores()):
+        places = [entry[:3] for entry in axioms.thread(test, core, {})[0] if entry.is_read()]
+        entries += axioms.thread(test, core, dict(zip(places, reads[core])))[0]
+    for entry in entries:
+        if entry.is_read():
+            source = c["source"](entry_value(entry))
+            sources[candidates.bare(entry)] = None if source == NONE else candidates.bare(entry_of(source[1]))
+    orders = ((at, [candidates.bare(entry_of(e)) for e in c["coherence"](at)]) for at in range(len(test.words)))
+    coherence = {at: order for at, order in orders if order}
+    return candidates.Candidate(entries, sources, coherence)
+
+
+def faults(model, t, c):
+    test = test_of(t)
+    return candidate_of(test, c).faults(test, model)
+
+
+def is_forbidden(t, c):
+    return faults(candidates.TSO, t, c) not in ([], ["it is no candidate of the test"])
+
+
+def is_candidate_of(t, order, c):
+    test = test_of(t)
+    found, due = candidate_of(test, c), candidates.candidate_of(test, list(map(entry_of, order)))
+    return vars(found) == vars(due)
+
+
+def truth_of(registers, words, claim):
+    return truth(conditions.truth_of(proposition_of(claim), registers, words))
+
+
+def proposition_of(claim):
+    name, *parts = claim
+    if name in ("AndClaim", "OrClaim"):
+        return name[:-len("Claim")].lower(), [proposition_of(part) for part in parts]
+    if name == "RegClaim":
+        return "register", parts[0], register_number(parts[1]), parts[2]
+    if name == "LocClaim":
+        return ("location", *parts)
+    return ("not", proposition_of(parts[0])) if name == "NotClaim" else ("truth", parts[0] == TRUE)
+
+
+MODELS = {"Tso": candidates.TSO, "Sequential": candidates.SC}
+CYCLES = {"OnLocation": "uniproc", "Globally": "cycle"}
+
+
+def part_of(nodes, writes):
+    """The part of a tree that the first of these nodes begins, which are then taken away; `writes` are the test's."""
+    kind, *given = nodes.pop(0)
+    if kind == "ReadsFrom":
+        read = entry_of(given[0])
+        sources = [None] + [write for write in writes if write.location == read.location]
+        return refutations.Reads(read, {source: part_of(nodes, writes) for source in sources})
+    if kind == "ComesFirst":
+        return refutations.First(*map(entry_of, given), (part_of(nodes, writes), part_of(nodes, writes)))
+    if kind in CYCLES:
+        return refutations.Cycle(CYCLES[kind], list(map(entry_of, given[0])))
+    return refutations.FalseClaim() if kind == "FalseClaim" else refutations.Between(*map(entry_of, given))
+
+
+def refutes(model, t, claim, nodes):
+    test, left = test_of(t), list(nodes)
+    test.quantifier, test.proposition = "exists", proposition_of(claim)
+    events = candidates.events_of(test)
+    try:
+        part = part_of(left, [event for event in events if event.is_write()])
+        refutations.judge(part, refutations.Known(test, events), MODELS[model[0]])
+    except (refutations.Wrong, IndexError):
+        return truth(False)
+    return truth(not left)
+
+
+VOICES = {
+    ("worked_examples.specs.RefusedTexts", "told"): told,
+    ("litmus_reader.specs.Spelling", "SpellsTest"): curried(2, spells_test),
+    ("tso_terms.specs.Axioms", "IsTsoExecution"): curried(2, is_execution),
+    ("tso_terms.specs.SequentialConsistency", "KeepsAllOrder"): keeps_all_order,
+    ("tso_terms.specs.FinalState", "final_registers"): curried(2, final_registers),
+    ("tso_terms.specs.FinalState", "final_words"): curried(2, final_words),
+    ("tso_terms.specs.Condition", "truth_of"): curried(3, truth_of),
+    ("tso_terms.specs.Runs", "run"): curried(3, run),
+    ("tso_terms.specs.EitherBus", "run_on"): curried(4, run_on),
+    ("tso_laws.specs.BusRuns", "made_for_bus"): curried(5, lambda bus, t, depth, state, attempts: Attempts(t, bus, depth, attempts).for_bus),
+    ("tso_laws.specs.BusRuns", "wait_for_bus"): curried(5, lambda bus, t, depth, state, attempts: Attempts(t, bus, depth, attempts).waited),
+    ("tso_laws.specs.Depth", "needed"): lambda order: witness.needed(list(map(entry_of, order))),
+    ("tso_laws.specs.Along", "choices_along"): curried(2, lambda t, order: tuple(
+        map(choice_value, witness.choices_along(test_of(t), list(map(entry_of, order)))))),
+    ("refutation_laws.specs.Refutations", "refutes"): curried(4, refutes),
+    ("relational_model.specs.Model", "IsAllowed"): curried(2, lambda t, c: not faults(candidates.TSO, t, c)),
+    ("relational_model.specs.Model", "IsForbidden"): curried(2, is_forbidden),
+    ("relational_model.specs.Model", "IsForbiddenByUniproc"): curried(2, lambda t, c: faults(candidates.TSO, t, c) == [UNIPROC_ALONE]),
+    ("relational_model.specs.SequentialModel", "IsSequential"): curried(2, lambda t, c: not faults(candidates.SC, t, c)),
+    ("relational_model.specs.CandidatesOfOrders", "IsCandidateOf"): curried(3, is_candidate_of),
+}

@@ -1,0 +1,1 @@
+"""Compiled code against its source: the modules of tools/compiled."""
