@@ -32,6 +32,12 @@
   that takes long, answers of why, logs and pages; on a
   cluster, where Dask is there: the same with workers that end or are paused, and a test that ends its workers is named.
 
+- tools/campaign that keeps nothing: a line a test as the program answers it, the program that its words name, claims that must hold, tests
+  that end otherwise by depth, bus, model or program, rows that are alike, counts of caches as `run` has them, and tables of numbers.
+- What caches did, in reports and campaigns, by a count of its own over the steps of traces (cache_counts.py); that script takes more runs.
+- tools/fences: of each test of the gallery just the least sets of fences that theory finds among all placements.
+- tools/workload: its tests are read back, end, and show what they are named for. tools/plot: pictures of such a table, where matplotlib is there.
+
 The last line is 'N passed, M failed'.
 """
 import json
@@ -46,12 +52,16 @@ import tool_runs
 from tool_runs import TOP, TOOLS, Tally, gallery, script, tool, write
 
 import byte_machine
+import cache_counts
+import cache_tools
+import campaign_once
 import campaign_runs
 import cluster_runs
 import cycle_meanings
 import cycle_runs
 import edges
 import faults
+import fences_runs
 import flat_machine
 import foreign_forms
 import gallery_shapes
@@ -215,7 +225,8 @@ def main():
     judge_comparisons(tally)
     judge_program(program, tally)
     for part in (imported_files, foreign_forms, byte_machine, cycle_meanings, cycle_runs, gallery_shapes, source_runs, module_runs,
-                 graph_runs, hardware_runs, campaign_runs, cluster_runs):
+                 graph_runs, hardware_runs, campaign_runs, campaign_once, cache_counts, cache_tools,
+                 fences_runs, cluster_runs):
         part.judge(program, tally)
     return tally.end()
 

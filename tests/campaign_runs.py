@@ -137,7 +137,7 @@ class Page(html.parser.HTMLParser):
 
     def handle_starttag(self, tag, attributes):
         self.rows += tag == "details"
-        if tag != "meta":
+        if tag not in ("meta", "input"):
             self.open.append(tag)
 
     def handle_endtag(self, tag):
@@ -160,15 +160,18 @@ def judge_reports(program, tally, room):
     with open(page, encoding="utf-8") as file:
         text = file.read()
     read = Page(text)
-    same = read.rows == len(tests) + 1 and not read.open and not read.faults and text.index("REFUSED") < text.index(">same<")
+    same = read.rows == len(tests) + 1 and not read.open and not read.faults and text.index(">REFUSED<") < text.index("<b>same<")
     tally.add("the page of a campaign", None if same and "<td>" in text else "%s %s %d" % (read.open, read.faults, read.rows))
     swept = os.path.join(room, "swept.log")
     tool("campaign", "sweep", program, "--log", swept, "--results", os.path.join(room, "met"), *tests[:9])
     write(own, "".join(said[:9]))
     compared = tool("compare", "--within", swept, own)
     tally.add("the log of a sweep", None if compared.returncode == 0 else described(compared))
-    done = tool("campaign", "outcomes", program, "--depths", "0,32", *words, *tests[:2])
-    tally.add("a log with a test twice", None if done.returncode == 2 and "--log has each test once" in done.stderr else described(done))
+    done = tool("campaign", "outcomes", program, "--depths", "0,32", "--json", *words, *tests[:9])
+    write(own, done.stdout)
+    compared = tool("compare", log, own)
+    told = done.returncode == compared.returncode == 0 and compared.stdout == "18 tests in both logs, 0 differences\n"
+    tally.add("a log of two depths", None if told else described(compared) + described(done))
     with open(test_file("MP"), encoding="ascii") as file:
         other = write(os.path.join(room, "named"), file.read().replace("X86 MP", "X86 SB"))
     done = tool("campaign", "outcomes", program, *words, other, test_file("SB"))
@@ -212,7 +215,7 @@ def judge_stops(program, tally, room):
     done = tool("campaign", "outcomes", slow, "--processes", "8", "--results", place, GALLERY)
     after = sorted_lines(place)
     count = len(list(gallery()))
-    told = stopped.returncode == INTERRUPTED and stopped.stderr.endswith("\ncampaign: stopped; the same words go on\n")
+    told = stopped.returncode == INTERRUPTED and stopped.stderr == "campaign: stopped; the same words go on\n"
     told = told and 5 <= len(before) < count
     tally.add("a campaign that was stopped", None if told else "%d results; %s" % (len(before), described(stopped)))
     kept = set(before) <= set(after) and len(after) == len(set(after)) == count

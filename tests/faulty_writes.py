@@ -49,14 +49,15 @@ class Job:
 
 def jobs(program):
     """The calls, by name."""
-    campaign = ["outcomes", program, "--processes", "1", "--results", "results", "--page", "page.html", "--log", "all.log", "in"]
-    earlier = ["outcomes", program, "--results", "results", "--page", "page.html", "--log", "all.log", "in/SB.litmus"]
+    written = ["--results", "results", "--page", "page.html", "--log", "all.log", "--csv", "all.csv"]
+    campaign, earlier = ["outcomes", program, "--processes", "1", *written, "in"], ["outcomes", program, *written, "in/SB.litmus"]
     return {
         "import": Job("import", "-o", "out", "in"),
         "import over what it reads": Job("import", "--force", "-o", "in", "in", own=("in/A.litmus", "in/deep/B.litmus", "in/SB.litmus")),
         "cycles": Job("cycles", "Pod**", "Rfe", "Pod**", "Fre", "-o", "made"),
+        "workload": Job("workload", "ping-pong", "migratory", "--cores", "2", "-o", "made"),
         "campaign": Job("campaign", *campaign),
-        "campaign that goes on": Job("campaign", *campaign, own=("results", "page.html", "all.log"), before=[Job("campaign", *earlier)]),
+        "campaign that goes on": Job("campaign", *campaign, own=("results", "page.html", "all.log", "all.csv"), before=[Job("campaign", *earlier)]),
         "hardware that writes a program": Job("hardware", "-o", "tests.c", "in"),
         "hardware": Job("hardware", "--program", program, "--runs", "1000", "in/SB.litmus", environment={"CC": "./compiler"}),
     }

@@ -59,6 +59,18 @@ def campaign_ends(command, number, *words):
     return judge
 
 
+def fences_end(number):
+    """Fences whose program doesn't end."""
+    def judge(calls):
+        mark = calls.path("begun")
+        listed = 'case "$*" in *--help*) printf "Commands:\\n  why  all\\n"; exit 0;; --version|--program) exit 2;; esac\n'
+        program, test = calls.stand_in("program", listed + FOR_EVER % mark), calls.write("SB.litmus", SB)
+        running = calls.begun("fences", "--program", program, test)
+        waited_for(lambda: os.path.exists(mark))
+        return ended(calls, running, number)
+    return judge
+
+
 def theory_ends(number):
     """A campaign whose theory takes long."""
     def judge(calls):
@@ -132,7 +144,8 @@ def name_of(number):
 
 
 ROWS = [("a campaign of %s that is ended by %s" % (command, name_of(number)), campaign_ends(command, number))
-        for command in ("outcomes", "sweep", "why") for number in SIGNALS]
+        for command in ("outcomes", "sweep", "why", "counts") for number in SIGNALS]
+ROWS += [("fences that are ended by " + name_of(number), fences_end(number)) for number in SIGNALS]
 ROWS += [("theory of a campaign that is ended by " + name_of(number), theory_ends(number)) for number in SIGNALS]
 ROWS += [("a picture that is ended by " + name_of(number), picture_ends(number)) for number in SIGNALS]
 ROWS += [("a task that takes too long", limited_call)]

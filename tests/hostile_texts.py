@@ -122,7 +122,7 @@ class Elements(html.parser.HTMLParser):
 
     def handle_starttag(self, tag, attributes):
         self.found.add((tag, *(name for name, _ in attributes)))
-        if tag != "meta":
+        if tag not in ("meta", "input"):
             self.open.append(tag)
 
     def handle_endtag(self, tag):
@@ -130,8 +130,11 @@ class Elements(html.parser.HTMLParser):
             self.open.pop()
 
 
-ELEMENTS = {("html", "lang"), ("meta", "charset"), ("meta", "http-equiv", "content"), ("meta", "name", "content"), ("details", "class"),
-            *((name,) for name in "head title style body h1 p summary b ul li pre table tr th td".split())}
+ELEMENTS = {("html", "lang"), ("meta", "charset"), ("meta", "http-equiv", "content"), ("meta", "name", "content"),
+            ("details", "class", "data-test", "data-states", "data-true", "data-false"), ("details", "class", "data-test"),
+            ("form", "id", "hidden"), ("input", "id", "type", "placeholder"), ("select", "id"), ("option", "value"), ("output", "id"),
+            ("div", "id"),
+            *((name,) for name in "head title style script body h1 p label option summary b ul li pre table tr th td".split())}
 
 
 def named(name):
@@ -154,6 +157,8 @@ def names_in_reports(calls):
         return "the page has %s, and leaves open %s" % (read.found - ELEMENTS, read.open)
     if 'http-equiv="Content-Security-Policy" content="default-src \'none\'; style-src \'sha256-' not in text or "unsafe" in text:
         return "the page has no policy"
+    if text.count("<script>") != 1 or text.count("script-src 'sha256-") != 1:
+        return "another script than the page's own"
     done = calls.call("compare", log, log)
     if done.returncode or not done.stdout.startswith("%d tests in both logs, 0" % len(NAMES)):
         return described(done)
@@ -185,7 +190,8 @@ def escapes_in_names(calls):
 def escapes_in_words(calls):
     """What steers a terminal in an argument is written as its number, or as Python does."""
     for tool, words in (("campaign", ["outcomes", calls.program, "--results", "r"]), ("compare", ["x"]), ("cycles", []), ("graph", []),
-                        ("hardware", []), ("import", []), ("theory", [])):
+                        ("fences", []), ("hardware", []), ("import", []), ("plot", ["-o", "x.svg", "--bars", "misses"]), ("theory", []),
+                        ("workload", [])):
         for one in ("x" + ESCAPE, "@x" + ESCAPE, "--x" + ESCAPE, "x\x07\r\x9b1m"):
             done = calls.call(tool, *words, one)
             if re.search("[\x00-\x08\x0b-\x1f\x7f-\x9f]", re.sub("\xc2\x9b", "\x9b", done.stderr)) or done.returncode != COULD_NOT:
@@ -230,14 +236,15 @@ def calls_that_print(calls):
     path, log = calls.write("SB.litmus", SB), calls.write("log", "Test SB\nStates 1\n0:EAX=0;\nObservation SB Always 1 0\n")
     order = calls.write("run.json", '{"test": "t", "order": ["P0:0 W x=1"]}')
     hardware = ["--program", calls.program, "--runs", "10", calls.write("one.litmus", ONE)]
-    return {"campaign": ["outcomes", calls.program, "--results", calls.path("results"), path], "compare": [log, log],
-            "cycles": ["--length", "4"], "graph": [order], "hardware": hardware, "import": [path], "theory": [path]}
+    return [("campaign", ["outcomes", calls.program, "--results", calls.path("results"), path]), ("campaign", ["outcomes", calls.program, path]),
+            ("compare", [log, log]), ("cycles", ["--length", "4"]), ("fences", ["--program", calls.program, path]), ("graph", [order]),
+            ("hardware", hardware), ("import", [path]), ("theory", [path]), ("workload", ["ping-pong"])]
 
 
 def output(shell):
     """Standard output that takes nothing: one line says so, and the status is 2."""
     def judge(calls):
-        for tool, words in calls_that_print(calls).items():
+        for tool, words in calls_that_print(calls):
             done = calls.call(tool, *words, shell=shell)
             lines = [line for line in done.stderr.replace("\r", "\n").split("\n") if line and " tasks, " not in line]
             if done.returncode != COULD_NOT or len(lines) != 1 or not lines[0].startswith(tool + ": "):
@@ -248,7 +255,7 @@ def output(shell):
 
 def output_without_reader(calls):
     """Where nobody reads the output any more nothing is said, and the status is 2."""
-    for tool, words in calls_that_print(calls).items():
+    for tool, words in calls_that_print(calls):
         reader, writer = os.pipe()
         os.close(reader)
         line = ["sh", "-c", 'exec "$@" >&%d' % writer, "sh", *calls.words(tool, *words)]
@@ -261,8 +268,8 @@ def output_without_reader(calls):
 
 
 def input_closed(calls):
-    for tool, words in calls_that_print(calls).items():
-        if tool in ("campaign", "graph", "hardware", "import", "theory"):
+    for tool, words in calls_that_print(calls):
+        if tool in ("campaign", "fences", "graph", "hardware", "import", "theory"):
             words = [*words[:-1], "-"]
             wrong = refused(calls.call(tool, *words, shell="<&-"), tool, "standard input is closed")
             if wrong:

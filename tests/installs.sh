@@ -16,7 +16,7 @@ trap 'chmod -R u+w "$room"; rm -rf "$room"' EXIT
 trap 'exit 130' INT
 passed=0
 failed=0
-tools=(campaign compare cycles graph hardware import theory uninstall)
+tools=(campaign compare cycles fences graph hardware import plot theory uninstall workload)
 any=$(IFS='|' && echo "${tools[*]}")
 
 # Counts a name with the status of the test before.

@@ -1,7 +1,14 @@
 """What a test's text says of itself, and what the program `tso` answers to it."""
 import re
+import time
 
 import tso
+
+# What a core's cache counts in a run, in the order of the report.
+COUNTS = ("hits", "misses", "upgrades", "forwards", "write_backs", "flushes")
+
+# Choices of a run whose length nobody names.
+LENGTH = 1000
 
 
 def name_of(text):
@@ -17,6 +24,11 @@ def fact_of(text, key):
 
 def word_of(true, false):
     return "Never" if not true else "Sometimes" if false else "Always"
+
+
+def claim_holds(quantifier, true, false):
+    """Whether a condition's claim is so where its proposition is true in so many of all final states, and false in so many."""
+    return {"exists": true > 0, "~exists": true == 0, "forall": false == 0}[quantifier]
 
 
 def outcomes(program, text, options, limit):
@@ -63,3 +75,44 @@ def why(program, text, options, limit):
 def observed(found):
     """How many states or runs make the condition `true` and `false`; of a test without a condition none does."""
     return {"true": found.observation.true, "false": found.observation.false} if found.observation else {"true": 0, "false": 0}
+
+
+def counts(program, text, options, first, seeds, limit):
+    """What the caches did in the runs of these seeds that ended: `cores`, for each core by the count's name the `sum`, the `least` and the
+    `greatest`, None where no run ended; how many `ended` and how many were `unfinished`; or `fault`. Of the options `--length` is how many
+    choices a seed makes."""
+    options, until = list(options), time.monotonic() + limit
+    at = options.index("--length") if "--length" in options else None
+    length = options[at + 1] if at is not None else str(LENGTH)
+    if at is not None:
+        del options[at:at + 2]
+    found = {"cores": None, "ended": 0, "unfinished": 0}
+    for seed in range(first, first + seeds):
+        try:
+            left = until - time.monotonic()
+            if left <= 0:
+                raise tso.TookTooLong(limit)
+            run = tso.run(text, "seed %d %s" % (seed, length), program=program, further=options, limit=left)
+        except tso.Unfinished:
+            found["unfinished"] += 1
+            continue
+        except tso.TookTooLong:
+            return {"fault": str(tso.TookTooLong(limit))}
+        except tso.NoAnswer as fault:
+            return {"fault": str(fault)}
+        found["ended"] += 1
+        found["cores"] = counts_of_cores(found["cores"], [count_of(cache) for cache in run.cache])
+    return found
+
+
+def count_of(cache):
+    """What a cache did in one run, as counts over runs."""
+    return {name: dict.fromkeys(("sum", "least", "greatest"), getattr(cache, name)) for name in COUNTS}
+
+
+def counts_of_cores(first, second):
+    """The counts over runs of each core, and those over other runs, as one; None is of no run."""
+    if first is None or second is None:
+        return second if first is None else first
+    return [{name: {"sum": one[name]["sum"] + other[name]["sum"], "least": min(one[name]["least"], other[name]["least"]),
+                    "greatest": max(one[name]["greatest"], other[name]["greatest"])} for name in one} for one, other in zip(first, second)]

@@ -3,6 +3,7 @@
 The grammar is that of docs/INPUT.md. What reads here is for tools beside the proved program: it takes each test that the program takes,
 and says of a few others, in less detail than the program, that they are none.
 """
+import functools
 import re
 from dataclasses import dataclass, field
 
@@ -211,14 +212,20 @@ def read_test(text):
     return Reader([found for found in TOKEN.findall(rest) if any(found)]).test(header.group(1).strip(), facts)
 
 
+@functools.lru_cache(maxsize=16)
+def known_test(text):
+    """The same, of a text that may just have been read; the test isn't to be changed."""
+    return read_test(text)
+
+
 class Reader:
     """Goes along the tokens of a test, from its initial state on."""
 
     def __init__(self, tokens):
-        self.tokens, self.at, self.nested = tokens, 0, 0
+        self.tokens, self.at, self.nested = list(map("".join, tokens)), 0, 0
 
     def peek(self):
-        return "".join(self.tokens[self.at]) if self.at < len(self.tokens) else ""
+        return self.tokens[self.at] if self.at < len(self.tokens) else ""
 
     def take(self, *wanted):
         token = self.peek()

@@ -8,7 +8,7 @@ import stat
 import outputs
 
 # How each result's line begins, as its members are sorted: no other text is taken for one that was torn.
-BEGINNINGS = (b'{"answer": ', b'{"false": ', b'{"met": ', b'{"options": ')
+BEGINNINGS = (b'{"answer": ', b'{"cores": ', b'{"false": ', b'{"met": ', b'{"options": ')
 LONGEST_BEGINNING = max(map(len, BEGINNINGS))
 
 PLACE = r"(?:\d+:\w+|[A-Za-z_]\w*)"
@@ -36,12 +36,21 @@ def is_asked(value):
         type(value[1]) is bool)
 
 
+def is_cores(value):
+    """Whether these are counts over runs of each core; None where no run ended."""
+    return value is None or isinstance(value, list) and all(isinstance(core, dict) and all(
+        isinstance(count, dict) and count.keys() == {"sum", "least", "greatest"} and all(map(is_count, count.values()))
+        for count in core.values()) for core in value)
+
+
 def is_result(one):
     """Whether a value is what a task of a campaign answers."""
     if not isinstance(one, dict) or not all(isinstance(one.get(name), str) for name in ("task", "test", "options")):
         return False
-    if not all(is_count(one[name]) for name in ("true", "false", "unfinished", "leaves") if name in one):
+    if not all(is_count(one[name]) for name in ("true", "false", "unfinished", "leaves", "ended") if name in one):
         return False
+    if "cores" in one:
+        return is_cores(one["cores"]) and {"ended", "unfinished"} <= one.keys()
     if not (isinstance(one.get("met", []), list) and is_states(one.get("met", []))):
         return False
     if "states" in one and not ({"true", "false"} <= one.keys() and is_states(one["states"])):
@@ -55,11 +64,26 @@ def is_result(one):
 def is_of(command, one):
     """Whether a result is one of this command's tasks."""
     by_seeds, is_open = isinstance(one.get("states"), dict), "unfinished" in one
+    if command == "counts" or "cores" in one:
+        return command == "counts" and "cores" in one
     if command == "sweep":
         return by_seeds and is_open
     if command == "why":
         return "answer" in one or is_open and not by_seeds
     return "answer" not in one and not by_seeds
+
+
+class Unkept:
+    """Results that are kept nowhere, by task."""
+
+    def __init__(self):
+        self.found = {}
+
+    def has(self, task):
+        return task.key in self.found
+
+    def add(self, one):
+        self.found[one["task"]] = one
 
 
 class Results:

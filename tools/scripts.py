@@ -67,6 +67,9 @@ class Closed:
     def flush(self):
         pass
 
+    def isatty(self):
+        return False
+
     def reconfigure(self, **_):
         pass
 

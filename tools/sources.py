@@ -15,6 +15,9 @@ MARK = re.compile(r"\(\*|^X86(?:_64)?[ \t][^\n]*\n?", re.M)
 LIST = re.compile(r"\blocations\s*\[")
 DIVIDER = re.compile(r"^====\r?$", re.M)
 
+# How the names of tests' files end.
+ENDING = ".litmus"
+
 # A file has at most so many bytes: tests for many hours.
 MOST_BYTES = 2 ** 28
 
@@ -99,7 +102,7 @@ def files_below(folder):
     found = []
     for inner, folders, names in os.walk(folder):
         folders.sort()
-        found += [os.path.join(inner, name) for name in sorted(names) if name.endswith(".litmus")]
+        found += [os.path.join(inner, name) for name in sorted(names) if name.endswith(ENDING)]
     if not found:
         raise NoTests("%s has no file *.litmus" % folder)
     return found
@@ -145,7 +148,7 @@ def source_of(path, lines_before, text):
 def native_test(text):
     """The test of a text in this project's form; None of another one, and of one that is too long."""
     try:
-        return litmus.read_test(text) if len(text) <= litmus.LONGEST_TEXT else None
+        return litmus.known_test(text) if len(text) <= litmus.LONGEST_TEXT else None
     except (litmus.BadTest, RecursionError):
         return None
 

@@ -1,4 +1,4 @@
-"""What a campaign consists of: tasks, each one call of the program, and rows of its table, each made of one task or of many."""
+"""What a campaign consists of: tasks, each one call of the program or some, and rows of its table, each made of one task or of many."""
 import hashlib
 import itertools
 import json
@@ -23,7 +23,7 @@ class Task:
 
     def carry_out(self, program):
         """The result of this task: a record for a line of the file of results."""
-        found = {"outcomes": self.outcomes, "sweep": self.sweep, "why": self.why}[self.command](program)
+        found = {"outcomes": self.outcomes, "sweep": self.sweep, "why": self.why, "counts": self.counts}[self.command](program)
         return dict(found, task=self.key, test=answers.name_of(self.text), options=" ".join(self.words))
 
     def outcomes(self, program):
@@ -31,6 +31,9 @@ class Task:
 
     def sweep(self, program):
         return dict(answers.sweep(program, self.text, self.words, *self.seeds, self.limit), seeds="%d+%d" % self.seeds)
+
+    def counts(self, program):
+        return dict(answers.counts(program, self.text, self.words, *self.seeds, self.limit), seeds="%d+%d" % self.seeds)
 
     def why(self, program):
         """The answer of `why`, and beside it all final states, where their search ends."""
@@ -42,11 +45,32 @@ class Task:
         return dict(found, **{name: beside[name] for name in ("states", "true", "false") if "states" in beside})
 
 
-class Row:
-    """A line of the table: a test with options, and the keys of the tasks that make it."""
+class Machine:
+    """A machine on which seeds are run: its words for the command line, and what was chosen for it, by what may be chosen: protocol, bus,
+    shape and depth. `is_told` is whether that is all which decides what kind of bus it has."""
 
-    def __init__(self, text, words, depth, keys):
+    def __init__(self, words, chosen, is_told=True):
+        self.words, self.chosen, self.is_told = words, chosen, is_told
+
+    def is_alike(self, other):
+        """Whether it is proved that runs end on both alike: on the atomic bus protocol and shape change no order of memory
+        (`machine_laws::machines_on_the_atomic_bus_answer_alike`)."""
+        atomic = self.is_told and self.chosen.get("bus", "atomic") == other.chosen.get("bus", "atomic") == "atomic"
+        return self.words == other.words or atomic and self.chosen.get("depth") == other.chosen.get("depth")
+
+
+class Row:
+    """A line of the table: a test with options, and the keys of the tasks that make it. `chosen` is what of its options may differ from
+    row to row, by name; `made_by` the options of the row that is made in its place, since both are proved to be alike."""
+
+    def __init__(self, text, words, depth, keys, chosen=None, made_by=None):
         self.text, self.words, self.depth, self.keys = text, words, depth, keys
+        self.chosen, self.made_by = chosen or {}, made_by
+
+    def of_program(self, name):
+        """The same row, which names its program too."""
+        chosen = dict(self.chosen, program=name)
+        return Row(self.text, ["--program", name] + self.words, self.depth, self.keys, chosen, self.made_by)
 
 
 def plan_outcomes(digest, texts, depths, states, limit, show):
@@ -57,7 +81,7 @@ def plan_outcomes(digest, texts, depths, states, limit, show):
             words = ["--depth", str(depth)] + (["--states", str(states)] if states else [])
             task = Task(digest, "outcomes", text, words, limit, show=show(text))
             tasks[task.key] = task
-            rows.append(Row(text, words, depth, [task.key]))
+            rows.append(Row(text, words, depth, [task.key], {"depth": str(depth)}))
     return tasks, rows
 
 
@@ -68,29 +92,42 @@ def plan_why(digest, texts, models, cases, limit, show):
         words = ["--model", model] + (["--cases", str(cases)] if cases else [])
         task = Task(digest, "why", text, words, limit, show=show(text))
         tasks[task.key] = task
-        rows.append(Row(text, words, DEPTH_OF_MODEL[model], [task.key]))
+        rows.append(Row(text, words, DEPTH_OF_MODEL[model], [task.key], {"model": model}))
     return tasks, rows
 
 
-def plan_sweep(digest, texts, machines, first, seeds, cut, limit):
-    """Tasks by key, and rows: each test on each machine, its seeds in ranges of `cut`."""
-    tasks, rows = {}, []
-    for text, words in itertools.product(texts, machines):
+def plan_seeds(digest, command, texts, machines, seeds, cut, limit):
+    """Tasks by key, and rows: each test on each machine, its seeds, (first, how many), in ranges of `cut`. What a sweep tells of machines
+    that are alike is found on the first of them; what caches did is found on each."""
+    tasks, rows, (first, count) = {}, [], seeds
+    for text, machine in itertools.product(texts, machines):
+        maker = next(filter(machine.is_alike, machines)) if command == "sweep" else machine
         keys = []
-        for begin in range(first, first + seeds, cut):
-            task = Task(digest, "sweep", text, words, limit, (begin, min(cut, first + seeds - begin)))
+        for begin in range(first, first + count, cut):
+            task = Task(digest, command, text, maker.words, limit, (begin, min(cut, first + count - begin)))
             tasks[task.key] = task
             keys.append(task.key)
-        rows.append(Row(text, words, None, keys))
+        rows.append(Row(text, machine.words, None, keys, machine.chosen, None if maker is machine else maker.words))
     return tasks, rows
 
 
 def machines(protocols, buses, shapes, depths, options):
-    """All lists of options for `tso sweep`; a shape is SETSxWAYSxWORDS."""
-    parts = [[["--protocol", one] for one in protocols], [["--bus", one] for one in buses], [], [["--depth", one] for one in depths]]
-    for shape in shapes:
-        parts[2].append([word for pair in zip(("--sets", "--ways", "--words"), shape.split("x")) for word in pair])
-    return [sum(picked, []) + options for picked in itertools.product(*(part or [[]] for part in parts))]
+    """All machines of these lists for `tso sweep`, each with these further options; a shape is SETSxWAYSxWORDS."""
+    lists = {"protocol": protocols, "bus": buses, "shape": shapes, "depth": depths}
+    lists = {name: values for name, values in lists.items() if values}
+    is_told = not any(word.startswith("--bus") for word in options)
+    found = []
+    for values in itertools.product(*lists.values()):
+        chosen = dict(zip(lists, values))
+        found.append(Machine(sum((words_of(*pair) for pair in chosen.items()), []) + options, chosen, is_told))
+    return found
+
+
+def words_of(name, value):
+    """The words of a command line for what was chosen."""
+    if name == "shape":
+        return [word for pair in zip(("--sets", "--ways", "--words"), value.split("x")) for word in pair]
+    return ["--" + name, value]
 
 
 def merged(parts):
@@ -102,3 +139,11 @@ def merged(parts):
         for name in ("unfinished", "true", "false"):
             total[name] += part[name]
     return total
+
+
+def merged_counts(parts):
+    """What caches did in ranges of seeds, as one."""
+    cores = None
+    for part in parts:
+        cores = answers.counts_of_cores(cores, part["cores"])
+    return {"cores": cores, "ended": sum(part["ended"] for part in parts), "unfinished": sum(part["unfinished"] for part in parts)}

@@ -1,4 +1,5 @@
 """What is expected of tests, and how what was found differs from it."""
+import functools
 import re
 import signal
 
@@ -85,10 +86,12 @@ def by_theory(theory, text):
 
 
 class Line:
-    """A line of the table: of what it is, how that is judged, the members of its JSON line, and its test's text, None where it has none."""
+    """A line of the table: of what it is, how that is judged, the members of its JSON line, and its test's text, None where it has none.
+    `chosen` is what its options choose, by what may be chosen; `claim`, whether the claim of the test's own condition holds, is None where
+    that isn't known, or where there is none."""
 
-    def __init__(self, name, words, rank, members, test=None):
-        self.rank, self.test = rank, test
+    def __init__(self, name, words, rank, members, test=None, chosen=None, claim=None):
+        self.rank, self.test, self.words, self.chosen, self.claim = rank, test, words, chosen or {}, claim
         self.members = dict(members, test=name, options=" ".join(words), judged=rank)
 
     def wants_a_look(self):
@@ -102,17 +105,28 @@ class Line:
         return self
 
     def order(self):
-        """What the lines of a table are sorted by."""
-        return RANKS.index(self.rank), self.members["test"], self.members["options"]
+        """What the lines of a table are sorted by; numbers among the options go by their size."""
+        return RANKS.index(self.rank), self.members["test"], *map(in_order, self.words)
+
+    def counted(self):
+        """What the caches of all cores did in all runs, by the counts' names."""
+        cores = self.members.get("cores") or []
+        return {name: sum(core[name]["sum"] for core in cores) for name in (cores[0] if cores else ())}
 
     def text(self):
         shown = ["%-7s %s" % (self.rank, self.members["test"]), self.members["options"]]
-        for name in ("asked", "expected", "found", "leaves", "true", "false", "unfinished"):
+        for name in ("asked", "expected", "found", "leaves", "true", "false", "ended", "unfinished"):
             if self.members.get(name) is not None:
                 shown.append("%s=%s" % (name, str(self.members[name]).replace(" ", "-")))
         if "states" in self.members:
             shown.append("states=%d" % len(self.members["states"]))
+        shown += ["%s=%d" % pair for pair in self.counted().items()]
         return " ".join(filter(None, shown + ["- " + why for why in self.members.get("why", [])]))
+
+
+def in_order(word):
+    """What a word of options is sorted by: numbers come before words."""
+    return (0, int(word), word) if re.fullmatch(r"[0-9]{1,9}", word) else (1, 0, word)
 
 
 def refused_line(source):
@@ -120,9 +134,25 @@ def refused_line(source):
     return Line(source.place, [], REFUSED, {"why": [source.why]})
 
 
-def line_of_row(row, rank, members):
-    """The line of a row that is judged so."""
-    return Line(answers.name_of(row.text), row.words, rank, members, row.text)
+def line_of_row(row, rank, members, claim=None):
+    """The line of a row that is judged so, and whose test's claim holds, or doesn't, or is None."""
+    if row.made_by is not None:
+        members = dict(members, alike=" ".join(row.made_by))
+    return Line(answers.name_of(row.text), row.words, rank, members, row.text, row.chosen, claim)
+
+
+@functools.lru_cache(maxsize=None)
+def said_of(text):
+    """What a test's text says that its rows need, found once: exists, ~exists or forall, or None of a test without a condition; and the
+    names that its file has for those that an imported test has otherwise."""
+    test = litmus.known_test(text)
+    names = {ours: theirs for theirs, ours in registers.names_in(test.facts).items()}
+    return test.condition and test.condition[0], names
+
+
+def quantifier_of(text):
+    """exists, ~exists or forall, or None of a test without a condition."""
+    return said_of(text)[0]
 
 
 def line_of(row, parts, verdict, theory):
@@ -131,7 +161,9 @@ def line_of(row, parts, verdict, theory):
     due = expected(row.text, row.depth, verdict)
     if faults:
         return line_of_row(row, FAULT, {"expected": due, "why": faults})
-    if row.depth is None:
+    if "cores" in parts[0]:
+        line = line_of_row(row, UNJUDGED, tasks.merged_counts(parts))
+    elif row.depth is None:
         line = sweep_line(row, tasks.merged(parts), due)
     elif "--model" in row.words:
         line = why_line(row, parts[0], due)
@@ -143,7 +175,7 @@ def line_of(row, parts, verdict, theory):
 
 def in_names_of_file(text, line):
     """The line with what an imported test calls otherwise than its file by the file's name."""
-    names = {ours: theirs for theirs, ours in registers.names_in(litmus.read_test(text).facts).items()}
+    _, names = said_of(text)
 
     def renamed(said):
         return re.sub(r"\S+(?==\d)", lambda found: names.get(found.group(), found.group()), said)
@@ -181,7 +213,9 @@ def outcomes_line(row, one, due, theory):
         why += ["not by theory: " + state_text(state) for state in sorted(states - by_theory, key=sorted)]
         why += ["only by theory: " + state_text(state) for state in sorted(by_theory - states, key=sorted)]
     members = {"expected": due, "found": found, "true": one["true"], "false": one["false"], "states": one["states"], "why": why}
-    return line_of_row(row, rank_of(why, due is not None or by_states), members)
+    quantifier = quantifier_of(row.text)
+    claim = quantifier and answers.claim_holds(quantifier, one["true"], one["false"])
+    return line_of_row(row, rank_of(why, due is not None or by_states), members, claim)
 
 
 def met_line(row, one, due):
@@ -191,7 +225,16 @@ def met_line(row, one, due):
     why = ["more than %d states" % one["unfinished"], "%d final states were met" % len(met)]
     is_wrong = found is not None and due == "forbidden"
     members = {"expected": due, "found": found, "met": met, "why": ["the verdict differs"] * is_wrong + why}
-    return line_of_row(row, DIFFERS if is_wrong else OPEN, members)
+    return line_of_row(row, DIFFERS if is_wrong else OPEN, members, claim_of_met(row.text, one.get("true", 0), len(met)))
+
+
+def claim_of_met(text, true, met):
+    """Whether a test's claim holds, where so many of some of its final states make its proposition true; None where these don't decide
+    it."""
+    quantifier = quantifier_of(text)
+    if quantifier in ("exists", "~exists"):
+        return quantifier == "exists" if true else None
+    return False if quantifier == "forall" and true < met else None
 
 
 def those_shown(states, shown):
@@ -214,7 +257,9 @@ def why_line(row, one, due):
     members = {"asked": " ".join([asked[0], str(asked[1]).lower()]) if asked and not asked[1] else None, "expected": due, "found": found,
                "leaves": one.get("leaves"), "why": why}
     members.update({name: one[name] for name in ("true", "false", "states") if name in one})
-    return line_of_row(row, rank_of(why, due is not None or "states" in one), members)
+    # what forall asks for is that its proposition is false
+    claim = (found == "allowed") == (asked[0] == "exists") if asked else None
+    return line_of_row(row, rank_of(why, due is not None or "states" in one), members, claim)
 
 
 def state_text(state):
