@@ -4,14 +4,15 @@
     tests/compiled.py PROGRAM            in the gate
     tests/compiled.py PROGRAM --whole    all configurations, all laid-in bugs, 1,000 made values for each form of instruction
 
-The tests of examples/c11 are judged as compiled by gcc and clang: none may be found at fault, all but those that it says it can't read are
-judged, and the source's model says of each what its file expects. Beside the straight-line tests stands a plain walk over the
-interpreter's states, which must find the same final states. Each form of instruction is held against the processor that this runs on,
-the model against tests of the literature; cycles with memory orders are judged too. Bugs are laid into object code: they are found
+The tests of examples/c11 are judged as compiled by gcc and clang: none may be found at fault, all are judged, and the source's model says of
+each what its file expects. Beside the straight-line tests stands a plain walk over the interpreter's states, which must find the same final
+states. Each form of instruction is held against the processor that this runs on, and the model against tests of the literature. Cycles with
+memory orders are judged too (tests/compiled_cycles.py has all), and programs made at random. Bugs are laid into object code: they are found
 exactly where a state that isn't allowed becomes reachable.
 """
 import collections
 import os
+import random
 import subprocess
 import sys
 import tempfile
@@ -26,12 +27,14 @@ sys.path.insert(0, os.path.join(TOP, "tools"))
 MISSING = None
 try:
     import compiled_bugs
+    import compiled_cycles
     import compiled_forms
+    import compiled_made
     import compiled_programs
     import compiled_sources
     import compiled_tool
     import compiled_walk
-    from c11 import arithmetic, compiling, cycles, instructions, machine, tests, verdicts
+    from c11 import arithmetic, compiling, instructions, machine, tests, verdicts
     from c11.asking import Asker
     from c11.objects import Image
     from c11.refusals import NotJudged
@@ -41,12 +44,12 @@ except ModuleNotFoundError as fault:
 
 ALL = ("gcc -O0", "gcc -O1", "gcc -O2", "gcc -O3", "clang -O0", "clang -O2")
 IN_GATE = ("gcc -O2", "clang -O0")
-# What isn't read, by test and compiler: two words of different sizes overlap, where a compiler joins two stores.
-UNREAD = {("RCU+publish", compiler) for compiler in ("gcc -O2", "gcc -O3", "clang -O2")}
 SLOW = {"TICKET+3"}
 # Tests with loops that only read, or whose failed rounds change nothing.
 LOOPS = ("MP+na+spin", "DCLP", "SPIN+cas", "LLIST+delall")
 SECONDS = 10
+# By which cycles and programs are drawn.
+SEED = 7
 
 
 class Judged:
@@ -66,7 +69,7 @@ class Judged:
         return self._objects[key]
 
     def judge(self, name, compiler, content=None):
-        return verdicts.judge(self.sources[name], compiler, content or self.object(name, compiler), 1, self.asker)
+        return verdicts.judge(self.sources[name], compiler, Image(content or self.object(name, compiler)), 1, self.asker)
 
 
 def gallery_faults(judged, name, compiler, times):
@@ -74,7 +77,7 @@ def gallery_faults(judged, name, compiler, times):
     try:
         found, parts = judged.judge(name, compiler)
     except NotJudged as fault:
-        return [] if (name, compiler) in UNREAD and "overlap" in str(fault) else ["not judged: %s" % fault]
+        return ["not judged: %s" % fault]
     times.append(found.seconds)
     faults = [] if found.word in (verdicts.OK, verdicts.BOUNDED) else ["%s %s" % (found.word, found.extra)]
     if found.seconds > SECONDS:
@@ -119,9 +122,9 @@ def expectation_faults(judged, name):
 def model_rows():
     """The tests of the literature: pairs of a name and its faults."""
     for name, threads, condition, wanted in compiled_sources.TABLE:
-        test, found = tests.read_c(name + ".c", compiled_sources.text_of(threads)), ""
+        source, found = verdicts.SourceJudge(tests.read_c(name + ".c", compiled_sources.text_of(threads)), "rc11"), ""
         for model in compiled_sources.MODELS:
-            allowed = verdicts.SourceJudge(test, model).allowed(1)
+            allowed = source.by_model(model).allowed(1)
             states = [dict(zip(map(name_of, allowed.cells), state)) for state in allowed.states]
             found += "+" if any(compiled_sources.is_met(condition, state) for state in states) else "-"
         yield name, [] if found == wanted else ["%s say %s, and not %s" % (compiled_sources.MODELS, found, wanted)]
@@ -161,17 +164,27 @@ def bug_rows(judged, compilers, every, counts):
                     yield "%s %s: %s" % (name, compiler, bug), bug_faults(judged, name, compiler, bug, content, counts)
 
 
-def cycle_rows(asker, compilers, threads, every):
-    """The cycles of so many threads, one in so many of them, as these compilers make them."""
-    for number, cycle in enumerate(cycles.cycles(threads)):
-        if number % every == 0:
-            name = cycles.name_of(cycle)
-            source = verdicts.SourceJudge(tests.read_c(name + ".c", cycles.test_of(cycle)), "rc11")
-            for compiler in compilers:
-                content = compiling.object_of(compiler, source.test.text, name)
-                found, parts = verdicts.judge(source, compiler, content, 1, asker)
-                faults = [] if found.word == verdicts.OK else ["%s %s" % (found.word, found.extra)]
-                yield "%s %s" % (name, compiler), faults + walk_faults(parts)
+def cycle_rows(asker, threads, how_many, known):
+    """Cycles of so many threads, drawn by a seed, as all compilers make them. Where code is new, the states are held against the walk."""
+    drawn = compiled_cycles.drawn(threads, how_many, SEED)
+    for batch in compiled_cycles.batches(drawn):
+        for source, compiler, word, extra, cells, states, compiled in compiled_cycles.verdicts_on(
+                batch, compiled_cycles.COMPILERS, asker, known):
+            walked = None if compiled is None else compiled_walk.final_states(compiled.machine, compiled.observer(cells))
+            faults = [] if word == verdicts.OK else ["%s %s" % (word, extra)]
+            yield "%s %s" % (source.test.name, compiler), faults + ([] if walked is None or walked[0] == states else [
+                "the walk has %d states, and not %d" % (len(walked[0]), len(states))])
+
+
+def made_rows(asker, compilers, how_many):
+    """Programs made at random: no compiler is at fault, and the final states are those of the walk."""
+    for seed in range(SEED, SEED + how_many):
+        source = verdicts.SourceJudge(tests.read_c("made.c", compiled_made.program(random.Random(seed))), "rc11")
+        for compiler in compilers:
+            content = compiling.object_of(compiler, source.test.text, "made")
+            found, parts = verdicts.judge(source, compiler, Image(content), 1, asker)
+            faults = [] if found.word in (verdicts.OK, verdicts.BOUNDED) else ["%s %s" % (found.word, found.extra)]
+            yield "seed %d, %s" % (seed, compiler), faults + walk_faults(parts)
 
 
 def program_rows(asker, compilers):
@@ -180,9 +193,37 @@ def program_rows(asker, compilers):
         source = verdicts.SourceJudge(tests.read_c("program.c", compiled_programs.HEAD + text), "rc11")
         for compiler in compilers:
             content = compiling.object_of(compiler, source.test.text, "program")
-            found, parts = verdicts.judge(source, compiler, content, rounds, asker)
+            found, parts = verdicts.judge(source, compiler, Image(content), rounds, asker)
             faults = [] if (found.word, len(found.states)) == (verdicts.OK, count) else ["%s with %d states" % (found.word, len(found.states))]
             yield "%s, %s" % (name, compiler), faults + walk_faults(parts)
+
+
+def joined_rows(asker, compilers, how_many):
+    """Words that are used both whole and in parts, of written programs and of some made at random: the final states are those of the walk,
+    which goes by the parts."""
+    for name, (count, text) in compiled_programs.JOINED.items():
+        for compiler in compilers:
+            found = joined_states(asker, compiler, text)
+            yield "%s, %s" % (name, compiler), [] if found == (count, count) else ["states and those of the walk: %s" % (found,)]
+    for seed in range(SEED, SEED + how_many):
+        found = joined_states(asker, compilers[0], compiled_made.pair_program(random.Random(seed)))
+        yield "seed %d" % seed, [] if found[0] == found[1] else ["states and those of the walk: %s" % (found,)]
+
+
+def joined_states(asker, compiler, text):
+    """How many final states a program has, and how many of them the walk has and no others; None for both where it says that parts are
+    written by several threads."""
+    try:
+        image = Image(compiling.object_of(compiler, text, "program"))
+        compiled = verdicts.Compiled(image, tests.read_c("program.c", text).functions, 1, asker)
+    except NotJudged as fault:
+        if "which several cores write" in str(fault):
+            return None, None
+        raise
+    cells = compiled.own_cells()
+    states = set(compiled.states(cells))
+    walked, _ = compiled_walk.final_states(compiled.machine, compiled.observer(cells))
+    return len(states), len(states) if states == walked else "others: %d" % len(walked)
 
 
 def slip_rows():
@@ -221,13 +262,16 @@ def main():
                           for compiler in (ALL if asked.whole else IN_GATE) if asked.whole or name not in SLOW))
     times.sort()
     print("seconds of a processor without the compiler: median %.2f, most %.1f" % (times[len(times) // 2], times[-1]))
-    for threads, every in ((2, 1), (3, 8)) if asked.whole else ((2, 6), (3, 60)):
-        tally.add("cycles", cycle_rows(asker, ALL if asked.whole else ("gcc -O2",), threads, every))
+    known = {}
+    for threads in (2, 3):
+        tally.add("cycles", cycle_rows(asker, threads, 900 if asked.whole else 60, known))
+    tally.add("programs at random", made_rows(asker, ALL if asked.whole else ("gcc -O1",), 200 if asked.whole else 16))
     tally.add("programs", program_rows(asker, ALL if asked.whole else ("gcc -O2",)))
+    tally.add("joined words", joined_rows(asker, ALL if asked.whole else IN_GATE, 300 if asked.whole else 12))
     tally.add("rounds", (("%s %s" % (name, compiler), round_faults(judged, name, compiler)) for name in LOOPS for compiler in IN_GATE))
     tally.add("instructions", compiled_forms.faults_of_forms(compiled_forms.forms(), 1000 if asked.whole else 60, 1))
     tally.add("slips", slip_rows())
-    tally.add("bugs", bug_rows(judged, ("gcc -O2", "clang -O2") if asked.whole else ("gcc -O2",), 1 if asked.whole else 4, counts))
+    tally.add("bugs", bug_rows(judged, ("gcc -O2", "clang -O2") if asked.whole else ("gcc -O2",), 1 if asked.whole else 5, counts))
     for (kind, what), count in sorted(counts.items()):
         print("%s: %d %s" % (kind, count, what))
     with tempfile.TemporaryDirectory() as folder:

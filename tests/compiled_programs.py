@@ -2,6 +2,7 @@
 many final states it has, and its text.
 """
 
+HEAD = "#include <stdatomic.h>\n"
 WIDE = """
 atomic_llong x, y; long long o0, o1;
 void P0(void) {
@@ -55,8 +56,59 @@ atomic_int x; int o;
 void P0(void) { atomic_store(&x, 2); }
 void P1(void) { if (atomic_load(&x) == 2) o = 7; else if (atomic_fetch_or(&x, 4) & 2) o = 8; else o = 9; }
 """
+OWN_STORE = """
+atomic_int x; int o0, o1;
+void P0(void) {
+  atomic_store_explicit(&x, 1, memory_order_relaxed);
+  o0 = atomic_load_explicit(&x, memory_order_relaxed); o1 = atomic_load_explicit(&x, memory_order_relaxed);
+}
+void P1(void) { atomic_store_explicit(&x, 2, memory_order_relaxed); }
+"""
+STRUCTURES = """
+struct s { int a; short c; char d; } p = {1, 2, 3}, q; atomic_int f; int o;
+void P0(void) { struct s r = p; r.a = 7; q = r; atomic_store_explicit(&f, 1, memory_order_release); }
+void P1(void) { struct s r = {0}; if (atomic_load_explicit(&f, memory_order_acquire)) r = q; o = r.a * 100 + r.c * 10 + r.d; }
+"""
 
 # Name: rounds, states, text.
 PROGRAMS = {"wide words": (1, 3, WIDE), "eight reads": (8, 45, EIGHT_READS), "calls": (1, 1, CALLS), "a lock on the stack": (1, 1, QUEUE_LOCK),
-            "pointers": (1, 2, POINTERS), "small words": (1, 2, SMALL), "branches": (1, 3, SWITCH)}
-HEAD = "#include <stdatomic.h>\n"
+            "pointers": (1, 2, POINTERS), "small words": (1, 2, SMALL), "branches": (1, 3, SWITCH), "an own store": (1, 4, OWN_STORE),
+            "structures": (1, 2, STRUCTURES)}
+
+# ---- words that are used both whole and in parts, of objects alone: how many final states there are, or None where that isn't read
+
+_PAIR = "struct { int a, b; } n __attribute__((aligned(8)));\n#define A (*(volatile int *)&n.a)\n#define B (*(volatile int *)&n.b)\n"
+_PAIR += "#define AB (*(volatile long long *)&n)\n"
+STORED_WHOLE = _PAIR + """int o0, o1;
+void P0(void) { AB = 0x200000001; AB = 0x400000003; }
+void P1(void) { o0 = A; o1 = B; }
+void P2(void) { AB = 0x600000005; }
+"""
+STORED_IN_PARTS = _PAIR + """long long o0, o1; int o2;
+void P0(void) { A = 1; B = 2; o2 = A; }
+void P1(void) { o0 = AB; o1 = AB; }
+"""
+OWN_PARTS = _PAIR + """int y, o1, o2; long long o0;
+void P0(void) { A = 1; o0 = AB; o1 = *(volatile int *)&y; }
+void P1(void) { *(volatile int *)&y = 1; o2 = A; }
+"""
+LOCKED_PARTS = HEAD + """union { _Atomic int part[2]; _Atomic long long whole; } n; int o0; long long o1;
+void P0(void) { atomic_fetch_add(&n.part[1], 5); atomic_fetch_or(&n.part[0], 2); o0 = n.part[1]; }
+void P1(void) { atomic_store_explicit(&n.whole, 0x100000001, memory_order_relaxed); o1 = n.whole; }
+void P2(void) { atomic_fetch_add(&n.part[1], 7); }
+"""
+BYTES = """unsigned long long n; int o0, o1, o2;
+void P0(void) { *(volatile unsigned char *)&n = 1; *((volatile short *)&n + 1) = 2; *(volatile int *)&n = 7; *((volatile int *)&n + 1) = 9; }
+void P1(void) { o0 = *((volatile unsigned char *)&n + 4); o1 = *(volatile short *)&n; o2 = *((volatile short *)&n + 1); }
+"""
+ON_A_STACK = HEAD + """struct pair { _Atomic int a; int b; }; struct pair *_Atomic p; int o0;
+void P0(void) { struct pair own; *(volatile long long *)&own = 0x300000001; atomic_store(&p, &own); }
+void P1(void) { struct pair *other = atomic_load(&p); if (other) o0 = other->b; }
+"""
+TWO_WRITERS = _PAIR + """long long o0;
+void P0(void) { A = 1; }
+void P1(void) { B = 2; }
+void P2(void) { o0 = AB; }
+"""
+JOINED = {"stored whole": (21, STORED_WHOLE), "stored in parts": (6, STORED_IN_PARTS), "own parts": (4, OWN_PARTS),
+          "locked parts": (31, LOCKED_PARTS), "bytes": (6, BYTES), "on a stack": (2, ON_A_STACK), "two writers of parts": (None, TWO_WRITERS)}

@@ -4,7 +4,7 @@ import os
 import re
 import subprocess
 
-from judging import TOP
+from judging import TOP, content
 
 TOOL = os.path.join(TOP, "tools", "compiled")
 
@@ -97,7 +97,7 @@ def rows(program, folder):
     yield row("a loop that counts, longer", ["loop.c", "--unroll", "4"], 0, r"exact +Ok")
     yield row("a null pointer", ["null.c"], 0, r"an access where no memory lies: undefined +UNDEFINED")
     yield row("a bug", ["SB.c", "--code", "bug.s", "--why"], 1, r"4 states of 3 .* NOT ALLOWED o0=0 o1=0", r"P0\+10 .* reads y=0",
-              r"P0 line 4 writes x=1 \(seq_cst\), before", r"psc has a cycle")
+              r"P0 line 4 writes x=1 \(seq_cst\), sb", r"P0 line 4 reads y=0 \(seq_cst\), rb", r"psc has a cycle")
     yield row("a weaker model", ["SB.c", "--code", "bug.s", "--model", "ra"], 0, r"4 states of 4")
     yield row("a stronger model", ["MP.litmus", "--model", "sc"], 0, r"3 states of 3")
     yield row("code that isn't read", ["SB.c", "--code", "unread.s"], 2, r"P0\+10: rdtsc isn't read +NOT JUDGED")
@@ -120,7 +120,88 @@ def rows(program, folder):
     run("SB.c", "--keep", "kept")
     kept = os.listdir(os.path.join(folder, "kept"))
     yield "tests are kept", [] if kept == ["SB-gcc_-O2-0.litmus"] else [str(kept)]
+    listed = [subprocess.run([os.path.join(TOP, "tools", "cycles"), "--c11", "--length", "2", "--list", *more], capture_output=True,
+                             encoding="utf-8", check=False).stdout.split() for more in ([], ["--mixed"])]
+    yield "cycles of two threads", [] if [len(one) for one in listed] == [78, 1485] and set(listed[0]) < set(listed[1]) else [str(listed)[:300]]
+    yield from _picture_rows(run("SB.c", "--json", "--why", "--code", "bug.s").stdout, done.stdout)
     yield from _package_rows(folder, run)
+    yield from _campaign_rows(program, folder)
+
+
+def _picture_rows(found, without_reason):
+    """The picture of a finding: machine and source side by side; and what can't be drawn."""
+    reason = json.loads(found)["reason"]
+    for name, given, words, status, wanted in (
+            ("a picture", found, [], 0, [r"cluster_part0 .*the machine: bug\.s", r"cluster_part1 .*C11: psc has a cycle",
+                                         r"<\d: R y=0.*P0\+10", r"<reads y=0 \(seq_cst\).*line 4"]),
+            ("a picture of the second of two findings", "\n".join([found, json.dumps({"word": "Ok"}), found]), ["--leaf", "2"], 0, ["C11: psc"]),
+            ("a picture without a reason", without_reason, [], 2, ["the finding has no reason"]),
+            ("a picture without a finding", '{"word":"Ok"}', [], 2, ["no state is one that C11 doesn't allow"]),
+            ("a picture of a finding that isn't there", found, ["--leaf", "2"], 2, ["there is no finding 2: there are 1"])):
+        done = subprocess.run([os.path.join(TOP, "tools", "graph"), *words], input=given, capture_output=True, encoding="utf-8", check=False)
+        faults = [] if done.returncode == status else ["status %d: %s" % (done.returncode, done.stderr)]
+        yield name, faults + ["no %s in %s" % (one, done.stdout + done.stderr) for one in wanted
+                              if not re.search(one, done.stdout + done.stderr)]
+        if name == "a picture":
+            bold = set(re.findall(r'C_(\d+) -> C_(\d+) \[label=" (\w+) ".*penwidth', done.stdout))
+            links = reason["cycle"]
+            due = {(str(one["number"]), str(other["number"]), one["relation"]) for one, other in zip(links, links[1:] + links[:1])}
+            yield "the picture's cycle", [] if bold == due else ["%s, and not %s" % (bold, due)]
+
+
+# A compiler with a bug: what is an exchange, it makes a store.
+BAD_COMPILER = """#!/bin/sh
+gcc -O2 "$1" "$2" "$3" -S -o "$6.s" "$7" || exit 1
+sed -i -E 's/xchgl\\s+(\\w+\\(%rip\\)), (%\\w+)/movl \\2, \\1/; s/xchgl\\s+(%\\w+), (\\w+\\(%rip\\))/movl \\1, \\2/' "$6.s"
+exec gcc -c -o "$6" "$6.s"
+"""
+
+
+def _campaign_rows(program, folder):
+    """tools/campaign of compiled tests: its table, that it goes on, what it finds, and what it refuses."""
+    with open(os.path.join(folder, "bad-cc"), "w", encoding="ascii") as file:
+        os.fchmod(file.fileno(), 0o755)
+        file.write(BAD_COMPILER)
+
+    def campaign(*words):
+        return subprocess.run(["/usr/bin/python3", os.path.join(TOP, "tools", "campaign"), "compiled", "--program", program, *words],
+                              cwd=folder, capture_output=True, encoding="utf-8", check=False)
+
+    def row(name, done, status, table, *wanted):
+        faults = [] if done.returncode == status else ["status %d, and not %d: %s" % (done.returncode, status, done.stderr)]
+        faults += [] if table is None or done.stdout == table else [done.stdout]
+        return name, faults + ["no %s in %s" % (one, done.stdout + done.stderr) for one in wanted
+                               if not re.search(one, done.stdout + done.stderr)]
+
+    words = ["@list", "race.c", "loop.c", "herd.litmus", "--cc", "gcc -O1", "--cc", "clang -O2", "--results", "results"]
+    table = ("REFUSED herd.litmus - the test has no functions P0, P1 and so on\n"
+             "unjudged loop clang -O2 Bounded states=2 --unroll 1\nunjudged loop gcc -O1 Bounded states=2 --unroll 1\n"
+             "unjudged race clang -O2 RACE - a data race on x: undefined\nunjudged race gcc -O1 RACE - a data race on x: undefined\n"
+             "same    MP clang -O2 Ok states=3 allowed=3\nsame    MP gcc -O1 Ok states=3 allowed=3\n"
+             "same    SB clang -O2 Ok states=3 allowed=3\nsame    SB gcc -O1 Ok states=3 allowed=3\n")
+    yield row("a campaign", campaign(*words), 2, table, r"campaign: 9 rows, 1 of them want to be looked at, 4 unjudged")
+    results = os.path.join(folder, "results")
+    with open(results, "rb") as file:
+        whole = file.read()
+    with open(results, "rb+") as file:
+        file.truncate(len(whole) - 5)
+    yield row("a campaign that goes on", campaign(*words), 2, table)
+    with open(results, "rb") as file:
+        again = file.read()
+    kept = whole[:whole.rindex(b"\n", 0, -1) + 1]
+    yield "what it had isn't made again", [] if again.startswith(kept) and again.count(b"\n") == whole.count(b"\n") else ["another file"]
+    done = campaign("SB.c", "MP.litmus", "--cc", "./bad-cc", "--page", "page.html", "--log", "log")
+    yield row("a campaign by a compiler with a bug", done, 1, None, r"\ADIFFERS SB \./bad-cc NOT ALLOWED states=4 allowed=3 - o0=0 o1=0",
+              r"same    MP \./bad-cc Ok states=")
+    page, log = (content(folder, name) for name in ("page.html", "log"))
+    yield "its page", [] if re.search(r"<li>.*psc has a cycle</li>", page) and "atomic_store(&amp;x, 1)" in page else [page]
+    yield "its log", [] if re.search(r"^Test SB Allowed\nStates 4\no0=0; o1=0;", log, re.M) else [log]
+    yield row("a log of two compilers", campaign(*words, "--log", "other"), 2, "", "give one compiler")
+    yield row("another file", campaign("SB.c", "--results", "SB.c"), 2, "", "is no result of a campaign")
+    done = subprocess.run([os.path.join(TOP, "tools", "campaign"), "compiled", program, "SB.c", "--cc", "no-such-cc", "--json"], cwd=folder,
+                          capture_output=True, encoding="utf-8", check=False)
+    yield row("a campaign as JSON, without a compiler", done, 2, None,
+              r'^\{"allowed": \[\].*"judged": "OPEN".*"told": "no-such-cc can.t be run: .*"word": "NOT JUDGED"')
 
 
 def _package_rows(folder, run):

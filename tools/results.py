@@ -9,7 +9,6 @@ import outputs
 
 # How each result's line begins, as its members are sorted: no other text is taken for one that was torn.
 BEGINNINGS = (b'{"answer": ', b'{"cores": ', b'{"false": ', b'{"met": ', b'{"options": ')
-LONGEST_BEGINNING = max(map(len, BEGINNINGS))
 
 PLACE = r"(?:\d+:\w+|[A-Za-z_]\w*)"
 STATE = re.compile(r"(?:%s=\d+(?: %s=\d+)*)?" % (PLACE, PLACE), re.ASCII)
@@ -89,6 +88,8 @@ class Unkept:
 class Results:
     """The results in a file, by task. A torn last line is cut off; two campaigns can't write one file at once."""
 
+    beginnings, is_result = BEGINNINGS, staticmethod(is_result)
+
     def __init__(self, path):
         self.path, self.found, self.length = path, {}, 0
         if os.path.exists(path) and not stat.S_ISREG(os.stat(path).st_mode):
@@ -105,10 +106,10 @@ class Results:
     def read(self, lines):
         """Takes the results that are there. What is no file of results is told, and stays as it is."""
         while True:
-            line = lines.readline(LONGEST_BEGINNING)
+            line = lines.readline(max(map(len, self.beginnings)))
             if not line:
                 return
-            if not any(line.startswith(one) or one.startswith(line) for one in BEGINNINGS):
+            if not any(line.startswith(one) or one.startswith(line) for one in self.beginnings):
                 raise self.refused()
             line += b"" if line.endswith(b"\n") else lines.readline()
             self.take(line)
@@ -123,7 +124,7 @@ class Results:
             if line.endswith(b"\n"):
                 raise self.refused() from None
             return
-        if not is_result(one):
+        if not self.is_result(one):
             raise self.refused()
         if line.endswith(b"\n"):
             self.found[one["task"]] = one

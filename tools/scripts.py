@@ -9,6 +9,8 @@ import traceback
 import tso.processes
 
 TOOLS = os.path.dirname(os.path.abspath(__file__))
+# The Python for which Debian's packages are.
+DEBIANS = "/usr/bin/python3"
 
 # What a tool ends with: nothing differs, something does, it couldn't judge or write what was asked, or it was interrupted, as shells
 # have it.
@@ -82,6 +84,21 @@ def open_streams():
     sys.stdin = sys.stdin or Closed("standard input")
     sys.stdout = sys.stdout or Closed("standard output")
     sys.stderr = Printable(sys.stderr or open(os.devnull, "w", encoding="ascii", errors="replace"))
+
+
+# Debian's packages of modules that aren't Python's own.
+PACKAGES = {"capstone": "python3-capstone", "elftools": "python3-pyelftools"}
+
+
+def missing(fault):
+    """What is said where such a module isn't there."""
+    return "Debian's package %s isn't there" % PACKAGES.get(fault.name, fault.name)
+
+
+def by_debians_python():
+    """Begins the tool anew by the Python for which Debian's packages are, if that isn't the one that runs it."""
+    if sys.executable != DEBIANS and os.path.exists(DEBIANS):
+        os.execv(DEBIANS, [DEBIANS, *sys.argv])
 
 
 # ---- the end

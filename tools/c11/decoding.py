@@ -1,10 +1,31 @@
 """Machine code as instructions, decoded by capstone."""
+import contextlib
+import sys
+import types
 from dataclasses import dataclass
 
-import capstone
-from capstone import x86_const
-
 from .refusals import NotJudged
+
+
+@contextlib.contextmanager
+def _without_distutils():
+    """Debian's capstone loads distutils, which it doesn't use, and with it all of setuptools. That takes longer than most tests."""
+    absent = [name for name in ("distutils", "distutils.sysconfig") if name not in sys.modules]
+    sys.modules.update((name, types.ModuleType(name)) for name in absent)
+    try:
+        yield
+    finally:
+        for name in absent:
+            del sys.modules[name]
+
+
+try:
+    with _without_distutils():
+        import capstone
+except AttributeError:
+    # another version, which does use it
+    import capstone
+from capstone import x86_const
 
 # The registers of 64 bits, in the processor's own numbering.
 NAMES = "rax rcx rdx rbx rsp rbp rsi rdi r8 r9 r10 r11 r12 r13 r14 r15".split()

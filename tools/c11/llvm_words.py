@@ -148,7 +148,8 @@ class Words:
     # ---- instructions: what each one's parts are
 
     def read_alloca(self):
-        return (self._module.size(self.type()),)
+        kind = self.type()
+        return self._module.size(kind), kind
 
     def read_load(self):
         is_atomic = self.skip("atomic")

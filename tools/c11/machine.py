@@ -11,7 +11,9 @@ RED_ZONE = 128
 
 class Machine(SharedWords):
     """The functions of an image that the cores run, each with the addresses that it is called with. Loops go round at most `rounds` times
-    more. `shared` are the bytes that several cores use, as far as is known; `uses` notes what is used."""
+    more. `uses` notes what is used."""
+
+    joins = True
 
     def __init__(self, image, functions, rounds):
         super().__init__()
@@ -51,11 +53,11 @@ class Machine(SharedWords):
         return is_shared
 
     def refuse_overlaps(self):
-        """Words that overlap aren't read: their parts can't be told apart in a test."""
-        found = self.overlapping()
-        if found:
-            raise NotJudged("%s is used in words of %d and of %d bytes, which overlap" % (
-                self.image.name_at(found[1][0]), found[0][1], found[1][1]))
+        """Words that are used whole and in parts are read where one place can stand for them."""
+        torn = self.torn()
+        if torn:
+            raise NotJudged("%s is used in words of %d bytes and in parts of them, which several cores write" % (
+                self.image.name_at(torn[0]), torn[1]))
 
     # ---- loops
 

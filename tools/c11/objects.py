@@ -4,10 +4,12 @@ The sections get addresses as a linker would give them: one lawful layout of man
 is a number of 31 bits here.
 """
 import bisect
+import copy
+import functools
 import io
 import os
 import struct
-from dataclasses import dataclass
+from dataclasses import dataclass, replace
 
 from elftools.common.exceptions import DWARFError, ELFError
 from elftools.elf.elffile import ELFFile
@@ -46,7 +48,6 @@ class Image:
 
     def __init__(self, content):
         self.parts, self.symbols, self.outside = [], {}, {}
-        self._lines, self._line_starts = [], []
         try:
             file = ELFFile(io.BytesIO(content))
             if file["e_machine"] != "EM_X86_64":
@@ -54,8 +55,19 @@ class Image:
             (self._lay_out_object if file["e_type"] == "ET_REL" else self._load_library)(file, bytearray(content))
         except ELFError as fault:
             raise NotJudged("this is no object file: %s" % fault) from None
-        self._named = sorted((symbol.address, symbol) for symbol in self.symbols.values() if symbol.size)
+        self._name_addresses()
+
+    def _name_addresses(self):
+        self._named = sorted(((symbol.address, symbol) for symbol in self.symbols.values() if symbol.size), key=lambda one: one[0])
         self._starts = [address for address, _ in self._named]
+
+    def part(self, prefix):
+        """The same image, as that of the symbols alone whose names begin so, without this prefix."""
+        other = copy.copy(self)
+        other.symbols = {name[len(prefix):]: replace(symbol, name=name[len(prefix):])
+                         for name, symbol in self.symbols.items() if name.startswith(prefix)}
+        other._name_addresses()
+        return other
 
     # ---- what lies where
 
@@ -83,8 +95,9 @@ class Image:
 
     def line_at(self, address):
         """The line of C, as FILE:LINE, of an instruction; or None."""
-        at = bisect.bisect_right(self._line_starts, address) - 1
-        return self._lines[at][1] if at >= 0 else None
+        lines = self._lines
+        at = bisect.bisect_left(lines, (address + 1,)) - 1
+        return lines[at][1] if at >= 0 else None
 
     def place_of(self, address):
         """An instruction's address and line, as people look for them."""
@@ -115,7 +128,7 @@ class Image:
         for section in placed.iter_sections():
             if isinstance(section, RelocationSection) and section["sh_info"] in starts:
                 at = self._relocate(section, starts[section["sh_info"]], at, placed.get_section(section["sh_link"]))
-        self._read_lines(placed)
+        self._placed, self._base = placed, 0
 
     def _place_symbols(self, table, starts, at):
         """Gives each symbol its address; answers where free addresses begin."""
@@ -190,7 +203,7 @@ class Image:
         for section in file.iter_sections():
             if isinstance(section, RelocationSection):
                 self._bind(section, file.get_section(section["sh_link"]))
-        self._read_lines(file, BASE)
+        self._placed, self._base = file, BASE
 
     def _bind(self, section, table):
         for one in section.iter_relocations():
@@ -204,9 +217,11 @@ class Image:
 
     # ---- lines of C
 
-    def _read_lines(self, file, base=0):
-        """Reads the line table, where it has one that the library reads."""
-        found = {}
+    @functools.cached_property
+    def _lines(self):
+        """Pairs of an address and a line, in order: the line table, where the object has one that the library reads. Most programs are
+        judged without it."""
+        found, file = {}, self._placed
         try:
             dwarf = file.get_dwarf_info() if file.has_dwarf_info() else None
             for unit in dwarf.iter_CUs() if dwarf else ():
@@ -214,11 +229,10 @@ class Image:
                 for entry in program.get_entries() if program else ():
                     if entry.state is not None and entry.state.line:
                         name = _file_of(program, entry.state.file)
-                        found[base + entry.state.address] = "%s:%d" % (name, entry.state.line)
+                        found[self._base + entry.state.address] = "%s:%d" % (name, entry.state.line)
         except (ELFError, DWARFError, KeyError):
-            found = {}
-        self._lines = sorted(found.items())
-        self._line_starts = [address for address, _ in self._lines]
+            return []
+        return sorted(found.items())
 
 
 def _file_of(program, number):

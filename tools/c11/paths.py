@@ -4,7 +4,7 @@ A read can have the initial word, its core's own last store, or what another cor
 how many writes of each core it needs: none may need a write that comes after the read itself, since no execution has a cycle of program
 order and reads-from. So paths are finitely many as soon as loops are bounded, and counters grow no further than there are writes.
 """
-from .events import CUT, ENDS, FAULTS, LOCKED, READ, WAITS, WRITE
+from .events import CUT, ENDS, FAULTS, LOCKED, WAITS, WRITE
 from .refusals import NotJudged
 
 MOST_NODES = 20000
@@ -90,14 +90,15 @@ class Growth:
 
     def _base_of(self, events, place):
         """What a read has where no other core wrote since: the core's last store, else the initial word; None where an earlier read saw
-        that another write came after the initial one."""
-        initial = self.machine.initial_word(place)
+        that another write came after this."""
+        base, read = self.machine.initial_word(place), set()
         for event in reversed(events):
             if event.place == place and is_write(event):
-                return event.written
-            if event.place == place and event.kind == READ and event.read != initial:
-                return None
-        return initial
+                base = event.written
+                break
+            if event.place == place:
+                read.add(event.read)
+        return base if read <= {base} else None
 
     def _enter(self, node, clock):
         """A node can be reached with values that need these writes."""
@@ -133,9 +134,7 @@ class Growth:
 def grown(machine):
     """The paths of a machine, once it is known which words several cores use: what is found only adds to those."""
     while True:
-        machine.noted = {}
+        machine.forget_uses()
         growth = Growth(machine).grow()
-        found = machine.shared | machine.used_by_several()
-        if found == machine.shared:
+        if machine.learn():
             return growth
-        machine.shared = found

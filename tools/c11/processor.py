@@ -132,19 +132,33 @@ class Core:
     # ---- memory
 
     def load(self, address, size):
-        if not self.program.uses(self, address, size, False):
+        program = self.program
+        if not program.uses(self, address, size, False):
             return self._own(address, size)
-        value = self._read((address, size))
-        self.record(READ, (address, size), value)
-        return value
+        place = program.word_of(address, size)
+        value = self._read(place)
+        self.record(READ, place, value)
+        return value >> 8 * (address - place[0]) & mask(size)
 
     def store(self, address, size, value):
         value &= mask(size)
-        if self.program.uses(self, address, size, True):
-            self.record(WRITE, (address, size), written=value)
-        else:
+        is_shared = self.program.uses(self, address, size, True)
+        is_joined = address in self.program.joined
+        if is_joined or not is_shared:
             for at in range(size):
                 self.memory[address + at] = value >> 8 * at & 255
+        if is_joined:
+            self._store_joined(address, size)
+        elif is_shared:
+            self.record(WRITE, (address, size), written=value)
+
+    def _store_joined(self, address, size):
+        """A store into a word that is used whole and in parts. Where it is one of a part, the core knows the rest: it alone writes there,
+        or the program is refused."""
+        place = self.program.word_of(address, size)
+        if place != (address, size):
+            self.program.part_writers.setdefault(place, set()).add(self.number)
+        self.record(WRITE, place, written=self._own(*place))
 
     def update(self, operand, change):
         """A locked read and write: the new value is what `change` makes of the old one, which is answered. On words of its own it is a
@@ -156,9 +170,14 @@ class Core:
             self.record(FENCE)
             self.store(address, size, old if new is None else new)
             return old
-        old = self._read((address, size))
+        place = self.program.word_of(address, size)
+        whole, shift = self._read(place), 8 * (address - place[0])
+        old = whole >> shift & mask(size)
         new, addend = change(old)
-        self.record(LOCKED, (address, size), old, (old if new is None else new) & mask(size), addend if size == 4 else None)
+        new = (old if new is None else new) & mask(size)
+        for at in range(size) if address in self.program.joined else ():
+            self.memory[address + at] = new >> 8 * at & 255
+        self.record(LOCKED, place, whole, whole ^ (old ^ new) << shift, addend if place == (address, 4) else None)
         return old
 
     def _read(self, place):

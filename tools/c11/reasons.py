@@ -1,42 +1,104 @@
 """Why a state is a finding: the order in which the machine reaches it, by instructions and lines of C; and what forbids it."""
 import re
+from dataclasses import dataclass, field
 
-from .rc11 import FREE, SC, closure, has_cycle, numbers_in, union
+from .cycling import cycle_of
+from .rc11 import FREE, SC
 from .refusals import NotJudged
 from .splitting import OWN
 from .verdicts import final_words, observer_of, text_of
 
 ENTRY = re.compile(r"P(\d+):(\d+) (R|W|F|LR|LW)(?: (\S+)=(\d+))?$")
 DOES = {"R": "reads", "W": "writes", "F": "fence", "LR": "reads, locked,", "LW": "writes, locked,"}
+MODES = {"na": "not atomic", "rlx": "relaxed", "acq": "acquire", "rel": "release", "ar": "acq_rel", SC: "seq_cst"}
 # How many executions are looked at, and how many of those that leave the state.
 MOST_LOOKED_AT, MOST_COMPARED = 20000, 40
 
 
-def machine_lines(compiled, case, state, asker):
-    """How the machine reaches a state: its order of memory, each action with its instruction and its line of C."""
-    if not state:
-        return []
+@dataclass
+class Step:
+    """An action of the machine: as `tso run` prints it, with the program's number of the core; its instruction, where that stands, and
+    what it does, in words."""
+
+    event: str
+    place: str
+    instruction: str
+    does: str
+
+
+@dataclass
+class Link:
+    """An event of the source's cycle: its thread, -1 of an initial write; its number in the execution; its line of C; what it does, in
+    words; and the relation by which it comes before the next one, the last before the first."""
+
+    thread: int
+    number: int
+    line: int
+    does: str
+    relation: str
+
+    def text(self):
+        return self.does if self.thread < 0 else "P%d line %s %s" % (self.thread, self.line, self.does)
+
+
+@dataclass
+class Reason:
+    """The reason for a finding. `faults` are accesses where no memory lies; `choices` lead `tso run` on the path's test to `order`; `cycle` is
+    what the source forbids, and `broken` says by which axiom."""
+
+    state: str
+    faults: list
+    choices: str = ""
+    order: list = field(default_factory=list)
+    cycle: list = field(default_factory=list)
+    broken: str = ""
+
+    def lines(self):
+        found = ["why %s:" % self.state, *("  " + fault for fault in self.faults)]
+        if self.order:
+            found.append("  the order of memory, by choices %s of this path's test:" % self.choices)
+            found += ["    %s %-24s %-44s %s" % (step.event.split(":")[0], step.place, step.instruction, step.does) for step in self.order]
+        if self.cycle:
+            found += ["  the source forbids it:", *("    %s, %s" % (link.text(), link.relation) for link in self.cycle)]
+        if self.broken:
+            found.append("%s%s" % ("    the first again: " if self.cycle else "  ", self.broken))
+        return found
+
+
+def reason_for(judge_source, compiled, cells, states, extra, shown, rounds, asker):
+    """The reason for one of these states: of the machine and of the source."""
+    case, state, paths = states[extra]
+    reason = Reason(text_of(cells, extra, shown), [path.fault for path in paths if path.fault])
+    if state:
+        reason.choices, reason.order = machine_order(compiled, case, state, asker)
+    reason.cycle, reason.broken = source_cycle(judge_source, rounds, cells, extra)
+    return reason
+
+
+# ---- the machine
+
+def machine_order(compiled, case, state, asker):
+    """How the machine reaches a state: choices, and its order of memory."""
     answer = asker.why(case.text + case.condition(state))
-    choices = next((line[3:] for line in answer.split("\n") if line.startswith("By ")), None)
-    if choices is None:
-        return []
-    report = asker.run(case.text + "====\n" + choices + "\n")
+    choices = next((line[3:] for line in answer.split("\n") if line.startswith("By ")), "")
+    report = asker.run(case.text + "====\n" + choices + "\n") if choices else ""
     found = [ENTRY.match(line) for line in report.split("\n")]
-    lines = [_entry(compiled, case, one) for one in found if one and not (one.group(4) or "").startswith(OWN)]
-    return ["the order of memory, by choices %s of this path's test:" % choices, *("  " + line for line in lines)]
+    return choices, [_step(compiled, case, one) for one in found if one and not (one.group(4) or "").startswith(OWN)]
 
 
-def _entry(compiled, case, found):
+def _step(compiled, case, found):
     at, cell, kind, name, word = found.groups()
     column, core = case.columns[int(at)], case.order[int(at)]
     event = next(iter(column.group.paths.values())).events[column.events[int(cell)]]
-    image = compiled.image
-    does = DOES[kind] if name is None else "%s %s=%d" % (DOES[kind], name, compiled.splitting.numbers.value(int(word)))
-    return "P%d %-24s %-44s %s" % (core, image.place_of(event.at), compiled.machine.decoder.at(event.at).text, does)
+    what = "" if name is None else " %s=%d" % (name, compiled.splitting.numbers.value(int(word)))
+    return Step("P%d:%s %s%s" % (core, cell, kind, what), compiled.image.place_of(event.at), compiled.machine.decoder.at(event.at).text,
+                DOES[kind] + what)
 
 
-def source_lines(judge_source, rounds, cells, state, shown):
-    """What forbids a state in the source: of the executions that would leave it, the one with the shortest cycle."""
+# ---- the source
+
+def source_cycle(judge_source, rounds, cells, state):
+    """What forbids a state in the source: of the executions that would leave it, the one with the shortest cycle; and the axiom."""
     source, executions = judge_source.executions(rounds, FREE)
     observer, best, matched = observer_of(source, cells), None, 0
     try:
@@ -45,88 +107,23 @@ def source_lines(judge_source, rounds, cells, state, shown):
                 break
             if observer.state(final_words(execution), paths) == state:
                 matched += 1
-                found = _cycle_of(execution, source)
-                if found and (best is None or len(found) < len(best)):
-                    best = found
+                found = cycle_of(execution)
+                if found and (best is None or len(found[0]) < len(best[0])):
+                    best = *found, execution
     except NotJudged:
         pass
     if best is None:
-        return ["no execution of the source leaves it, whatever its reads read from"] if not matched else []
-    return ["the source forbids it:", *("  " + line for line in best)]
+        return [], "" if matched else "no execution of the source leaves it, whatever its reads read from"
+    cycle, broken, execution = best
+    return [_link(execution.events[number], number, relation, source) for number, relation in cycle], broken
 
 
-def _cycle_of(execution, source):
-    """The shortest cycle that an execution has and mustn't have: as lines."""
-    hb = execution.relation("hb")
-    rf, mo, rb = execution.communication()
-    eco = closure(union(rf, mo, rb))
-    for number, before in enumerate(hb):
-        for other in numbers_in(before):
-            if eco[other] >> number & 1:
-                return _coherence_lines(execution, source, other, number, (rf, mo, rb))
-    psc = execution.psc()
-    if not has_cycle(psc):
-        return None
-    cycle = _shortest_cycle(psc)
-    return ["%s, before" % _told(execution.events[number], source) for number in cycle] + ["the first: psc has a cycle"]
-
-
-def _coherence_lines(execution, source, first, last, communication):
-    """A cycle of hb and eco: from the first event to the last by hb, and back by eco."""
-    steps = [[0] * len(execution.events) for _ in range(2)]
-    for number, event in enumerate(execution.events):
-        same = [other for other in numbers_in(event.sb) if execution.events[other].thread in (event.thread, -1)]
-        steps[0][number] = sum(1 << other for other in same)
-        steps[1][number] = sum(1 << other for other in set(execution.synchronizing(event)))
-    forth = _shortest_path(dict(zip(("sb", "sw"), steps)), first, last)
-    back = _shortest_path(dict(zip(("rf", "mo", "rb"), communication)), last, first)
-    lines = ["%s, %s" % (_told(execution.events[number], source), name) for number, name in forth + back]
-    return [*lines, "the first again: hb and eco have a cycle"]
-
-
-def _shortest_path(relations, first, last):
-    """A shortest path, as pairs of an event and the relation by which it comes before the next one."""
-    reached, waiting = {first: []}, [first]
-    for at in waiting:
-        for name, relation in relations.items():
-            for number, before in enumerate(relation):
-                if before >> at & 1 and number not in reached:
-                    reached[number] = reached[at] + [(at, name)]
-                    waiting.append(number)
-    return reached[last]
-
-
-def _shortest_cycle(relation):
-    """The events of a shortest cycle."""
-    best = None
-    for first in range(len(relation)):
-        for last in numbers_in(relation[first]):
-            if first == last:
-                return [first]
-            try:
-                found = [number for number, _ in _shortest_path({"": relation}, first, last)] + [last]
-            except KeyError:
-                continue
-            if best is None or len(found) < len(best):
-                best = found
-    return best
-
-
-def _told(event, source):
-    """An event in words."""
+def _link(event, number, relation, source):
     name = source.name_at(event.place[0]) if event.place else ""
     if event.thread < 0:
-        return "the initial %s=%d" % (name, event.written)
-    does = {"R": "reads %s=%s" % (name, event.read), "W": "writes %s=%s" % (name, event.written),
-            "X": "changes %s from %s to %s" % (name, event.read, event.written), "F": "fence"}[event.kind]
-    order = {"na": "not atomic", "rlx": "relaxed", "acq": "acquire", "rel": "release", "ar": "acq_rel", SC: "seq_cst"}[event.mode]
-    return "P%d line %s %s (%s)" % (event.thread, event.at, does, order)
-
-
-def lines(judge_source, compiled, cells, states, extra, shown, rounds, asker):
-    """The reason for the first of these states: of the machine and of the source."""
-    case, state, paths = states[extra]
-    found = ["why %s:" % text_of(cells, extra, shown)]
-    found += ["  " + path.fault for path in paths if path.fault]
-    found += ["  " + line for line in machine_lines(compiled, case, state, asker)]
-    return found + ["  " + line for line in source_lines(judge_source, rounds, cells, extra, shown)]
+        does = "the initial %s=%d" % (name, event.written)
+    else:
+        does = {"R": "reads %s=%s" % (name, event.read), "W": "writes %s=%s" % (name, event.written),
+                "X": "changes %s from %s to %s" % (name, event.read, event.written), "F": "fence"}[event.kind]
+        does += " (%s)" % MODES[event.mode]
+    return Link(event.thread, number, event.at, does, relation)

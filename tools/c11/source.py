@@ -1,18 +1,20 @@
 """What one thread of the source does, by clang's unoptimized code: up to the next read whose value others may give."""
 from collections import namedtuple
 
-from .llvm import ARITHMETIC, CASTS, Module
+from .llvm import ARITHMETIC, CASTS, Line, Module
 from .llvm_words import signed, walk
 from .locals import Locals
 from .events import CUT, ENDS, FAULTS, FENCE, LOCKED, READ, REPEATS, WAITS, WRITE, Stop
 from .refusals import NotJudged
 from .sharing import STACK, STACK_SIZE, SharedWords
+from .states import words_of
 
 # As the machine's events, with the memory order; `at` is a line of C.
 Action = namedtuple("Action", "kind place read written addend at mode")
 
 BASE, GAP = 0x41000000, 0x40
 MOST_STEPS, DEEPEST_CALLS = 20000, 16
+PLAIN = "na"
 IGNORED_CALLS = {"nothing", "@llvm.x86.sse2.pause", "@llvm.donothing", "@sched_yield"}
 
 UPDATES = {"xchg": lambda old, value: value, "add": lambda old, value: old + value, "sub": lambda old, value: old - value,
@@ -28,6 +30,10 @@ COMPUTED = {"add": lambda one, other, bits: one + other, "sub": lambda one, othe
             "srem": lambda one, other, bits: signed(one, bits) - signed(other, bits) * _toward_zero(signed(one, bits), signed(other, bits))}
 COMPARED = {"eq": lambda one, other: one == other, "ne": lambda one, other: one != other, "gt": lambda one, other: one > other,
             "ge": lambda one, other: one >= other, "lt": lambda one, other: one < other, "le": lambda one, other: one <= other}
+
+
+def _itself(value):
+    return value
 
 
 def _toward_zero(one, other):
@@ -74,6 +80,15 @@ class Source(SharedWords):
                 return name + ("+%d" % (address - start) if address > start else "")
         return "%#x" % address
 
+    def words_in(self, address, count, slots):
+        """The words that lie in so many bytes of a variable, of the test or of a thread's slots: pairs of an offset and a size. Where no
+        variable has all of these bytes, there are none."""
+        for start, size, kind in (*slots, *((start, self.sizes[name], self.module.globals[name][0]) for name, start in self.addresses.items())):
+            if start <= address and address + count <= start + size:
+                words = words_of(self.module, kind, start - address)
+                return [(at, length) for at, length in words if at >= 0 and at + length <= count]
+        return []
+
     def dead_at(self, function, block):
         """The variables of a function, pairs of a register and a size, that aren't read again from this block on."""
         if id(function) not in self._locals:
@@ -93,18 +108,23 @@ class Source(SharedWords):
 
 
 class Frame:
-    """A call of a function: where it is, its registers, and the register that its result goes to."""
+    """A call of a function: where it is, its registers, the register that its result goes to, and the words of a structure that are still
+    to be copied, each a line."""
 
-    __slots__ = ("function", "block", "at", "came_from", "registers", "result")
+    __slots__ = ("function", "block", "at", "came_from", "registers", "result", "copies")
 
     def __init__(self, function, block, registers, result):
         self.function, self.block, self.at, self.came_from = function, block, 0, None
-        self.registers, self.result = registers, result
+        self.registers, self.result, self.copies = registers, result, ()
 
     def copy(self):
         other = Frame(self.function, self.block, dict(self.registers), self.result)
-        other.at, other.came_from = self.at, self.came_from
+        other.at, other.came_from, other.copies = self.at, self.came_from, self.copies
         return other
+
+    def line(self):
+        """The line that comes next."""
+        return self.copies[0] if self.copies else self.function.blocks[self.block][self.at]
 
 
 class _Waits(Exception):
@@ -122,7 +142,7 @@ class Thread:
         self.program, self.number = program, number
         self.memory, self.events, self.answer = {}, [], None
         self.top, self.jumps, self.arrivals, self.steps = STACK + number * STACK_SIZE, {}, {}, 0
-        self.frames = []
+        self.frames, self.slots = [], ()
         self._enter(name, arguments, None)
 
     def answered(self, value):
@@ -130,12 +150,13 @@ class Thread:
         other.program, other.number, other.top, other.steps = self.program, self.number, self.top, self.steps
         other.memory, other.jumps, other.arrivals = dict(self.memory), dict(self.jumps), dict(self.arrivals)
         other.frames, other.events, other.answer = [frame.copy() for frame in self.frames], [], value
+        other.slots = self.slots
         return other
 
     def run(self):
         while True:
             frame = self.frames[-1]
-            line = frame.function.blocks[frame.block][frame.at]
+            line = frame.line()
             self.steps += 1
             if self.steps > MOST_STEPS:
                 return Stop(CUT, None)
@@ -202,6 +223,12 @@ class Thread:
         if operation == "call":
             frame.at += 1
             return self._call(frame, line)
+        if operation == "copy":
+            to, size, source, byte = line.parts
+            word = self._load(_itself, size, source, PLAIN) if byte is None else int.from_bytes(bytes([byte]) * size, "little")
+            self._store(_itself, size, word, to, PLAIN)
+            frame.copies = frame.copies[1:]
+            return None
         found = self._compute(frame, line)
         if line.result:
             frame.registers[line.result] = found
@@ -217,19 +244,22 @@ class Thread:
         name, arguments = line.parts
         if name in IGNORED_CALLS or name == "asm" and arguments in ("", "pause", "nop", "rep; nop"):
             return None
-        if name.startswith("@llvm.memset") or name.startswith("@llvm.memcpy"):
-            return self._fill(name, [self._value(frame, one) for one in arguments])
+        if name.startswith(("@llvm.memcpy", "@llvm.memset")):
+            to, source, count = (self._value(frame, one) for one in arguments[:3])
+            frame.copies = self._copies(to, source, count, name.startswith("@llvm.memset"), line.line)
+            return None
         if not name.startswith("@"):
             raise NotJudged("the source: line %s: %s isn't read" % (line.line, name))
         return self._enter(name[1:], [self._value(frame, one) for one in arguments], line.result)
 
-    def _fill(self, name, arguments):
-        """Copies or sets words of a thread's own; of others it isn't said how they are cut."""
-        to, source, count = arguments[:3]
-        for at in range(count):
-            if self._uses(to + at, 1, True) or name.startswith("@llvm.memcpy") and self._uses(source + at, 1, False):
-                raise NotJudged("the source: a structure that several threads use is copied whole")
-            self.memory[to + at] = self._own(source + at, 1) if name.startswith("@llvm.memcpy") else source & 255
+    def _copies(self, to, source, count, is_set, line):
+        """The words of a structure that is copied, or whose bytes are set, each a line. Their order makes no difference: they aren't
+        atomic, and a race on one of them makes everything undefined."""
+        words = self.program.words_in(to, count, self.slots)
+        if not words and not is_set:
+            words = self.program.words_in(source, count, self.slots)
+        return tuple(Line("copy", None, (to + at, size, None if is_set else source + at, source & 255 if is_set else None), line)
+                     for at, size in words or [(at, 1) for at in range(count)])
 
     # ---- what is computed
 
@@ -259,6 +289,7 @@ class Thread:
         if operation == "alloca":
             at = self.top = (self.top + 15) // 16 * 16
             self.top += parts[0]
+            self.slots = ((at, *parts), *self.slots)
             return at
         if operation == "getelementptr":
             return self._element(frame, *parts)

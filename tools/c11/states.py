@@ -42,17 +42,18 @@ class Observer:
 def cells_of(module):
     """The words of a module's variables: triples of a name, an offset and a size."""
     return [(name, offset, size) for name, (kind, _) in sorted(module.globals.items()) if not name.startswith((".", "__const", "__func"))
-            for offset, size in _words_of(module, kind, 0)]
+            for offset, size in words_of(module, kind, 0)]
 
 
-def _words_of(module, kind, at):
+def words_of(module, kind, at):
+    """The words that a type has, from this place on: pairs of a place and a size."""
     if kind[0] == "a":
         size = module.size(kind[2])
         for number in range(kind[1]):
-            yield from _words_of(module, kind[2], at + number * size)
+            yield from words_of(module, kind[2], at + number * size)
     elif kind[0] == "s":
         for number, inner in enumerate(kind[1]):
-            yield from _words_of(module, inner, at + module.offset(kind, number))
+            yield from words_of(module, inner, at + module.offset(kind, number))
     else:
         yield at, module.size(kind)
 

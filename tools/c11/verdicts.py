@@ -5,8 +5,8 @@ from dataclasses import dataclass, field
 from . import compiling
 from .executions import Executions
 from .machine import Machine
-from .objects import Image
 from .paths import grown
+from .refusals import NotJudged
 from .source import Source
 from .splitting import Splitting
 from .states import FAULT, Observer, cells_of, name_of
@@ -19,7 +19,7 @@ FURTHER_ROUNDS = 2
 @dataclass
 class Verdict:
     """What is said of a test and a compiler. `states` are the machine's, `allowed` the source's, as texts; `extra` are those that aren't
-    allowed; `is_exact` says that no path was cut. `why` has the lines of the reason."""
+    allowed; `is_exact` says that no path was cut. `why` has the lines of the reason, and `reason` that of a state that isn't allowed."""
 
     test: str
     compiler: str
@@ -30,6 +30,7 @@ class Verdict:
     is_exact: bool = True
     told: str = ""
     why: list = field(default_factory=list)
+    reason: dict = None
     seconds: float = 0.0
     tests: int = 0
 
@@ -46,11 +47,12 @@ class Allowed:
 
 
 class SourceJudge:
-    """What one test's source allows, by a model, for each number of rounds, found once."""
+    """What one test's source allows, by a model, for each number of rounds, found once. `text` is what clang says of it, where that is
+    known."""
 
-    def __init__(self, test, model):
+    def __init__(self, test, model, text=None):
         self.test, self.model = test, model
-        self._text, self._known = None, {}
+        self._text, self._known = text, {}
 
     def allowed(self, rounds, cells=None):
         key = (rounds, None if cells is None else tuple(cells))
@@ -62,6 +64,11 @@ class SourceJudge:
         """Has clang read the source."""
         if self._text is None:
             self._text = compiling.source_of(self.test.text, self.test.name)
+
+    def by_model(self, model):
+        """The same source by another model."""
+        self.read()
+        return SourceJudge(self.test, model, self._text)
 
     def executions(self, rounds, model):
         """The source, and its executions by a model."""
@@ -110,7 +117,8 @@ class Compiled:
 
     def own_cells(self):
         """The words of variables that its cores use, for a program that has no source."""
-        used = sorted({(address, size) for _, address, size in self.machine.noted if not self.machine.is_stack(address)})
+        machine = self.machine
+        used = sorted({machine.word_of(address, size) for _, address, size in machine.noted if not machine.is_stack(address)})
         named = [(self.image.symbol_at(address), address, size) for address, size in used]
         return [(symbol.name, address - symbol.address, size) for symbol, address, size in named
                 if symbol is not None and symbol.kind == "variable"]
@@ -143,8 +151,8 @@ def text_of(cells, state, shown=None):
     return " ".join("%s=%s" % (name_of(cell), value) for cell, value in zip(cells, state) if shown is None or cell in shown)
 
 
-def judge(judge_source, compiler, content, rounds, asker):
-    """The verdict on the object with these bytes, as one of this source. Answers the verdict, and the compiled program for its reasons."""
+def judge(judge_source, compiler, image, rounds, asker):
+    """The verdict on an object's image, as one of this source. Answers the verdict, and the compiled program for its reasons."""
     began = _clock()
     name = judge_source.test.name
     allowed = judge_source.allowed(rounds)
@@ -154,11 +162,13 @@ def judge(judge_source, compiler, content, rounds, asker):
     if FAULT in allowed.states:
         told = "an access where no memory lies: undefined"
         return Verdict(name, compiler, UNDEFINED, told=told, seconds=_clock() - began), None
-    compiled = Compiled(Image(content), judge_source.test.functions, rounds, asker)
+    compiled = Compiled(image, judge_source.test.functions, rounds, asker)
     cells = [cell for cell in allowed.cells if compiled.has(cell[0])]
     if cells != allowed.cells:
         allowed = judge_source.allowed(rounds, cells)
     states = compiled.states(cells)
+    if not states and not compiled.is_cut and allowed.states:
+        raise NotJudged("no run of the code comes to its end, and runs of the source do")
     extra = set(states) - allowed.states
     word = BOUNDED if compiled.is_cut else OK
     if extra and allowed.is_cut:
