@@ -13,8 +13,8 @@ from import_forms import x86
 
 SEED, COUNT = 1, 200
 
-# Instructions that tools/import refuses.
-REFUSED = ("movl $1,(%rsi)", "movl %eax,(%rsi)", "movb $1,(x)", "lock xaddq %rax,(x)", "xaddl %eax,(x)", "xchgl %eax,%ebx",
+# Instructions that tools/import refuses, and for which no hint knows another form.
+REFUSED = ("movl $1,(%rsi)", "movl %eax,(%rsi)", "movb $1,(x)", "lock xaddq %rax,(x)", "xaddl %eax,(x)",
            "MOV EAX,(x)", "MOV (x),EAX", "movl %eax,[x]", "movl [x],%eax")
 
 # The registers of 64 bits, each with its part of 32 bits.

@@ -226,6 +226,65 @@ def go_through_register(text):
     text.put(core, "MOV %s,%s" % (register, source), "MOV %s,%s" % (to, register))
 
 
+def turn_bare(text, cell):
+    """Puts a cell's destination first, and its location, which has no sign, into brackets."""
+    name, first, second = re.fullmatch(r"((?:lock\s+)?\w+)\s+([^,]*?)\s*,\s*(.*)", cell, re.I).groups()
+    first, second = (operand[1:] if operand.startswith("%") else re.sub(r"^([A-Za-z_]\w*)$", r"[\1]", operand) for operand in (first, second))
+    text.line = text.line.replace(cell, "%s %s,%s" % (name, second, first), 1)
+
+
+def leave_out_dollar(text, register):
+    text.line = text.line.replace("$" + register, register, 1)
+
+
+def load_what_has_dollar(text, name):
+    """A load of a location in the place of `$x`, and where it was to be stored a store after it."""
+    core = next(core for core, cell in enumerate(text.line.split("|")) if "$" + name in cell)
+    to = re.match(r"(?i)\s*mov\s*(\[\w+\]|\w+)", text.cell(core))[1]
+    if to.startswith("["):
+        register = text.free_register(core)
+        text.put(core, "MOV %s,[%s]" % (register, name), "MOV %s,%s" % (to, register))
+    else:
+        text.put(core, "MOV %s,[%s]" % (to, name))
+
+
+def exchange_by_moves(text):
+    core = next(core for core, cell in enumerate(text.line.split("|")) if re.search(r"(?i)xchg\s+e\w+\s*,\s*e\w+", cell))
+    one, other = re.findall(r"(?i)\be\w\w\b", text.cell(core))
+    free = text.free_register(core)
+    text.put(core, "MOV %s,%s" % (free, one), "MOV %s,%s" % (one, other), "MOV %s,%s" % (other, free))
+
+
+def store_or_load(text, name, form):
+    """The store or the load that a function of C's stands for."""
+    core = text.core_of(name)
+    place = re.search(r"[(&*]\s*([a-z]\w*)", text.cell(core))[1]
+    text.put(core, "MOV [%s],$1" % place if form == "store" else "MOV %s,[%s]" % (text.free_register(core), place))
+
+
+def put_into_brackets(text, sign, name):
+    text.line = text.line.replace(sign + name, "[%s]" % name, 1)
+
+
+def square(text, name):
+    text.line = text.line.replace("(%s)" % name, "[%s]" % name, 1)
+
+
+# ---- the changes of rows
+
+def leave_out_bar(text, where):
+    line = text.line.rstrip(" ;")
+    text.line = line[:-1] + ";" if where == "at the row's end" else text.line.replace("|", "", 1)
+
+
+def leave_out_cells(text, cells, cores):
+    text.line = " | ".join(text.line.rstrip(" ;").split("|")[:int(cores)]) + " ;"
+
+
+def add_cells(text, cells, cores):
+    text.line = text.line.rstrip(" ;") + " |" * (int(cores) - int(cells)) + " ;"
+
+
 # ---- the changes of places
 
 def rename_register(text, name):
@@ -245,6 +304,29 @@ def name_location(text, name):
     text.line = re.sub(r"\[\s*%s\s*\]" % name, "[x]", text.line)
 
 
+def name_by_letter(text, name):
+    """A location's name that began with a digit, everywhere."""
+    text.lines = re.sub(r"\b%s\b" % name, "_" + name, text.text()).split("\n")
+
+
+def write_number(text, name):
+    text.line = re.sub(r"=\s*&?\s*%s\b" % name, "=1", text.line, count=1)
+
+
+def write_equal(text):
+    """Two places that are equal, each with a number."""
+    places = r"((?:\d+\s*:\s*)?[A-Za-z_]\w*)"
+    text.line = re.sub(places + r"\s*=\s*" + places,
+                       lambda found: "((%s=0 /\\ %s=0) \\/ (%s=1 /\\ %s=1))" % (found.groups() * 2), text.line, count=1)
+
+
+def write_values(text):
+    """An atom for each of several values."""
+    def written(found):
+        return "(%s)" % " \\/ ".join("%s=%s" % (found[1], value) for value in re.findall(r"\d+", found[2]))
+    text.line = re.sub(r"((?:\d+\s*:\s*)?[A-Za-z_]\w*)\s*(?:in|=)\s*(\{[^}]*\}|\d+(?:\s*(?:,|\||or)\s*\d+)+)", written, text.line, count=1)
+
+
 def leave_out_address(text, name):
     text.line = re.sub(r"\d+\s*:\s*\w+\s*=\s*%s\b" % name, "", text.line, count=1)
 
@@ -252,9 +334,26 @@ def leave_out_address(text, name):
 CURES = [
     (r"X86_64 tests aren't read: .*; if you do so by hand, begin with X86 and .*", lambda text: write_header(text, "X86_64")),
     (r"(\w+) is (?:another processor|a language): write its programs as X86 instructions, below a line X86 NAME; .*", write_header),
+    (r"C is a language: the tool compiled reads such a test; tso reads programs of X86 instructions, below a line X86 NAME",
+     lambda text: write_header(text, "C")),
     (r"(\w+): write X86, in capitals", write_header),
     (r"'(.*)' is AT&T's order, source first; here the destination stands first, as in MOV EAX,\[y\]: .*", turn_round),
+    (r"'(.*)' is AT&T's order, source first; here the destination stands first, and a location in \[ \]: .*", turn_bare),
     (r"a register is written without %: EAX", leave_out_percent),
+    (r"\((\w+)\): a location stands in square brackets: write \[\w+\]", square),
+    (r"(&)(\w+): a location is written \[x\] in an instruction: .*", put_into_brackets),
+    (r"\$ stands before (\w+): it stands before numbers alone, and a register is written without it", leave_out_dollar),
+    (r"\$ stands before (\w+): it stands before numbers alone; a location is written \[x\]: load it by .*", load_what_has_dollar),
+    (r"an exchange of two registers takes three MOVs, .*", exchange_by_moves),
+    (r"(\w+) isn't read: a (store|load) is MOV .*", store_or_load),
+    (r"(\w+) begins with a digit, as a number: a name begins with a letter or _, .*", name_by_letter),
+    (r"(\w+): a location begins with a number, as x=1: .*", write_number),
+    (r"\S+ an atom compares a place with one number: that two places are equal is written .*", write_equal),
+    (r"\S+ write an atom for each value, joined by .*", write_values),
+    (r"this row has \d+ cells?, and the test has \d+ cores?: \| stands only between cells, so leave out the one (at the row's end|that begins .*)",
+     leave_out_bar),
+    (r"this row has (\d+) cells?, and the test has (\d+) cores?: leave a cell out, .*", leave_out_cells),
+    (r"this row has (\d+) cells?, and the test has (\d+) cores?: write a cell for each core, .*", add_cells),
     (r"(\w+): write (\w+), for words of 32 bits", Text.replace),
     (r"(\w+) is none of EAX, EBX, ECX, EDX, ESI, EDI\b.*", rename_register),
     (r"(\w+) is a part of a register: if the whole register will do, write EAX, .*", rename_register),

@@ -196,6 +196,63 @@ def has_source_first(parts):
                           "lock xaddl %ecx,(y)")
 
 
+def has_round_brackets(parts):
+    return parts.put_cell("MOV (x),$1", "mov (y),2", "XCHG (x),EAX", "XCHG EBX,(z)", "LOCK XADD (x),ECX", "LOCK XCHG (y),EDX")
+
+
+def has_bare_location(parts):
+    return parts.put_cell("movl $1,x", "movl %eax,y", "movl z,%ebx", "mov $2,x", "xchgl %eax,x", "lock xaddl %ecx,y")
+
+
+def takes_address(parts):
+    return parts.put_cell("MOV EAX,&y", "MOV &x,$1", "XCHG &z,EBX", "LOCK XADD &x,EAX")
+
+
+def has_dollar(parts):
+    return parts.put_cell("MOV [x],$y", "MOV EAX,$x", "MOV [z],$x", "MOV [x],$EAX", "MOV ECX,$EDX")
+
+
+def exchanges_registers(parts):
+    return parts.put_cell("XCHG EAX,EBX", "xchg ecx,edx", "LOCK XCHG ESI,EDI")
+
+
+def calls_function(parts):
+    return parts.put_cell("WRITE_ONCE(*x, 1)", "WRITE_ONCE(y, 1)", "READ_ONCE(*y)", "atomic_store(&x, 1)", "atomic_load(&z)",
+                          "atomic_store_explicit(&x, 1, memory_order_relaxed)", "smp_store_release(x, 1)", "__atomic_load_n(&y, 5)")
+
+
+def begins_name_with_digit(parts):
+    name = "%d%s" % (parts.chance.randrange(10), parts.chance.choice("abyz"))
+    return parts.chance.choice((
+        lambda: parts.put_cell("MOV [%s],$1" % name, "MOV EAX,[%s]" % name, "XCHG [%s],EBX" % name),
+        lambda: parts.put_item("%s=1" % name), lambda: parts.put_atom("%s=1" % name)))()
+
+
+def has_no_value(parts):
+    return parts.put_item("a=b", "a=&x", "[b]=a", "b=tail")
+
+
+def compares_places(parts):
+    return parts.put_atom("0:EAX=x", "x=y", "0:EAX=0:EBX", "y=0:ECX")
+
+
+def has_values(parts):
+    return parts.put_atom("0:EAX in {0,1}", "x in {1,2}", "0:EBX={0,2}", "y=0|1", "x=1,2", "0:EAX=0 or 1")
+
+
+def has_other_cells(parts):
+    """A row has a cell too many, an empty one at an end, or one too few."""
+    parts.cores = max(parts.cores, 2)
+    parts.rows = [[parts.cell() for _ in range(parts.cores)] for _ in range(2)]
+    row = parts.chance.choice(parts.rows)
+    change = parts.chance.randrange(4)
+    if change == 3:
+        row.pop()
+    else:
+        row.insert(*((len(row), "MFENCE"), (len(row), ""), (0, ""))[change])
+    return parts.text()
+
+
 def asks_otherwise(parts):
     """The condition begins with another word."""
     word = parts.chance.choice(("exits", "exsits", "never", "always", "assert", "for all", "allowed", "forbidden"))
@@ -243,8 +300,9 @@ def writes_choices_otherwise(parts):
 
 SLIPS = (adds_after_lock, computes, jumps, names_label, says_size, does_nothing, says_pointer, moves_between_locations, names_core,
          is_not_ascii, begins_comment, divides_otherwise, has_two_tests, has_other_register, has_other_register_in_cell, has_other_header,
-         has_address, has_source_first, asks_otherwise, leaves_open, splits_otherwise, ends_no_row, has_signed_number, stands_in_markdown,
-         writes_choices_otherwise)
+         has_address, has_source_first, has_round_brackets, has_bare_location, takes_address, has_dollar, exchanges_registers,
+         calls_function, begins_name_with_digit, has_no_value, compares_places, has_values, has_other_cells, asks_otherwise, leaves_open,
+         splits_otherwise, ends_no_row, has_signed_number, stands_in_markdown, writes_choices_otherwise)
 
 
 def texts():

@@ -1,13 +1,17 @@
 //! What is said of a cell that spells no instruction: which form was meant, where that can be seen, and what in it differs.
 
-use crate::faults::STORE_AND_LOAD;
-use crate::instructions::{CALLS, FORMS, LABEL, LOCKED, OTHERS, SIZED, SIZES, UNLOCKED};
+use crate::brackets::{count, says_of_brackets};
+use crate::c_forms::{is_type, said_of_access};
+use crate::faults::{STORE_AND_LOAD, says_digit_first};
+use crate::instructions::{FORMS, LABEL, LOCKED, SIZED, UNLOCKED, WORDS};
 use crate::keywords::begins_instruction;
-use crate::line::{Line, Piece};
-use crate::operands::source_first;
+use crate::line::Line;
+use crate::operands::{RELATIVE, says_of_order};
+use crate::place::Place;
 use crate::quotes::{token, up_to, up_to_any};
-use crate::tables::{Alike, said_of, said_of_front};
-use litmus_tokens::{Lexeme, Symbol, Token, after_symbol, is_symbol, tokens_of};
+use crate::registers::said_of_register;
+use crate::tables::{Alike, is_one_of, said_of, said_of_front};
+use litmus_tokens::{Lexeme, Symbol, Token, after_symbol, tokens_of};
 use std::alloc::Global;
 use tso_terms::names::is_location_name;
 use tso_terms::{NoMemory, Reg};
@@ -21,13 +25,28 @@ const LOCK_ALONE: &str =
 const NO_REGISTER: &str = "{} is none of EAX, EBX, ECX, EDX, ESI, EDI; a location is written [x]";
 
 const NO_LOCATION: &str =
-    "{} names no location, and no register can hold an address here: write the location's name in [ ], as [x]; the tool import turns such a test into this form";
+    "{} names no location, and no register can hold an address here: write the location's name in [ ], as [x]; the tool import does so where the initial state has an item as 0:EBX=x";
 
 const NO_SECOND: &str =
     "{} begins a second instruction: a cell has one, so write it into the next row";
 
 const NO_DOLLAR: &str =
-    "$ stands before {}: it stands before numbers alone; a location is written [x]";
+    "$ stands before {}: it stands before numbers alone, and a register is written without it";
+
+const NO_NAME: &str =
+    "$ stands before {}: it stands before numbers alone; a location is written [x]: load it by MOV EAX,[x], and store that by MOV [y],EAX in the next cell";
+
+const DECLARATION: &str =
+    "{} is a type: no register and no location is declared here, so leave the cell empty";
+
+const TWO_REGISTERS: &str =
+    "an exchange of two registers takes three MOVs, each in a cell of its own: MOV ECX,EAX  MOV EAX,EBX  MOV EBX,ECX, with a free register for ECX";
+
+const SUM_OF_REGISTERS: &str =
+    "no sum of two registers is read: LOCK XADD adds a register to a location, as LOCK XADD [x],EAX";
+
+const TWO_LOCATIONS: &str =
+    "only one of the two may be a location: load the other in the cell before, as MOV EAX,[y], and write that register in its place";
 
 /// Of the cell at the front of a text.
 ///
@@ -62,7 +81,14 @@ pub fn bad_instruction(alloc: Global, line: &mut Line, rest: &[u8]) -> Result<()
 /// assignment.
 fn said_of_cell(tokens: &[Token<'_>]) -> Option<&'static str> {
     let (name, after) = first_name(tokens);
-    if let Some(said) = said_of(&OTHERS, name).or(said_of_front(&CALLS, name)) {
+    if is_type(name) && !first_name(after).0.is_empty() {
+        return Some(if count(Symbol::Equals, tokens) > 0 {
+            STORE_AND_LOAD
+        } else {
+            DECLARATION
+        });
+    }
+    if let Some(said) = said_of_access(name) {
         return Some(said);
     }
     if let Some(labelled) = after_symbol(Symbol::Colon, after)
@@ -74,12 +100,11 @@ fn said_of_cell(tokens: &[Token<'_>]) -> Option<&'static str> {
             LABEL
         });
     }
-    for token in tokens {
-        if is_symbol(Symbol::Equals, token) {
-            return Some(STORE_AND_LOAD);
-        }
+    if count(Symbol::Equals, tokens) > 0 {
+        Some(STORE_AND_LOAD)
+    } else {
+        None
     }
-    None
 }
 
 /// The name that stands first, or no bytes, and what stands after it.
@@ -101,81 +126,127 @@ fn says_of_instruction(
 ) -> bool {
     if let Some(said) = said_of_front(unread, name) {
         line.say_of(said, name);
-    } else if let Some(said) = source_first(operands) {
-        line.say_of(said, cell);
-    } else if let Some(said) = said_of(&SIZED, name) {
+        return true;
+    }
+    if says_of_order(line, name, cell, operands) {
+        return true;
+    }
+    if let Some(said) = said_of(&SIZED, name) {
         line.say_of(said, name);
-    } else if let Some(forms) = said_of(&FORMS, name) {
-        bad_operands(line, forms, operands);
-    } else {
+        return true;
+    }
+    let Some(forms) = said_of(&FORMS, name) else {
         return false;
+    };
+    if !says_of_operands(line, name, cell, operands) {
+        line.say(forms);
     }
     true
 }
 
-/// Of the first operand that is neither a location in brackets nor a register; else of a bracket or the comma that isn't there,
-/// and else the forms that the instruction has.
-fn bad_operands(line: &mut Line, forms: &str, tokens: &[Token<'_>]) {
-    let mut in_brackets = false;
-    let mut after_dollar = false;
-    let mut after_zero = false;
-    for token in tokens {
+/// Says of what is wrong with the operands of an instruction: of a word that is none, of a bracket, or of all of them together.
+/// Whether that is known.
+fn says_of_operands(
+    line: &mut Line,
+    instruction: &[u8],
+    cell: &[u8],
+    operands: &[Token<'_>],
+) -> bool {
+    says_of_digits(line, cell, operands)
+        || says_relative(line, cell, operands)
+        || says_of_brackets(line, cell, operands)
+        || says_of_words(line, operands)
+        || says_of_pair(line, instruction, operands)
+}
+
+/// Says of the first word among operands that begins with a digit and is no number. Whether there is one.
+fn says_of_digits(line: &mut Line, cell: &[u8], operands: &[Token<'_>]) -> bool {
+    for token in operands {
+        if !name_of(token).is_empty()
+            && says_digit_first(line, &Place::new(cell, token.remaining))
+        {
+            return true;
+        }
+    }
+    false
+}
+
+/// Says of an address that is counted from the instruction pointer. Whether an operand names that.
+fn says_relative(line: &mut Line, cell: &[u8], operands: &[Token<'_>]) -> bool {
+    for token in operands {
+        if name_of(token).eq_ignore_ascii_case(b"RIP") {
+            line.say_of(RELATIVE, cell);
+            return true;
+        }
+    }
+    false
+}
+
+/// Says of the first name among operands that is neither a location in brackets nor a register. Whether there is one.
+fn says_of_words(line: &mut Line, operands: &[Token<'_>]) -> bool {
+    let mut before = None;
+    for token in operands {
         let name = name_of(token);
-        if after_zero && (name.starts_with(b"x") || name.starts_with(b"X")) {
-            return line.say_with("0{}: numbers are decimal", &[Piece::Shown(name)]);
+        if !name.is_empty()
+            && let Some(said) = misfit(before, name)
+        {
+            line.say_of(said, name);
+            return true;
         }
-        if after_dollar && !name.is_empty() {
-            return line.say_of(NO_DOLLAR, name);
-        }
-        if let Some(said) = misfit(in_brackets, name) {
-            return line.say_of(said, name);
-        }
-        in_brackets = is_symbol(Symbol::OpenSquare, token);
-        after_dollar = is_symbol(Symbol::Dollar, token);
-        after_zero = matches!(token.lexeme, Lexeme::Number(digits) if digits.is_empty());
+        before = Some(token.lexeme);
     }
-    let (opened, closed) = (
-        count(Symbol::OpenSquare, tokens),
-        count(Symbol::CloseSquare, tokens),
+    false
+}
+
+/// Says of how many operands there are, and of which kinds. Whether it is known what was meant.
+fn says_of_pair(line: &mut Line, instruction: &[u8], operands: &[Token<'_>]) -> bool {
+    let (commas, locations) = (
+        count(Symbol::Comma, operands),
+        count(Symbol::OpenSquare, operands),
     );
-    if opened > closed {
-        line.say("no ] closes the [ of a location: it is written [x]");
-    } else if opened < closed {
-        line.say("no [ stands before the ] of a location: it is written [x]");
-    } else if count(Symbol::Comma, tokens) == 0 && opened > 0 && tokens.len() > 3 {
-        line.say("no comma stands between the two operands, as in MOV [x],$1 and MOV EAX,[x]");
+    let is_sum = is_one_of(&["XADD"], instruction);
+    let sentence = if commas == 0 && locations > 0 && operands.len() > 3 {
+        "no comma stands between the two operands, as in MOV [x],$1 and MOV EAX,[x]"
+    } else if commas > 1 {
+        "an instruction has two operands, as MOV [x],$1 and MOV EAX,[x]"
+    } else if !is_sum && !is_one_of(&["XCHG"], instruction) {
+        return false;
+    } else if locations > 1 {
+        TWO_LOCATIONS
+    } else if !are_registers(operands) {
+        return false;
+    } else if is_sum {
+        SUM_OF_REGISTERS
     } else {
-        line.say(forms);
+        TWO_REGISTERS
+    };
+    line.say(sentence);
+    true
+}
+
+/// Whether operands are two words, which are registers where no other word is at fault.
+fn are_registers(operands: &[Token<'_>]) -> bool {
+    match operands {
+        [first, _, second] => !name_of(first).is_empty() && !name_of(second).is_empty(),
+        _ => false,
     }
 }
 
-/// How many of these tokens are this symbol.
-fn count(symbol: Symbol, tokens: &[Token<'_>]) -> usize {
-    let mut count = 0usize;
-    for token in tokens {
-        if is_symbol(symbol, token) {
-            count = count.saturating_add(1);
-        }
-    }
-    count
-}
-
-/// What is said of a name that is no operand, in brackets or without.
-fn misfit(in_brackets: bool, name: &[u8]) -> Option<&'static str> {
-    if name.is_empty() {
-        None
-    } else if in_brackets {
-        if is_location_name(name) {
-            None
-        } else {
-            Some(NO_LOCATION)
-        }
-    } else if Reg::from_name(name).is_some() {
-        None
-    } else if begins_instruction(name) {
-        Some(NO_SECOND)
-    } else {
-        Some(said_of(&SIZES, name).unwrap_or(NO_REGISTER))
+/// What is said of a name that is no operand, by what stands before it.
+fn misfit(before: Option<Lexeme<'_>>, name: &[u8]) -> Option<&'static str> {
+    let is_register = Reg::from_name(name).is_some();
+    match before {
+        Some(Lexeme::Symbol(Symbol::Dollar)) if is_register => Some(NO_DOLLAR),
+        Some(Lexeme::Symbol(Symbol::Dollar)) => Some(NO_NAME),
+        Some(Lexeme::Symbol(Symbol::OpenSquare)) if is_location_name(name) => None,
+        Some(Lexeme::Symbol(Symbol::OpenSquare)) => Some(NO_LOCATION),
+        _ if is_register => None,
+        _ if begins_instruction(name) => Some(NO_SECOND),
+        _ => Some(
+            said_of(&WORDS, name)
+                .or(said_of_register(name))
+                .unwrap_or(NO_REGISTER),
+        ),
     }
 }
 

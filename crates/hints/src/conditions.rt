@@ -3,12 +3,14 @@
 
 use crate::body::{body_of, ending_of};
 use crate::divider::{Asked, says_missing_divider};
-use crate::faults::{CONNECTIVES, IMPLICATION, LEAVE_OUT, says_hexadecimal, unfit};
-use crate::items::{PLAIN_DIGITS, says_foreign_register};
+use crate::faults::{
+    CONNECTIVES, IMPLICATION, LEAVE_OUT, NO_ARRAYS, NO_VALUE, says_digit_first, unfit,
+};
+use crate::items::{is_no_number, says_foreign_register};
 use crate::keywords::begins_instruction;
 use crate::line::{Line, Piece};
 use crate::place::Place;
-use crate::quotes::{is_all_digits, is_bare, is_choice, word};
+use crate::quotes::{digits_at, first_bytes, is_all_digits, is_bare, is_choice, last_bytes, word};
 use crate::signs::DIVIDER;
 use crate::tables::{Alike, is_exactly_one_of, is_one_of, said_of};
 use litmus_tokens::{Symbol, is_symbol, line_of, tokens_of};
@@ -22,10 +24,27 @@ const CONDITION: &str =
 
 const JOIN: &str = "{}: parts of a condition are joined by /\\ for and, \\/ for or";
 
+const VALUES: &str = "{}: write an atom for each value, joined by \\/, as (0:EAX=0 \\/ 0:EAX=1)";
+
+const EQUAL: &str =
+    "{}: an atom compares a place with one number: that two places are equal is written (0:EAX=0 /\\ x=0) \\/ (0:EAX=1 /\\ x=1)";
+
+const NO_EQUALS: &str = "{}: an atom has = between a place and one number, as 0:EAX=1 or x=1";
+
 const REGISTER_ALONE: &str = "{}: a register is written after its core and a colon, as 0:EAX";
 
+/// What is said of a word that compares.
+static COMPARISONS: [Alike; 3] = [
+    Alike(&["in"], VALUES),
+    Alike(&["is", "eq", "equals", "equal"], "{}: write =, as x=1"),
+    Alike(
+        &["ne", "neq", "isnt"],
+        "{}: that 0:EAX isn't 1 is written ~(0:EAX=1)",
+    ),
+];
+
 /// What is said of a token that stands after the end of a condition.
-static AFTER: [Alike; 4] = [
+static AFTER: [Alike; 5] = [
     Alike(
         &["locations", "location"],
         "{} stands after the condition: write locations [ .. ] before it",
@@ -35,6 +54,10 @@ static AFTER: [Alike; 4] = [
         "a second condition begins here: a test has one, whose parts are joined by /\\ and \\/",
     ),
     Alike(&["not", "xor", "implies", "iff"], JOIN),
+    Alike(
+        &["filter", "when", "where", "with", "given"],
+        "{} isn't read: join what it asks to the condition by /\\, as exists ((A) /\\ (B))",
+    ),
     Alike(
         &[
             "Order",
@@ -94,23 +117,51 @@ fn line_of_open_bracket(alloc: Global, place: &Place<'_>) -> Result<Option<usize
     Ok(None)
 }
 
-/// Says of a number or a connective of another form, within a condition or after it. Whether one stands there.
+/// Says of a number, a value or a connective of another form, within a condition or after it. Whether one stands there.
 fn says_foreign_form(line: &mut Line, place: &Place<'_>) -> bool {
     let (token, rest) = (place.token, place.rest);
-    if says_hexadecimal(line, place) {
+    if says_digit_first(line, place) {
         return true;
     }
-    let sentence = if is_one_of(&["|", "and", "or"], token)
+    let sentence = if rest.starts_with(b"=>") || rest.starts_with(b"==>") {
+        IMPLICATION
+    } else if begins_further_value(place) {
+        VALUES
+    } else if goes_on_after_value(place) {
+        EQUAL
+    } else if is_one_of(&["|", "and", "or"], token)
         || (is_exactly_one_of(&["="], token) && is_exactly_one_of(&["="], place.last_word))
     {
         CONNECTIVES
-    } else if rest.starts_with(b"=>") || rest.starts_with(b"==>") {
-        IMPLICATION
     } else {
         return false;
     };
     line.say_of(sentence, token);
     true
+}
+
+/// Whether a further value of a place stands behind a sign or a word that joins, or several in brackets.
+fn begins_further_value(place: &Place<'_>) -> bool {
+    let (token, last) = (place.token, place.last_word);
+    let next = place.after_token();
+    let digits = digits_at(next);
+    if is_exactly_one_of(&["="], last) {
+        return is_exactly_one_of(&["{", "["], token) && !digits.is_empty();
+    }
+    let after = last_bytes(next, next.len().saturating_sub(digits.len()));
+    is_all_digits(last)
+        && is_one_of(&[",", "|", "or"], token)
+        && !digits.is_empty()
+        && !after.trim_ascii_start().starts_with(b":")
+}
+
+/// Whether an atom goes on behind its value, as with a second place.
+fn goes_on_after_value(place: &Place<'_>) -> bool {
+    let (before, last) = (place.before.trim_ascii_end(), place.last_word);
+    let place_and_sign = first_bytes(before, before.len().saturating_sub(last.len()));
+    is_exactly_one_of(&[":", "="], place.token)
+        && is_all_digits(last)
+        && place_and_sign.trim_ascii_end().ends_with(b"=")
 }
 
 /// Says of a token that doesn't fit, by what stands before it, where that tells what was meant. Whether it does.
@@ -119,10 +170,17 @@ fn says_misfit(line: &mut Line, place: &Place<'_>) -> bool {
     let (sentence, named) = match token.first() {
         Some(b',' | b';') => (JOIN, token),
         Some(b':') if is_one_of(&["exists", "forall"], last) => (LEAVE_OUT, token),
-        Some(b':') if is_bare(last) => (
-            "{}: an atom has = between a place and one number, as 0:EAX=1 or x=1",
+        Some(b':') if is_bare(last) => (NO_EQUALS, token),
+        Some(b'=') if is_all_digits(last) => (
+            "{}: an atom has its place first and its number last, as x=1",
             token,
         ),
+        Some(b'(') if is_exactly_one_of(&["="], last) => (
+            "{}: a number stands without brackets, as x=1",
+            token,
+        ),
+        Some(b'[') if is_location_name(last) => (NO_ARRAYS, token),
+        Some(b'[') if is_exactly_one_of(&["="], last) => (EQUAL, token),
         Some(b'{' | b'[') if is_one_of(&["exists", "forall"], last) => {
             ("{}: only ( ) stand around parts of a condition", token)
         }
@@ -144,6 +202,7 @@ fn says_misfit(line: &mut Line, place: &Place<'_>) -> bool {
                 token,
             )
         }
+        Some(first) if first.is_ascii_digit() && is_place(last) => (NO_EQUALS, token),
         Some(_) => return false,
         None => return says_valueless(line, last),
     };
@@ -167,14 +226,16 @@ fn says_valueless(line: &mut Line, last: &[u8]) -> bool {
 /// Says of a name that doesn't fit. Whether it is known what was meant.
 fn says_misplaced_name(line: &mut Line, place: &Place<'_>) -> bool {
     let (token, last) = (place.token, place.last_word);
-    let sentence = if is_one_of(&["forall"], token) && is_exactly_one_of(&["~"], last) {
+    let sentence = if let Some(said) = said_of(&COMPARISONS, token)
+        && is_place(last)
+    {
+        said
+    } else if is_one_of(&["forall"], token) && is_exactly_one_of(&["~"], last) {
         "~{} isn't read: write exists, and ~( ) around what follows"
     } else if is_one_of(&["exists", "forall"], token) {
         "{} begins a second condition: a test has one, whose parts are joined by /\\ and \\/"
     } else if is_exactly_one_of(&["="], last) {
-        "{}: an atom has a number after =, as x=1: compare each of two places with one number"
-    } else if place.before.ends_with(last) && is_all_digits(last) {
-        PLAIN_DIGITS
+        if is_no_number(token) { NO_VALUE } else { EQUAL }
     } else if Reg::from_name(token).is_some() || is_one_of(&["ESP", "EBP", "RAX", "RBX"], token) {
         REGISTER_ALONE
     } else {
@@ -182,6 +243,11 @@ fn says_misplaced_name(line: &mut Line, place: &Place<'_>) -> bool {
     };
     line.say_of(sentence, token);
     true
+}
+
+/// Whether a word may end a place in a condition: a location's name, a register's, or a bracket behind a name.
+fn is_place(word: &[u8]) -> bool {
+    is_location_name(word) || Reg::from_name(word).is_some() || is_exactly_one_of(&["]"], word)
 }
 
 /// Of what stands after the end of a test.

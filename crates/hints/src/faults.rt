@@ -11,7 +11,7 @@ use crate::line::Line;
 use crate::numbers::bad_number;
 use crate::openings::{bad_token, no_header, unclosed};
 use crate::place::Place;
-use crate::quotes::{digits_and_letters, last_bytes, up_to};
+use crate::quotes::{ends_with_name, is_all_digits, up_to};
 use crate::rows::{bad_columns, too_large, wrong_cells};
 use litmus_reader::Why;
 use litmus_tokens::line_of;
@@ -43,6 +43,21 @@ pub const MARKDOWN: &str =
 pub const STORE_AND_LOAD: &str =
     "{}: a store is MOV [x],$1, a load MOV EAX,[x], and a register is set by MOV EAX,$1";
 
+/// What is said of an element of an array.
+pub const NO_ARRAYS: &str =
+    "{}: there are no arrays: use a location for each element, as x0 and x1";
+
+/// What is said of a word that is neither a name nor a number.
+pub const DIGIT_FIRST: &str =
+    "{} begins with a digit, as a number: a name begins with a letter or _, and a number has decimal digits alone";
+
+/// What is said of a word in the place of a number.
+pub const NO_VALUE: &str = "{} is no value: a value is a number, as 0 or 1";
+
+/// What is said of a nested comment.
+pub const NESTED: &str =
+    "*) ends no comment here: a comment ends at its first *) and can't contain another comment";
+
 /// What is said of an address.
 pub const ADDRESS: &str =
     "{}: no register can hold an address here: write the location's name in the instruction, as [x]; the tool import turns such a test into this form";
@@ -72,7 +87,7 @@ pub fn say_fault(
         Why::BadToken => bad_token(line, place),
         Why::BadInit => bad_init(line, place),
         Why::BadHeaderRow => bad_columns(line, place),
-        Why::WrongCells => wrong_cells(line, place.rest),
+        Why::WrongCells => return wrong_cells(alloc, line, place),
         Why::BadInstruction => return bad_instruction(alloc, line, place.rest),
         Why::BadNumber => return bad_number(alloc, line, place.rest),
         Why::TwiceInit => line.say_of(
@@ -117,15 +132,30 @@ pub fn unfit(line: &mut Line, place: &Place<'_>, end: &str, form: &str) {
     line.say(form);
 }
 
-/// Says of a number to base 16, where `x` follows a zero. Whether one stands there.
-pub fn says_hexadecimal(line: &mut Line, place: &Place<'_>) -> bool {
-    let rest = place.rest;
-    if !place.before.ends_with(b"0") || !(rest.starts_with(b"x") || rest.starts_with(b"X")) {
+/// Says of a word that begins with digits, at the first letter after these: of a number to base 16, or else of a name or a number of
+/// another form. Whether such a word stands there.
+pub fn says_digit_first(line: &mut Line, place: &Place<'_>) -> bool {
+    let word = place.bare_word();
+    let is_of_digits = ends_with_name(place.before) && is_all_digits(place.last_word);
+    if !is_of_digits || is_all_digits(word) {
         return false;
     }
-    let number = digits_and_letters(last_bytes(place.text, rest.len().saturating_add(1)));
-    line.say_of("{}: numbers are decimal", number);
+    let sentence = match word {
+        [b'0', b'x' | b'X', digits @ ..] if is_hexadecimal(digits) => "{}: numbers are decimal",
+        _ => DIGIT_FIRST,
+    };
+    line.say_of(sentence, word);
     true
+}
+
+/// Whether these are digits to base 16, one or more.
+fn is_hexadecimal(bytes: &[u8]) -> bool {
+    for byte in bytes {
+        if !byte.is_ascii_hexdigit() {
+            return false;
+        }
+    }
+    !bytes.is_empty()
 }
 
 /// The line on which the initial state of a text begins.

@@ -12,15 +12,23 @@ pub const LABEL: &str = "{}: is a label, and a program has no jumps: leave it ou
 const ARITHMETIC: &str =
     "{} isn't read: without LOCK it isn't one step. Write a load, as MOV EAX,[x], and a store of the result, as MOV [x],$1; to change a register, MOV EAX,$1";
 
-const STORE: &str = "{} isn't read: a store is MOV [x],$1 or MOV [x],EAX";
+/// Of what may store.
+pub const STORE: &str = "{} isn't read: a store is MOV [x],$1 or MOV [x],EAX";
 
-const LOAD: &str = "{} isn't read: a load is MOV EAX,[x]";
+/// Of what may load.
+pub const LOAD: &str = "{} isn't read: a load is MOV EAX,[x]";
+
+/// Of an exchange.
+pub const EXCHANGE: &str = "{} isn't read: an exchange in one step is XCHG [x],EAX";
+
+/// Of an addition.
+pub const ADDITION: &str = "{} isn't read: an addition in one step is LOCK XADD [x],EAX";
 
 const FENCE: &str =
     "{} isn't read: the fence is MFENCE; leave out one that keeps only loads or only stores in order";
 
 /// Instructions and words of other processors and languages, by their whole names.
-pub static OTHERS: [Alike; 13] = [
+pub static OTHERS: [Alike; 14] = [
     Alike(
         &[
             "STORE", "ST", "STR", "STLR", "STW", "SW", "SD", "WRITE", "W", "PUT", "SET", "ASSIGN",
@@ -71,7 +79,7 @@ pub static OTHERS: [Alike; 13] = [
             "RMW",
             "test_and_set",
         ],
-        "{} isn't read: an exchange in one step is XCHG [x],EAX",
+        EXCHANGE,
     ),
     Alike(
         &[
@@ -82,7 +90,7 @@ pub static OTHERS: [Alike; 13] = [
             "fetch_and_add",
             "INCREMENT",
         ],
-        "{} isn't read: an addition in one step is LOCK XADD [x],EAX",
+        ADDITION,
     ),
     Alike(
         &["LOCKXADD", "LOCK_XADD", "LOCKXCHG", "LOCK_XCHG"],
@@ -105,10 +113,23 @@ pub static OTHERS: [Alike; 13] = [
     ),
     Alike(
         &[
-            "MOVZX", "MOVSX", "MOVSXD", "MOVABS", "MOVNTI", "MOVNTDQ", "MOVD", "MOVAPS", "MOVUPS",
-            "MOVDQA", "MOVDQU", "MOVSS", "MOVSD", "MOVDIRI", "MOVBE",
+            "MOVZX", "MOVSX", "MOVSXD", "MOVABS", "MOVD", "MOVAPS", "MOVUPS", "MOVDQA", "MOVDQU",
+            "MOVSS", "MOVSD", "MOVBE",
         ],
         "{} isn't read: write MOV, which moves a word of 32 bits",
+    ),
+    Alike(
+        &[
+            "MOVNTI",
+            "MOVNTDQ",
+            "MOVNTQ",
+            "MOVNTPS",
+            "MOVNTPD",
+            "MASKMOVDQU",
+            "MOVDIRI",
+            "MOVDIR64B",
+        ],
+        "{} isn't read: its store may pass other stores, and under TSO none does; a store in order is MOV [x],EAX",
     ),
     Alike(
         &[
@@ -144,33 +165,9 @@ pub static OTHERS: [Alike; 13] = [
             "empty",
             "nothing",
             "none",
+            "return",
         ],
         "{} isn't read: leave it out; if it stands for a fence, write MFENCE",
-    ),
-];
-
-/// By how its name begins, an access in C.
-pub static CALLS: [Alike; 2] = [
-    Alike(
-        &[
-            "atomic_store",
-            "__atomic_store",
-            "WRITE_ONCE",
-            "smp_store",
-            "store_release",
-            "std::atomic",
-        ],
-        STORE,
-    ),
-    Alike(
-        &[
-            "atomic_load",
-            "__atomic_load",
-            "READ_ONCE",
-            "smp_load",
-            "load_acquire",
-        ],
-        LOAD,
     ),
 ];
 
@@ -202,7 +199,7 @@ pub static UNLOCKED: [Alike; 6] = [
 ];
 
 /// By how its name begins, an instruction that isn't read after LOCK.
-pub static LOCKED: [Alike; 5] = [
+pub static LOCKED: [Alike; 6] = [
     Alike(
         &["ADD", "INC"],
         "{} isn't read after LOCK: in a cell before it, put the number that it adds into a free register, as MOV EAX,$1; here write LOCK XADD [x],EAX",
@@ -219,6 +216,10 @@ pub static LOCKED: [Alike; 5] = [
     Alike(
         &["MOV"],
         "{} can't be locked: LOCK may stand only before XCHG or XADD",
+    ),
+    Alike(
+        &["MFENCE", "SFENCE", "LFENCE"],
+        "{} takes no LOCK: the fence is MFENCE alone in its cell",
     ),
 ];
 
@@ -237,8 +238,8 @@ pub static SIZED: [Alike; 5] = [
     ),
 ];
 
-/// The size of an operand, or a register of less than 32 bits.
-pub static SIZES: [Alike; 3] = [
+/// Words about an operand: its size, its segment or its address.
+pub static WORDS: [Alike; 4] = [
     Alike(
         &["DWORD", "PTR"],
         "{}: leave DWORD PTR out, words have 32 bits",
@@ -248,11 +249,12 @@ pub static SIZES: [Alike; 3] = [
         "{} isn't read: each access is to a whole word of 32 bits",
     ),
     Alike(
-        &[
-            "AL", "BL", "CL", "DL", "AH", "BH", "CH", "DH", "SIL", "DIL", "AX", "BX", "CX", "DX",
-            "SI", "DI",
-        ],
-        "{} is a part of a register: if the whole register will do, write EAX, EBX, ECX, EDX, ESI or EDI",
+        &["CS", "DS", "ES", "FS", "GS", "SS"],
+        "{}: there are no segments: leave it out; a location is written [x]",
+    ),
+    Alike(
+        &["OFFSET", "REL", "ABS"],
+        "{}: no address is read: write the location's name alone, as [x]",
     ),
 ];
 
@@ -268,6 +270,6 @@ pub static FORMS: [Alike; 3] = [
     ),
     Alike(
         &["XADD"],
-        "LOCK XADD has the form LOCK XADD [x],EAX: put a number into a register in a cell before it, as MOV EAX,$1",
+        "LOCK XADD has the form LOCK XADD [x],EAX, the location first: put a number into a register in a cell before it, as MOV EAX,$1",
     ),
 ];

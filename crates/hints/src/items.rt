@@ -1,42 +1,22 @@
 //! What is said of a fault in the initial state: forms of other programs have the form that stands for them here.
 
-use crate::faults::{ADDRESS, line_of_initial_state, says_hexadecimal};
+use crate::c_forms::is_type;
+use crate::faults::{ADDRESS, NO_ARRAYS, NO_VALUE, line_of_initial_state, says_digit_first};
 use crate::line::{Line, Piece};
 use crate::place::Place;
-use crate::quotes::{begins_with_letter, is_all_digits, is_bare};
+use crate::quotes::{
+    after_byte, after_last, begins_with_letter, digits_and_letters, is_all_digits, is_bare,
+    up_to_any,
+};
+use crate::registers::{is_renamed, said_of_register, said_of_register_of_core};
 use crate::tables::{is_exactly_one_of, is_one_of};
 use tso_terms::Reg;
 use tso_terms::names::{is_location_name, is_name};
 
-/// What is said of letters in a number.
-pub const PLAIN_DIGITS: &str = "{} stands in a number: a number is decimal digits alone";
-
-const NO_ARRAYS: &str = "{}: there are no arrays: use a location for each element, as x0=1; x1=2";
-
 const ITEM: &str = "{} doesn't fit: an item is x=1, [x]=1 or 0:EAX=1, and ; stands between items";
 
-/// Types of items in tests of other programs.
-const TYPES: [&str; 12] = [
-    "int",
-    "char",
-    "short",
-    "long",
-    "unsigned",
-    "signed",
-    "volatile",
-    "const",
-    "struct",
-    "static",
-    "atomic_int",
-    "_Atomic",
-];
-
-/// Registers of other names than those that are read.
-const REGISTERS: [&str; 34] = [
-    "RAX", "RBX", "RCX", "RDX", "RSI", "RDI", "RSP", "RBP", "ESP", "EBP", "EIP", "RIP", "EFLAGS",
-    "FLAGS", "ZF", "CF", "SF", "AL", "BL", "CL", "DL", "AH", "BH", "CH", "DH", "SIL", "DIL", "AX",
-    "BX", "CX", "DX", "SI", "DI", "SP",
-];
+const LOCATION: &str =
+    "{}: a location begins with a number, as x=1: it can hold no address, and not what another one has";
 
 /// Of an item of the initial state.
 pub fn bad_init(line: &mut Line, place: &Place<'_>) {
@@ -47,16 +27,19 @@ pub fn bad_init(line: &mut Line, place: &Place<'_>) {
             &[Piece::Number(line_of_initial_state(place.text))],
         );
     }
-    if says_hexadecimal(line, place) {
+    if says_digit_first(line, place) {
         return;
     }
-    if is_one_of(&TYPES, last) || (last.ends_with(b"_t") && is_location_name(last)) {
+    if is_type(last) && place.after_token().starts_with(b"[") {
+        return line.say_of(NO_ARRAYS, b"[");
+    }
+    if is_type(last) {
         return line.say_of(
             "{} is a type, and items have no types here: leave it out; if the item has no value, leave out the whole item, since 0 is its value",
             last,
         );
     }
-    if says_foreign_register(line, place) {
+    if says_address_in_register(line, place) || says_foreign_register(line, place) {
         return;
     }
     if lacks_value(place) {
@@ -108,13 +91,14 @@ fn misfit(place: &Place<'_>) -> &'static str {
     let after_name = is_location_name(last) || is_exactly_one_of(&["]"], last);
     match place.token.first() {
         Some(b'=') if after_equals => "{}: write one = between a name and its number, as x=1",
+        Some(b':') if is_all_digits(last) => "{}: an item has one number behind =, as 0:EAX=1",
         Some(b':') if after_name => "{}: write = between a name and its number, as x=1",
         Some(b',') => "{}: write ; between items, as x=1; y=1",
         Some(b'$') => "{}: a number stands without $ in the initial state, as x=1",
         Some(b'[') if after_equals => ADDRESS,
         Some(b'[') if after_name => NO_ARRAYS,
-        Some(b'{') => NO_ARRAYS,
-        Some(b'(') => "{}: leave out the brackets: an item is x=1, [x]=1 or 0:EAX=1",
+        Some(b'{') if after_equals => NO_ARRAYS,
+        Some(b'(' | b'{') => "{}: leave out the brackets: an item is x=1, [x]=1 or 0:EAX=1",
         _ => ITEM,
     }
 }
@@ -122,15 +106,14 @@ fn misfit(place: &Place<'_>) -> &'static str {
 /// What is said of a name that doesn't fit.
 fn misplaced_name(place: &Place<'_>) -> &'static str {
     let (token, last) = (place.token, place.last_word);
+    let is_register = Reg::from_name(token).is_some() || said_of_register(token).is_some();
     if is_exactly_one_of(&["="], last) {
-        if is_one_of(&["true", "false", "null", "nil", "none", "nullptr"], token) {
-            "{} is no value: a value is a number, as 0 or 1"
+        if is_register || is_no_number(token) {
+            NO_VALUE
         } else {
-            ADDRESS
+            said_of_address(place)
         }
-    } else if place.before.ends_with(last) && is_all_digits(last) {
-        PLAIN_DIGITS
-    } else if Reg::from_name(token).is_some() || is_one_of(&REGISTERS, token) {
+    } else if is_register {
         "{}: a register is written after its core and a colon, as 0:EAX=1"
     } else if is_name(token) && !is_location_name(token) {
         "{} is a word of conditions: give the location another name"
@@ -139,16 +122,61 @@ fn misplaced_name(place: &Place<'_>) -> &'static str {
     }
 }
 
+/// Whether a word stands for a value in other languages, and is no number.
+pub fn is_no_number(word: &[u8]) -> bool {
+    is_one_of(&["true", "false", "null", "nil", "none", "nullptr"], word)
+}
+
+/// What is said of an address as the value of the item in which a place stands: in other programs a register may hold one.
+fn said_of_address(place: &Place<'_>) -> &'static str {
+    if after_last(place.before, b"{;").contains(&b':') {
+        ADDRESS
+    } else {
+        LOCATION
+    }
+}
+
+/// The name that is the value of the item in which a place stands, perhaps behind `&`; or no bytes.
+fn name_as_value<'a>(place: &Place<'a>) -> &'a [u8] {
+    let value = after_byte(up_to_any(place.rest, b";}\n"), b'=').trim_ascii_start();
+    let name = digits_and_letters(value.strip_prefix(b"&").unwrap_or(value));
+    if begins_name(name) { name } else { &[] }
+}
+
+/// Of `&` or `*` in an item.
+pub fn bad_pointer(line: &mut Line, place: &Place<'_>) {
+    let named = match place.rest.split_first() {
+        Some((b'&', after)) => digits_and_letters(after),
+        _ => name_as_value(place),
+    };
+    if named.is_empty() {
+        line.say_of("{}: leave it out: an item is x=0", place.token);
+    } else {
+        line.say_of(said_of_address(place), named);
+    }
+}
+
+/// Says of a location's address in a register of another name. Whether one stands there.
+fn says_address_in_register(line: &mut Line, place: &Place<'_>) -> bool {
+    let value = name_as_value(place);
+    let is_address = is_exactly_one_of(&[":"], place.last_word)
+        && is_renamed(place.token)
+        && is_location_name(value)
+        && !is_no_number(value);
+    if is_address {
+        line.say_of(ADDRESS, value);
+    }
+    is_address
+}
+
 /// Says of a register of another form: of one that isn't read, of a location after a core, or of the `P` of its core. Whether one
 /// stands there.
 pub fn says_foreign_register(line: &mut Line, place: &Place<'_>) -> bool {
     let last = place.last_word;
     if is_exactly_one_of(&[":"], last) && begins_with_letter(place.rest) {
-        let sentence = if is_foreign(place.token) {
-            "{} is none of EAX, EBX, ECX, EDX, ESI, EDI, the registers of 32 bits: the tool import renames others, but not parts such as AL"
-        } else {
-            "{} is none of EAX, EBX, ECX, EDX, ESI, EDI; a location stands without a core, as x=1"
-        };
+        let sentence = said_of_register_of_core(place.token).unwrap_or(
+            "{} is none of EAX, EBX, ECX, EDX, ESI, EDI; a location stands without a core, as x=1",
+        );
         line.say_of(sentence, place.token);
         true
     } else if place.rest.starts_with(b":") && last.starts_with(b"P") {
@@ -156,13 +184,5 @@ pub fn says_foreign_register(line: &mut Line, place: &Place<'_>) -> bool {
         true
     } else {
         false
-    }
-}
-
-/// Whether a word is a register of another name than those that are read.
-fn is_foreign(word: &[u8]) -> bool {
-    match word {
-        [b'r' | b'R' | b'x' | b'X' | b'w' | b'W', digit, ..] if digit.is_ascii_digit() => true,
-        _ => is_one_of(&REGISTERS, word),
     }
 }

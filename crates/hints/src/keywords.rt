@@ -3,7 +3,7 @@
 
 use crate::faults::COMMENT;
 use crate::instructions::{FORMS, SIZED, UNLOCKED};
-use crate::line::Line;
+use crate::line::{Line, Piece};
 use crate::place::Place;
 use crate::quotes::{begins_with_letter, digits_and_letters};
 use crate::signs::is_core;
@@ -18,7 +18,7 @@ const SOMETIMES: &str =
     "{} begins no condition: write exists, or ~exists before what must never be";
 
 /// Words that stand after the rows of a test as it isn't read.
-static KEYWORDS: [Alike; 9] = [
+static KEYWORDS: [Alike; 10] = [
     Alike(
         &[
             "exist", "exists", "exits", "exit", "exsits", "exsists", "exisits", "exsist", "exixts",
@@ -93,8 +93,12 @@ static KEYWORDS: [Alike; 9] = [
         SOMETIMES,
     ),
     Alike(
-        &["filter", "final", "with", "when", "where", "given"],
-        "{} isn't read: a condition is exists, ~exists or forall",
+        &["filter", "when", "where", "given"],
+        "{} isn't read: of {} A and exists B make exists ((A) /\\ (B)), and of {} A and forall B make forall (~(A) \\/ (B))",
+    ),
+    Alike(
+        &["final", "with"],
+        "{} isn't read: leave it out; a condition begins with exists, ~exists or forall",
     ),
     Alike(
         &[
@@ -119,7 +123,7 @@ static KEYWORDS: [Alike; 9] = [
 pub fn says_no_row(line: &mut Line, place: &Place<'_>) -> bool {
     let (token, rest) = (place.token, place.after_token());
     if let Some(said) = said_of(&KEYWORDS, token) {
-        line.say_of(said, token);
+        line.say_with(said, &[Piece::Named(token); 3]);
     } else if is_core(token) && !rest.starts_with(b":") {
         line.say_of(
             "{} begins no row: one row names all cores: P0 | P1 ;",

@@ -6,6 +6,8 @@
 #![tactic(auto)]
 
 mod body;
+mod brackets;
+mod c_forms;
 mod cause;
 mod cells;
 mod characters;
@@ -31,6 +33,7 @@ mod printing;
 mod quotes;
 mod reader;
 mod region;
+mod registers;
 mod rows;
 mod search_end;
 mod signs;

@@ -141,8 +141,8 @@ pub fn meant_by(command: &[u8], option: &[u8]) -> Option<&'static str> {
 }
 
 /// The tools beside the program.
-const TOOLS: [&str; 7] = [
-    "import", "campaign", "cycles", "graph", "compare", "hardware", "theory",
+const TOOLS: [&str; 8] = [
+    "import", "compiled", "campaign", "cycles", "graph", "compare", "hardware", "theory",
 ];
 
 /// Whether a word names a tool beside the program.

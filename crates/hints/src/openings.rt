@@ -1,12 +1,13 @@
 //! What is said of a fault before the rows of a test: in its header line or before its initial state; and of what doesn't end.
 
+use crate::c_forms::said_of_function;
 use crate::characters::says_foreign;
 use crate::divider::{Asked, says_missing_divider};
-use crate::faults::{COMMENT, MARKDOWN};
+use crate::faults::{COMMENT, MARKDOWN, NESTED};
 use crate::line::{Line, Piece};
 use crate::place::Place;
 use crate::quotes::{
-    begins_with_letter, first_bytes, has, is_all_digits, is_bare, last_bytes, up_to, word,
+    begins_with_letter, ends_with_name, first_bytes, has, is_all_digits, is_bare, up_to, word,
 };
 use crate::reader::Reader;
 use crate::signs::bad_byte;
@@ -14,8 +15,14 @@ use crate::tables::{Alike, is_exactly_one_of, said_of, said_of_front};
 use tso_terms::limits::MAX_NAME;
 use tso_terms::names::continues_name;
 
-/// Words that begin a test of another kind.
-static HEADERS: [Alike; 4] = [
+const SOURCE_IN_C: &str =
+    "this is C: tso reads tests of X86 instructions; the tool compiled reads C, with a function for each core: P0, P1 and so on";
+
+const ASSEMBLY: &str =
+    "this is an assembler's file: begin with a line X86 NAME, and write each core's instructions into a column below P0 | P1 ;";
+
+/// Words that begin a file of another kind.
+static HEADERS: [Alike; 7] = [
     Alike(
         &[
             "X86", "i386", "i486", "i586", "i686", "80386", "8086", "IA32", "IA-32", "x86-32",
@@ -52,19 +59,69 @@ static HEADERS: [Alike; 4] = [
             "IA64",
             "LOONGARCH",
         ],
-        "{} is another processor: write its programs as X86 instructions, below a line X86 NAME; the tool import takes X86_64 tests alone",
+        "{} is another processor: write its programs as X86 instructions, below a line X86 NAME; the tool import takes X86 and X86_64 tests alone",
+    ),
+    Alike(
+        &["C"],
+        "C is a language: the tool compiled reads such a test; tso reads programs of X86 instructions, below a line X86 NAME",
     ),
     Alike(
         &[
-            "C", "CPP", "C++", "C11", "LISA", "Bell", "LLVM", "JAVA", "ASL", "LK", "Rust",
+            "CPP", "C++", "C11", "LISA", "Bell", "LLVM", "JAVA", "ASL", "LK", "Rust",
         ],
-        "{} is a language: write its programs as X86 instructions, below a line X86 NAME; the tool import takes X86_64 tests alone",
+        "{} is a language: write its programs as X86 instructions, below a line X86 NAME; the tool compiled reads C tests alone",
+    ),
+    // How files of other kinds begin.
+    Alike(
+        &[
+            "int",
+            "void",
+            "static",
+            "extern",
+            "typedef",
+            "struct",
+            "union",
+            "const",
+            "volatile",
+            "unsigned",
+            "long",
+            "char",
+            "bool",
+            "inline",
+            "using",
+            "namespace",
+            "template",
+            "atomic_int",
+            "atomic_bool",
+            "_Atomic",
+        ],
+        SOURCE_IN_C,
+    ),
+    Alike(
+        &[
+            "section", "segment", "global", "globl", "bits", "use32", "use64", "default", "org",
+        ],
+        ASSEMBLY,
     ),
 ];
 
 /// What begins a line that isn't a header.
-static NO_HEADERS: [Alike; 3] = [
+static NO_HEADERS: [Alike; 5] = [
     Alike(&["```"], MARKDOWN),
+    Alike(
+        &[
+            "#include",
+            "#define",
+            "#pragma",
+            "#if",
+            "#undef",
+            "# include",
+            "std::",
+            "_Atomic(",
+        ],
+        SOURCE_IN_C,
+    ),
+    Alike(&["."], ASSEMBLY),
     Alike(&["//", "/*", "#", "--", ";", "%"], COMMENT),
     Alike(
         &["{", "\"", "P0", "MOV"],
@@ -136,11 +193,8 @@ pub fn unclosed(line: &mut Line, asked: Asked, place: &Place<'_>) {
             "the test ends before its initial state: write { } between the first line and the row P0 | P1 ;",
         );
     } else if let Some(said) = said_of_front(&OPENERS, place.rest) {
-        line.say_of(said, token);
-        if place.rest.starts_with(b"(*")
-            && begins_with_letter(last_bytes(place.rest, place.rest.len().saturating_sub(2)))
-        {
-            line.say("; a location is written without *, as [x]");
+        if !says_pointer(line, place) {
+            line.say_of(said, token);
         }
     } else if !says_missing_divider(line, asked, place) {
         let sentence = if is_bare_condition(place) {
@@ -150,6 +204,29 @@ pub fn unclosed(line: &mut Line, asked: Asked, place: &Place<'_>) {
         };
         line.say_of(sentence, token);
     }
+}
+
+/// Says of a location in C behind a bracket, as in `(*x)`, which begins a comment here; of the function that gets it, where one does.
+/// Whether one stands there.
+fn says_pointer(line: &mut Line, place: &Place<'_>) -> bool {
+    let Some(after) = place.rest.strip_prefix(b"(*") else {
+        return false;
+    };
+    if !begins_with_letter(after) {
+        return false;
+    }
+    let function = if ends_with_name(place.before) {
+        place.last_word
+    } else {
+        &[]
+    };
+    match said_of_function(function) {
+        Some(said) => line.say_of(said, function),
+        None => line.say(
+            "no *) ends the comment that begins here; a location is written without *, as [x]",
+        ),
+    }
+    true
 }
 
 /// Whether the row at a place may be a condition without the word that begins it.
@@ -191,7 +268,11 @@ pub fn bad_token(line: &mut Line, place: &Place<'_>) {
         [byte, ..] => return bad_byte(line, place, *byte),
     }
     // What stands there begins a token.
-    line.say_of(said_before_braces(place), token);
+    if has(up_to(place.rest, b'\n'), b"*)") {
+        line.say(NESTED);
+    } else {
+        line.say_of(said_before_braces(place), token);
+    }
 }
 
 /// What is said of a token that stands before the initial state.

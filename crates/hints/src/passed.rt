@@ -39,7 +39,7 @@ pub fn limit_at(alloc: Global, place: &Place<'_>) -> Result<Limit, NoMemory> {
 }
 
 /// What stands after the initial state, where that ends.
-fn after_curly<'a, 'b>(tokens: &'b [Token<'a>]) -> Option<&'b [Token<'a>]> {
+pub fn after_curly<'a, 'b>(tokens: &'b [Token<'a>]) -> Option<&'b [Token<'a>]> {
     for at in 0..tokens.len() {
         if is_symbol(Symbol::CloseCurly, &tokens[at]) {
             return Some(&tokens[at + 1..]);

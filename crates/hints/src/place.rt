@@ -1,6 +1,8 @@
 //! The place of a fault in a text: a refusal has the line alone, and a hint names what stands there.
 
-use crate::quotes::{after_last, last_bytes, last_word, token, up_to};
+use crate::quotes::{
+    after_last, digits_and_letters, ends_with_name, last_bytes, last_word, token, up_to,
+};
 use litmus_tokens::line_of;
 
 /// A text in two: what stands before a place, and what stands from there on.
@@ -68,6 +70,16 @@ impl<'a> Place<'a> {
     pub fn after_token(&self) -> &'a [u8] {
         let count = self.rest.len().saturating_sub(self.token.len());
         last_bytes(self.rest, count).trim_ascii_start()
+    }
+
+    /// The letters, digits and underscores at it, those that stand right before it included.
+    pub fn bare_word(&self) -> &'a [u8] {
+        let count = if ends_with_name(self.before) {
+            self.last_word.len()
+        } else {
+            0
+        };
+        digits_and_letters(last_bytes(self.text, self.rest.len().saturating_add(count)))
     }
 
     /// Which character of its line it is, from 1.

@@ -2,7 +2,7 @@
 
 use crate::body::body_of;
 use crate::place::Place;
-use crate::quotes::{after_last, has};
+use crate::quotes::{after_last, has, up_to};
 
 /// A part of a test.
 #[derive(Clone, Copy)]
@@ -24,17 +24,18 @@ pub fn region_of(place: &Place<'_>) -> Region {
         Region::Information
     } else if !body.contains(&b'}') {
         Region::Initial
-    } else if begins_condition(after_last(body, b";}")) {
+    } else if begins_condition(after_last(body, b";}"), up_to(place.rest, b'\n')) {
         Region::Condition
     } else {
         Region::Rows
     }
 }
 
-/// Whether a text that stands after the end of a row is of a condition: no row has an equals sign.
-pub fn begins_condition(text: &[u8]) -> bool {
-    text.contains(&b'=')
-        || text.trim_ascii_start().starts_with(b"~")
+/// Whether a text that stands after the end of a row is of a condition. No row has an equals sign, but one in C has; then its line goes
+/// on to the end of a row.
+fn begins_condition(text: &[u8], rest_of_line: &[u8]) -> bool {
+    text.trim_ascii_start().starts_with(b"~")
         || has(text, b"exists")
         || has(text, b"forall")
+        || (text.contains(&b'=') && !rest_of_line.contains(&b';'))
 }

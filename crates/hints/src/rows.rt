@@ -1,9 +1,11 @@
 //! What is said of a row of a test, and of a test that is too large: which limit it passes, and what is one too many.
 
+use crate::body::body_of;
+use crate::c_forms::{is_call, is_type};
 use crate::faults::unfit;
 use crate::keywords::is_instruction;
 use crate::line::{Line, Piece};
-use crate::passed::{Limit, limit_at};
+use crate::passed::{Limit, after_curly, limit_at};
 use crate::place::Place;
 use crate::quotes::{
     after_byte, begins_with_letter, digits_and_letters, has, last_word, up_to, up_to_any,
@@ -11,12 +13,15 @@ use crate::quotes::{
 use crate::signs::is_core;
 use crate::tables::is_exactly_one_of;
 use litmus_reader::MAX_TEXT;
-use litmus_tokens::after_gap;
+use litmus_tokens::{Symbol, after_gap, is_symbol, tokens_of};
 use std::alloc::Global;
 use tso_terms::NoMemory;
 use tso_terms::limits::{
     MAX_ATOMS, MAX_CORES, MAX_INSTRUCTIONS, MAX_LOCATIONS, MAX_OPEN, MAX_TEST_NAME,
 };
+
+const IN_C: &str =
+    "{} begins a row as in C: a load is MOV EAX,[y], a store MOV [x],$1; a row has one such cell for each core, | between cells, and ; at its end";
 
 /// The form of the row of cores.
 const ROW_OF_CORES: &str = ": the row of cores is P0 | P1 | .. in order, ended by ;";
@@ -40,28 +45,89 @@ pub fn bad_columns(line: &mut Line, place: &Place<'_>) {
     line.say_of(sentence, token);
 }
 
-/// Of the row with too many or too few cells at the front of a text.
-pub fn wrong_cells(line: &mut Line, rest: &[u8]) {
-    let row = up_to(rest, b';');
-    let after = up_to(after_byte(rest, b';'), b'\n').trim_ascii_start();
-    let mut cells = 1usize;
+/// Of the row with too many or too few cells at a place.
+///
+/// Errors: out of memory only.
+pub fn wrong_cells(alloc: Global, line: &mut Line, place: &Place<'_>) -> Result<(), NoMemory> {
+    let row = up_to(place.rest, b';');
+    if is_in_c(place.token, up_to(row, b'\n')) {
+        line.say_of(IN_C, place.token);
+        return Ok(());
+    }
+    let cells = bars_in(row).saturating_add(1);
+    let cores = cores_before(alloc, place)?;
+    line.say_with(
+        sentence_of_row(place.rest, row, cells > cores),
+        &[Piece::Count(cells, "cell"), Piece::Count(cores, "core")],
+    );
+    Ok(())
+}
+
+/// Whether a line that begins with this token is of C: it has an equals sign, or begins as a declaration or an access does.
+fn is_in_c(first: &[u8], line: &[u8]) -> bool {
+    begins_with_letter(first)
+        && (line.contains(&b'=')
+            || is_type(first)
+            || is_call(first)
+            || is_exactly_one_of(&["return"], first))
+}
+
+fn bars_in(row: &[u8]) -> usize {
+    let mut bars = 0usize;
     for byte in row {
         if *byte == b'|' {
-            cells = cells.saturating_add(1);
+            bars = bars.saturating_add(1);
         }
     }
-    let sentence = if ends_with_lock(row) {
+    bars
+}
+
+/// How many cores the row of cores before a place has.
+///
+/// Errors: out of memory only.
+fn cores_before(alloc: Global, place: &Place<'_>) -> Result<usize, NoMemory> {
+    let tokens = tokens_of(alloc, body_of(place.before))?;
+    let mut cores = 1usize;
+    for token in after_curly(&tokens.items).unwrap_or(&[]) {
+        if is_symbol(Symbol::Semicolon, token) {
+            break;
+        }
+        if is_symbol(Symbol::Bar, token) {
+            cores = cores.saturating_add(1);
+        }
+    }
+    Ok(cores)
+}
+
+/// What is said of a row at the front of a text, which has too many cells or too few: how many there are, and how many cores.
+fn sentence_of_row(rest: &[u8], row: &[u8], are_too_many: bool) -> &'static str {
+    let after = up_to(after_byte(rest, b';'), b'\n').trim_ascii_start();
+    if ends_with_lock(row) {
         "LOCK and its instruction stand in one cell, without ;: LOCK XADD [x],EAX"
     } else if row.trim_ascii().contains(&b'\n') {
         "no ; ends this row at its line's end, so it has {} with those of the next line: a row ends with ;"
-    } else if begins_with_letter(after) && !is_instruction(digits_and_letters(after)) {
-        "this row has {} and ends at its first ;: put | between cells; a comment is written (* .. *)"
     } else if has(row, b"||") {
         "this row has {}, since || makes an empty one: cells are split by one |"
+    } else if are_too_many {
+        sentence_of_long_row(row)
+    } else if !begins_with_letter(after) {
+        "this row has {}, and the test has {}: write a cell for each core, empty or not, with | between cells and ; at the end"
+    } else if is_instruction(digits_and_letters(after)) {
+        "this row has {} and ends at its first ;: put | between cells of different cores, and a core's next instruction into the next row"
     } else {
-        "this row has {}, and not one for each core: put | between cells, and ; at the row's end"
-    };
-    line.say_with(sentence, &[Piece::Count(cells, "cell")]);
+        "this row has {} and ends at its first ;: put | between cells; a comment is written (* .. *)"
+    }
+}
+
+/// What is said of a row with too many cells.
+fn sentence_of_long_row(row: &[u8]) -> &'static str {
+    if row.trim_ascii_end().ends_with(b"|") {
+        "this row has {}, and the test has {}: | stands only between cells, so leave out the one at the row's end"
+    } else if row.starts_with(b"|") {
+        "this row has {}, and the test has {}: | stands only between cells, so leave out the one that begins the row"
+    } else {
+        "this row has {}, and the test has {}: leave a cell out, or name a further core in the row P0 | P1 ;"
+    }
 }
 
 /// Whether LOCK stands before the end of a row.

@@ -1,12 +1,14 @@
 //! What is said of a byte that begins no token, by the part of the test in which it stands: most are signs of other languages.
 
+use crate::c_forms::{says_address_of, says_method};
 use crate::characters::say_character;
 use crate::faults::{
-    ADDRESS, COMMENT, CONNECTIVES, IMPLICATION, LEAVE_OUT, MARKDOWN, STORE_AND_LOAD,
+    COMMENT, CONNECTIVES, IMPLICATION, LEAVE_OUT, MARKDOWN, NESTED, NO_VALUE, STORE_AND_LOAD,
 };
+use crate::items::bad_pointer;
 use crate::line::{Line, Piece};
 use crate::numbers::GREATEST;
-use crate::operands::percent;
+use crate::operands::{percent, says_sum};
 use crate::place::Place;
 use crate::quotes::{
     begins_with_letter, digits_and_letters, ends_with_name, is_all_digits, last_bytes,
@@ -28,17 +30,18 @@ const CORE_AND_REGISTER: &str = "{}: a register is written after its core and a 
 const SUM: &str =
     "{}: no sums are read: a location is a name, as [x], and a value a number; LOCK XADD [x],EAX adds to a location";
 
+const NO_ADDRESS: &str = "{}: leave it out: an atom compares a place with a number, as x=1";
+
+const NEXT_ROW: &str = "{}: a row ends with ; and the next one stands in the next line";
+
 const BAR: &str = "{}: cells are split by the vertical bar |";
 
 /// Signs that are meant alike in all parts.
 static ANYWHERE: [Alike; 5] = [
     Alike(&["//", "/*", "#"], COMMENT),
-    Alike(
-        &["*)"],
-        "*) ends no comment here: a comment ends at its first *) and can't contain another comment",
-    ),
+    Alike(&["*)"], NESTED),
     Alike(&["```"], MARKDOWN),
-    Alike(&["`", "@", "?", "\"", "'"], LEAVE_OUT),
+    Alike(&["`", "@", "?", "\""], LEAVE_OUT),
     Alike(&["*/"], COMMENT),
 ];
 
@@ -49,10 +52,9 @@ static IN_INFORMATION: [Alike; 2] = [
 ];
 
 /// Signs in the initial state.
-static IN_INITIAL: [Alike; 5] = [
-    Alike(&["&"], ADDRESS),
-    Alike(&["*"], "leave out *: an item is x=0"),
+static IN_INITIAL: [Alike; 4] = [
     Alike(&["--"], COMMENT),
+    Alike(&["'"], NO_VALUE),
     Alike(
         &["->", "<-", "<", ">"],
         "{}: an item is x=1, [x]=1 or 0:EAX=1",
@@ -61,7 +63,7 @@ static IN_INITIAL: [Alike; 5] = [
 ];
 
 /// Signs in rows.
-static IN_ROWS: [Alike; 7] = [
+static IN_ROWS: [Alike; 8] = [
     Alike(&["!exists"], "! isn't read before exists: write ~exists"),
     Alike(
         &["*"],
@@ -70,6 +72,7 @@ static IN_ROWS: [Alike; 7] = [
     Alike(&["->", "<", ">"], STORE_AND_LOAD),
     Alike(&["--"], COMMENT),
     Alike(&["+"], SUM),
+    Alike(&["\\n"], NEXT_ROW),
     Alike(&["/", "!", "\\"], BAR),
     Alike(
         &["&"],
@@ -106,6 +109,9 @@ pub fn bad_byte(line: &mut Line, place: &Place<'_>, byte: u8) {
         return line.say("a value is written with $: MOV [x],$1");
     }
     let region = region_of(place);
+    if says_of_form(line, place, region, byte) {
+        return;
+    }
     let said = match region {
         Region::Rows | Region::Condition if place.is_first_on_line() => said_of_front(
             &DIVIDERS, place.rest,
@@ -123,6 +129,25 @@ pub fn bad_byte(line: &mut Line, place: &Place<'_>, byte: u8) {
         (None, b'%') => percent(line, place),
         (None, b'!'..=b'~') => line.say_of(LEAVE_OUT, place.token),
         _ => say_character(line, place, byte),
+    }
+}
+
+/// Says of a sign by the form in which it stands: of an address, a method, a field or a sum. Whether it does.
+fn says_of_form(line: &mut Line, place: &Place<'_>, region: Region, byte: u8) -> bool {
+    match (region, byte) {
+        (Region::Initial, b'&' | b'*') => {
+            bad_pointer(line, place);
+            true
+        }
+        (Region::Rows, b'&') => says_address_of(line, place),
+        (Region::Rows, b'.') => says_method(line, place),
+        (Region::Rows, b'+') => says_sum(line, place),
+        (Region::Rows, b'-') if place.rest.starts_with(b"->") => says_sum(line, place),
+        (Region::Condition, b'&') if is_exactly_one_of(&["=", "("], place.last_word) => {
+            line.say_of(NO_ADDRESS, place.token);
+            true
+        }
+        _ => false,
     }
 }
 

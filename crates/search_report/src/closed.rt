@@ -1,4 +1,4 @@
-//! The cases of a question that a leaf closes at once, and which of them one line closes together.
+//! The cases of a question that a leaf closes at once, and which of them one line may close together.
 
 ghost use Rattle.std.specs.Prelude.{◌≡◌, ◌<◌, IfOk, map, filter, length};
 ghost use Rattle.std.specs.List.{list_any};
@@ -178,7 +178,7 @@ fn are_same(some: &[bool], others: &[bool]) -> bool
     true
 }
 
-/// Whether one line closes both cases: in both it is false what a source of a read leads to, and the same places are named.
+/// Whether one line may close both cases: in both it is false what a source of a read leads to, and the same places are named.
 pub fn are_alike(leaf: &Leaf, other: &Leaf) -> bool
     ensures { result ≡ alike leaf.now other.now }
 {

@@ -89,7 +89,7 @@ fn place_in(
     Ok(Place { named, values })
 }
 
-/// The places that a line `False` names which closes the case of a leaf, and those that are alike.
+/// The places that a line `False` names if it closes the case of a leaf, and with it those that are alike.
 ///
 /// Errors: out of memory only.
 pub fn places_in(

@@ -41,7 +41,7 @@ same_truths [] qs = true
 same_truths (p ∷ ps) [] = false
 same_truths (p ∷ ps) (q ∷ qs) = (if p then q else not q) && same_truths ps qs
 
--- one line closes both
+-- one line may close both
 abbrev pub alike : Leaf → Leaf → Bool
 alike l m = l.shares && m.shares && same_truths l.named.items m.named.items
 
@@ -49,7 +49,7 @@ alike l m = l.shares && m.shares && same_truths l.named.items m.named.items
 abbrev pub known_alike : Leaf → List Closed → List Known
 known_alike l cs = known_of l.given.answers ∷ map (λ (c : Closed). known_of c.leaf.given.answers) (filter (λ (c : Closed). alike l c.leaf) cs)
 
--- the branches among these cases that one line closes together with the first
+-- the branches among these cases that one line may close together with the first
 unfoldable pub rest_of : Refutation → Closed → List Closed → List spec.Branch
 rest_of tree first others =
     filter (spec.are_alike tree.test.now (asked_claim tree.test.now.condition) (closed_branch tree first)) (map (closed_branch tree) others)

@@ -1,0 +1,139 @@
+//! What is said of C in the rows of a test: of types, and of accesses by functions, by methods and through pointers.
+
+use crate::instructions::{ADDITION, EXCHANGE, FORMS, LOAD, OTHERS, STORE};
+use crate::line::Line;
+use crate::place::Place;
+use crate::quotes::{begins_with_letter, last_bytes, last_word, token};
+use crate::tables::{Alike, is_exactly_one_of, is_one_of, said_of, said_of_front};
+use tso_terms::names::is_location_name;
+
+/// Types of variables, and what stands with them.
+const TYPES: [&str; 14] = [
+    "int",
+    "char",
+    "short",
+    "long",
+    "unsigned",
+    "signed",
+    "volatile",
+    "const",
+    "struct",
+    "static",
+    "auto",
+    "bool",
+    "atomic_int",
+    "_Atomic",
+];
+
+/// By how its name begins, a function of C's that accesses a location.
+static CALLS: [Alike; 4] = [
+    Alike(
+        &[
+            "atomic_store",
+            "__atomic_store",
+            "WRITE_ONCE",
+            "smp_store",
+            "store_release",
+            "std::atomic",
+        ],
+        STORE,
+    ),
+    Alike(
+        &[
+            "atomic_load",
+            "__atomic_load",
+            "READ_ONCE",
+            "smp_load",
+            "load_acquire",
+        ],
+        LOAD,
+    ),
+    Alike(
+        &[
+            "atomic_exchange",
+            "__atomic_exchange",
+            "__sync_lock_test_and_set",
+            "atomic_xchg",
+        ],
+        EXCHANGE,
+    ),
+    Alike(
+        &[
+            "atomic_fetch_add",
+            "__atomic_fetch_add",
+            "__sync_fetch_and_add",
+            "atomic_add",
+            "atomic_inc",
+        ],
+        ADDITION,
+    ),
+];
+
+/// The methods of an atomic variable in C++.
+static METHODS: [Alike; 4] = [
+    Alike(&["store"], STORE),
+    Alike(&["load"], LOAD),
+    Alike(&["exchange"], EXCHANGE),
+    Alike(&["fetch_add"], ADDITION),
+];
+
+const ADDRESS_OF: &str =
+    "&{}: a location is written [x] in an instruction: a store is MOV [x],$1, a load MOV EAX,[x]; no register can hold an address";
+
+/// Whether a word is a type of C's, or stands with one.
+pub fn is_type(word: &[u8]) -> bool {
+    is_one_of(&TYPES, word) || (word.ends_with(b"_t") && is_location_name(word))
+}
+
+/// Whether a function of C's by this name accesses a location.
+pub fn is_call(name: &[u8]) -> bool {
+    said_of_front(&CALLS, name).is_some()
+}
+
+/// What is said of a word with which an access or a fence begins in another language, if it is one.
+pub fn said_of_access(name: &[u8]) -> Option<&'static str> {
+    said_of(&OTHERS, name).or(said_of_front(&CALLS, name))
+}
+
+/// What is said of a function by its name, if it is an access or a fence. An instruction has the same form here.
+pub fn said_of_function(name: &[u8]) -> Option<&'static str> {
+    said_of_access(name).or(said_of(&FORMS, name))
+}
+
+/// Says of a method, at the point before its name. Whether one stands there.
+pub fn says_method(line: &mut Line, place: &Place<'_>) -> bool {
+    let name = token(after_first(place.rest));
+    let Some(said) = said_of(&METHODS, name) else {
+        return false;
+    };
+    line.say_of(said, name);
+    true
+}
+
+/// Says of an address that is taken by `&`: of the function that gets it, where one does. Whether a location stands after the
+/// sign, and what may stand before an operand before it.
+pub fn says_address_of(line: &mut Line, place: &Place<'_>) -> bool {
+    let name = token(after_first(place.rest));
+    if !begins_with_letter(name) || !may_begin_operand(place.last_word) {
+        return false;
+    }
+    let function = match place.before.trim_ascii_end().strip_suffix(b"(") {
+        Some(before) => last_word(before),
+        None => b"".as_slice(),
+    };
+    match said_of_function(function) {
+        Some(said) => line.say_of(said, function),
+        None => line.say_of(ADDRESS_OF, name),
+    }
+    true
+}
+
+/// Whether an operand may stand after a word or a sign.
+fn may_begin_operand(last: &[u8]) -> bool {
+    is_exactly_one_of(&["(", ",", "=", "[", "|", ";"], last) || said_of(&FORMS, last).is_some()
+}
+
+/// All but the first byte.
+fn after_first(text: &[u8]) -> &[u8] {
+    last_bytes(text, text.len().saturating_sub(1))
+}
