@@ -4,7 +4,7 @@
     tests/page.py PROGRAM [--inputs N] [--twice]
 
 - view/ is what it has to be: texts that are the examples', its own parts as texts, scripts of fewer than 400 lines that the page names, its policy and no
-  other, no script or style in the page itself, at most 1 MB with the module.
+  other, no script or style in the page itself, at most 1.3 MB with the module.
 - What the page makes of the steps of a trace is what the order of the same run tells: tests/view/histories.js.
 - The module that ships, in view/module.js, answers in Node. Where it was made of the sources that stand, it is asked each row of
   tests/run_rows.py but those of the command line itself, and N inputs made at random (300): output, hint and status are the program's,
@@ -42,7 +42,7 @@ WIDE = os.path.join("crates", "page_exports", "out", "page.wide.wasm")
 
 POLICY = ("default-src 'none'; script-src 'self' 'wasm-unsafe-eval'; style-src 'self'; worker-src blob:; img-src blob:; base-uri 'none'; "
           "form-action 'none'; require-trusted-types-for 'script'; trusted-types worker")
-MOST_LINES, MOST_BYTES = 400, 1_000_000
+MOST_LINES, MOST_BYTES = 400, 1_300_000
 GENERATED = ("module.js", "texts.js", "whole.js")
 CANNOT = 69
 INPUTS = 300

@@ -12,20 +12,35 @@ function currentAddress() {
   const command = currentCommand();
   const pairs = [['test', byId('test').value], ['choices', choicesText()], ['order', byId('given').value], ['command', command]];
   const told = pairs.filter(([name, value]) => name === 'test' || (name === 'command' ? value !== 'run' : value !== ''));
-  return new URLSearchParams([...told, ...changedSettings(), ...driven()]).toString();
+  const embedded = document.documentElement.classList.contains('embedded') ? [['embed', '1']] : [];
+  return new URLSearchParams([...told, ...changedSettings(), ...driven(), ...embedded]).toString();
 }
 
-/** Of a machine that is driven how many of the choices are made, where not all are, and the machine beside it. */
+/** Of a machine that is driven how many of the choices are made, where not all are, what is beside it, whether somebody wants the caches
+ * in sight, and the step of a lesson. */
 function driven() {
   if (!drive.isOn) return [];
-  const position = drive.count < drive.words.length ? [['at', String(drive.count)]] : [];
-  return drive.beside === null ? position : [...position, ['beside', machineName(drive.beside)]];
+  return [
+    ...(drive.count < drive.words.length ? [['at', String(drive.count)]] : []),
+    ...(drive.beside === null ? [] : [['beside', besideName(drive.beside)]]),
+    ...(cachesView.wanted === null ? [] : [['caches', cachesView.wanted ? '1' : '0']]),
+    ...(lesson.told === null ? [] : [['lesson', lesson.told.name], ['step', String(lesson.at)]]),
+  ];
 }
 
 // What is shown is kept in the address as one goes, so that it is there again after a reload, or when one comes back.
 
-const kept = { timer: null, atFirst: null };
+// An answer that takes the place of another has an address of its own, so that the browser's Back leads to the one before. `command` is
+// that of the address which the browser has now, and `isNew` says that the next one is of another test.
+
+const kept = { timer: null, atFirst: null, command: 'run', isNew: false };
 const KEEP_AFTER = 150; // milliseconds without a change
+
+/** What is shown next has an address of its own. */
+function beginAddress() {
+  keepAddress();
+  kept.isNew = true;
+}
 
 /** Keeps what is shown in the address, a little later: a browser lets a page change its address some times in a second. */
 function keepAddressSoon() {
@@ -39,15 +54,20 @@ function keepAddress() {
   drawShare();
   const address = currentAddress(), isLong = address.length > LONGEST_ADDRESS;
   if (location.hash === '' && (isLong || address === kept.atFirst)) return;
-  window.history.replaceState(null, '', isLong ? location.href.split('#')[0] : '#' + address); // none where one that was kept would tell another test
+  const isOther = kept.isNew || currentCommand() !== kept.command, put = isOther ? 'pushState' : 'replaceState';
+  window.history[put](null, '', isLong ? location.href.split('#')[0] : '#' + address); // none where one that was kept would tell another test
+  Object.assign(kept, { command: currentCommand(), isNew: false });
 }
+
+/** What the address of a page that is a file is good for. */
+const OF_A_FILE = 'This page is a file here, so the link leads here on this computer alone. For others press Save as a page, and send them that file.';
 
 /** Copies the address of what is shown. */
 async function copyLink() {
   const address = `${location.href.split('#')[0]}#${currentAddress()}`;
   try {
     await navigator.clipboard.writeText(address);
-    byId('copied').textContent = 'Copied.';
+    byId('copied').textContent = location.protocol === 'file:' ? `Copied. ${OF_A_FILE}` : 'Copied.';
   } catch {
     byId('copied').textContent = 'This browser doesn\'t let the page copy: copy the address from the address bar.';
   }
@@ -67,17 +87,19 @@ function drawShare() {
 function openTest(fragment) {
   const told = new URLSearchParams(fragment);
   const why = ['test', 'choices', 'order'].map(name => whyTooLong(told.get(name) ?? '')).find(each => each !== null);
-  if (why) return showSaid({ hint: '' }, why);
+  if (why) return sayInSight(why);
   putInput(told.get('test'));
   if (told.has('choices')) putChoices(told.get('choices'));
   if (told.has('order')) byId('given').value = told.get('order');
   putSettings(told);
   putCommand(told.get('command'));
-  const others = otherMachines({ ...Tso.DEFAULTS, ...readSettings('run').options }).slice(1);
-  putDrive({ beside: others.find(machine => machineName(machine) === told.get('beside')) ?? null });
+  putDrive({ beside: besideNamed(told.get('beside')) });
+  cachesView.wanted = told.has('caches') ? told.get('caches') === '1' : null;
+  forgetOwnRun();
   answerNow();
   if (LONG.includes(currentCommand()) && byId('said').textContent === '') begin();
   if (drive.isOn && /^\d{1,4}$/.test(told.get('at') ?? '')) goTo(Number(told.get('at')));
+  if (/^\d{1,2}$/.test(told.get('step') ?? '')) beginLesson(told.get('lesson'), Number(told.get('step')));
 }
 
 function openPicture(fragment) {
@@ -93,11 +115,15 @@ function openPicture(fragment) {
 /** What the address tells; where it tells nothing, what a saved page has to open. */
 const addressAtFirst = () => location.hash.slice(1) || savedAddress();
 
-/** Opens what the address tells. Where it tells nothing, the page stays as it is. */
+/** Opens what the address tells. Where it tells nothing, the page stays as it is, or shows again what it began with. */
 function showAddress() {
-  const fragment = addressAtFirst();
+  const fragment = addressAtFirst() || (kept.atFirst ?? '');
+  putEmbedding(fragment);
   if (fragment === '') return;
+  endLesson();
   if (!TEST_ADDRESS.test(fragment)) openPicture(fragment);
-  else if (bench.tso) openTest(fragment);
-  else byId('message').textContent = 'This is the address of a test, and there is no machine here to run it.';
+  else if (bench.tso) {
+    openTest(fragment);
+    kept.command = currentCommand();
+  } else byId('message').textContent = 'This is the address of a test, and there is no machine here to run it.';
 }

@@ -51,12 +51,7 @@ const NO_TEST = { status: Tso.STATUS.refused, text: '', hint: 'There is no test 
 function answerNow(isAtStart = false) {
   if (!bench.tso) return;
   stopTask();
-  const command = currentCommand(), { wrong, options } = readSettings(command);
-  drawShare();
-  keepAddressSoon();
-  showTestLine(command);
-  byId('words-line').replaceChildren(...commandWords(command).split(' ').flatMap(word => [html('span', { class: 'unbroken' }, word), ' ']));
-  byId('begin').disabled = wrong !== undefined;
+  const command = currentCommand(), { wrong, options } = showAsked(command);
   if (wrong) byId('test-part').open = true;
   if (wrong) showSaid({ text: '', hint: '' }, wrong);
   else if (command !== 'tables' && byId('test').value.trim() === '') showAnswer(NO_TEST);
@@ -64,6 +59,17 @@ function answerNow(isAtStart = false) {
   else if (command === 'run' && countChoices(choicesText()) > LONG_RUN) begin();
   else if (command === 'run') answerRun(options, isAtStart === true);
   else showOpenAnswer(asked(options, inputOf(command)));
+}
+
+/** Shows what is asked: its line, its address and its words on the command line. Answers the settings as they are read. */
+function showAsked(command) {
+  const settings = readSettings(command);
+  drawShare();
+  keepAddressSoon();
+  showTestLine(command);
+  byId('words-line').replaceChildren(...commandWords(command).split(' ').flatMap(word => [html('span', { class: 'unbroken' }, word), ' ']));
+  byId('begin').disabled = settings.wrong !== undefined;
+  return settings;
 }
 
 /** The module's answer; where it trapped, a sentence in its place. */
@@ -107,7 +113,11 @@ function reportNow() {
   return bench.answer;
 }
 
-const showReport = () => byId('report').textContent = reportNow().text;
+/** Shows the answer in the form that is wanted. Of a run that is driven on the report is made anew. */
+function showReport() {
+  if (currentCommand() === 'run' && bench.answer === null) putFormats({ printed: reportNow().text });
+  return showFormat();
+}
 
 /** Shows an answer: what was refused is marked, and a run that was shown before isn't any more. */
 function showAnswer(answer) {
@@ -115,11 +125,13 @@ function showAnswer(answer) {
   const isText = answer.status !== Tso.STATUS.refused && answer.text !== '';
   hideRun();
   byId('states').replaceChildren();
+  showWayBack();
   markRefusal(answer.text);
   if (answer.status === Tso.STATUS.refused) byId('test-part').open = true;
   showSaid(answer, isText ? '' : answer.text.trim());
   byId('report-part').hidden = !isText;
   byId('report').textContent = isText ? answer.text : '';
+  putFormats(isText ? { printed: answer.text } : {});
   for (const button of document.querySelectorAll('[data-save=report]')) button.disabled = !isText;
 }
 
@@ -145,30 +157,80 @@ function showSaid({ status, hint }, said) {
 function stopTask() {
   bench.task?.stop();
   bench.task = null;
-  byId('stop').hidden = byId('busy').hidden = true;
+  endWorking();
 }
 
-/** Begins a long command in a worker. */
+/** Begins a long command in a worker. What is shown stays in sight until there is an answer. */
 async function begin() {
-  const command = currentCommand(), { options } = readSettings(command);
+  const command = currentCommand(), { options } = showAsked(command);
   stopTask();
-  const input = inputOf(command), task = bench.task = beginTask(bench.bytes, questionsOf(command, options), input);
+  byId('about').open = false;
+  const input = inputOf(command), task = bench.task = beginTask(bench.bytes, questionsOf(command, options), input, tellProgress);
   if (command === 'run') showAnswer({ status: 0, text: '', hint: '' });
-  byId('stop').hidden = byId('busy').hidden = false;
+  beginWorking();
   try {
-    const [answer, beside] = await task.answers;
+    const answers = await task.answers;
     if (bench.task !== task) return;
     stopTask();
-    if (command === 'run') showLongRun(answer, beside, options, input);
-    else if (command === 'outcomes' && answer.status === Tso.STATUS.good) showOutcomes(answer, beside, input);
-    else if (command === 'outcomes' && answer.status === Tso.STATUS.unended) showMet(answer, options.depth);
-    else if (command === 'why' && answer.status === Tso.STATUS.good) showReason(answer, input);
-    else showOpenAnswer(answer);
+    showLong(command, answers, options, input);
+    if (command !== 'run') focusAnswer();
   } catch (fault) {
     if (bench.task !== task) return;
     stopTask();
     showAnswer({ status: null, text: '', hint: trapSentence(fault) });
   }
+}
+
+/** Shows the answer to a long command. */
+function showLong(command, [answer, beside], options, input) {
+  const isGood = answer.status === Tso.STATUS.good, isUnended = answer.status === Tso.STATUS.unended;
+  if (command === 'run') showLongRun(answer, beside, options, input);
+  else if (command === 'outcomes' && isGood) showOutcomes(answer, beside, input);
+  else if (command === 'outcomes' && isUnended) showMet(answer, options.depth);
+  else if (command === 'why' && isGood) showReason(answer, input);
+  else if (command === 'why' && isUnended) showUnfinished(command, answer);
+  else showOpenAnswer(answer);
+}
+
+/** The heading of an answer's sheet, to which the focus goes. */
+const answerTitle = text => html('h2', { class: 'answer-title', tabindex: -1 }, text);
+
+/** Puts the focus on the answer that was asked for, and brings it into sight. */
+function focusAnswer() {
+  const title = byId('states').querySelector('.answer-title') ?? byId('report');
+  const top = lesson.told !== null ? byId('lesson') : byId('way-back').hidden ? title : byId('way-back');
+  top.scrollIntoView({ block: 'start' });
+  const said = title.parentElement.querySelector('[role=status]');
+  if (said) {
+    said.id = 'answer-said'; // it is read with the heading
+    title.setAttribute('aria-describedby', said.id);
+  }
+  title.focus({ preventScroll: true });
+}
+
+/** Says of an answer that met its limit what it doesn't know, and what one can do. */
+function showUnfinished(command, answer) {
+  showAnswer(answer);
+  foldReport(answer);
+  byId('states').replaceChildren(...unfinishedParts(command));
+}
+
+/** Folds the text of an answer that is JSON and that a sheet shows. */
+function foldReport(answer) {
+  byId('report-part').open = false;
+  putFormats({ json: answer.text });
+}
+
+/** Offers the way back to the run, while an answer is shown in its place. */
+function showWayBack() {
+  byId('way-back').hidden = currentCommand() === 'run';
+}
+
+/** Shows the run again, as it was before the answer. */
+function backToRun() {
+  if (ownRun.kept !== null) return backToOwnRun();
+  putCommand('run');
+  answerNow();
 }
 
 /** What a task is asked: of a run its report and its line, of outcomes those of sequential consistency too. */
@@ -193,39 +255,45 @@ function showLongRun(answer, line, options, input) {
 function showOutcomes(answer, beside, test) {
   const outcomes = readOutcomes(answer.text), sequential = beside?.status === Tso.STATUS.good ? readOutcomes(beside.text) : null;
   showAnswer(answer);
-  byId('report-part').hidden = true;
+  foldReport(answer);
   const said = [observationSentence(outcomes), sequential ? besideSentence(outcomes, sequential) : ''].join(' ').trim();
-  byId('states').replaceChildren(html('p', { role: 'status' }, said), outcomesTable(outcomes, sequential, truthsOf(outcomes, test)));
+  byId('states').replaceChildren(answerTitle('All final states'), html('p', { role: 'status' }, said), ...statesSheet(outcomes, sequential, truthsOf(outcomes, test)));
 }
 
 /** Shows what a search had met when it came to its limit: some of the final states, or none. */
 function showMet(answer, depth) {
   const met = readMet(answer.text);
-  if (met.states.length === 0) return showOpenAnswer(answer);
+  if (met.states.length === 0) return showUnfinished('outcomes', answer);
   showAnswer(answer);
-  byId('report-part').hidden = true;
+  foldReport(answer);
   const truths = met.states.every(({ holds }) => typeof holds === 'boolean') ? met.states.map(({ holds }) => holds) : null;
-  byId('states').replaceChildren(html('p', { role: 'status' }, metSentence(met)), outcomesTable({ ...met, depth }, null, truths));
+  byId('states').replaceChildren(answerTitle('Some final states'), html('p', { role: 'status' }, metSentence(met)), waysOn('outcomes'), ...statesSheet({ ...met, depth }, null, truths));
 }
 
-/** Finds all outcomes of the test, by one click from its run. */
-function findOutcomes() {
-  putCommand('outcomes');
-  answerNow();
+/** Asks a long command about the test, by one click from its run. */
+function ask(command) {
+  keepOwnRun();
+  putCommand(command);
   begin();
 }
 
+const findOutcomes = () => ask('outcomes');
+
 /** Judges the order of the run that is shown: whether it is one of TSO, or which choices lead to it. */
 function judgeOrder(command) {
+  keepOwnRun();
   const { text } = reportNow();
   byId('given').value = text.slice(Math.max(0, text.search(/^Order$/m)));
   byId('test-part').open = true;
   putCommand(command);
   answerNow();
+  focusAnswer();
 }
 
 /** Runs choices that were found, on the machine of which they were found: the bus is atomic, and the buffers are as deep. */
 function loadChoices(choices, depth) {
+  keepOwnRun();
+  const before = JSON.parse(ownRun.kept.settings).find(([name]) => name === 'depth')?.[1] ?? SET_AT_FIRST.depth;
   settingOf('depth').value = depth;
   settingOf('bus').value = 'atomic';
   putChoices(choices + '\n');
@@ -233,13 +301,20 @@ function loadChoices(choices, depth) {
   const sheet = [...byId('states').children]; // it stays beside the run
   answerNow();
   byId('states').replaceChildren(...sheet);
+  const isOther = String(before) !== String(depth);
+  showOwnRun(`This is a run of the answer${isOther ? `, with store buffers of depth ${depth} (yours have depth ${before})` : ''}.`);
+  markShownState(choices);
+  byId('stepper').scrollIntoView({ block: 'nearest' });
 }
 
 /** Loads a text of the list, at the depth that it needs. */
 function loadText(file) {
   const entry = LIBRARY.find(entry => entry.file === file);
   const isOrder = putInput(entry.text);
-  settingOf('depth').value = entry.depth ?? SET_AT_FIRST.depth;
+  endLesson();
+  forgetOwnRun();
+  for (const name of ['depth', 'words']) settingOf(name).value = entry[name] ?? SET_AT_FIRST[name];
+  beginAddress();
   putCommand(isOrder ? 'check' : 'run');
   answerNow(true);
 }

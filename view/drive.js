@@ -35,9 +35,10 @@ function beginDrive(history, { test, given }, count) {
   stopPlaying();
   const words = history.steps.map(step => step.choice), core = Math.min(drive.core, history.cores - 1);
   putDrive({ isOn: true, test, given, words, core, count: Math.min(count, words.length) });
-  putDrive({ histories: [history, ...historyBeside()] });
+  putDrive({ histories: [history, ...historiesBeside(history.options)] });
   putPanels(drive.histories.map((each, at) => (drawn.panels[at]?.isOf(each) ? drawn.panels[at] : new MachinePanel(each))));
-  byId('machines').classList.toggle('two', drive.histories.length > 1);
+  byId('machines').classList.toggle('two', drive.histories.length === 2);
+  byId('machines').classList.toggle('abreast', drive.histories.length > 2);
   byId('machines').classList.toggle('many', history.cores > FEW_CORES);
   Object.assign(drawn, { picture: null, passes: null });
   drawBesideChoices(history.options);
@@ -80,15 +81,17 @@ const hasStalled = ({ histories, count }) => histories.every(({ steps }) => step
 
 /** Makes a choice. One that would stall is made only where that is wanted (`mayStall`), or where it comes next anyway; else nothing changes. */
 function makeChoice(word, mayStall = false) {
-  if (!drive.isOn || isAtEnd(drive)) return;
+  if (!drive.isOn || isAtEnd(drive) || !lessonAllows(word)) return;
   const isNext = drive.words[drive.count] === word;
   if (!isNext && drive.count >= MOST_STEPS) return refuseMore();
   const next = afterChoice(drive, word);
   if (next === null) return stopBefore();
   if (!isNext && !mayStall && hasStalled(next)) return refuseStall(next, word);
+  if (!isNext && drive.count < drive.words.length) keepBranch(drive);
   putDrive(next);
   if (!isNext) putWords();
   showDrive();
+  lessonDid(word);
 }
 
 /** Says why a choice does nothing, and offers to make it all the same. */
@@ -195,6 +198,7 @@ function play() {
   stopPlaying();
   timers.playing = setInterval(() => {
     goTo(drive.count + 1);
+    moveToken();
     if (drive.count >= drive.words.length) stopPlaying();
   }, 1000 / SPEEDS[Number(byId('speed').value)]);
   showPlaying();
@@ -217,29 +221,6 @@ function setSpeed(speed) {
   byId('speed').value = String(Math.min(SPEEDS.length - 1, Math.max(0, speed)));
   if (timers.playing !== null) play();
   showPlaying();
-}
-
-// The second machine.
-
-/** The history of the machine beside the first under the same choices, if one is asked for. */
-function historyBeside() {
-  if (drive.beside === null) return [];
-  const { history } = historyOf(drive.beside, inputOfWords(drive.words));
-  return history ? [history] : [];
-}
-
-function drawBesideChoices(options) {
-  const field = byId('beside-it'), others = otherMachines(options).slice(1), wanted = JSON.stringify(drive.beside), key = JSON.stringify(options);
-  if (field.dataset.key !== key) {
-    field.dataset.key = key;
-    field.replaceChildren(html('option', { value: 'null' }, 'no other'), ...others.map(other => html('option', { value: JSON.stringify(other) }, machineName(other))));
-  }
-  field.value = others.some(other => JSON.stringify(other) === wanted) ? wanted : 'null';
-}
-
-function putBeside(text) {
-  putDrive({ beside: JSON.parse(text) });
-  beginDrive(firstHistory(), drive, drive.count);
 }
 
 // Keys: a choice is typed as it is written, `0s` or `0d`; the core that was named last is kept.

@@ -4,15 +4,18 @@
 
 /** Shows everything after the choices that are made. */
 function showDrive() {
-  const history = firstHistory(), { count } = drive;
-  drawn.panels.forEach((panel, at) => panel.show(drive.histories[at], count));
+  const history = firstHistory(), { count } = drive, isPlain = !putCaches();
+  drawn.panels.forEach((panel, at) => panel.show(drive.histories[at], count, isPlain));
   markCore();
   showPicture();
   const step = history.steps[count - 1];
   const before = step && history.machineAfter(count - 1);
-  byId('sentence').textContent = step ? `${step.choice}: ${stepSentences(step, before).join(' ')}` : count === 0 ? startSentence() : 'The first machine\'s test has ended.';
+  byId('sentence').textContent = step ? `${step.choice}: ${stepSentences(step, before, isPlain).join(' ')}` : count === 0 ? startSentence(history) : 'The first machine\'s test has ended.';
   byId('count').textContent = `${count} ${count === 1 ? 'choice' : 'choices'} made`;
   showMoves();
+  showBranches();
+  markDifferences();
+  markWanted();
   showEnd(history);
   showTask(history, count, shown.run);
   keepAddressSoon();
@@ -31,7 +34,12 @@ function keepInSight() {
 /** Whether what one steps by stands at the lower edge of the window, as it does on a narrow one. */
 const isStepperBelow = () => matchMedia('(max-width: 560px)').matches;
 
-const startSentence = () => 'The machine at its start. Choose what a core does: step or drain.';
+/** What is said at the start: that choices are known, or how many a run needs. */
+function startSentence(history) {
+  const known = drive.words.length, next = known === 0 ? leastSentence(history) : ` ${known === 1 ? 'One choice is' : `${known} choices are`} known: Forward makes them.`;
+  return `The machine at its start. Choose what a core does: step or drain.${next}`;
+}
+
 
 function showMoves() {
   const isFirst = drive.count === 0, isLast = drive.count === drive.words.length;
@@ -100,7 +108,7 @@ function showEnd(history) {
   byId('comparison').hidden = run === null;
   byId('saves').querySelector('[data-save=line]').disabled = run === null;
   if (run === null) return;
-  byId('left').replaceChildren(...finalTables(run));
+  byId('left').replaceChildren(...finalTables(run, REGISTERS.filter(name => drawn.panels[0].panels.some(({ used }) => used.includes(name)))));
   if (byId('order-part').open) showOrder();
   compareNow();
 }
@@ -111,8 +119,12 @@ function showPasses(history) {
   drawn.passes.show(history.order, history.momentAfter(drive.count).rows, history.hasEnded(drive.count));
 }
 
-const conditionSentence = ({ proposition }) => (proposition === null ? 'Condition: the test has none.' :
-  `Condition: ${proposition}. When the test has ended, the page tells whether it is true.`);
+/** The condition before the test has ended: in words, where it speaks of words at places alone, and as it is written. */
+function conditionSentence({ proposition }) {
+  if (proposition === null) return 'Condition: the test has none.';
+  const wanted = wantedWords(proposition), inWords = wanted === null ? '' : `${wantedSentence(wanted)}, written `;
+  return `Condition: ${inWords}${proposition}. When the test has ended, the page tells whether it is true.`;
+}
 
 const showOrder = () => byId('order').replaceChildren(...(shown.run ? [orderTable(shown.run)] : []));
 
@@ -125,11 +137,15 @@ function historyWithin(options, input) {
   return history?.hasEnded(history.steps.length) ? { history } : told;
 }
 
+/** Where one was in the middle of a run: after how many choices, and which; null at a run's end. It stays while a text is refused. */
+let placeInRun = null;
+
 /** Does what makes the machine another, and stays after as many choices, where these are the same. */
 function keepPosition(act) {
-  const { isOn, count, words } = drive, isAmid = isOn && count < words.length;
+  const { isOn, count, words } = drive;
+  if (isOn) placeInRun = count < words.length ? words.slice(0, count) : null;
   act();
-  if (isAmid && drive.isOn && words.slice(0, count).join() === drive.words.slice(0, count).join()) goTo(count);
+  if (placeInRun !== null && drive.isOn && beginWith(drive.words, placeInRun)) goTo(placeInRun.length);
 }
 
 /** Shows a run as a machine that is driven, `isAtStart` before its choices and else after them. Answers whether it can be. */

@@ -1,43 +1,100 @@
 'use strict';
 
-// The task that stands over a test whose condition is `exists`: to end as the condition says. It is ticked as soon as it is met.
+// The task that stands over a test with a condition: to end as it asks. Where that can't be, or nobody knows yet, it is a question.
 
 /** Tasks that have words of their own, by the test's name and its proposition. */
-const TASKS = { 'SB 0:EAX=0 /\\ 1:EAX=0': 'Make both loads read 0.' };
+const TASKS = {
+  'SB 0:EAX=0 /\\ 1:EAX=0': 'Make both loads read 0.',
+  'SBF 0:EAX=0 /\\ 1:EAX=0': 'Make both loads read 0, past the fences.',
+};
 
-/** The words that a proposition wants of registers, each with its core, where it speaks of nothing else; else null. */
-function wantedRegisters(proposition) {
-  const parts = proposition.split('/\\').map(part => /^(\d):([A-Z]{3})=(\d+)$/.exec(part.trim()));
-  return parts.includes(null) ? null : parts.map(([, core, name, word]) => ({ core: Number(core), name, word: Number(word) }));
+/** The places of a proposition with the words that it wants there, where it speaks of nothing else; else null. */
+function wantedWords(proposition) {
+  const parts = proposition.split('/\\').map(part => /^\(*\s*(?:(\d):([A-Z]{3})|\[?([A-Za-z_]\w*)\]?)\s*=\s*(\d+)\s*\)*$/.exec(part.trim()));
+  if (parts.includes(null)) return null;
+  return parts.map(([, core, register, location, word]) => ({ ...(location === undefined ? { core: Number(core), register } : { location }), word: Number(word) }));
 }
 
-const asksToExist = test => /^[ \t]*exists\b/m.test(test);
+const isRegister = ({ register }) => register !== undefined;
+const wantedSentence = places => listed(places.map(part => `${part.word} in ${placeWords(part)}`));
+const placeWords = ({ core, register, location }) => (register === undefined ? location : `P${core}'s ${register}`);
 
-/** What a task asks for, in words. */
-function taskSentence(name, proposition) {
-  const own = TASKS[`${name} ${proposition}`], wanted = wantedRegisters(proposition);
-  if (own) return own;
-  return wanted ? `End with ${listed(wanted.map(({ core, name: register, word }) => `${word} in P${core}'s ${register}`))}.` : `End with ${proposition}.`;
+/** The quantifier of a test's condition, or null. */
+const quantifierOf = test => /^[ \t]*(~[ \t]*exists|exists|forall)\b/m.exec(test)?.[1].replace(/\s/g, '') ?? null;
+
+/** What a task asks for, in words. `forall` is shown wrong by any other end. */
+function taskSentence(name, proposition, quantifier) {
+  const own = TASKS[`${name} ${proposition}`], wanted = wantedWords(proposition);
+  if (own && quantifier === 'exists') return own;
+  const said = wanted ? wantedSentence(wanted) : proposition;
+  return quantifier === 'forall' ? `End otherwise than with ${said}.` : `End with ${said}.`;
 }
 
-/** Whether a proposition is met after so many steps; null where that isn't settled yet. Registers are settled when no core has an
- * instruction left, and memory when nothing waits. */
-function isMet(history, count, condition) {
-  const { cores } = history.machineAfter(count), wanted = wantedRegisters(history.proposition);
-  if (!wanted) return condition?.holds ?? null;
-  if (cores.some((core, at) => core.place < history.programs[at].length)) return null;
-  return wanted.every(({ core, name, word }) => cores[core]?.registers[name] === word);
+const CLAIMS = { exists: '', '~exists': 'The test claims that no run ends so. ', forall: 'The test claims that each run ends so. ' };
+
+/** What stands before a task: where nobody knows that it can be done, that is the question. */
+const taskTitle = can => (can === true ? 'Task:' : 'Can this be done?');
+
+/** The word at a place that a proposition names, after so many steps. */
+function wordAtPlace(machine, { core, register, location }) {
+  return register === undefined ? machine.seen[location] : machine.cores[core]?.registers[register];
 }
 
-/** Shows the task, and when it is met why, by what the loads passed. `run` is the run, where it has ended. */
+/** Whether the words at some places are settled: registers when no core has an instruction left, memory when nothing waits either. */
+function areSettled(history, count, places) {
+  if (history.hasEnded(count)) return true;
+  return places.every(isRegister) && history.machineAfter(count).cores.every((core, at) => core.place === history.programs[at].length);
+}
+
+/** The places whose words are others than is wanted, each with the word that is there. */
+function missedPlaces(history, count, places) {
+  const machine = history.machineAfter(count);
+  return places.map(part => ({ ...part, is: wordAtPlace(machine, part) })).filter(({ is, word }) => is !== word);
+}
+
+/** Whether a proposition is true after so many steps; null where that isn't settled yet. */
+function isTrueAfter(history, count, condition) {
+  const places = wantedWords(history.proposition);
+  if (!places) return condition?.holds ?? null;
+  return areSettled(history, count, places) ? missedPlaces(history, count, places).length === 0 : null;
+}
+
+/** Whether the task is met; null where that isn't settled. */
+function isMet(history, count, condition, quantifier) {
+  const isTrue = isTrueAfter(history, count, condition);
+  return isTrue === null ? null : isTrue !== (quantifier === 'forall');
+}
+
+/** What was another than is wanted, in words. */
+function missedSentence(history, count, quantifier) {
+  const places = wantedWords(history.proposition);
+  if (quantifier === 'forall' || !places) return 'Not met this time.';
+  const missed = missedPlaces(history, count, places).map(part => `${placeWords(part)} ended as ${part.is}, not ${part.word}`);
+  return `Not met this time: ${listed(missed)}.`;
+}
+
+/** What is said after a try. */
+function afterTry(history, count, met, quantifier) {
+  if (met === null) return '';
+  if (!met) return ` ${missedSentence(history, count, quantifier)} Go back, or make other choices.`;
+  const claim = quantifier === 'exists' ? '' : ' So the claim of the test is wrong.';
+  const passes = passesOf(history.order.slice(0, history.momentAfter(count).rows), '').filter(sentence => sentence !== '');
+  return ` Done.${claim} ${passes.join(' ')}`.trimEnd();
+}
+
+/** Shows the task, and when it is met why, by what the loads passed. `run` is the run, where it has ended. After a try that missed what
+ * may be impossible the page offers to say why. */
 function showTask(history, count, run) {
-  const { proposition } = history, hasTask = proposition !== null && asksToExist(drive.test);
+  const { proposition } = history, quantifier = quantifierOf(drive.test), hasTask = proposition !== null && quantifier !== null && lesson.told === null;
   byId('task').hidden = !hasTask;
   if (!hasTask) return;
-  const met = isMet(history, count, run?.condition), task = taskSentence(testName(), proposition);
-  const passes = passesOf(history.order.slice(0, history.momentAfter(count).rows), '').filter(sentence => sentence !== '');
-  const after = { true: ` Done. ${passes.join(' ')}`, false: ' Not met this time: go back, or make other choices.', null: '' }[met];
+  askPossibleSoon();
+  const can = canBe(), met = isMet(history, count, run?.condition, quantifier);
+  const task = `${met ? '✓' : '☐'} ${met ? 'Task:' : taskTitle(can)} ${CLAIMS[quantifier]}${taskSentence(testName(), proposition, quantifier)}`;
   byId('task').classList.toggle('met', met === true);
-  const [said] = byId('task').children, key = `${met ? '✓' : '☐'} Task: ${task}`;
-  if (said?.textContent !== key || byId('task').lastChild.textContent !== after) byId('task').replaceChildren(html('strong', {}, key), after);
+  putText(byId('task-said'), task);
+  const offers = met === false && can !== true && document.querySelector('#commands [value=why]') !== null;
+  putText(byId('task-after'), afterTry(history, count, met, quantifier));
+  byId('task-why').hidden = !offers;
+  putText(byId('task-why'), offers ? 'Why can or can\'t it be?' : '');
 }

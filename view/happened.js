@@ -33,8 +33,15 @@ function supplyOf({ supplied, choice, entries, after }) {
   return { from: supplied, reader, owner: supplied in owners ? owners[supplied] : Number(supplied.slice(1)), locations };
 }
 
-/** What was committed, in one sentence. */
-function committedSentence({ choice, entries, supplied }) {
+/** Where a store is that has left its buffer, in words: a cache may keep the word from memory itself. */
+function seenWords({ after }, core, location, isPlain) {
+  const isKept = !isPlain && after.seen[location] !== after.memory[location];
+  return isKept ? `each core sees it from now on. P${core}'s cache has the word, and memory itself still has the old one.` : 'memory has seen it.';
+}
+
+/** What was committed, in one sentence. Where no caches are shown (`isPlain`), a word that isn't in its own buffer is in memory. */
+function committedSentence(step, isPlain) {
+  const { choice, entries } = step, supplied = isPlain && step.supplied !== 'buffer' ? step.supplied && 'memory' : step.supplied;
   const from = supplied ? ` from ${sourceName(supplied)}` : '';
   const [first, second] = entries.map(entryOf), core = coreOfChoice(choice), is = `${first.location}=${first.value}`;
   switch (first.kind) {
@@ -43,21 +50,22 @@ function committedSentence({ choice, entries, supplied }) {
     case 'LW': return `P${core}'s locked instruction wrote ${is}, and the bus is free again.`;
     case 'LR': return `P${core}'s locked instruction read ${is}${from}` +
       (second ? ` and wrote ${second.location}=${second.value}, in one step.` : '. It keeps the bus until it has written.');
-    default: return isDrain(choice) ? `P${core}'s oldest store ${is} left its buffer: memory has seen it.` : `P${core} stored ${is}: memory has seen it.`;
+    default: return `${isDrain(choice) ? `P${core}'s oldest store ${is} left its buffer` : `P${core} stored ${is}`}: ${seenWords(step, core, first.location, isPlain)}`;
   }
 }
 
-/** What a step did, in sentences; `before` is the machine before it. */
-function stepSentences(step, before) {
+/** What a step did, in sentences; `before` is the machine before it. Where no caches are shown (`isPlain`), nothing speaks of them. */
+function stepSentences(step, before, isPlain = false) {
   const core = coreOfChoice(step.choice);
   const said = {
     buffered: () => `P${core}'s store ${step.entries[0].replace(/^\S+ W /, '')} waits in its store buffer.`,
-    committed: () => committedSentence(step),
+    committed: () => committedSentence(step, isPlain),
     moved: () => `P${core} set ${step.moved}.`,
     asked: () => `P${core} asked for the bus, and holds it now.${step.supplied ? ` The word is in ${sourceName(step.supplied)}.` : ''}`,
     stalled: () => `Stalled (${step.stall}), and nothing changed: ${STALLS[step.stall](core, before)}`,
   };
   const sentences = [said[step.outcome]()];
+  if (isPlain) return sentences;
   if (step.access) sentences.push(ACCESSES[step.access](core));
   if (step.transaction) sentences.push(`${step.transaction} went on the bus.`);
   if (step.flush) sentences.push(`${step.flush} sent its copy to memory.`);

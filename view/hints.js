@@ -8,6 +8,7 @@ const IN_WORDS_OF_THE_PAGE = [
   ['no order: give one after a line ====, as run prints it; --help says more', 'there is no order yet: write one, as the answer of run has it as text'],
   ['put a line ==== between the test and the choices', 'choices stand in their own field'],
   ['put a line ==== between the test and the order', 'an order stands in its own field'],
+  ['tso why needs no states', 'why needs no states'],
   [' after ====: ', ' of it: '],
 ];
 

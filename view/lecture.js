@@ -33,6 +33,32 @@ async function toggleLecture() {
   }
 }
 
+// A clicker has the keys PageUp and PageDown: they step what is shown.
+
+/** What a clicker's keys do to a lesson: they go through its steps, make its choices, and give its answers. */
+function clickLesson(isOn) {
+  const { at, isDone } = lesson, { do: word, ask: question, right, answers, show: shows } = stepNow();
+  if (!isOn) return at > 0 && enterStep(at - 1);
+  if (isDone) return goOn();
+  if (word !== undefined) return makeChoice(word);
+  return question === undefined ? shows !== undefined && showInLesson() : answerLesson(right ?? answers[0]);
+}
+
+/** Steps the cycle that is drawn, the lesson, or the machine; after a run's end comes the next test of the list. */
+function click(isOn) {
+  const { cycle } = sheet, isDrawn = cycle !== null && cycle.element.isConnected && !drive.isOn;
+  if (isDrawn && !(isOn && cycle.shown === cycle.cycle.length && lesson.told !== null)) return cycle.move(isOn ? 'next' : 'back');
+  if (lesson.told !== null) return clickLesson(isOn);
+  if (!drive.isOn) return undefined;
+  if (isOn && drive.count === drive.words.length && isAtEnd(drive)) return openListed(playlist.at + 1);
+  return moveDriven(isOn ? 'forward' : 'back');
+}
+
+document.addEventListener('keydown', event => {
+  if (!isLecture() || !['PageDown', 'PageUp'].includes(event.key) || event.target.matches('textarea')) return;
+  event.preventDefault();
+  click(event.key === 'PageDown');
+});
 document.addEventListener('fullscreenchange', () => {
   if (!document.fullscreenElement && isLecture()) putLecture(false);
 });

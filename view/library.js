@@ -4,7 +4,7 @@
 
 /** What a gallery's test says of itself in its lines `Name=..`. */
 function notesOf(text) {
-  const found = text.matchAll(/^(Family|Asks|TSO|SC|Depth|Source)=(.*)$/gm);
+  const found = text.matchAll(/^(Family|Asks|TSO|SC|Depth|Words|Source)=(.*)$/gm);
   return Object.fromEntries([...found].map(([, name, value]) => [name, value]));
 }
 
@@ -17,7 +17,7 @@ function entriesOf(texts, group) {
     const verdicts = [notes.TSO && `TSO: ${notes.TSO}`, notes.SC && `SC: ${notes.SC}`];
     const said = [SHOWS[file]?.replaceAll('`', ''), notes.Asks, ...verdicts].filter(Boolean).join(' ');
     const family = notes.Family ?? group;
-    return { file, text, depth: notes.Depth, group: family, said, words: wordsOf(`${file} ${family} ${said} ${notes.Source ?? ''}`) };
+    return { file, text, depth: notes.Depth, words: notes.Words, group: family, said, found: wordsOf(`${file} ${family} ${said} ${notes.Source ?? ''}`) };
   });
 }
 
@@ -31,7 +31,7 @@ function libraryItem(entry) {
 /** Lists the texts in which each word of the search begins a word, by family: so `MP` finds no *examples*. */
 function showLibrary() {
   const words = wordsOf(byId('search').value);
-  const found = LIBRARY.filter(entry => words.every(word => entry.words.some(each => each.startsWith(word))));
+  const found = LIBRARY.filter(entry => words.every(word => entry.found.some(each => each.startsWith(word))));
   const groups = new Map();
   for (const entry of found) groups.set(entry.group, [...(groups.get(entry.group) ?? []), entry]);
   byId('found').textContent = `${found.length} of ${LIBRARY.length}`;

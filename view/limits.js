@@ -29,8 +29,14 @@ function refuseTooLong(event) {
   saySentence(field, why);
 }
 
+/** Says a sentence where it is in sight, whatever is folded. */
+function sayInSight(sentence) {
+  byId('message').textContent = sentence;
+  byId('message').scrollIntoView({ block: 'nearest' });
+}
+
 /** Says a sentence of a field: beside the test, or where lines of runs are told of. */
 function saySentence(field, sentence) {
-  if (field.id === 'line' || byId('bench').hidden) byId('message').textContent = sentence;
+  if (field.id === 'line' || byId('bench').hidden || !byId('test-part').open) sayInSight(sentence);
   else showSaid({ hint: '' }, sentence);
 }

@@ -2,7 +2,6 @@
 
 // The machine: its cores with their buffers and caches, its bus and its memory. What the last step changed stands out.
 
-const MOST_SLOTS = 8; // of a store buffer that are drawn while they are free
 const MOST_LINES = 8; // of a program that are in sight at a time
 const CACHED = { most: 4, height: 1.5625 }; // rows of a cache that have room while they aren't there, and a row's height in rem
 
@@ -22,23 +21,29 @@ function writtenBy(instruction) {
   return REGISTERS.filter(register => new RegExp(`\\b${register}\\b`).test(written.replace(/\[.*?\]/g, '')));
 }
 
-/** The registers: those that a step changed stand out, and those that none has written look faint. */
-function registerItems(now, before, written) {
-  return REGISTERS.map(name => html('li', {
+/** The registers that a test uses on a core: in its program, in its condition, or with a word at the start. */
+function usedRegisters({ programs, proposition, start }, core) {
+  const asked = [...(proposition ?? '').matchAll(/(\d+)\s*:\s*([A-Z]{3})/g)].filter(([, of]) => Number(of) === core).map(([, , name]) => name);
+  const code = programs[core].join(' ').toUpperCase();
+  return REGISTERS.filter(name => new RegExp(`\\b${name}\\b`).test(code) || asked.includes(name) || start.cores[core].registers[name] !== 0);
+}
+
+/** The registers of these names: those that a step changed stand out, and those that none has written look faint. */
+function registerItems(now, before, written, used) {
+  if (used.length === 0) return [html('li', { class: 'faint' }, 'none used')];
+  return used.map(name => html('li', {
     ...marked(written.includes(name) ? 'word written' : 'word plain', now[name] !== before[name]),
     title: written.includes(name) ? `An instruction wrote ${name}.` : `No instruction has written ${name} yet.`,
   }, `${name}=${now[name]}`));
 }
 
-/** The stores that wait, the oldest first; after the last one that came in or left, and the room that is left. */
-function bufferItems(now, before, depth, supply) {
+/** The stores that wait, the oldest first, after one that left. */
+function bufferItems(now, before, supply) {
   const isNew = at => now.length > before.length && at === now.length - 1;
   const newest = supply ? now.findLastIndex(store => supply.locations.includes(store.split('=')[0])) : -1;
   const stores = now.map((store, at) => html('li', sourced(marked('slot', isNew(at)), at === newest && supply), store));
   const left = before.length > now.length ? [html('li', { class: 'slot left' }, hidden('left: '), before[0])] : [];
-  const room = Math.min(depth, MOST_SLOTS) - now.length - left.length;
-  const free = Array.from({ length: Math.max(0, room) }, () => html('li', { class: 'slot free', 'aria-hidden': 'true' }, '\u00a0'));
-  return [...left, ...stores, ...free];
+  return left.length + stores.length > 0 ? [...left, ...stores] : [html('li', { class: 'faint' }, 'empty')];
 }
 
 function stateCell(state, change) {
@@ -76,17 +81,22 @@ function buttonTexts(program, { place, buffer }, bus, core) {
   };
 }
 
+/** A part's heading, which says at the pointer what the part is; at the first core at the focus too. */
+const partTitle = (text, isFirst, tag = 'h5') => html(tag, { 'data-means': text, ...(isFirst ? { tabindex: 0, 'aria-label': text, 'aria-description': MEANINGS[text] } : {}) }, text);
+
 class CorePanel {
-  constructor(core, { programs, options }) {
+  constructor(core, history) {
+    const { programs, options } = history, title = text => partTitle(text, core === 0);
     this.core = core;
     this.program = programs[core];
+    this.used = usedRegisters(history, core);
     this.depth = options.depth;
     this.makeParts(options);
     this.element = html('section', { class: 'core', 'data-core': core, 'aria-label': `Core P${core}` },
       html('h4', {}, `P${core}`), html('div', { class: 'core-buttons' }, ...['step', 'drain'].map(way => html('div', { class: 'choice' }, this[way], this.stalls[way]))),
-      html('h5', {}, 'Program'), this.list, html('h5', {}, 'Registers'), this.registers.element,
-      html('h5', {}, 'Store buffer'), this.depth === 0 ? html('p', { class: 'faint' }, 'none') : this.buffer.element,
-      html('h5', {}, 'Cache'), this.cache);
+      html('div', { class: 'of-core' }, title('Program'), this.list, title('Registers'), this.registers.element,
+        title('Store buffer'), this.depth === 0 ? html('p', { class: 'faint' }, 'none') : this.buffer.element),
+      html('div', { class: 'of-caches' }, title('Cache'), this.cache));
   }
 
   makeParts({ sets, ways }) {
@@ -113,8 +123,8 @@ class CorePanel {
     const key = JSON.stringify([core, old, bus, changes, hasEnded, isLast, supply]), isBuffer = supply?.from === 'buffer';
     if (key === this.key && !this.hasOffered) return;
     this.key = key;
-    this.registers.show(core.registers, old.registers, this.program.slice(0, core.place).flatMap(writtenBy));
-    this.buffer.show(core.buffer, old.buffer, this.depth, isBuffer ? supply : null);
+    this.registers.show(core.registers, old.registers, this.program.slice(0, core.place).flatMap(writtenBy), this.used);
+    this.buffer.show(core.buffer, old.buffer, isBuffer ? supply : null);
     this.lines.show(core.lines, changes, bus?.state?.length > 1 ? { line: bus.line, state: bus.state } : null, isBuffer ? null : supply);
     this.showButtons(core, bus, hasEnded);
     this.showPlace(core.place, core.place !== old.place);
@@ -130,6 +140,7 @@ class CorePanel {
       this[way].disabled = hasEnded;
       this[way].classList.toggle('idle', stalls[way]);
       this.stalls[way].hidden = hasEnded || !stalls[way];
+      this.stalls[way].classList.remove('offered');
     }
   }
 
@@ -137,6 +148,7 @@ class CorePanel {
   offerStall(way) {
     this.hasOffered = true;
     this.stalls[way].hidden = false;
+    this.stalls[way].classList.add('offered');
   }
 
   /** Marks the next instruction. `keepInSight` scrolls to it: it has the browser lay the page out, so it comes after all that changes. */
@@ -165,7 +177,7 @@ function busItems(kind, bus, step, supply) {
   return [html('span', sourced({ class: held ? 'holder' : '' }, supply), held ?? idle), ...passed.map(text => withMeaning({ class: 'word changed' }, text.split(' ')[0], text))];
 }
 
-/** Each location's word in memory, and beside it the newest word where a cache has another. */
+/** Each location's word in memory, and beside it the newest word where a cache has another. Without caches memory has the newest. */
 function memoryItems(now, before, supply) {
   return Object.keys(now.memory).map(location => {
     const isChanged = now.memory[location] !== before.memory[location] || now.seen[location] !== before.seen[location];
@@ -182,9 +194,10 @@ class MachinePanel {
     this.said = html('p', { class: 'said' });
     this.bus = new Part(html('p', { class: 'bus' }), busItems);
     this.memory = new Part(html('ul', { class: 'memory', 'aria-label': 'Memory' }), memoryItems);
+    this.name = html('h3', {});
     this.element = html('section', { class: 'machine', 'aria-label': `The machine: ${machineName(history.options)}` },
-      html('h3', {}, machineName(history.options)), this.said, html('div', { class: 'cores' }, ...this.panels.map(panel => panel.element)),
-      html('div', { class: 'below' }, html('h5', {}, 'Bus'), this.bus.element, html('h5', {}, 'Memory'), this.memory.element));
+      this.name, this.said, html('div', { class: 'cores' }, ...this.panels.map(panel => panel.element)),
+      html('div', { class: 'below' }, html('div', { class: 'of-caches' }, partTitle('Bus', true), this.bus.element), partTitle('Memory', true), this.memory.element));
   }
 
   /** Whether this is the panel of such programs on such a machine. */
@@ -192,11 +205,13 @@ class MachinePanel {
     return JSON.stringify([programs, options]) === JSON.stringify([this.history.programs, this.history.options]);
   }
 
-  show(history, count) {
+  /** Shows the machine after so many steps; where caches aren't shown (`isPlain`), as one that has none. */
+  show(history, count, isPlain) {
     this.history = history;
+    putText(this.name, isPlain ? `The machine, with ${plainMachineName(history.options)}` : machineName(history.options));
     const last = count <= history.steps.length ? history.steps[count - 1] : undefined;
     const now = history.machineAfter(count), before = last ? history.machineAfter(count - 1) : now;
-    const changes = last ? stateChanges(last) : [], hasEnded = history.hasEnded(count), supply = last ? supplyOf(last) : null;
+    const changes = last ? stateChanges(last) : [], hasEnded = history.hasEnded(count), told = last ? supplyOf(last) : null, supply = isPlain ? plainSupply(told) : told;
     const suppliedBy = from => (supply?.from === from ? supply : null);
     this.panels.forEach((panel, core) => panel.show(now.cores[core], before.cores[core], {
       supply: supply?.owner === core ? supply : null,
@@ -204,8 +219,9 @@ class MachinePanel {
       isLast: last !== undefined && coreOfChoice(last.choice) === core,
     }));
     this.bus.show(history.options.bus, now.bus, last && { transaction: last.transaction, flush: last.flush, write_back: last.write_back }, suppliedBy('bus'));
-    this.memory.show({ memory: now.memory, seen: now.seen }, { memory: before.memory, seen: before.seen }, suppliedBy('memory'));
-    putText(this.said, count > history.steps.length ? 'Its test had ended before this choice, which is left over.' : last ? stepSentences(last, before).join(' ') : '');
+    const wordsOf = ({ memory, seen }) => ({ memory: isPlain ? seen : memory, seen });
+    this.memory.show(wordsOf(now), wordsOf(before), suppliedBy('memory'));
+    putText(this.said, count > history.steps.length ? 'Its test had ended before this choice, which is left over.' : last ? stepSentences(last, before, isPlain).join(' ') : '');
   }
 
   offerStall(word) {

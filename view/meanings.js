@@ -3,6 +3,27 @@
 // What the machine's words mean: one sentence each, which is shown where the pointer or the focus is.
 
 const MEANINGS = {
+  Program: 'The instructions of this core, from top to bottom. The marked one is next: step does it.',
+  Registers: 'Words that belong to this core alone: a load puts what it reads there. Those that the test uses are shown.',
+  'Store buffer': 'A queue of stores that this core has made and memory has not seen. Only this core sees them there. The oldest, at the left, drains first.',
+  Cache: 'Copies of lines of memory, each in a state. A store can be written only while this core has the only copy.',
+  Bus: 'All caches are on one bus: by it they ask for lines, and see what others ask for.',
+  Memory: 'The word of each location that all cores share. With caches, “newest” is a word that a cache has and memory itself has not yet.',
+  passed: 'A load passes a store that is earlier in its own program, if memory sees the load first. TSO allows it; sequential consistency doesn’t.',
+  order: 'The order in which memory sees loads, stores and fences of all cores: from top to bottom.',
+  Under: 'TSO alone: such an end needs store buffers. Sequential consistency has none like it.',
+  Condition: 'Whether the proposition of the test’s condition is true of this end.',
+  seed: 'A number from which choices are drawn at random. The same seed draws the same choices.',
+  beside: 'Another machine that makes the same choices, so that one sees what differs.',
+  depth: 'How many stores wait at most in a core’s store buffer. With 0 there is none: that is sequential consistency.',
+  protocol: 'The rules by which caches keep their copies in step: MSI, MESI, MOESI or MOSI, after the states that a line has.',
+  bus: 'Atomic: each access has the bus for its own step. Split: a core asks first, and completes the access in a later step.',
+  sets: 'Into so many sets the lines of a cache are divided.',
+  ways: 'So many lines a set of a cache can have.',
+  words: 'So many neighbouring words one line of a cache has: x and y may share a line.',
+  states: 'A search stops when it would have to keep more states of the machine than this.',
+  cases: 'A proof stops when it would have to tell more cases apart than this.',
+  model: 'x86-TSO has store buffers, sequential consistency has none.',
   M: 'Modified: this is the only copy, and memory may have older words.',
   O: 'Owned: others may have copies too, memory may have older words, and this copy supplies them.',
   E: 'Exclusive: this is the only copy, and memory has the same words.',
@@ -23,10 +44,13 @@ function withMeaning(attributes, name, shown) {
   return html('span', meaning === undefined ? attributes : { ...attributes, tabindex: 0, role: 'note', 'data-means': name, 'aria-label': `${shown}. ${meaning}` }, shown);
 }
 
-/** Shows what the word under the pointer or the focus means, directly below it. */
+/** Shows what the word under the pointer or the focus means, directly below it. A page that scrolls under a pointer which rests hides nothing
+ * that the focus shows. */
 function showMeaning(event) {
   const word = event.target.closest?.('[data-means]'), box = byId('meaning');
+  if (!word && box.dataset.by !== event.type) return;
   box.hidden = !word;
+  box.dataset.by = event.type;
   if (!word) return;
   box.textContent = MEANINGS[word.dataset.means];
   const { left, bottom } = word.getBoundingClientRect();

@@ -7,14 +7,32 @@ const BEGINS_TEST = /^X86[ \t]/;
 const FIRST_TEXT = 'store-buffering.litmus';
 const WRITTEN = ['test', 'choices', 'given'];
 
+/** What one writes takes the place of an answer's run, and one stays at one's place. */
+function writeOn() {
+  forgetOwnRun();
+  keepPosition(answerNow);
+}
+
 /** A text that came in as a whole: a test goes to the bench, and any other is a line of a run. */
 function takeText(text) {
   const why = whyTooLong(text);
   if (why !== null) return saySentence(byId('line'), why);
+  if (bench.tso && takeTaughtText(text)) return;
   if (!bench.tso || !BEGINS_TEST.test(text)) return showText(text);
+  beginAddress();
+  forgetOwnRun();
+  endLesson();
   const isOrder = putInput(text);
   putCommand(isOrder ? 'check' : 'run');
   answerNow();
+  byId('bench').scrollIntoView({ block: 'nearest' });
+}
+
+/** Takes a text of the list of examples, and brings the machine with it into sight. */
+function takeFromLibrary(file) {
+  loadText(file);
+  if (bench.answer?.status === Tso.STATUS.refused) return;
+  byId('test-part').open = byId('about').open = false;
   byId('bench').scrollIntoView({ block: 'nearest' });
 }
 
@@ -48,7 +66,7 @@ document.addEventListener('click', event => {
   else if (choice !== undefined) makeChoice(choice);
   else if (stall !== undefined) makeChoice(stall, true);
   else if (choices !== undefined) loadChoices(choices, depth);
-  else if (file !== undefined) loadText(file);
+  else if (file !== undefined) takeFromLibrary(file);
   else if (save !== undefined) SAVES[save]();
   else if (machine !== undefined) takeMachine(machine);
   else if (judge !== undefined) judgeOrder(judge);
@@ -69,7 +87,7 @@ document.addEventListener('drop', event => {
 new IntersectionObserver(seen => seeChoices(seen.at(-1).isIntersecting)).observe(byId('choices'));
 byId('choices').addEventListener('input', forgetUnwritten);
 document.addEventListener('beforeinput', refuseTooLong);
-for (const id of WRITTEN) byId(id).addEventListener('input', answerNow);
+for (const id of WRITTEN) byId(id).addEventListener('input', writeOn);
 for (const id of ['test', 'given']) byId(id).addEventListener('scroll', () => placeLines(id));
 byId('commands').addEventListener('change', () => {
   showSettings(currentCommand());
@@ -87,10 +105,10 @@ byId('speed').addEventListener('input', () => setSpeed(Number(byId('speed').valu
 byId('beside-it').addEventListener('change', event => putBeside(event.target.value));
 byId('order-part').addEventListener('toggle', showOrder);
 byId('report-part').addEventListener('toggle', () => byId('report-part').open && showReport());
-byId('stop').addEventListener('click', () => {
-  stopTask();
-  byId('said').textContent = 'Stopped.';
-});
+
+byId('caches').addEventListener('change', event => wantCaches(event.target.checked));
+byId('task-why').addEventListener('click', askWhy);
+byId('to-run').addEventListener('click', backToRun);
 byId('find-outcomes').addEventListener('click', findOutcomes);
 byId('ask-why').addEventListener('click', askWhy);
 byId('copy-link').addEventListener('click', copyLink);
@@ -115,7 +133,7 @@ async function start() {
   if (!hasMachine) byId(lack).hidden = false;
   byId('input').open = !hasMachine || (told !== '' && !isOfTest);
   if (hasMachine) {
-    putInput(EXAMPLES[FIRST_TEXT]);
+    putInput(partsOf(EXAMPLES[FIRST_TEXT]).test); // nothing is solved beforehand
     putSettings([]);
     putCommand('run');
     showLibrary();
@@ -129,11 +147,27 @@ async function start() {
     byId('message').textContent = `This browser can't open the machine (${fault.message}), so this page draws runs that were made elsewhere.`;
     return;
   }
+  beginTeaching(told);
   if (isOfTest) showAddress();
-  else if (!shown.run && byId('message').textContent === '' && byId('line').value === '') {
-    answerNow(true);
-    kept.atFirst = currentAddress();
-  }
+  const isOpen = drive.isOn || shown.run || bench.task !== null || bench.answer !== null;
+  if (!isOpen && byId('line').value === '') beginAtFirst();
+  remember();
+}
+
+/** Shows the first test, where the address tells nothing, or nothing that could be opened. */
+function beginAtFirst() {
+  const said = byId('message').textContent;
+  answerNow(true);
+  byId('message').textContent = said;
+  kept.atFirst = currentAddress();
+}
+
+/** Shows what the page is about, its lessons, and what a saved page brings along. It is folded where somebody was led to a test. */
+function beginTeaching(told) {
+  byId('about').hidden = false;
+  byId('about').open = told === '';
+  drawLessons();
+  takeSavedTaught();
 }
 
 start();

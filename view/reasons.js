@@ -41,7 +41,10 @@ const STEP_SENTENCES = {
 };
 
 const placeName = place => place.replace(/^(\d):(\w+)$/, 'P$1\'s $2');
-const stepSentence = step => STEP_SENTENCES[step.step](step);
+
+/** A step that the page doesn't know, as a module that is newer may tell it: its name and what it holds. */
+const plainStep = ({ step: name, depth, ...held }) => `${name}: ${Object.values(held).map(value => (typeof value === 'string' ? value : JSON.stringify(value))).join(' ')}`;
+const stepSentence = step => (Object.hasOwn(STEP_SENTENCES, step.step) ? STEP_SENTENCES[step.step](step) : plainStep(step));
 
 /** The steps as a tree: a case has in `parts` all that is told of it. */
 function treeOf(steps) {

@@ -38,4 +38,14 @@ function eventOf(text) {
   return { text, core: Number(core), place: Number(place), kind, location, value };
 }
 
-const edgeSentence = ({ from, relation, to }) => RELATIONS[relation].says(from, to);
+/** What a module that is newer than the page may name. */
+const UNKNOWN_RELATION = { means: 'A relation that this page doesn\'t know.', says: (from, to) => `${from} comes before ${to}.` };
+
+/** The relations of some edges, in the order of the table. */
+function usedRelations(edges) {
+  const names = [...new Set(edges.map(({ relation }) => relation))], known = Object.keys(RELATIONS);
+  return [...known.filter(name => names.includes(name)), ...names.filter(name => !known.includes(name))];
+}
+
+const relationNamed = name => (Object.hasOwn(RELATIONS, name) ? RELATIONS[name] : UNKNOWN_RELATION);
+const edgeSentence = ({ from, relation, to }) => relationNamed(relation).says(from, to);

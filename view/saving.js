@@ -111,7 +111,10 @@ const saveDrawn = (name, picture) => saveText(fileName(name, '.svg'), savedPictu
 
 const SAVES = {
   input: saveInput,
-  report: () => saveText(fileName(testName(), '.txt'), reportNow().text),
+  report: async () => {
+    await showReport();
+    saveFormat();
+  },
   trace: () => saveText(fileName(testName(), '.trace.txt'), traceNow()),
   line: () => saveText(fileName(shown.run.test, '.json'), shown.line + '\n', 'application/json'),
   svg: () => saveDrawn(pictureName(), pictureNow()),

@@ -80,7 +80,7 @@ function putCommand(name) {
 /** The one line that stands for the test while it is folded: its name, the command where it isn't run, and the machine. */
 function showTestLine(command) {
   const { options = Tso.DEFAULTS } = readSettings(command);
-  const on = SETTINGS[command].includes('bus') ? machineName(options) : '';
+  const on = !SETTINGS[command].includes('bus') ? '' : showsCaches([options]) ? machineName(options) : plainMachineName(options);
   putText(byId('test-line'), `${testName()}: ${[command === 'run' ? '' : command, on].filter(Boolean).join(', ')}`);
 }
 

@@ -28,12 +28,15 @@ function inOneFile(page, place, textOf, tag) {
   return page.replace(place, (_, name) => `<${tag}>${textOf(name)}</${tag}>`);
 }
 
+/** The lessons and tests that were brought along, for the head of a page. */
+const taughtPart = () => (taughtNow() === '' ? '' : `<meta name="taught" content="${inAttribute(taughtNow())}">\n`);
+
 /** The whole page as one text, which opens what this address tells. */
 async function wholePage(address) {
   const scripts = [...WHOLE.page.matchAll(/<script src="([a-z]+\.js)">/g)].map(([, name]) => scriptText(name)), styles = Object.values(WHOLE.styles);
   const [ofScripts, ofStyles] = await Promise.all([scripts, styles].map(async texts => (await Promise.all(texts.map(digestOf))).join(' ')));
   const head = WHOLE.page.replace('script-src \'self\'', () => `script-src ${ofScripts}`).replace('style-src \'self\'', () => `style-src ${ofStyles}`)
-    .replace('<title>', () => `<meta name="shown" content="${inAttribute(address)}">\n<title>`);
+    .replace('<title>', () => `<meta name="shown" content="${inAttribute(address)}">\n${taughtPart()}<title>`);
   const styled = inOneFile(head, /<link rel="stylesheet" href="([a-z]+\.css)">/g, name => WHOLE.styles[name], 'style');
   return inOneFile(styled, /<script src="([a-z]+\.js)"><\/script>/g, scriptText, 'script');
 }

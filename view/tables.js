@@ -12,12 +12,14 @@ function numbersTable(caption, titles, rows) {
     html('th', { scope: 'row', class: 'wraps' }, name), ...numbers.map(number => html('td', { class: 'number' }, String(number))))));
 }
 
-function finalTables(run) {
-  const cores = run.registers.map((_, core) => `P${core}`);
+/** What a run left: the registers of these names, memory, and what the caches counted. */
+function finalTables(run, names = REGISTERS) {
+  const cores = run.registers.map((_, core) => `P${core}`), counts = numbersTable('Cache accesses', ['', ...cores], COUNTS.map(name => [name.replace('_', '-'), ...run.cache.map(each => each.get(name))]));
+  counts.classList.add('of-caches');
   return [
-    numbersTable('Registers', ['', ...cores], REGISTERS.map(name => [name, ...run.registers.map(file => file.get(name))])),
+    ...(names.length === 0 ? [] : [numbersTable('Registers', ['', ...cores], names.map(name => [name, ...run.registers.map(file => file.get(name))]))]),
     numbersTable('Memory', ['Location', 'Word'], [...run.memory]),
-    numbersTable('Cache accesses', ['', ...cores], COUNTS.map(name => [name.replace('_', '-'), ...run.cache.map(counts => counts.get(name))])),
+    counts,
   ];
 }
 

@@ -2,13 +2,34 @@
 
 // Long work: in a worker, which can be stopped.
 
+/** The numbers by which these commands limit their work: a search is asked with low ones first, so that it tells how far it came. */
+const LIMIT_OF = { outcomes: 'states', why: 'cases' };
+const CLIMB = { by: 8, from: 2000 };
+
+/** A question with ever higher limits, the last of them its own. Up to an answer that is whole they all give the same. */
+function climbed(options) {
+  const name = LIMIT_OF[options.command], most = options[name] ?? Tso.DEFAULTS[name], rungs = [options];
+  if (name === undefined) return rungs;
+  for (let at = Math.floor(most / CLIMB.by); at >= CLIMB.from; at = Math.floor(at / CLIMB.by)) rungs.unshift({ ...options, [name]: at });
+  return rungs;
+}
+
 /** The worker's whole script. */
 const WORK = `'use strict';
 ${Tso}
+const LIMIT_OF = ${JSON.stringify(LIMIT_OF)};
+function climb(tso, rungs, input) {
+  for (const options of rungs.slice(0, -1)) {
+    const answer = tso.answer(options, input);
+    if (answer.status !== Tso.STATUS.unended) return answer;
+    postMessage({ progress: { command: options.command, count: options[LIMIT_OF[options.command]] } });
+  }
+  return tso.answer(rungs.at(-1), input);
+}
 onmessage = async ({ data: { bytes, questions, input } }) => {
   try {
     const tso = await Tso.of(bytes);
-    postMessage({ answers: questions.map(options => tso.answer(options, input)) });
+    postMessage({ answers: questions.map(rungs => climb(tso, rungs, input)) });
   } catch (fault) {
     postMessage({ fault: String(fault) });
   }
@@ -24,8 +45,8 @@ const workerPolicy = window.trustedTypes?.createPolicy('worker', {
 });
 
 /** Begins to answer questions, each some options, on an input: `answers` is a promise, and `stop` ends the work, so that the
- * promise is never kept. */
-function beginTask(bytes, questions, input) {
+ * promise is never kept. `tell` is told how far the work came. */
+function beginTask(bytes, questions, input, tell = () => {}) {
   const address = URL.createObjectURL(new Blob([WORK], { type: 'text/javascript' }));
   const worker = new Worker(workerPolicy?.createScriptURL(address) ?? address);
   const stop = () => {
@@ -34,6 +55,7 @@ function beginTask(bytes, questions, input) {
   };
   const answers = new Promise((done, failed) => {
     worker.onmessage = ({ data }) => {
+      if (data.progress) return tell(data.progress);
       stop();
       if (data.fault) failed(new Error(data.fault));
       else done(data.answers);
@@ -42,7 +64,7 @@ function beginTask(bytes, questions, input) {
       stop();
       failed(new Error(event.message || 'the worker failed'));
     };
-    worker.postMessage({ bytes, questions, input });
+    worker.postMessage({ bytes, questions: questions.map(climbed), input });
   });
   return { answers, stop };
 }

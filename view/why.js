@@ -24,10 +24,10 @@ function readTest(input) {
 function showReason(answer, test) {
   const told = JSON.parse(answer.text), { programs, proposition } = readTest(test);
   showAnswer(answer);
-  byId('report-part').hidden = true;
+  foldReport(answer);
   Object.assign(sheet, { told, programs, cycle: null });
   const parts = told.answer === 'never' ? refutedParts(told) : allowedParts(told, programs);
-  const section = html('section', { class: 'reason', 'aria-label': 'Why' }, html('h3', {}, told.answer === 'never' ? 'Why it can\'t be' : 'How it can be'),
+  const section = html('section', { class: 'reason', 'aria-label': 'Why' }, answerTitle(told.answer === 'never' ? 'Why it can\'t be' : 'How it can be'),
     html('p', { role: 'status' }, reasonSentence(told, proposition)), ...parts);
   byId('states').replaceChildren(section);
   const [first] = told.answer === 'never' ? cyclesOf(told.steps) : [];
@@ -60,13 +60,10 @@ function allowedParts(told, programs) {
 /** Draws the cycle of a step of the tree. */
 function drawCycle(at) {
   sheet.cycle = new CyclePanel(sheet.programs, sheet.told.steps[at].cycle);
+  if (isLecture()) sheet.cycle.show(1); // edge by edge
   byId('states').querySelector('.drawn').replaceChildren(sheet.cycle.element);
   for (const button of document.querySelectorAll('[data-cycle]')) button.setAttribute('aria-pressed', String(Number(button.dataset.cycle) === at));
 }
 
 /** Asks why, by one click from a run. */
-function askWhy() {
-  putCommand('why');
-  answerNow();
-  begin();
-}
+const askWhy = () => ask('why');

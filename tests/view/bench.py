@@ -10,7 +10,7 @@ EXAMPLES = os.path.join(os.path.dirname(TESTS), "examples")
 DIVIDING_LINE = "====\n"
 FIRST = "store-buffering.litmus"
 BAD_LINE = 2
-READY = "new Promise(done => { const look = () => bench.tso ? done() : setTimeout(look, 5); look(); })"
+READY = "new Promise(done => { const look = () => typeof bench !== 'undefined' && bench.tso ? done() : setTimeout(look, 5); look(); })"
 
 
 OVERHANGING = """(() => {
@@ -79,11 +79,19 @@ class Bench:
         self.page, self.window = page, page.window
 
     def open(self, fragment="", width=1400):
+        """Opens the page with the first example's choices known, and with its caches in sight."""
+        self.open_fresh(fragment, width)
+        self.value("byId('about').open = false; wantCaches(true); byId('test-part').open = %s" % ("true" if self.IS_UNFOLDED else "false"))
+        if not fragment:
+            self.value("putChoices(partsOf(EXAMPLES[FIRST_TEXT]).rest); answerNow(true)")
+        self.to_end()
+
+    def open_fresh(self, fragment="", width=1400):
+        """Opens the page as one finds it."""
         self.window.resize(width, mobile=width < 500)
         self.window.open(self.page.address + ("#" + fragment if fragment else ""))
         self.value(READY)
-        self.value("byId('test-part').open = %s" % ("true" if self.IS_UNFOLDED else "false"))
-        self.to_end()
+        self.value("byId('about').hidden || drive.isOn || true")
 
     def to_end(self):
         """Makes all choices that are known, where the page drives the machine."""

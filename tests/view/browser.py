@@ -13,6 +13,13 @@ NAME = "chromium"
 PRINTED_TEXT = "pdftotext"
 INSTALL = "apt-get install -y --no-install-recommends chromium poppler-utils"
 PATIENCE = 120  # seconds
+# The middle of an element, which is brought into sight first, as one does who presses it.
+PLACE = """(found => {
+  const { top, bottom } = found.getBoundingClientRect();
+  if (top < 0 || bottom > innerHeight) found.scrollIntoView({ block: 'center' });
+  const { x, y, width, height } = found.getBoundingClientRect();
+  return [x + width / 2, y + height / 2];
+})(document.querySelector(%s))"""
 KEY_CODES = {"End": 35, "Home": 36, "ArrowLeft": 37, "ArrowRight": 39}
 
 
@@ -124,8 +131,7 @@ class Browser:
         self.value("new Promise(done => document.readyState === 'complete' ? done() : addEventListener('load', () => done()))")
 
     def click(self, selector):
-        x, y = self.value("(box => [box.x + box.width / 2, box.y + box.height / 2])"
-                          "(document.querySelector(%s).getBoundingClientRect())" % json.dumps(selector))
+        x, y = self.value(PLACE % json.dumps(selector))
         for kind in ("mousePressed", "mouseReleased"):
             self.call("Input.dispatchMouseEvent", type=kind, x=x, y=y, button="left", clickCount=1)
 

@@ -23,7 +23,9 @@ apt-get install -y --no-install-recommends chromium poppler-utils
   the rows of machine.py and looks.py; and so it does where it once went wrong: the rows of repairs.py; what is saved and kept: those of kept.py. Why something can't be, or how it
   can, is told, drawn and run as the program tells it: the rows of reasons.py.
 
-- In Firefox, where Debian's firefox-esr is there, fourteen of these rows.
+- What teaches: lessons, tasks, terms (teaching.py); work that is long, undo, branches and ways back (working.py); a lecture, lists of tests, tables
+  and forms (presenting.py); ways of edges that cross nothing, and what moves (drawn_edges.py); what WCAG 2.2 AA asks, as far as a script sees it (access.py).
+- In Firefox, where Debian's firefox-esr is there, some of these rows.
 
 The last line is 'N passed, M failed'.
 """
@@ -40,16 +42,21 @@ import urllib.parse
 
 sys.dont_write_bytecode = True
 
+import access
 import browser
 import drawing
+import drawn_edges
 import driving
 import firefox
 import first
 import given_lines
 import kept
 import machine
+import presenting
 import reasons
 import repairs
+import teaching
+import working
 from bench import READY
 from drawing import read
 
@@ -114,6 +121,11 @@ def rows_of_reasons(page, room, folder):
     return reasons.rows(page, folder)
 
 
+def rows_that_teach(page, folder):
+    """The rows of what teaches; they ask for outcomes and for `why`, so they need a module that answers these."""
+    return [row for each in (teaching, working, presenting, drawn_edges, access) for row in each.rows(page, folder)]
+
+
 class Page:
     """The page in its browser, and what it shows."""
 
@@ -175,9 +187,9 @@ def all_rows(window, program, room, folder, is_shipped):
     lines = dict(drawing.program_runs(page))
     found = [*drawing.rows(page, folder, lines), *given_lines.rows(page, folder, lines), *driving.rows(with_steps, folder), *first.rows(with_steps, folder)]
     if missing:
-        print("left out, what the page answers: " + missing)
-        return found
-    found += [*machine.rows(page, folder), *repairs.rows(page, folder), *kept.rows(page, folder), *rows_of_reasons(page, room, folder)]
+        print("left out, what the page answers, and %s: %s" % (" and ".join(first.OF_THE_MODULE), missing))
+        return [(name, judge) for name, judge in found if name not in first.OF_THE_MODULE]
+    found += [*machine.rows(page, folder), *repairs.rows(page, folder), *kept.rows(page, folder), *rows_of_reasons(page, room, folder), *rows_that_teach(page, folder)]
     if not tells_steps(page):
         found += [(name + ", with steps", judge) for name, judge in machine.rows(with_steps, folder) if name not in machine.OF_THE_MODULE]
     return found
@@ -185,7 +197,9 @@ def all_rows(window, program, room, folder, is_shipped):
 
 # What is held in Firefox too: rows that need no more of a browser than firefox.py has.
 IN_FIREFOX = ("the machine first, at 1280 by 720", "the task", "the test in one line", "keys on buttons", "a setting in the middle", "seeds that are none", "registers that are written",
-              "orders and tables in words", "the first test", "outcomes", "a reload", "the page as one file", "an address that is too long", "why, SB+mfences under tso")
+              "orders and tables in words", "the first test", "outcomes", "a reload", "what is this", "the least number of choices", "no caches at first", "a lesson, store buffering", "a lesson, fences", "a lesson, false sharing",
+              "tasks", "a search by steps", "answers that aren't finished", "undo and redo", "branches of a run", "one's own run", "the browser's Back",
+              "a lecture hall", "a list of tests", "four protocols abreast", "a table of states", "forms of an answer", "the focus at an answer", "the page as one file", "an address that is too long", "why, SB+mfences under tso")
 
 
 def rows_in_firefox(window, program, room, folder, is_shipped):
@@ -194,7 +208,8 @@ def rows_in_firefox(window, program, room, folder, is_shipped):
     if missing:
         return []
     page = Page(program, window, view)
-    found = [*first.rows(page, folder), *machine.rows(page, folder), *repairs.rows(page, folder), *kept.rows(page, folder), *rows_of_reasons(page, os.path.join(room, "firefox"), folder)]
+    found = [*first.rows(page, folder), *machine.rows(page, folder), *repairs.rows(page, folder), *kept.rows(page, folder), *rows_of_reasons(page, os.path.join(room, "firefox"), folder),
+             *rows_that_teach(page, folder)]
     return [(name + ", in Firefox", judge) for name, judge in found if name in IN_FIREFOX]
 
 

@@ -2,6 +2,7 @@
 choices as JSON; where it tells none, against the module's, or that of what stands in for it. The lists of what must be shown are made
 here without the page's code."""
 import json
+import re
 
 from bench import BAD_LINE, DIVIDING_LINE, EXAMPLES, FIRST, Bench, differs, read
 
@@ -32,7 +33,7 @@ SHOWN = """[...document.querySelectorAll('#machines .machine')].map(machine => (
     dead: [...core.querySelectorAll('[data-choice]')].map(each => each.matches('.idle')), offers: [...core.querySelectorAll('.stall')].map(each => !each.hidden),
     place: [...core.querySelectorAll('.program li')].findIndex(each => each.hasAttribute('aria-current')),
     program: [...core.querySelectorAll('.program li')].map(each => each.textContent),
-    registers: Object.fromEntries([...core.querySelectorAll('.registers li')].map(each => each.textContent.split('='))),
+    registers: Object.fromEntries([...core.querySelectorAll('.registers .word')].map(each => each.textContent.split('='))),
     changedRegisters: [...core.querySelectorAll('.registers .changed')].map(each => each.textContent),
     buffer: [...core.querySelectorAll('.buffer .slot:not(.free, .left)')].map(each => each.textContent),
     left: [...core.querySelectorAll('.buffer .left')].map(each => each.lastChild.textContent),
@@ -42,7 +43,7 @@ SHOWN = """[...document.querySelectorAll('#machines .machine')].map(machine => (
     acted: core.classList.contains('acted'),
   })),
   sources: [...machine.querySelectorAll('.source')].map(each => {
-    const part = each.closest('.buffer, .cache, .bus, .memory').className, name = each.closest('tr')?.querySelector('th').textContent ?? each.textContent.split('=')[0];
+    const part = each.closest('.buffer, .cache, .bus, .memory').classList[0], name = each.closest('tr')?.querySelector('th').textContent ?? each.textContent.split('=')[0];
     return [part, each.closest('.core')?.dataset.core ?? '', part === 'bus' ? '' : name, each.dataset.reader];
   }).sort(),
   bus: machine.querySelector('.bus').textContent,
@@ -105,6 +106,14 @@ def state_of(machine, core, line, state):
     return bus["state"] if bus and bus["core"] == core and bus["line"] == line and len(bus["state"] or "") > 1 else state
 
 
+def used_registers(trace, number):
+    """The registers that a core's program and the condition name, and those with a word at the start."""
+    named = re.findall(r"\b%d\s*:\s*([A-Z]{3})\b" % number, trace["proposition"] or "")
+    start = trace["trace"]["start"]["cores"][number]["registers"]
+    code = " ".join(trace["programs"][number]).upper()
+    return [name for name in start if re.search(r"\b%s\b" % name, code) or name in named or start[name]]
+
+
 def wanted_core(trace, step, before, machine, number):
     """What a core's panel has to show after a step, by the trace alone."""
     core, old, program = machine["cores"][number], before["cores"][number], trace["programs"][number]
@@ -118,7 +127,7 @@ def wanted_core(trace, step, before, machine, number):
     return {
         "buttons": [(program[core["place"]] if core["place"] < len(program) else "at its end") + holds[0], (core["buffer"][0] if core["buffer"] else "empty") + holds[1]],
         "disabled": [ended, ended], "place": core["place"] if core["place"] < len(program) else -1, "program": program,
-        "registers": {name: str(word) for name, word in core["registers"].items()},
+        "registers": {name: str(word) for name, word in core["registers"].items() if name in used_registers(trace, number)},
         "changedRegisters": ["%s=%d" % (name, word) for name, word in core["registers"].items() if word != old["registers"][name]],
         "buffer": core["buffer"], "left": old["buffer"][:1] if len(old["buffer"]) > len(core["buffer"]) else [],
         "lines": lines, "changes": changes, "acted": step is not None and step["choice"].startswith(str(number)),

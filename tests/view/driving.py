@@ -175,6 +175,7 @@ def beside_row(bench, folder):
 def many_row(bench):
     """Over 1,000 choices there are no steps, and the page says so; at 1,000 no more are taken."""
     bench.open()
+    bench.value("goTo(drive.words.length)")  # at the end, where one stays after an edit
     bench.fill("choices", "0d " * 1001)
     faults = differs("without steps", bench.value("[drive.isOn, byId('no-steps').hidden]"), [False, False])
     bench.fill("choices", "0d " * 1000)
@@ -272,6 +273,7 @@ def widths_row(bench, folder, width):
         bench.load(test, choices, settings, width)
         bench.value("goTo(Math.min(40, drive.words.length - 1))")
         faults += ["%s: %s" % (name, fault) for fault in bench.value(OVERHANGING)]
+        bench.value(AT_REST % 50)  # the names above the lanes follow when the browser says that it has scrolled
         faults += differs(name + ", the lane that acted is in sight", bench.value(ACTING_LANE), True)
         bench.value("byId('frame').scrollIntoView({ block: 'end' })")
         faults += differs(name + ", the lanes' names are in sight", bench.value(NAMES_IN_SIGHT), True)

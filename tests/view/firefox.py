@@ -9,6 +9,8 @@ import subprocess
 import tempfile
 import time
 
+from browser import PLACE
+
 NAME = "firefox-esr"
 PATIENCE = 120  # seconds
 KEYS = {"ArrowLeft": "\ue012", "ArrowRight": "\ue014", "Home": "\ue011", "End": "\ue010", "Tab": "\ue004"}
@@ -160,7 +162,7 @@ class Firefox:
     key = press
 
     def click(self, selector):
-        x, y = self.value("(box => [box.x + box.width / 2, box.y + box.height / 2])(document.querySelector(%s).getBoundingClientRect())" % json.dumps(selector))
+        x, y = self.value(PLACE % json.dumps(selector))
         move = {"type": "pointerMove", "x": int(x), "y": int(y), "origin": "viewport"}
         self.act("pointer", [move, {"type": "pointerDown", "button": 0}, {"type": "pointerUp", "button": 0}], parameters={"pointerType": "mouse"})
 

@@ -41,10 +41,10 @@ function texts() {
     .map(name => [name, fs.readFileSync(path.join(folder, name), 'utf8').split(DIVIDING_LINE)[0] + DIVIDING_LINE + CHOICES]));
 }
 
-/** What the program is asked of a run on a machine: its report as JSON, and its trace. */
+/** What the program is asked of a run on a machine: its report as JSON, and its trace, as lines and as JSON. */
 function callsOf(options, input) {
   const words = Object.entries(options).flatMap(([name, value]) => [`--${name}`, String(value)]);
-  return [{ words: ['run', ...words, '--json'], input }, { words: ['trace', ...words], input }];
+  return [{ words: ['run', ...words, '--json'], input }, { words: ['trace', ...words], input }, { words: ['trace', ...words, '--json'], input }];
 }
 
 function told(program, { words, input }) {
@@ -55,13 +55,20 @@ function told(program, { words, input }) {
 /** The lines of a trace in a program's report. */
 const stepsIn = text => /^Trace\n[^]*?^Endtrace \d+\n/m.exec(text)?.[0];
 
-function faultsOf([{ output: line }, traced], options, input) {
+function faultsOf([{ output: line }, traced, inJson], options, input) {
   const run = JSON.parse(line), standIn = new StandIn(null);
   const own = JSON.parse(standIn.answer({ ...options, command: 'trace', json: true }, input).text);
   const faults = SAME.flatMap(name => differs(`${name} of the stand-in`, own[name], run[name]));
   if (traced.status !== BAD_LINE) faults.push(...differs('the lines of the stand-in', stepsIn(standIn.answer({ ...options, command: 'trace' }, input).text), stepsIn(traced.output)));
+  if (inJson.status !== BAD_LINE) faults.push(...faultsOfSupplied(own, JSON.parse(inJson.output)));
   const trace = readTrace(JSON.stringify(own)), history = trace.steps.reduce((made, step) => made.with(step), new History({ ...Tso.DEFAULTS, ...options }, trace));
   return faults.concat(run.unfinished ? [] : faultsOfHistory(history, readLine(line)), faultsOfCuts(history, trace.steps));
+}
+
+/** Where each step read its word, by the stand-in and by the program; a program that is older doesn't tell it. */
+function faultsOfSupplied(own, { trace: { steps } }) {
+  if (!steps.some(step => 'supplied' in step)) return [];
+  return differs('where the stand-in reads', own.trace.steps.map(({ supplied }) => supplied), steps.map(({ supplied }) => supplied));
 }
 
 /** A history against what the order of its run tells. */

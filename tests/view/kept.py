@@ -1,11 +1,13 @@
 """Rows for what is kept: the page saved as one file, addresses that are too long, colours of saved pictures; and borders that are seen."""
 import contextlib
 import functools
+import html
 import http.server
 import json
 import os
 import re
 import threading
+import urllib.parse
 
 from bench import BORDERS, DIVIDING_LINE, EXAMPLES, READY, TESTS, differs, read, safety
 from driver import Driver
@@ -184,6 +186,53 @@ def borders_row(bench):
     return faults_here() + ["in the dark: " + fault for fault in in_dark(bench, faults_here)] + safety(bench)
 
 
+FOUL = ("<script>window.wasRun = 1</script>", '"><img src=x onerror="window.wasRun = 1">', "__proto__", "constructor", "javascript:window.wasRun=1", "\u0000\u202e", "9" * 40, "../../etc/passwd")
+FOUL_NAMES = ("command", "protocol", "at", "beside", "caches", "lesson", "step", "embed")
+WAS_RUN = "[window.wasRun ?? null, document.querySelector('img') === null, Object.keys(Object.prototype).length, bench.tso !== null]"
+
+
+def foul_links():
+    """Links that somebody could send to do harm: a foul word at each name, at all names at once, and links that are none."""
+    test = urllib.parse.quote(OTHER.partition(DIVIDING_LINE)[0])
+    for at, name in enumerate(FOUL_NAMES * 3):
+        yield "test=%s&%s=%s" % (test, name, urllib.parse.quote(FOUL[(at + at // len(FOUL_NAMES)) % len(FOUL)]))
+    for foul in FOUL:
+        yield urllib.parse.urlencode({"test": foul, **{name: foul for name in FOUL_NAMES}})
+    yield "%zz"
+    yield urllib.parse.quote('{"lessons": [{"name": "<b>"}]}')
+
+
+def foul_row(bench, folder):
+    """No foul link runs anything, makes an element or changes what all objects share; nor does a page that was saved and tampered with."""
+    links, faults = list(foul_links()), []
+    for link in links:
+        bench.window.open(bench.page.address + "#" + link)
+        bench.value(READY)
+        bench.value("new Promise(done => setTimeout(done, 30))")
+        faults += differs("after " + link[-80:], bench.value(WAS_RUN), [None, True, 0, True])
+    faults += differs("foul links", len(links), 34) + safety(bench)
+    bench.open()
+    text = saved_page(bench, "SAVES.page()")[1]
+    path = os.path.join(folder, "saved-foul.html")
+    for shown, taught in (("test=X86&lesson=__proto__&step=1", '{"lessons": [{"name": "__proto__", "title": "<img src=x onerror=alert(1)>"}]}'), ("<script>", "not JSON"),
+                          ("test=%00", '{"list": [{"name": "<script>window.wasRun = 1</script>", "address": "test=X86"}]}')):
+        tampered = re.sub(r'<meta name="shown" content="[^"]*">', lambda _: '<meta name="shown" content="%s">\n<meta name="taught" content="%s">' % (html.escape(shown), html.escape(taught)), text, count=1)
+        with open(path, "w") as file:
+            file.write(tampered)
+        bench.window.open("file://" + path)
+        bench.value(READY)
+        bench.value("new Promise(done => setTimeout(done, 50))")
+        faults += differs("a saved page with " + taught[:40], bench.value(WAS_RUN), [None, True, 0, True])
+        with open(path, "w") as file:
+            file.write(tampered.replace("<title>", "<script>window.wasRun = 1</script><title>", 1))
+        bench.window.open("file://" + path)
+        bench.value(READY)
+        faults += differs("a script put into a saved page", bench.value("window.wasRun ?? null"), None)
+        bench.window.faults.clear()  # the policy's own word on that script
+        bench.window.requests.clear()
+    return faults
+
+
 def rows(page, folder):
     bench = Driver(page)
     return [
@@ -193,4 +242,5 @@ def rows(page, folder):
         ("an address that is too long", lambda: too_long_row(bench, folder)),
         ("colours of saved pictures", lambda: colours_row(bench)),
         ("borders", lambda: borders_row(bench)),
+        ("foul links, and a foul saved page", lambda: foul_row(bench, folder)),
     ]

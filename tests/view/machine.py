@@ -15,9 +15,11 @@ sys.path.insert(0, TESTS)
 import made_inputs
 
 MADE, SEED = 200, 4
-# A search that takes long: three cores, each with many plain stores and loads.
-LONG_SEARCH = "X86 long\n{ }\n P0 | P1 | P2 | P3 ;\n" + "".join(
-    " MOV [a%d],$1 | MOV [b%d],$1 | MOV [c%d],$1 | MOV [d],$%d ;\n" % (at, at, at, at) for at in range(5)) + 3 * " MOV EAX,[d] | MOV EBX,[d] | MOV ECX,[d] | MOV EAX,[a0] ;\n"
+# A search that takes more than a minute: four cores, each with four stores and three loads, of which the condition names all.
+LONG_SEARCH = ("X86 slow\n{ }\n P0 | P1 | P2 | P3 ;\n"
+               + "".join(" %s ;\n" % " | ".join("MOV [%s],$%d" % ("xyzw"[(core + at) % 4], 1 + at + 4 * core) for core in range(4)) for at in range(4))
+               + "".join(" %s ;\n" % " | ".join("MOV %s,[%s]" % (name, "xyzw"[(core + at) % 4]) for core in range(4)) for at, name in enumerate(("EAX", "EBX", "ECX"), 1))
+               + "exists (%s)\n" % " /\\ ".join("%d:%s=9" % (core, name) for core in range(4) for name in ("EAX", "EBX", "ECX")))
 
 
 def first_row(bench, folder):
@@ -278,8 +280,8 @@ def library_row(bench, folder):
     for name, text in texts():
         bench.value("document.querySelector('#texts [data-file=%s]').click()" % json.dumps(name))
         bench.to_end()
-        depth = re.search(r"^Depth=(\d+)$", text, re.MULTILINE)
-        words = ["check"] if name.endswith(".order") else ["run", "--depth", depth.group(1) if depth else "4"]
+        depth, joined = (re.search(r"^%s=(\d+)$" % noted, text, re.MULTILINE) for noted in ("Depth", "Words"))
+        words = ["check"] if name.endswith(".order") else ["run", "--depth", depth.group(1) if depth else "4", "--words", joined.group(1) if joined else "1"]
         status, said, _ = bench.program(text, *words)
         faults += differs(name, bench.text("#report"), said)
         if words[0] == "run" and status == 0:

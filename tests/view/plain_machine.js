@@ -167,6 +167,18 @@ class Machine {
     return 'committed';
   }
 
+  /** Where a core finds the word that its next instruction reads; null where that reads nothing, or has read it before. */
+  foundAt(choice) {
+    const core = Number(choice[0]), { program, place, pending } = this.cores[core], { kind, location } = program[place] ?? {};
+    if (choice[1] === 'd' || !['load', 'lock'].includes(kind) || this.holder?.copy !== undefined) return null;
+    if (pending.some(store => store.location === location)) return 'buffer';
+    const [line] = this.at(location);
+    if (this.copyOf(core, line) !== undefined) return 'cache';
+    if (this.holder?.choice === choice) return 'bus';
+    const owner = this.cores.findIndex((_, other) => SUPPLIERS.includes(this.copyOf(other, line)?.state));
+    return owner < 0 ? 'memory' : `P${owner}`;
+  }
+
   fence(choice, number, core, _, told) {
     if (core.pending.length > 0) return 'Fence';
     this.commit(number, core.place, 'F', undefined, undefined, told);
@@ -246,10 +258,10 @@ class Machine {
   /** Makes a choice and tells it as a step. */
   step(choice) {
     const told = { entries: [], access: null, flush: null, forwarded: false, moved: null, transaction: null, write_back: null };
-    const before = this.lineStates(), made = this.make(choice, told);
+    const before = this.lineStates(), found = this.foundAt(choice), made = this.make(choice, told);
     const isStall = ['Done', 'Full', 'Fence', 'Lock', 'Empty', 'Bus'].includes(made), after = this.lineStates();
     const states = before.flatMap((lines, core) => lines.flatMap((state, line) =>
       (state === after[core][line] ? [] : [`P${core}.${this.nameOf(line)} ${state}>${after[core][line]}`])));
-    return { ...told, choice, outcome: isStall ? 'stalled' : made, stall: isStall ? made : null, states };
+    return { ...told, choice, outcome: isStall ? 'stalled' : made, stall: isStall ? made : null, states, supplied: isStall ? null : found };
   }
 }

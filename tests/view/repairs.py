@@ -182,9 +182,10 @@ def search_row(bench):
 def reload_row(bench):
     """What is shown is there again after a reload: test, settings, choices, position, and the machine beside it."""
     shown = "[byId('test').value, choicesText().trim(), changedSettings(), drive.count, drive.words, drive.histories.length, byId('count').textContent]"
-    bench.open()
+    bench.open_fresh()
     bench.value("new Promise(done => setTimeout(done, 400))")
     faults = differs("the address at first", bench.value("location.hash"), "")
+    bench.open()
     for act in ("goTo(3)", "makeChoice('0d')", "makeChoice('1s'); goTo(2)", "settingOf('protocol').value = 'moesi'; answerNow(); goTo(4)",
                 "putBeside(JSON.stringify(otherMachines(firstHistory().options)[1])); goTo(3)"):
         bench.value(act + "; true")

@@ -1,0 +1,193 @@
+"""Rows for a lecture hall and for an engineer: lists of tests, machines abreast, tables of states, forms of an answer, a page in a page."""
+import json
+import os
+
+from bench import DIVIDING_LINE, OVERHANGING, READY, differs, safety
+from driver import Driver
+from kept import faults_of_form, saved_page
+from teaching import is_in_sight, press, test_of
+
+CLICKED = "document.body.dispatchEvent(new KeyboardEvent('keydown', { key: '%s', bubbles: true, cancelable: true }))"
+IN_SIGHT = "['#find-outcomes', '#ask-why', '[data-choice]', '.memory', '#frame', '#task', '#sentence', '#undo'].filter(each => { const { bottom, height } = document.querySelector(each).getBoundingClientRect(); return height === 0 || bottom > innerHeight; })"
+
+
+def lecture_hall_row(bench, folder):
+    """In a lecture hall the finished run fits the sheet, outcomes and why and the way back are there, and a clicker steps machine and cycle."""
+    bench.open_fresh(width=1920)
+    bench.window.resize(1920, 1080)
+    bench.value("putLecture(true)")
+    for choice in "0s 1s 0s 1s 0d 1d".split():
+        press(bench, "[data-choice='%s']" % choice)
+    bench.wait("byId('task').matches('.met')")
+    faults = differs("out of sight at the end", bench.value(IN_SIGHT), []) + differs("its height", bench.value("document.documentElement.scrollHeight <= 1080"), True)
+    bench.window.screenshot(os.path.join(folder, "lecture-end.png"), whole=False)
+    for key, count in (("PageUp", 5), ("PageUp", 4), ("PageDown", 5)):
+        bench.value(CLICKED % key)
+        faults += differs("choices after " + key, bench.value("drive.count"), count)
+    bench.value("endDrive(); byId('test').value = %s; answerNow(true)" % json.dumps(test_of("IRIW")))
+    press(bench, "#ask-why")
+    bench.wait("!bench.task && document.querySelector('.cycle')")
+    shown = [bench.value("sheet.cycle.shown")]
+    for key in ("PageDown", "PageDown", "PageUp"):
+        bench.value(CLICKED % key)
+        shown.append(bench.value("sheet.cycle.shown"))
+    faults += differs("edges", shown, [1, 2, 3, 2])
+    room = bench.value("(({ width, right, bottom }, tree) => [width > 1100, right <= innerWidth, bottom <= innerHeight, tree.getBoundingClientRect().right < innerWidth / 2])"
+                       "(document.querySelector('.cycle figure').getBoundingClientRect(), document.querySelector('.tree'))")
+    faults += differs("the cycle is large, with its tree beside it", room, [True] * 4)
+    bench.window.screenshot(os.path.join(folder, "lecture-cycle.png"), whole=False)
+    press(bench, "#to-run")
+    press(bench, "#find-outcomes")
+    bench.wait("!bench.task && document.querySelector('.states-sheet')")
+    faults += differs("the way back", is_in_sight(bench, "#to-run"), True)
+    bench.value("putLecture(false)")
+    return faults + safety(bench)
+
+
+def list_row(bench, folder):
+    """Tests of a list open one after the other, at their places; the list goes along in a saved page, and comes by a file."""
+    bench.open_fresh()
+    for name in ("SB", "MP", "IRIW"):
+        bench.value("loadText('%s.litmus'); goTo(1); addToList()" % name)
+    faults = differs("the list", bench.value("[...document.querySelectorAll('#list li')].map(each => each.firstElementChild.textContent)"), ["SB", "MP", "IRIW"])
+    bench.value("document.querySelector('[data-raised=\"2\"]').click()")
+    faults += differs("moved up", bench.value("[taught.list.map(({ name }) => name), taught.list[playlist.at].name]"), [["SB", "IRIW", "MP"], "IRIW"])
+    bench.value("document.querySelector('[data-raised=\"2\"]').click()")
+    name, text = saved_page(bench, "SAVES.page()")
+    faults += faults_of_form(text)
+    path = os.path.join(folder, "saved-list.html")
+    with open(path, "w") as file:
+        file.write(text)
+    bench.window.open("file://" + path)
+    bench.value(READY)
+    bench.wait("drive.isOn")
+    press(bench, "#list-bar [data-listed]:enabled")
+    opened = [bench.value("testName()")]
+    for _ in range(2):
+        press(bench, "#list-bar [data-listed]:last-child")
+        opened.append(bench.value("testName()"))
+    press(bench, "#list-bar [data-listed]:first-child")
+    opened.append(bench.value("testName()"))
+    faults += differs("opened", opened, ["SB", "MP", "IRIW", "MP"]) + differs("its place", bench.value("[drive.count, drive.words.length > 1]"), [1, bench.value("drive.words.length > 1")])
+    bench.window.requests.clear()
+    bench.open_fresh()
+    for list_of, said in (([{"name": "a", "address": "test=X86"}], ""), ([{"name": "a", "address": "javascript:alert(1)"}], "address"), ([{"name": 7, "address": "test="}], "name")):
+        bench.value("takeText(%s)" % json.dumps(json.dumps({"list": list_of})))
+        faults += [] if (said in bench.text("#message") if said else bench.value("taught.list.length") == 1) else ["of %s it says %r" % (list_of, bench.text("#message"))]
+    return faults + safety(bench)
+
+
+def abreast_row(bench, folder):
+    """MSI, MESI, MOESI and MOSI stand abreast under the same choices, and what differs from the first is marked."""
+    bench.open_fresh(width=1920)
+    bench.fill("search", "false sharing")
+    found = bench.value("[...document.querySelectorAll('#texts button')].map(each => each.textContent)")
+    faults = differs("found by the word", found, ["false-sharing.litmus"])
+    bench.value("loadText('false-sharing.litmus'); putBeside(JSON.stringify(ABREAST)); goTo(7)")
+    faults += differs("machines", bench.value("[...document.querySelectorAll('.machine')].map(each => each.querySelector('h3').textContent.split(',')[0])"), ["MSI", "MESI", "MOESI", "MOSI"])
+    tops = bench.value("[...new Set([...document.querySelectorAll('.machine')].map(each => Math.round(each.getBoundingClientRect().top)))].length")
+    faults += differs("in one row", tops, 1)
+    marks = bench.value("[...document.querySelectorAll('.machine')].map(each => [each.querySelectorAll('.cache .differs').length, each.querySelector('.memory').matches('.differs')])")
+    faults += differs("marked", marks, [[0, False], [0, False], [1, True], [1, True]])
+    bench.window.screenshot(os.path.join(folder, "abreast.png"))
+    return faults + bench.value(OVERHANGING) + safety(bench)
+
+
+ROWS = "[...document.querySelectorAll('#states tbody tr')].filter(row => !row.hidden).map(row => [...row.cells].slice(0, 2).map(cell => cell.textContent).join(' '))"
+
+
+def table_row(bench):
+    """A table of states is filtered by words and by columns, sorted, and shown for TSO alone."""
+    bench.open_fresh()
+    bench.value("findOutcomes()")
+    bench.wait("!bench.task && document.querySelector('.states-sheet')")
+    def filtered(text):
+        bench.value("(field => { field.value = %s; field.dispatchEvent(new Event('input', { bubbles: true })); })(document.querySelector('.filter'))" % json.dumps(text))
+        return bench.value(ROWS)
+    faults = differs("0:EAX=1", filtered("0:EAX=1"), ["1 0", "1 1"]) + differs("two words", filtered("0:EAX=1 1:EAX=0"), ["1 0"]) + differs("a word", filtered("true"), ["0 0"])
+    faults += differs("said", bench.text(".filtered"), "1 of 4 states")
+    filtered("")
+    press(bench, "#states .alone")
+    faults += differs("TSO alone", bench.value(ROWS), ["0 0"])
+    press(bench, "#states .alone")
+    press(bench, "#states th:nth-child(2) .sorts")
+    once = bench.value(ROWS)
+    press(bench, "#states th:nth-child(2) .sorts")
+    faults += differs("sorted", [once, bench.value(ROWS)], [["0 0", "1 0", "0 1", "1 1"], ["0 1", "1 1", "0 0", "1 0"]])
+    return faults + differs("told", bench.value("document.querySelector('#states th:nth-child(2)').getAttribute('aria-sort')"), "descending") + safety(bench)
+
+
+def forms_row(bench):
+    """The answer of a run, of outcomes and of why is there as it is printed and as JSON, as the program gives it."""
+    test = test_of("MP")
+    bench.open_fresh()
+    bench.fill("test", test)
+    faults = []
+    for command in ("run", "outcomes", "why"):
+        if command == "run":
+            bench.value("putChoices('0s 0s 0d 0d 1s 1s'); putCommand('run'); answerNow()")
+        else:
+            bench.value("ask('%s')" % command)
+            bench.wait("!bench.task && document.querySelector('#states > *')")
+        given = test + (DIVIDING_LINE + "0s 0s 0d 0d 1s 1s" if command == "run" else "")
+        bench.value("byId('report-part').open = true")
+        for form, words in (("as-printed", []), ("as-json", ["--json"]), ("as-printed", [])):
+            bench.value("byId('%s').click()" % form)
+            wanted = bench.program(given, command, *words)[1]
+            bench.wait("byId('report').textContent !== 'Working …' && byId('report').textContent.startsWith(%s)" % json.dumps(wanted[:8]))
+            faults += differs("%s %s" % (command, form), bench.text("#report"), wanted)
+    bench.value("putCommand('tables'); answerNow()")
+    faults += differs("of tables, which has one form", bench.value("byId('formats').hidden"), True)
+    return faults + safety(bench)
+
+
+def link_row(bench):
+    """The first thing offered is the saved page, and the link of a page that is a file says what it is good for."""
+    bench.open_fresh()
+    first = bench.value("document.querySelector('#saves button').dataset.save")
+    bench.value("navigator.clipboard.writeText = async () => {}; copyLink()")
+    bench.wait("byId('copied').textContent")
+    said = bench.text("#copied")
+    return differs("first", first, "page") + ([] if "on this computer alone" in said and "Save as a page" in said else ["it says " + said]) + safety(bench)
+
+
+LATER = {"answer": "never", "asked": {"kind": "exists", "truth": True}, "leaves": 1, "model": "tso", "test": "MP", "verdict": "No", "also": [1],
+         "steps": [{"step": "since", "depth": 0, "bound": "1:EAX is 0 or 1"},
+                   {"step": "cycle", "depth": 0, "cycle": [{"from": "P0:0 W x=1", "relation": "ppo", "to": "P0:1 W y=1"}, {"from": "P0:1 W y=1", "relation": "rf", "to": "P0:0 W x=1"}]}]}
+
+
+def later_row(bench):
+    """An answer of a module that is newer than the page is shown: steps and relations that the page doesn't know by what they hold."""
+    bench.open_fresh()
+    bench.fill("test", test_of("MP"))
+    bench.value("showReason({ status: 0, text: %s, hint: '' }, inputOf('why'))" % json.dumps(json.dumps(LATER)))
+    said = bench.text("#states")
+    return ["it doesn't say " + words for words in ("since: 1:EAX is 0 or 1", "P0:0 W x=1 comes before P0:1 W y=1", "ppo") if words not in said] + safety(bench)
+
+
+def embed_row(bench, folder):
+    """A page in another page has no footer, no tools and no words of itself, and is driven."""
+    bench.window.resize(900)
+    bench.window.open(bench.page.address + "#test=" + "X86%20a%0A%7B%20%7D%0A%20P0%20%3B%0A%20MOV%20%5Bx%5D,%241%20%3B%0A&embed=1")
+    bench.value(READY)
+    bench.wait("drive.isOn")
+    out = ["header", "footer", "#about", "#saves", "#input", "#test-part .asking"]
+    faults = differs("in sight", bench.value("%r.filter(each => document.querySelector(each).getClientRects().length > 0)" % out), [])
+    press(bench, "[data-choice='0s']")
+    bench.wait("location.hash.includes('choices=0s')")
+    bench.window.screenshot(os.path.join(folder, "embedded.png"), whole=False)
+    return faults + differs("its address stays one", bench.value("location.hash.includes('embed=1')"), True) + safety(bench)
+
+
+def rows(page, folder):
+    bench = Driver(page)
+    return [
+        ("a lecture hall", lambda: lecture_hall_row(bench, folder)),
+        ("a list of tests", lambda: list_row(bench, folder)),
+        ("four protocols abreast", lambda: abreast_row(bench, folder)),
+        ("a table of states", lambda: table_row(bench)),
+        ("forms of an answer", lambda: forms_row(bench)),
+        ("a link of a file", lambda: link_row(bench)),
+        ("answers of a later module", lambda: later_row(bench)),
+        ("a page in a page", lambda: embed_row(bench, folder)),
+    ]

@@ -1,0 +1,231 @@
+"""Rows for what teaches: what the page says of itself, its lessons and those of a teacher, its tasks, and what is undone and kept."""
+import json
+import os
+import re
+
+from bench import DIVIDING_LINE, EXAMPLES, FIRST, READY, differs, read, safety
+from driver import Driver
+from kept import faults_of_form, saved_page
+
+GALLERY = os.path.join(EXAMPLES, "gallery")
+TEST = read(EXAMPLES, FIRST).partition(DIVIDING_LINE)[0]
+OF_CACHES = re.compile(r"\b(miss|hit|upgrade|cache|line|bus|GetS|GetM|flush|written back)\b", re.IGNORECASE)
+IS_IN_SIGHT = """(found => { const { top, bottom, width, height } = found.getBoundingClientRect(); return height > 0 && width > 0 && top >= 0 && bottom <= innerHeight; })(document.querySelector(%s))"""
+TAUGHT = {"lessons": [{"name": "mine", "title": "Mine", "test": "X86 mine\n{ }\n P0 ;\n MOV [x],$1 ;\n", "settings": {"depth": "2"},
+                       "steps": [{"say": "One <b>store</b>."}, {"do": "0s", "say": "Step.", "then": "It waits."}, {"ask": "Where?", "answers": ["buffer", "memory"], "right": "buffer", "because": "So it is."}, {"say": "End."}]}]}
+
+
+def test_of(name):
+    return read(GALLERY, name + ".litmus").partition(DIVIDING_LINE)[0]
+
+
+def is_in_sight(bench, selector):
+    return bench.value(IS_IN_SIGHT % json.dumps(selector))
+
+
+def press(bench, selector):
+    bench.window.click(selector)
+
+
+def about_row(bench, folder):
+    """A fresh page says what it is, is solved nowhere, and says how many choices a run needs; a later one says nothing of itself."""
+    bench.open_fresh(width=1280)
+    bench.window.resize(1280, 720)
+    bench.value("scrollTo(0, 0)")
+    words = bench.text("#about").lower()
+    faults = ["it doesn't say " + word for word in ("litmus test", "store buffer", "drain", "memory", "core") if word not in words]
+    faults += [part + " is out of sight" for part in ("#about svg", "#first-lesson", "[data-choice='0s']", ".memory", "#task") if not is_in_sight(bench, part)]
+    faults += differs("choices that are known", bench.value("drive.words"), [])
+    faults += [] if "at least 6 choices" in bench.text("#sentence") else ["it says " + bench.text("#sentence")]
+    bench.window.screenshot(os.path.join(folder, "about.png"), whole=False)
+    bench.window.open(bench.page.address + "#test=" + "X86%20a%0A%7B%20%7D%0A%20P0%20%3B%0A%20MOV%20%5Bx%5D,%241%20%3B%0A")
+    bench.value(READY)
+    bench.wait("drive.isOn")
+    faults += differs("open where an address tells a test", bench.value("byId('about').open"), False)
+    faults += [] if "at least 2 choices" in bench.text("#sentence") else ["of one store it says " + bench.text("#sentence")]
+    return faults + safety(bench)
+
+
+def least_row(bench):
+    """How many choices a run needs is what a shortest run of the program makes, with store buffers and without."""
+    faults = []
+    for name in ("SB", "MP", "SB+mfences", "INC+xadds", "IRIW"):
+        for depth in ("4", "0"):
+            bench.open_fresh()
+            bench.value("settingOf('depth').value = %s" % depth)
+            bench.fill("test", test_of(name))
+            wanted = min(len(state["choices"].split()) for state in json.loads(bench.program(test_of(name), "outcomes", "--json", "--depth", depth)[1])["states"])
+            faults += differs("of %s at depth %s" % (name, depth), bench.value("leastOf(firstHistory())"), wanted)
+    return faults + safety(bench)
+
+
+def plain_row(bench):
+    """Caches are out of sight at first, and then nothing speaks of them; memory has each word that left a buffer. They come by a box."""
+    bench.open_fresh()
+    faults = differs("caches in sight", bench.value("document.querySelector('.cache').getClientRects().length"), 0)
+    for choice in "0s 1s 0s 1s 0d 1d".split():
+        press(bench, "[data-choice='%s']" % choice)
+        said = bench.text("#sentence") + bench.value("byId('machines').innerText + byId('at-end').innerText")
+        faults += ["after %s it speaks of %s" % (choice, found) for found in OF_CACHES.findall(said)]
+    faults += differs("memory", bench.text(".memory"), "x=1y=1")
+    faults += differs("registers", bench.value("[...document.querySelectorAll('.registers')].map(each => each.textContent)"), ["EAX=0", "EAX=0"])
+    press(bench, "#caches")
+    faults += [] if "cache has the word, and memory itself still has the old one" in bench.text("#sentence") else ["with caches it says " + bench.text("#sentence")]
+    faults += differs("memory with caches", bench.text(".memory"), "x=0 newest 1y=0 newest 1")
+    bench.wait("location.hash.includes('caches=1')")
+    bench.window.reload()
+    bench.value(READY)
+    bench.wait("drive.isOn")
+    faults += differs("after a reload", bench.value("document.querySelector('.cache').getClientRects().length > 0"), True)
+    bench.open_fresh()
+    bench.value("settingOf('protocol').value = 'mesi'; byId('settings').dispatchEvent(new Event('input'))")
+    return faults + differs("with another protocol", bench.value("document.querySelector('.cache').getClientRects().length > 0"), True) + safety(bench)
+
+
+def go_through(bench, faults):
+    """Goes through a lesson by its own buttons and those of the cores. Answers the steps with the choices that are made after each."""
+    steps = bench.value("lesson.told.steps")
+    for at, step in enumerate(steps):
+        faults += differs("the step", bench.value("lesson.at"), at)
+        if "do" in step:
+            faults += differs("marked", bench.value("[...document.querySelectorAll('.wanted')].map(each => each.dataset.choice)"), [step["do"]])
+            faults += differs("done before it is done", bench.value("lesson.isDone"), False)
+            press(bench, "[data-choice='%s']" % step["do"])
+        if "ask" in step:
+            press(bench, "[data-answer=%s]" % json.dumps(step["answers"][-1]))
+        if "show" in step:
+            press(bench, "[data-show]")
+            bench.wait("!bench.task")
+        faults += differs("done", bench.value("lesson.isDone"), True)
+        after = step.get("then") or step.get("because")
+        faults += [] if after is None or after in bench.text("#lesson-words") else ["it says " + bench.text("#lesson-words")]
+        if at + 1 < len(steps):
+            press(bench, "#lesson-next")
+    return steps
+
+
+def lesson_row(bench, name, shows):
+    """A lesson from its first step to its last; each choice does what it says, and at its end stands what it shows."""
+    bench.open_fresh()
+    bench.value("beginLesson('%s')" % name)
+    faults = []
+    steps = go_through(bench, faults)
+    words = [step["do"] for step in steps if "do" in step]
+    faults += differs("the choices", bench.value("choicesText().trim().split(/\\s+/)"), words)
+    faults += differs("shown", bench.value(shows), True)
+    test = bench.value("partsOf(EXAMPLES[lesson.told.text]).test")
+    extra = ["--words", "2"] if name == "false-sharing" else []
+    told = json.loads(bench.program(test + DIVIDING_LINE + " ".join(words), "trace", "--json", *extra)[1])["trace"]["steps"]
+    for step, made in zip([step for step in steps if "do" in step], told):
+        faults += ["%s: %s, and the lesson says %s" % (step["do"], made["outcome"], step["then"]) for word in ("stalled",) if made["outcome"] == word]
+        read_of = re.search(r"P\d read (\w+)=(\d+)", step["then"])
+        faults += [] if not read_of or any(entry.endswith("R %s=%s" % read_of.groups()) for entry in made["entries"]) else ["it says %s, and %s" % (step["then"], made["entries"])]
+        faults += ["it says a miss, and %s" % made["access"] for _ in [0] if re.search(r"\bmiss\b", step["then"]) and made["access"] != "miss"]
+    return faults + safety(bench)
+
+
+def guided_row(bench):
+    """A choice that the lesson doesn't wait for isn't made; Back leads to the step before; a reload stays; leaving frees the machine."""
+    bench.open_fresh()
+    press(bench, "#first-lesson")
+    faults = differs("the focus", bench.value("document.activeElement.id"), "lesson-title")
+    bench.value("enterStep(2)")
+    press(bench, "[data-choice='1s']")
+    faults += differs("made", bench.value("drive.count"), 0) + ([] if "goes on with 0s" in bench.text("#sentence") else ["it says " + bench.text("#sentence")])
+    press(bench, "[data-choice='0s']")
+    press(bench, "#lesson-next")
+    press(bench, "#lesson-back")
+    faults += differs("after Back", bench.value("[lesson.at, drive.count, lesson.isDone]"), [2, 0, False])
+    press(bench, "[data-choice='0s']")
+    press(bench, "#lesson-next")
+    bench.wait("location.hash.includes('step=3')")
+    bench.window.reload()
+    bench.value(READY)
+    bench.wait("lesson.told !== null")
+    faults += differs("after a reload", bench.value("[lesson.told.name, lesson.at, drive.words]"), ["store-buffering", 3, ["0s"]])
+    press(bench, "#lesson-leave")
+    press(bench, "[data-choice='0s']")
+    faults += differs("free", bench.value("[lesson.told, drive.words, byId('lesson').hidden, byId('task').hidden]"), [None, ["0s", "0s"], True, False])
+    return faults + safety(bench)
+
+
+def documented_row(bench):
+    """The lesson that docs/PAGE.md shows is one, and goes from its first step to its last."""
+    page = read(os.path.dirname(EXAMPLES), "docs", "PAGE.md")
+    bench.open_fresh()
+    bench.value("takeText(%s)" % json.dumps(re.search(r"(?s)```json\n(.*?)```", page).group(1)))
+    faults = differs("begun", bench.value("[lesson.told?.name, byId('message').textContent]"), ["one-store", ""])
+    go_through(bench, faults)
+    return faults + safety(bench)
+
+
+def taught_row(bench, folder):
+    """A teacher's lesson comes by a file, is text and no markup, and goes along in a saved page; a foul file is refused in words."""
+    bench.open_fresh()
+    bench.value("takeText(%s)" % json.dumps(json.dumps(TAUGHT)))
+    faults = differs("begun", bench.value("[lesson.told.name, lesson.told.settings.depth, firstHistory().options.depth, document.querySelector('#lesson-words b')]"), ["mine", "2", 2, None])
+    go_through(bench, faults)
+    name, text = saved_page(bench, "SAVES.page()")
+    faults += faults_of_form(text)
+    path = os.path.join(folder, "saved-lesson.html")
+    with open(path, "w") as file:
+        file.write(text)
+    bench.window.open("file://" + path)
+    bench.value(READY)
+    bench.wait("lesson.told !== null")
+    faults += differs("in the saved page", bench.value("[lesson.told.name, lesson.at, LESSONS.length]"), ["mine", 3, 4])
+    bench.window.requests.clear()
+    for change, said in (({"steps": []}, "steps"), ({"name": "A B"}, "name"), ({"test": "no test", "text": "none"}, "test"), ({"steps": [{"do": "9x", "say": "a", "then": "b"}]}, "do"), ({"steps": [{"ask": "a", "answers": ["1"], "because": "b"}]}, "answers")):
+        bench.open_fresh()
+        foul = {"lessons": [{**TAUGHT["lessons"][0], **change}]}
+        bench.value("takeText(%s)" % json.dumps(json.dumps(foul)))
+        message = bench.text("#message")
+        faults += [] if said in message and bench.value("lesson.told") is None and "lesson 1" in message else ["of %s it says %r" % (change, message)]
+    bench.value("takeText('{\"lessons\": [')")
+    return faults + ([] if "JSON" in bench.text("#message") else ["it says " + bench.text("#message")]) + safety(bench)
+
+
+# Tests with the words that stand before their task once the page knows whether it can be done.
+TASKS = [("SB", "exists", "☐ Task: Make both loads read 0."), ("SB+mfences", "exists", "☐ Can this be done? End with 0 in P0's EAX and 0 in P1's EAX."),
+         ("SB", "~exists", "☐ Task: The test claims that no run ends so. End with 0 in P0's EAX and 0 in P1's EAX."),
+         ("SB", "forall", "☐ Task: The test claims that each run ends so. End otherwise than with 0 in P0's EAX and 0 in P1's EAX."),
+         ("MP", "~exists", "☐ Can this be done? The test claims that no run ends so. End with 1 in P1's EAX and 0 in P1's EBX.")]
+
+
+def tasks_row(bench):
+    """What can't be, or isn't known to be possible, is a question; `~exists` and `forall` have tasks; what was missed is told, and why is offered."""
+    faults = []
+    for name, quantifier, wanted in TASKS:
+        bench.open_fresh()
+        bench.fill("test", re.sub(r"(?m)^~?exists", quantifier, test_of(name)))
+        faults += [] if "Can this be done?" in bench.text("#task") else ["before it is known: " + bench.text("#task")]
+        bench.wait("possible.can !== null")
+        faults += differs("%s of %s" % (quantifier, name), bench.text("#task"), wanted)
+    for word in "0s 0d 0s 1s 1s 1d".split():
+        bench.key_choice(word)
+    said = bench.text("#task")
+    faults += [] if "Not met this time: P1's EAX ended as" in said or "Not met this time: P1's EBX ended as" in said else ["it says " + said]
+    press(bench, "#task-why")
+    bench.wait("!bench.task && document.querySelector('.reason')")
+    bench.open_fresh()
+    bench.fill("test", test_of("SB").replace("exists", "forall"))
+    for word in "0s 0d 0s 1s 1s".split():
+        bench.key_choice(word)
+    faults += [] if "So the claim of the test is wrong" in bench.text("#task") else ["of forall it says " + bench.text("#task")]
+    return faults + safety(bench)
+
+
+def rows(page, folder):
+    bench = Driver(page)
+    return [
+        ("what is this", lambda: about_row(bench, folder)),
+        ("the least number of choices", lambda: least_row(bench)),
+        ("no caches at first", lambda: plain_row(bench)),
+        ("a lesson, store buffering", lambda: lesson_row(bench, "store-buffering", "document.querySelectorAll('#states tbody tr').length === 4")),
+        ("a lesson, fences", lambda: lesson_row(bench, "fences", "document.querySelector('.reason .cycle') !== null")),
+        ("a lesson, false sharing", lambda: lesson_row(bench, "false-sharing", "document.querySelectorAll('.machine').length === 4 && document.querySelector('.cache .differs') !== null")),
+        ("a lesson that guides", lambda: guided_row(bench)),
+        ("a lesson of the documents", lambda: documented_row(bench)),
+        ("a lesson of a teacher", lambda: taught_row(bench, folder)),
+        ("tasks", lambda: tasks_row(bench)),
+    ]

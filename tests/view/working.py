@@ -1,0 +1,193 @@
+"""Rows for long work, for what is undone, and for the ways back: nothing that a person did is lost, and nothing happens unseen."""
+import json
+import os
+
+from bench import READY, differs, safety
+from driver import STORES_AND_LOADS, Driver
+from machine import LONG_SEARCH
+from teaching import is_in_sight, press, test_of
+
+UNDO = "document.body.dispatchEvent(new KeyboardEvent('keydown', { key: 'z', ctrlKey: true, bubbles: true }))"
+REDO = "document.body.dispatchEvent(new KeyboardEvent('keydown', { key: 'y', ctrlKey: true, bubbles: true }))"
+STATE = "[byId('test').value.split('\\n')[0], choicesText().trim(), changedSettings(), drive.count]"
+
+
+def long_work_row(bench, folder):
+    """A search is in sight while it works: with its time, how far it came, and Stop; Esc stops it, and the machine is driven on."""
+    bench.open_fresh()
+    bench.fill("test", LONG_SEARCH)
+    bench.value("settingOf('states').value = 10000000; true")
+    press(bench, "[data-choice='0s']")
+    press(bench, "#find-outcomes")
+    faults = differs("in sight", [is_in_sight(bench, "#working"), is_in_sight(bench, "#stop")], [True, True])
+    bench.wait("/More than [\\d,]+ states so far/.test(byId('working').textContent)")
+    faults += differs("the machine beside it", bench.value("[drive.isOn, byId('run').hidden]"), [True, False])
+    bench.window.screenshot(os.path.join(folder, "working.png"), whole=False)
+    bench.value("document.body.dispatchEvent(new KeyboardEvent('keydown', { key: 'Escape', bubbles: true }))")
+    faults += differs("stopped", bench.value("[bench.task, byId('working').hidden, currentCommand(), drive.count]"), [None, True, "run", 1])
+    faults += [] if "Stopped" in bench.text("#message") else ["it says " + bench.text("#message")]
+    press(bench, "[data-choice='1s']")
+    return faults + differs("driven on", bench.value("drive.words"), ["0s", "1s"]) + safety(bench)
+
+
+def climbed_row(bench):
+    """A search that is asked with low limits first has the answer of one that is asked with its own."""
+    bench.open_fresh()
+    faults = []
+    for name in ("SB", "IRIW", "4.SB"):
+        answers = bench.value("beginTask(bench.bytes, [{ command: 'outcomes', json: true, depth: 32 }, { command: 'why', json: true }], %s).answers.then(all => all.map(({ text }) => text))" % json.dumps(test_of(name)))
+        faults += differs("of " + name, answers, [bench.program(test_of(name), command, "--json")[1] for command in ("outcomes", "why")])
+    return faults + safety(bench)
+
+
+def unfinished_row(bench):
+    """An answer that isn't finished is told in words, with what one can do, and more is allowed by one press."""
+    bench.open_fresh()
+    bench.fill("test", LONG_SEARCH)
+    bench.value("settingOf('states').value = 3; findOutcomes()")
+    bench.wait("!bench.task && document.querySelector('.ways-on')")
+    said = bench.text("#states")
+    faults = ["of outcomes it doesn't say " + word for word in ("3 states", "Ask why", "Allow 30 states", "Name fewer registers") if word not in said]
+    press(bench, "[data-more]")
+    bench.wait("!bench.task")
+    faults += differs("allowed", bench.value("[settingOf('states').value, bench.task]"), ["30", None])
+    bench.open_fresh()
+    bench.fill("test", test_of("IRIW"))
+    bench.value("settingOf('cases').value = 1; askWhy()")
+    bench.wait("!bench.task && document.querySelector('.ways-on')")
+    said = bench.text("#states")
+    faults += ["of why it doesn't say " + word for word in ("1 cases", "Find all outcomes", "Allow 10 cases") if word not in said]
+    press(bench, "[data-ask]")
+    bench.wait("!bench.task && document.querySelector('.states-sheet')")
+    return faults + safety(bench)
+
+
+def too_large_row(bench):
+    """A text that is refused for its size says so in sight: by an address, by a drop, and where the test is folded."""
+    address = "#test=X86%20a" + "%0A" * 6000
+    bench.window.open(bench.page.address + address)
+    bench.value(READY)
+    bench.wait("drive.isOn")
+    faults = differs("said of an address", [is_in_sight(bench, "#message"), "too long" in bench.text("#message")], [True, True])
+    bench.open_fresh()
+    bench.value("takeText('X86 a' + '\\n'.repeat(6000))")
+    return faults + differs("said of a drop", [is_in_sight(bench, "#message"), "too long" in bench.text("#message")], [True, True]) + safety(bench)
+
+
+def undo_row(bench):
+    """Choices, edits and settings are undone and done again, each where it was; not in fields of text, which have their own undo."""
+    bench.open_fresh()
+    states = [bench.value(STATE)]
+    for word in ("0s", "1s"):
+        press(bench, "[data-choice='%s']" % word)
+        states.append(bench.value(STATE))
+    bench.value("byId('test-part').open = true")
+    for field, value in (("set-depth", "2"), ("test", STORES_AND_LOADS.replace("X86 SB", "X86 other"))):
+        bench.fill(field, value)
+        states.append(bench.value(STATE))
+    press(bench, "[data-choice='0s']")
+    states.append(bench.value(STATE))
+    faults = []
+    for at in range(len(states) - 2, -1, -1):
+        bench.value(UNDO)
+        faults += differs("undone to %d" % at, bench.value(STATE), states[at])
+    faults += differs("nothing more to undo", bench.value("byId('undo').disabled"), True)
+    for at in range(1, len(states)):
+        press(bench, "#redo") if at % 2 else bench.value(REDO)
+        faults += differs("done again to %d" % at, bench.value(STATE), states[at])
+    bench.value("byId('test').focus(); byId('test').dispatchEvent(new KeyboardEvent('keydown', { key: 'z', ctrlKey: true, bubbles: true }))")
+    return faults + differs("in a field of text", bench.value(STATE), states[-1]) + safety(bench)
+
+
+def branch_row(bench):
+    """Another choice in the middle keeps the rest, which is taken again, and the other in its place."""
+    bench.open_fresh()
+    for word in "0s 1s 0s 1s 0d 1d".split():
+        press(bench, "[data-choice='%s']" % word)
+    bench.value("goTo(2)")
+    press(bench, "[data-choice='0d']")
+    faults = differs("made", bench.value("drive.words"), "0s 1s 0d".split())
+    faults += [] if "after 2: 0s 1s 0d 1d" in bench.text("#branches") else ["it offers " + bench.text("#branches")]
+    press(bench, "[data-branch]")
+    faults += differs("taken again", bench.value("[drive.words.join(' '), drive.count]"), ["0s 1s 0s 1s 0d 1d", 2])
+    faults += [] if "0s 1s 0d" in bench.text("#branches") or "after 3" in bench.text("#branches") else ["then it offers " + bench.text("#branches")]
+    bench.fill("test", test_of("MP"))
+    return faults + differs("of another test", bench.value("byId('branches').hidden"), True) + safety(bench)
+
+
+def own_run_row(bench):
+    """A run of an answer says that it has another depth, marks its row, and leads back to one's own run and place."""
+    bench.open_fresh()
+    for word in "0s 0d 1s".split():
+        press(bench, "[data-choice='%s']" % word)
+    bench.window.press("ArrowLeft")
+    press(bench, "#find-outcomes")
+    bench.wait("!bench.task && document.querySelector('.states-sheet')")
+    press(bench, "#states tbody tr:nth-child(2) [data-choices]")
+    faults = [] if "depth 32 (yours have depth 4)" in bench.text("#own-run") else ["it says " + bench.text("#own-run")]
+    faults += differs("the marked row", bench.value("[...document.querySelectorAll('#states tbody tr')].map(row => row.matches('.shown[aria-current]'))"), [False, True, False, False])
+    press(bench, "#own-back")
+    faults += differs("one's own run", bench.value("[drive.words, drive.count, settingOf('depth').value, byId('own-run').hidden]"), [["0s", "0d", "1s"], 2, "4", True])
+    press(bench, "#ask-why")
+    bench.wait("!bench.task && document.querySelector('.reason')")
+    press(bench, "#to-run")
+    faults += differs("back from why", bench.value("[drive.isOn, drive.count, drive.words.length]"), [True, 2, 3])
+    press(bench, "#ask-why")
+    bench.wait("!bench.task && document.querySelector('.reason')")
+    bench.value("putCommand('run'); answerNow(); makeChoice('0s')")
+    press(bench, "#ask-why")
+    bench.wait("!bench.task && document.querySelector('.reason')")
+    press(bench, "#to-run")
+    return faults + differs("back to a run that went on", bench.value("drive.words"), ["0s", "0d", "1s", "0s"]) + safety(bench)
+
+
+def browser_back_row(bench):
+    """The browser's Back leads to the answer before, and at last to what the page began with."""
+    bench.open_fresh()
+    press(bench, "[data-choice='0s']")
+    bench.wait("location.hash.includes('choices=0s')")
+    press(bench, "#find-outcomes")
+    bench.wait("!bench.task && document.querySelector('.states-sheet') && location.hash.includes('command=outcomes')")
+    bench.value("putCommand('why'); begin()")
+    bench.wait("!bench.task && document.querySelector('.reason') && location.hash.includes('command=why')")
+    bench.value("window.history.back(); true")
+    bench.wait("!bench.task && document.querySelector('.states-sheet')")
+    bench.value("window.history.back(); true")
+    bench.wait("drive.isOn")
+    return differs("the run again", bench.value("[currentCommand(), drive.words]"), ["run", ["0s"]]) + safety(bench)
+
+
+def place_row(bench):
+    """After an edit one stays at one's place, even where what was typed was refused meanwhile; *Beside it* is there after a reload."""
+    bench.open()
+    bench.value("goTo(3)")
+    test = bench.value("byId('test').value")
+    bench.fill("test", test.replace("MOV EAX,[y]", "MOV EAX,[y"))
+    faults = differs("refused", bench.value("drive.isOn"), False)
+    bench.fill("test", test.replace("MOV EAX,[y]", "MOV EBX,[y]"))
+    faults += differs("the place", bench.value("[drive.count, drive.words.length]"), [3, 6])
+    for beside in ("JSON.stringify(otherMachines(firstHistory().options)[1])", "JSON.stringify(ABREAST)"):
+        bench.value("putBeside(%s)" % beside)
+        before = bench.value("[byId('beside-it').selectedOptions[0].textContent, drive.histories.length]")
+        bench.wait("location.hash.includes('beside=')")
+        bench.value("new Promise(done => setTimeout(done, 300))")
+        bench.window.reload()
+        bench.value(READY)
+        bench.wait("drive.isOn")
+        faults += differs("beside after a reload", bench.value("[byId('beside-it').selectedOptions[0].textContent, drive.histories.length]"), before)
+    return faults + safety(bench)
+
+
+def rows(page, folder):
+    bench = Driver(page)
+    return [
+        ("long work in sight", lambda: long_work_row(bench, folder)),
+        ("a search by steps", lambda: climbed_row(bench)),
+        ("answers that aren't finished", lambda: unfinished_row(bench)),
+        ("texts too large, in sight", lambda: too_large_row(bench)),
+        ("undo and redo", lambda: undo_row(bench)),
+        ("branches of a run", lambda: branch_row(bench)),
+        ("one's own run", lambda: own_run_row(bench)),
+        ("the browser's Back", lambda: browser_back_row(bench)),
+        ("one's place after an edit", lambda: place_row(bench)),
+    ]

@@ -1,0 +1,61 @@
+'use strict';
+
+// What stands beside the machine and makes the same choices: one other machine, or all four protocols abreast. What differs is marked.
+
+/** In the place of a machine: those of the other protocols. */
+const ABREAST = 'protocols';
+const NO_OTHER = 'null'; // as the list of machines has it
+
+const besideName = beside => (beside === ABREAST ? ABREAST : machineName(beside));
+
+/** The machine of a name beside that of the settings, ABREAST, or null. */
+function besideNamed(name) {
+  if (name === ABREAST) return ABREAST;
+  const { options = {} } = readSettings('run'), others = otherMachines({ ...Tso.DEFAULTS, ...options }).slice(1);
+  return others.find(machine => machineName(machine) === name) ?? null;
+}
+
+/** The machines beside one. */
+function machinesBeside(options) {
+  if (drive.beside === null) return [];
+  if (drive.beside !== ABREAST) return [drive.beside];
+  return Tso.PROTOCOLS.filter(protocol => protocol !== options.protocol).map(protocol => ({ ...options, protocol }));
+}
+
+/** The histories of the machines beside the first under the same choices, if any are asked for. */
+function historiesBeside(options) {
+  return machinesBeside(options).map(machine => historyOf(machine, inputOfWords(drive.words)).history).filter(history => history !== undefined);
+}
+
+function drawBesideChoices(options) {
+  const field = byId('beside-it'), others = otherMachines(options).slice(1), key = JSON.stringify(options);
+  if (field.dataset.key !== key) {
+    field.dataset.key = key;
+    const option = (value, text) => html('option', { value: JSON.stringify(value) }, text);
+    field.replaceChildren(option(null, 'no other'), option(ABREAST, 'all four protocols'), ...others.map(other => option(other, machineName(other))));
+  }
+  const wanted = drive.beside === null || drive.beside === ABREAST ? drive.beside : others.find(other => machineName(other) === machineName(drive.beside));
+  field.value = wanted === undefined ? NO_OTHER : JSON.stringify(wanted);
+}
+
+/** Puts beside the machine what a text of the list stands for. */
+function putBeside(text) {
+  putDrive({ beside: JSON.parse(text) });
+  beginDrive(firstHistory(), drive, drive.count);
+}
+
+/** Marks of each machine the lines of its caches, and its sentence, where they differ from those of the first. */
+function markDifferences() {
+  const [first, ...others] = drawn.panels;
+  for (const panel of others) {
+    for (const [own, other] of [[panel.said, first.said], [panel.bus.element, first.bus.element], [panel.memory.element, first.memory.element]]) {
+      own.classList.toggle('differs', own.textContent !== other.textContent);
+    }
+    panel.panels.forEach((core, at) => markRows(core.lines.element, first.panels[at].lines.element));
+  }
+}
+
+function markRows(table, first) {
+  const there = [...first.rows].map(row => row.textContent);
+  for (const row of table.rows) row.classList.toggle('differs', !there.includes(row.textContent));
+}

@@ -1,0 +1,40 @@
+'use strict';
+
+// Caches and bus are out of sight until somebody asks for them: a core, its store buffer, memory and the order are all that TSO needs.
+
+/** The settings that only caches and bus go by. */
+const SETTINGS_OF_CACHES = ['protocol', 'bus', 'sets', 'ways', 'words'];
+
+/** Whether somebody asked to see the caches (true) or to hide them (false); null while the settings decide. */
+const cachesView = { wanted: null };
+
+const isUsual = options => SETTINGS_OF_CACHES.every(name => options[name] === Tso.DEFAULTS[name]);
+
+/** Whether nothing but the bus tells what a choice does: on a split bus a core asks for it first. */
+const needsBus = machines => machines.some(({ bus }) => bus === 'split');
+
+/** Whether caches and bus of these machines, each its options, are in sight. */
+const showsCaches = machines => needsBus(machines) || (cachesView.wanted ?? !machines.every(isUsual));
+
+const drivenMachines = () => drive.histories.map(({ options }) => options);
+
+/** Shows or hides what belongs to caches and bus, and says which of the two at the box for it. */
+function putCaches() {
+  const machines = drivenMachines(), isShown = showsCaches(machines), box = byId('caches');
+  byId('run').classList.toggle('plain', !isShown);
+  Object.assign(box, { checked: isShown, disabled: needsBus(machines) });
+  return isShown;
+}
+
+/** What somebody asks for by the box. */
+function wantCaches(isWanted) {
+  cachesView.wanted = isWanted;
+  if (drive.isOn) showDrive();
+  showTestLine(currentCommand());
+}
+
+/** Where a step read its word, as a machine without caches has it: in a store buffer, or in memory. */
+const plainSupply = supply => (supply === null || supply.from === 'buffer' ? supply : { ...supply, from: 'memory', owner: null });
+
+/** A machine in words that speak of store buffers alone. */
+const plainMachineName = ({ depth }) => (depth === 0 ? 'no store buffers' : `store buffers of ${depth} ${depth === 1 ? 'store' : 'stores'}`);

@@ -1,0 +1,45 @@
+'use strict';
+
+// The answer as it is printed, and as JSON. Of a search the page has asked for JSON: the other form is asked for when somebody wants it.
+
+/** The commands that answer in both forms. */
+const IN_BOTH = ['run', 'outcomes', 'why'];
+
+/** The two forms of the answer that is shown, as far as they are known, and the task that asks for one. */
+const formats = { texts: { printed: null, json: null }, task: null };
+
+const formatNow = () => (byId('as-json').checked ? 'json' : 'printed');
+
+/** Forgets the forms of another answer; `known` is what the module has said. */
+function putFormats(known) {
+  formats.task?.stop();
+  Object.assign(formats, { texts: { printed: null, json: null, ...known }, task: null });
+  byId('formats').hidden = !IN_BOTH.includes(currentCommand());
+  if (byId('formats').hidden) byId('as-printed').checked = true;
+}
+
+/** Asks for a form that isn't known: of a run at once, of a search in a worker. */
+async function askFormat(name) {
+  const command = currentCommand(), { options } = readSettings(command), question = { ...options, json: name === 'json' }, input = inputOf(command);
+  if (command === 'run') return asked(question, drive.isOn ? driveInput() : input).text;
+  const task = formats.task = beginTask(bench.bytes, [question], input), [{ text }] = await task.answers;
+  return text;
+}
+
+/** Shows the answer in the form that is wanted. */
+async function showFormat() {
+  const { texts } = formats, name = formatNow();
+  if (texts[name] === null) {
+    if (currentCommand() !== 'run') byId('report').textContent = 'Working …';
+    texts[name] = await askFormat(name);
+  }
+  if (formats.texts === texts && formatNow() === name) byId('report').textContent = texts[name];
+}
+
+/** What stands in the field of the report, as a file. */
+function saveFormat() {
+  const isJson = formatNow() === 'json';
+  saveText(fileName(testName(), isJson ? '.json' : '.txt'), byId('report').textContent, isJson ? 'application/json' : 'text/plain');
+}
+
+byId('formats').addEventListener('change', () => showReport());

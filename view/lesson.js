@@ -1,0 +1,184 @@
+'use strict';
+
+// A lesson that runs: its steps are told, asked, and done on the machine. The lessons themselves are data (lessons.js, taught.js).
+
+const IN_LESSON = Object.freeze({ told: null, at: 0, isDone: false, answer: null });
+
+/** The lesson that runs (`told`, null while none does), the number of its step, whether what the step wants is done, and what was answered. */
+let lesson = IN_LESSON;
+
+const putLesson = changes => { lesson = Object.freeze({ ...lesson, ...changes }); };
+
+const lessonNamed = name => LESSONS.find(each => each.name === name);
+const stepNow = () => lesson.told.steps[lesson.at];
+
+/** The choices that the steps before one make. */
+const choicesBefore = (steps, at) => steps.slice(0, at).flatMap(step => step.do ?? []);
+
+/** What a step's button asks the proved code. */
+const LESSON_SHOWS = {
+  outcomes: { says: 'Find all outcomes', act: () => findOutcomes() },
+  why: { says: 'Why can or can’t it be?', act: () => askWhy() },
+  abreast: { says: 'All four protocols', act: () => putBeside(JSON.stringify(ABREAST)) },
+};
+
+/** Begins a lesson at a step. */
+function beginLesson(name, at = 0) {
+  const told = lessonNamed(name);
+  if (!told) return;
+  putLesson({ ...IN_LESSON, told });
+  cachesView.wanted = told.caches ? true : null;
+  byId('about').open = false;
+  enterStep(Math.min(Math.max(0, at), told.steps.length - 1));
+  byId('lesson-title').focus();
+}
+
+/** Puts the test of a lesson into the fields, with the choices that are made there. */
+function putTestOf({ text, test, settings = {} }, choices) {
+  const entry = LIBRARY.find(each => each.file === text), { depth = SET_AT_FIRST.depth, words = SET_AT_FIRST.words } = entry ?? {};
+  putInput(test ?? partsOf(entry.text).test);
+  putSettings(Object.entries({ depth, words, ...settings }));
+  putChoices(choices.join(' '));
+  putDrive({ beside: null });
+  forgetOwnRun();
+  putCommand('run');
+  answerNow();
+}
+
+/** Comes to a step. After what a step showed the page stays as it is. */
+function enterStep(at) {
+  const { steps } = lesson.told, isAfterShown = at === lesson.at + 1 && steps[lesson.at].show !== undefined && lesson.isDone;
+  putLesson({ at, answer: null, isDone: steps[at].say !== undefined && steps[at].do === undefined && steps[at].show === undefined });
+  if (!isAfterShown) putTestOf(lesson.told, choicesBefore(steps, at));
+  drawLesson();
+  keepAddressSoon();
+}
+
+/** Ends the lesson, if one runs: the machine is free, and its task stands there again. */
+function endLesson() {
+  if (lesson.told === null) return;
+  putLesson(IN_LESSON);
+  cachesView.wanted = null;
+  drawLesson();
+  if (drive.isOn) showDrive();
+  keepAddressSoon();
+}
+
+/** Whether a choice is one that the lesson waits for, or that is free. At the last step each is. */
+function lessonAllows(word) {
+  if (lesson.told === null || lesson.at === lesson.told.steps.length - 1) return true;
+  const wanted = lesson.isDone ? undefined : stepNow().do, count = choicesBefore(lesson.told.steps, lesson.at).length;
+  if (word === wanted && drive.count !== count) goTo(count);
+  if (word === wanted) return true;
+  sayOfDriving(wanted ? `The lesson goes on with ${wanted}. Leave it to go your own way.` : 'The lesson goes on with its own buttons, above. Leave it to go your own way.');
+  return false;
+}
+
+/** Goes on where a choice was the one that the step waits for. */
+function lessonDid(word) {
+  if (lesson.told === null || lesson.isDone || stepNow().do !== word) return;
+  putLesson({ isDone: true });
+  drawLesson();
+}
+
+function answerLesson(answer) {
+  putLesson({ isDone: true, answer });
+  drawLesson();
+  byId('lesson-next').focus();
+}
+
+function showInLesson() {
+  const { act } = LESSON_SHOWS[stepNow().show];
+  putLesson({ isDone: true });
+  drawLesson();
+  act();
+}
+
+// What is drawn.
+
+/** What is said after an answer: whether it is right, where there is a right one, and why. */
+function judgedAnswer({ right, because }, answer) {
+  if (right === undefined) return because;
+  return `${answer === right ? 'Right.' : `Not so: ${right}.`} ${because}`;
+}
+
+/** Says what a step tells, and when it is done what came of it. */
+function showSentences() {
+  const step = stepNow(), { isDone, answer } = lesson, after = step.ask === undefined ? step.then : answer === null ? undefined : judgedAnswer(step, answer);
+  putText(byId('lesson-said'), step.ask ?? step.say);
+  byId('lesson-after').hidden = !(isDone && after);
+  putText(byId('lesson-after'), isDone && after ? after : '');
+  byId('lesson-after').classList.toggle('wrong', step.right !== undefined && answer !== step.right);
+}
+
+function lessonButtons() {
+  const { answers = [], show } = stepNow();
+  const button = (attributes, text, isOff) => html('button', { type: 'button', ...attributes, ...(isOff ? { disabled: '' } : {}) }, text);
+  return [
+    ...answers.map(answer => button({ 'data-answer': answer, 'aria-pressed': String(answer === lesson.answer) }, answer, lesson.answer !== null)),
+    ...(show === undefined ? [] : [button({ 'data-show': show, class: 'main' }, LESSON_SHOWS[show].says)]),
+  ];
+}
+
+/** The button of a core that the lesson waits for. */
+function markWanted() {
+  const wanted = lesson.told === null || lesson.isDone ? undefined : stepNow().do;
+  for (const button of document.querySelectorAll('[data-choice]')) button.classList.toggle('wanted', button.dataset.choice === wanted);
+}
+
+/** What stands at the button that goes on: at the last step it begins the next lesson, where there is one. */
+function showNext() {
+  const isLast = lesson.at === lesson.told.steps.length - 1, next = LESSONS[LESSONS.indexOf(lesson.told) + 1];
+  byId('lesson-next').textContent = !isLast ? 'Next' : next ? `Next lesson: ${next.title}` : 'End of the lesson';
+  byId('lesson-next').disabled = !lesson.isDone;
+  byId('lesson-back').disabled = lesson.at === 0;
+}
+
+function drawLesson() {
+  const isOn = lesson.told !== null;
+  document.documentElement.classList.toggle('learning', isOn);
+  byId('lesson').hidden = !isOn;
+  markWanted();
+  if (!isOn) return;
+  putText(byId('lesson-title'), lesson.told.title);
+  putText(byId('lesson-place'), `Step ${lesson.at + 1} of ${lesson.told.steps.length}`);
+  showSentences();
+  byId('lesson-answers').replaceChildren(...lessonButtons());
+  showNext();
+}
+
+function goOn() {
+  const { told: { steps }, told, at } = lesson;
+  if (at < steps.length - 1) {
+    enterStep(at + 1);
+    focusStep();
+    return;
+  }
+  const next = LESSONS[LESSONS.indexOf(told) + 1];
+  endLesson();
+  if (next) beginLesson(next.name);
+}
+
+/** Puts the focus on what a step waits for. */
+function focusStep() {
+  (document.querySelector('[data-choice].wanted') ?? byId('lesson-answers').querySelector('button') ?? byId('lesson-next')).focus();
+}
+
+/** The buttons by which lessons begin: the first one stands above, and all of them in their list. */
+function drawLessons() {
+  const [{ name, title }] = LESSONS, others = LESSONS.length - 1;
+  byId('first-lesson').dataset.lesson = name;
+  byId('first-lesson').textContent = title;
+  byId('more-lessons').textContent = others === 0 ? '' : `A few minutes. ${others} more ${others === 1 ? 'stands' : 'stand'} at “Lessons”.`;
+  byId('lessons').replaceChildren(...LESSONS.map(each => html('li', {}, html('button', { type: 'button', 'data-lesson': each.name, class: 'quiet' }, each.title))));
+}
+
+document.addEventListener('click', ({ target }) => {
+  const { lesson: name, answer, show: shows } = target.dataset ?? {};
+  if (name !== undefined) beginLesson(name);
+  else if (answer !== undefined) answerLesson(answer);
+  else if (shows !== undefined) showInLesson();
+});
+byId('lesson-next').addEventListener('click', goOn);
+byId('lesson-back').addEventListener('click', () => enterStep(lesson.at - 1));
+byId('lesson-leave').addEventListener('click', endLesson);

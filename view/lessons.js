@@ -1,0 +1,105 @@
+'use strict';
+
+// The lessons, as plain data: docs/PAGE.md says how one writes others. A file with such a list as JSON, dropped on the page, adds them.
+
+const LESSONS = [
+  {
+    name: 'store-buffering',
+    title: 'Can both loads read 0?',
+    text: 'store-buffering.litmus',
+    steps: [
+      { say: 'There are two cores, P0 and P1. P0 stores 1 to x and then loads y. P1 stores 1 to y and then loads x. At the start x and y are 0.' },
+      { ask: 'Can both loads read 0 in one run? What do you think?', answers: ['Yes', 'No'], because: 'We try it. You make each choice yourself.' },
+      { do: '0s', say: 'Let P0 take its first step. Press the button 0s, “step MOV [x],$1”.', then: 'The store x=1 waits in P0’s store buffer. Memory has not seen it: x is still 0 there.' },
+      { do: '1s', say: 'Now P1’s first step: 1s.', then: 'The store y=1 waits in P1’s buffer. Memory still has 0 for both.' },
+      {
+        ask: 'P0’s next step loads y. What will this load read?', answers: ['0', '1'], right: '0',
+        because: 'The store y=1 is in P1’s buffer, and only P1 itself can see it there. So the load finds the 0 in memory.',
+      },
+      { do: '0s', say: 'Look: press 0s.', then: 'P0 read y=0, and EAX is 0. The load is the first entry of the memory order: P0’s store still waits, so the load passed it.' },
+      {
+        ask: 'P1’s next step loads x. What will it read?', answers: ['0', '1'], right: '0',
+        because: 'P0 has gone on past its store, but the store itself has not left P0’s buffer. Memory has x=0.',
+      },
+      { do: '1s', say: 'Press 1s.', then: 'P1 read x=0. So both loads have read 0.' },
+      {
+        ask: 'Two stores still wait. Can what a load has read change when they drain?', answers: ['Yes', 'No'], right: 'No',
+        because: 'A load has read its value once and for all. The drains change memory only.',
+      },
+      { do: '0d', say: 'Drain P0’s store: 0d.', then: 'Memory has x=1 now. In the picture the bar shows how long the store had waited.' },
+      { do: '1d', say: 'And P1’s store: 1d.', then: 'The run has ended. The memory order has both loads above both stores, although each program has its store first.' },
+      { show: 'outcomes', say: 'So yes, both loads can read 0. One run shows that it can be. Which other ends are there? Press “Find all outcomes”: proved code tries every order of steps and drains.' },
+      {
+        say: 'There are four ends. One is marked “TSO alone”: under sequential consistency, where no core has a store buffer, one of the loads always reads 1. ' +
+          'A load may pass an earlier store of its own core. TSO lets nothing else pass. The next lesson puts a fence between store and load.',
+      },
+    ],
+  },
+  {
+    name: 'fences',
+    title: 'The same with fences: why it can’t be',
+    text: 'store-buffering-fenced.litmus',
+    steps: [
+      { say: 'This is the same test, with an MFENCE between store and load on each core. We try again to make both loads read 0.' },
+      { do: '0s', say: 'P0’s store first: 0s.', then: 'The store waits in the buffer, as before.' },
+      { do: '1s', say: 'Then P1’s store: 1s.', then: 'Both stores wait. Each core has its fence before it.' },
+      {
+        ask: 'P0’s next instruction is MFENCE, and its buffer has x=1. What happens if P0 steps now?', answers: ['It goes on', 'It waits'], right: 'It waits',
+        because: 'A fence waits until the store buffer of its core is empty. Its button 0s is dashed: it would do nothing now.',
+      },
+      { do: '0d', say: 'So P0’s store has to drain first: 0d.', then: 'Memory has x=1. P0’s buffer is empty.' },
+      { do: '0s', say: 'Now the fence lets P0 pass: 0s.', then: 'The fence is done. Whatever P0 does from here on comes after its store in memory.' },
+      {
+        ask: 'P0 loads y next, and P1’s store still waits in its buffer. What will P0 read?', answers: ['0', '1'], right: '0',
+        because: 'P1’s store has not reached memory yet. So P0 can still read 0.',
+      },
+      { do: '0s', say: 'Press 0s.', then: 'P0 read y=0. The first half is done.' },
+      {
+        ask: 'P1 must drain, pass its fence, and load x. What will P1 read?', answers: ['0', '1'], right: '1',
+        because: 'Memory has had x=1 since before P0 passed its fence. P1 loads after that.',
+      },
+      { do: '1d', say: 'Drain P1: 1d.', then: 'Memory has y=1 too, too late for P0’s load.' },
+      { do: '1s', say: 'P1’s fence: 1s.', then: 'P1 may load now.' },
+      { do: '1s', say: 'And its load: 1s.', then: 'P1 read x=1. This run does not end with two zeros.' },
+      { show: 'why', say: 'Was it our choice of steps, or can it never be? One run can’t tell. Press “Why can or can’t it be?”: proved code looks at every case.' },
+      {
+        say: 'It can never be. If both loads read 0 there is a cycle: each load comes before the other core’s store (fr), and each store comes before its own core’s load (mfence). ' +
+          'Then an event would come before itself. Press First above the picture, and then Next, to follow the cycle edge by edge.',
+      },
+    ],
+  },
+  {
+    name: 'false-sharing',
+    title: 'False sharing, by protocol',
+    text: 'false-sharing.litmus',
+    caches: true,
+    steps: [
+      {
+        say: 'Memory is slow, so each core keeps copies of lines in a cache. Here one line has two words: x and y lie in the same line, x+y. P0 only uses x, and P1 only uses y. ' +
+          'They share no variable. Do they disturb each other?',
+      },
+      { do: '0s', say: 'P0 stores x: 0s.', then: 'The store waits in the buffer. The caches have nothing yet.' },
+      { do: '0d', say: 'Drain it: 0d.', then: 'A miss: P0 asked on the bus for the line to write it (GetM). P0 has it in state M, modified: it is the only copy.' },
+      { do: '1s', say: 'P1 stores y: 1s.', then: 'This store waits in P1’s buffer.' },
+      {
+        ask: 'P1’s drain will write y. What happens to P0’s copy of the line x+y?', answers: ['It stays', 'It is taken away'], right: 'It is taken away',
+        because: 'A line is written by one core at a time. P1 wants to write a word of it, so P0’s copy becomes invalid, although P0 never uses y.',
+      },
+      { do: '1d', say: 'Drain: 1d.', then: 'The line went from P0 to P1. P0’s x went along.' },
+      { do: '0s', say: 'P0 stores x again: 0s.', then: 'It waits in the buffer.' },
+      {
+        ask: 'P0 wrote x before. Is its drain a hit or a miss?', answers: ['A hit', 'A miss'], right: 'A miss',
+        because: 'The line is gone to P1. P0 has to get it back. This is false sharing: two cores that share a line, but no variable.',
+      },
+      { do: '0d', say: 'Drain: 0d.', then: 'A miss again. With one word in each line this would be a hit.' },
+      { do: '1s', say: 'P1 loads its own y: 1s.', then: 'Another miss, for a word that only P1 uses. How the word comes to P1 depends on the protocol.' },
+      {
+        show: 'abreast', say: 'Press “All four protocols”: the same choices under MSI, MESI, MOESI and MOSI. What differs from the first machine is marked with ≠.',
+      },
+      {
+        say: 'MSI and MESI send the line to memory when P1 reads it (a flush), and both copies become S. MOESI and MOSI don’t: P0 keeps it as O, owned, and supplies the words. ' +
+          'No protocol takes the false sharing away. One word in a line does: open the settings, and put “Words of a line” to 1.',
+      },
+    ],
+  },
+];

@@ -1,0 +1,33 @@
+'use strict';
+
+// Whether what a test asks for can be: asked of the proved code in a worker, when the page has shown the test and rests.
+
+const POSSIBLE_CASES = 3000; // that may be told apart: so many take well under a second
+const ASK_AFTER = 250; // milliseconds without another test
+
+/** What is known of a test (`test` is its text): true where what it asks for can be, false where it can't, null where that isn't known. */
+const possible = { test: null, can: null, timer: null, task: null };
+
+const canBe = () => (possible.test === drive.test ? possible.can : null);
+
+/** Asks soon about the test that is driven, where nothing is known of it yet. */
+function askPossibleSoon() {
+  if (possible.test === drive.test || !document.querySelector('#commands [value=why]')) return;
+  possible.task?.stop();
+  Object.assign(possible, { test: drive.test, can: null, task: null });
+  clearTimeout(possible.timer);
+  possible.timer = setTimeout(askPossible, ASK_AFTER);
+}
+
+async function askPossible() {
+  const { test } = possible, task = possible.task = beginTask(bench.bytes, [{ command: 'why', json: true, cases: POSSIBLE_CASES }], test);
+  try {
+    const [{ status, text }] = await task.answers;
+    if (possible.task !== task) return;
+    const { answer } = status === Tso.STATUS.good ? JSON.parse(text) : {};
+    possible.can = answer === undefined ? null : answer === 'allowed';
+  } catch {
+    possible.can = null; // the task stays a question
+  }
+  if (drive.isOn && drive.test === test) showTask(firstHistory(), drive.count, shown.run);
+}

@@ -1,0 +1,132 @@
+'use strict';
+
+// The ways of edges between the boxes of events: beside the boxes of a core, in the gutters between the cores, and where cores lie between
+// in channels under the rows. So no way crosses a box or a word. All measures are pixels.
+
+const ROUTES = { track: 11, bow: 0.8, inset: 14, turn: 8, channel: 24, sample: 4, samples: 48, chip: 18, letter: 8, around: 6 };
+
+const SPREAD = 4; // by how much at most ways that touch one side of a box lie above or below its middle
+
+/** Where ways touch boxes: for each edge the heights of its start and its end. Those that touch one side of a box lie apart there. */
+function portsOf(layout, edges) {
+  const touched = new Map(), at = edges.map(({ from, to }) => [from, to].map((text, end) => {
+    const [box, other] = [text, end === 0 ? to : from].map(each => layout.boxes.get(nameOfEvent(each))), key = `${nameOfEvent(text)} ${Math.sign(other.event.core - box.event.core)}`;
+    touched.set(key, (touched.get(key) ?? 0) + 1);
+    return { box, key, number: touched.get(key) - 1 };
+  }));
+  const heightOf = ({ box, key, number }) => box.y + box.height / 2 + (touched.get(key) === 1 ? 0 : SPREAD * (2 * number / (touched.get(key) - 1) - 1));
+  return at.map(ends => ends.map(heightOf));
+}
+
+/** How many edges go from one event to another with cores between, by the row of the channel that they take: the upper one of their rows. */
+function farEdges(edges) {
+  const far = edges.map(edge => [eventOf(edge.from), eventOf(edge.to)]).map(([from, to]) => (Math.abs(from.core - to.core) > 1 ? Math.min(from.place, to.place) : null));
+  const order = new Map();
+  return far.map(row => {
+    if (row === null) return null;
+    order.set(row, (order.get(row) ?? 0) + 1);
+    return { row, at: order.get(row) - 1 };
+  });
+}
+
+/** How many channels stand under each of so many rows. */
+const channelsOf = (far, rows) => Array.from({ length: rows }, (_, row) => far.filter(each => each?.row === row).length);
+
+/** Points along a curve of four points. */
+function alongCurve([a, b, c, d]) {
+  const mix = (t, which) => (1 - t) ** 3 * a[which] + 3 * (1 - t) ** 2 * t * b[which] + 3 * (1 - t) * t ** 2 * c[which] + t ** 3 * d[which];
+  return Array.from({ length: ROUTES.samples + 1 }, (_, at) => [mix(at / ROUTES.samples, 0), mix(at / ROUTES.samples, 1)]);
+}
+
+/** Points along straight lines. */
+function alongLines(corners) {
+  return corners.slice(1).flatMap(([x, y], at) => {
+    const [fromX, fromY] = corners[at], count = Math.max(1, Math.ceil(Math.hypot(x - fromX, y - fromY) / ROUTES.sample));
+    return Array.from({ length: count }, (_, step) => [fromX + (x - fromX) * step / count, fromY + (y - fromY) * step / count]);
+  }).concat([corners.at(-1)]);
+}
+
+const curveWay = points => ({ d: `M${points[0].join(' ')}C${points.slice(1).map(point => point.join(' ')).join(' ')}`, points: alongCurve(points) });
+
+/** Straight lines with rounded corners. */
+function linesWay(corners) {
+  const toward = ([x, y], [toX, toY]) => {
+    const length = Math.hypot(toX - x, toY - y), turn = Math.min(ROUTES.turn, length / 2);
+    return length === 0 ? [x, y] : [x + (toX - x) * turn / length, y + (toY - y) * turn / length];
+  };
+  const turns = corners.slice(1, -1).map((corner, at) => `L${toward(corner, corners[at]).join(' ')}Q${corner.join(' ')} ${toward(corner, corners[at + 2]).join(' ')}`);
+  return { d: `M${corners[0].join(' ')}${turns.join('')}L${corners.at(-1).join(' ')}`, points: alongLines(corners) };
+}
+
+/** Numbers things by their keys: of each how many of its key came before it. */
+function numbered(keys) {
+  const counts = new Map();
+  return keys.map(key => {
+    counts.set(key, (counts.get(key) ?? 0) + 1);
+    return counts.get(key) - 1;
+  });
+}
+
+/** Beside the boxes of one core: the first of its edges on the side of its lane that is nearer to the picture's edge, the next on the other. */
+function wayOfOneCore(layout, start, end, [y1, y2], number) {
+  const isNear = number % 2 === 0, isLeft = (2 * start.event.core < layout.cores - 1 || layout.cores === 1) === isNear, out = isLeft ? -1 : 1;
+  const x1 = isLeft ? start.x : start.x + start.width, x2 = isLeft ? end.x - 3 : end.x + end.width + 3, bow = out * layout.side * (ROUTES.bow - 0.2 * Math.floor(number / 2) % 0.6);
+  return curveWay([[x1, y1], [x1 + bow, y1], [x2 + bow, y2], [x2, y2]]);
+}
+
+/** Through the gutter between two cores that stand side by side. */
+function wayThroughGutter(start, end, [y1, y2], isRight) {
+  const x1 = isRight ? start.x + start.width : start.x, x2 = isRight ? end.x - 3 : end.x + end.width + 3, bend = (x2 - x1) / 2;
+  return curveWay([[x1, y1], [x1 + bend, y1], [x2 - bend, y2], [x2, y2]]);
+}
+
+/** Through the gutters beside both boxes and a channel under a row, past the cores between. */
+function wayThroughChannel(layout, start, end, [y1, y2], { isRight, row, at, tracks }) {
+  const out = isRight ? 1 : -1, [inset, endInset] = tracks.map(track => ROUTES.inset + (track * ROUTES.track) % (layout.side - ROUTES.inset));
+  const x1 = isRight ? start.x + start.width : start.x, x2 = isRight ? end.x - 3 : end.x + end.width + 3;
+  const y = layout.tops[row + 1] - layout.channels[row] * ROUTES.channel + (at + 0.5) * ROUTES.channel - ROUTES.around;
+  const [near, far] = [x1 + out * inset, x2 - out * endInset];
+  return linesWay([[x1, y1], [near, y1], [near, y], [far, y], [far, y2], [x2, y2]]);
+}
+
+/** The way of each edge: its path, and points along it. */
+function edgeWays(layout, edges) {
+  const ports = portsOf(layout, edges), [froms, tos] = ['from', 'to'].map(end => edges.map(edge => eventOf(edge[end]).core));
+  const ofCore = numbered(edges.map((_, at) => (froms[at] === tos[at] ? froms[at] : `other ${at}`)));
+  const tracks = numbered(edges.flatMap((_, at) => (layout.far[at] === null ? ['', ''] : [[froms[at], tos[at]], [tos[at], froms[at]]].map(([own, other]) => `${own} ${own < other}`))));
+  return edges.map(({ from, to }, at) => {
+    const [start, end] = [from, to].map(text => layout.boxes.get(nameOfEvent(text))), isRight = start.event.core < end.event.core;
+    if (start.event.core === end.event.core) return wayOfOneCore(layout, start, end, ports[at], ofCore[at]);
+    if (layout.far[at] === null) return wayThroughGutter(start, end, ports[at], isRight);
+    return wayThroughChannel(layout, start, end, ports[at], { ...layout.far[at], isRight, tracks: tracks.slice(2 * at, 2 * at + 2) });
+  });
+}
+
+// The letters of edges: a chip on each way, where it covers no box, no word, no other chip and if possible no other way.
+
+const overlap = (one, other) => one.x < other.x + other.width && other.x < one.x + one.width && one.y < other.y + other.height && other.y < one.y + one.height;
+const holds = (box, [x, y]) => x > box.x && x < box.x + box.width && y > box.y && y < box.y + box.height;
+
+/** The rectangle of a chip of some letters around a point, within the picture. */
+function chipAt(layout, [x, y], letters) {
+  const width = letters * ROUTES.letter + ROUTES.around, centre = Math.min(Math.max(x, width / 2 + 2), layout.width - width / 2 - 2);
+  return { x: centre - width / 2, y: y - ROUTES.chip / 2, width, height: ROUTES.chip };
+}
+
+/** Of a way's points those that a chip may stand at: near its start first, since ways cross in the middle. */
+function chipPoints(points) {
+  const parts = [0.24, 0.3, 0.18, 0.36, 0.42, 0.5, 0.58, 0.66, 0.74, 0.82, 0.12];
+  return parts.map(part => points[Math.round(part * (points.length - 1))]);
+}
+
+/** Where the chip of each edge stands. */
+function chipsOf(layout, edges, ways) {
+  const chips = [];
+  edges.forEach(({ relation }, at) => {
+    const others = ways.filter((_, other) => other !== at).flatMap(({ points }) => points);
+    const cost = chip => 100 * [...layout.words, ...layout.boxes.values()].filter(part => overlap(chip, part)).length + 50 * chips.filter(other => overlap(chip, other)).length + others.filter(point => holds(chip, point)).length;
+    const found = chipPoints(ways[at].points).map(point => chipAt(layout, point, relation.length)).map(chip => ({ chip, cost: cost(chip) }));
+    chips.push(found.reduce((best, each) => (each.cost < best.cost ? each : best)).chip);
+  });
+  return chips;
+}

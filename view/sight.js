@@ -1,0 +1,15 @@
+'use strict';
+
+// What has to stay in sight: nothing that gets the focus may lie under the bar by which one steps.
+
+const CLEAR = 8; // pixels beside the bar
+
+/** Keeps room beside the bar, at the edge of the window where it stands still, when the browser scrolls to something. */
+function keepClear() {
+  const bar = byId('stepper'), isSticky = getComputedStyle(bar).position === 'sticky' && bar.offsetHeight > 0, room = isSticky ? `${bar.offsetHeight + CLEAR}px` : '0px';
+  const isBelow = isStepperBelow() && drive.isOn, { style } = document.documentElement;
+  style.scrollPaddingTop = isBelow ? '0px' : room;
+  style.scrollPaddingBottom = isBelow ? room : '0px';
+}
+
+new ResizeObserver(keepClear).observe(byId('stepper'));

@@ -1,0 +1,71 @@
+'use strict';
+
+// The table of final states: sorted by a column, with those rows alone that a filter finds, and the row marked whose run is shown.
+
+/** The words of a row without its button. */
+const rowWords = row => [...row.cells].slice(0, -1).map(cell => cell.textContent).join(' ').toLowerCase();
+
+/** Whether a row has each of some words: a word like `0:EAX=1` looks at the column of that name. */
+function hasWords(row, titles, words) {
+  const cells = [...row.cells].map(cell => cell.textContent);
+  return words.every(word => {
+    const [, name, value] = /^(.+)=(\d+)$/.exec(word) ?? [], at = name === undefined ? -1 : titles.findIndex(title => title.toLowerCase() === name);
+    return at < 0 ? rowWords(row).includes(word) : cells[at] === value;
+  });
+}
+
+/** Shows the rows that the sheet's filter finds, and says how many these are. */
+function filterStates(sheet) {
+  const [filter, alone] = sheet.querySelectorAll('.filter, .alone'), table = sheet.querySelector('table'), rows = [...table.tBodies[0].rows];
+  const titles = [...table.tHead.rows[0].cells].map(cell => cell.textContent), words = filter.value.toLowerCase().split(/\s+/).filter(word => word !== '');
+  for (const row of rows) row.hidden = !hasWords(row, titles, words) || (alone?.checked === true && !row.textContent.includes('TSO alone'));
+  sheet.querySelector('.filtered').textContent = `${rows.filter(row => !row.hidden).length} of ${rows.length} states`;
+}
+
+/** Compares two cells: numbers as numbers. */
+function compareCells(one, other) {
+  const [a, b] = [one, other].map(cell => cell.textContent);
+  return /^\d+$/.test(a) && /^\d+$/.test(b) ? Number(a) - Number(b) : a < b ? -1 : a > b ? 1 : 0;
+}
+
+/** Sorts a table by a column; by the same column again, the other way around. */
+function sortBy(title) {
+  const head = title.closest('th'), body = head.closest('table').tBodies[0], way = head.getAttribute('aria-sort') === 'ascending' ? -1 : 1;
+  for (const other of head.parentElement.cells) other.removeAttribute('aria-sort');
+  head.setAttribute('aria-sort', way === 1 ? 'ascending' : 'descending');
+  body.append(...[...body.rows].sort((one, other) => way * compareCells(one.cells[head.cellIndex], other.cells[head.cellIndex])));
+}
+
+/** Says before it is pressed that a run of the table has other store buffers than one's own. */
+function depthNote(depth) {
+  const { options } = readSettings('run');
+  if (options === undefined || options.depth === depth) return [];
+  return [html('p', { class: 'small' }, `“Run them” takes store buffers of depth ${depth}, in place of yours of depth ${options.depth}. You can go back to your own run.`)];
+}
+
+/** The table of states with what sorts and filters it. */
+function statesSheet(outcomes, sequential, truths) {
+  const table = outcomesTable(outcomes, sequential, truths);
+  for (const head of [...table.querySelectorAll('thead th')].slice(0, -1)) head.replaceChildren(html('button', { type: 'button', class: 'sorts' }, head.textContent));
+  for (const button of table.querySelectorAll('thead .sorts')) if (Object.hasOwn(MEANINGS, button.textContent)) button.dataset.means = button.textContent;
+  const filter = html('input', { class: 'filter', type: 'search', autocomplete: 'off', placeholder: '0:EAX=1' });
+  const alone = sequential ? [html('label', {}, html('input', { class: 'alone', type: 'checkbox' }), ' TSO alone')] : [];
+  const tools = html('div', { class: 'buttons small' }, html('label', {}, 'Filter ', filter), ...alone, html('span', { class: 'filtered', role: 'status' }));
+  const sheet = html('div', { class: 'states-sheet' }, ...(outcomes.states.length > 1 ? [tools] : []), ...depthNote(outcomes.depth), table);
+  if (outcomes.states.length > 1) filterStates(sheet);
+  return [sheet];
+}
+
+/** Marks the row whose choices make the run that is shown. */
+function markShownState(choices) {
+  for (const button of byId('states').querySelectorAll('[data-choices]')) {
+    const row = button.closest('tr'), isShown = button.dataset.choices === choices;
+    if (!row) continue;
+    row.classList.toggle('shown', isShown);
+    if (isShown) row.setAttribute('aria-current', 'true');
+    else row.removeAttribute('aria-current');
+  }
+}
+
+byId('states').addEventListener('input', ({ target }) => target.closest('.states-sheet') && filterStates(target.closest('.states-sheet')));
+byId('states').addEventListener('click', ({ target }) => target.matches('.sorts') && sortBy(target));

@@ -1,0 +1,108 @@
+'use strict';
+
+// Undo and redo, for choices, edits and settings; and the way back to one's own run from one of an answer.
+
+const MOST_UNDONE = 300;
+const TYPED_TOGETHER = 1000; // milliseconds: what is typed into one field within that is one edit
+
+/** What was before (`past`), what is (`now`), what was undone (`future`), and the field and time of the last edit that was typed. */
+const undoing = { past: [], now: null, future: [], field: null, time: 0 };
+
+/** All that an act can change: the texts, the settings, the command, the place in the run, and what is beside the machine. */
+function snapshotNow() {
+  return {
+    test: byId('test').value, given: byId('given').value, choices: choicesText(), command: currentCommand(), settings: JSON.stringify(changedSettings()),
+    beside: drive.beside, caches: cachesView.wanted, count: drive.count,
+  };
+}
+
+const SAME_IN = ['test', 'given', 'choices', 'command', 'settings', 'beside', 'caches'];
+const isSameSnapshot = (one, other) => SAME_IN.every(name => one[name] === other[name]);
+
+/** Notes what an event changed. A change of the place in the run alone isn't one to undo. */
+function remember(event) {
+  if (!bench.tso) return;
+  const now = snapshotNow(), { past } = undoing, before = undoing.now;
+  if (before !== null && !isSameSnapshot(before, now)) {
+    const field = event?.type === 'input' ? event.target.id : null, isOneEdit = field !== null && field === undoing.field && event.timeStamp - undoing.time < TYPED_TOGETHER;
+    if (!isOneEdit) past.push(before);
+    if (past.length > MOST_UNDONE) past.shift();
+    Object.assign(undoing, { future: [], field, time: event?.timeStamp ?? 0 });
+  }
+  undoing.now = now;
+  showUndoing();
+}
+
+/** Puts all back as it was. */
+function restore(snapshot) {
+  byId('test').value = snapshot.test;
+  byId('given').value = snapshot.given;
+  putChoices(snapshot.choices);
+  putSettings(JSON.parse(snapshot.settings));
+  putCommand(snapshot.command);
+  putDrive({ beside: snapshot.beside });
+  cachesView.wanted = snapshot.caches;
+  answerNow();
+  if (drive.isOn) goTo(snapshot.count);
+  else if (LONG.includes(snapshot.command)) begin();
+}
+
+function turn(from, to) {
+  if (from.length === 0) return;
+  to.push(snapshotNow());
+  undoing.now = from.pop();
+  endLesson();
+  restore(undoing.now);
+  undoing.field = null;
+  showUndoing();
+}
+
+const undo = () => turn(undoing.past, undoing.future);
+const redo = () => turn(undoing.future, undoing.past);
+
+function showUndoing() {
+  byId('undo').disabled = undoing.past.length === 0;
+  byId('redo').disabled = undoing.future.length === 0;
+}
+
+// One's own run, which an answer's run takes the place of.
+
+const ownRun = { kept: null };
+
+/** Keeps the run that is one's own before another is shown: the one that is driven, unless that is an answer's. */
+function keepOwnRun() {
+  const isOwn = drive.isOn && byId('own-run').hidden;
+  if (isOwn || ownRun.kept === null) ownRun.kept = { ...snapshotNow(), command: 'run' };
+}
+
+function forgetOwnRun() {
+  ownRun.kept = null;
+  showOwnRun();
+}
+
+/** Offers the way back, while what is shown isn't one's own run; `said` tells what it is. */
+function showOwnRun(said = '') {
+  byId('own-run').hidden = ownRun.kept === null;
+  putText(byId('own-said'), said);
+}
+
+function backToOwnRun() {
+  const { kept: run } = ownRun;
+  forgetOwnRun();
+  stopTask();
+  restore(run);
+  byId('stepper').scrollIntoView({ block: 'nearest' });
+}
+
+for (const kind of ['click', 'input', 'change', 'keydown']) window.addEventListener(kind, remember);
+document.addEventListener('keydown', event => {
+  const isUndone = event.key.toLowerCase() === 'z' && !event.shiftKey, isRedone = event.key.toLowerCase() === 'y' || (event.key.toLowerCase() === 'z' && event.shiftKey);
+  if (!(event.ctrlKey || event.metaKey) || event.altKey || event.target.matches('textarea, input:not([type=checkbox], [type=radio], [type=range])')) return;
+  if (!isUndone && !isRedone) return;
+  event.preventDefault();
+  if (isUndone) undo();
+  else redo();
+});
+byId('undo').addEventListener('click', undo);
+byId('redo').addEventListener('click', redo);
+byId('own-back').addEventListener('click', backToOwnRun);

@@ -1,0 +1,36 @@
+'use strict';
+
+// Answers that didn't come to their end, in words, with what one can do.
+
+const MORE = 10; // times the limit, by one press
+
+/** What one can do where a limit was too low: buttons and words. */
+function waysOn(command) {
+  const name = LIMIT_OF[command], most = Number(settingOf(name).max), next = Math.min(most, MORE * valueOf(name));
+  const button = (attributes, text) => html('button', { type: 'button', ...attributes }, text);
+  const more = next > valueOf(name) ? [html('li', {}, button({ 'data-more': `${name} ${next}` }, `Allow ${next.toLocaleString('en')} ${name}`), ' It takes longer, and more memory.')] : [];
+  const other = command === 'outcomes'
+    ? [html('li', {}, button({ 'data-ask': 'why' }, 'Ask why'), ' It looks at the one end that the condition asks for, and needs no states.')]
+    : [html('li', {}, button({ 'data-ask': 'outcomes' }, 'Find all outcomes'), ' It goes through the states of the machine, and tells no cases apart.')];
+  const fewer = 'Name fewer registers and locations in the condition: ends are told apart by these alone. Or take fewer instructions or cores.';
+  return html('ul', { class: 'ways-on' }, ...other, ...more, html('li', {}, fewer));
+}
+
+const UNFINISHED = {
+  outcomes: count => `The search isn't finished: it kept ${count} states, its limit. So it doesn't know all final states.`,
+  why: count => `This isn't decided: more than ${count} cases would have to be told apart, the limit. So there is no proof, and no run.`,
+};
+
+/** A sheet for a search that met its limit before it had a final state. */
+function unfinishedParts(command) {
+  return [answerTitle('Not finished'), html('p', { role: 'status' }, UNFINISHED[command](valueOf(LIMIT_OF[command]).toLocaleString('en'))), waysOn(command)];
+}
+
+document.addEventListener('click', ({ target }) => {
+  const { more, ask: command } = target.dataset ?? {};
+  if (command !== undefined) ask(command);
+  if (more === undefined) return;
+  const [name, value] = more.split(' ');
+  settingOf(name).value = value;
+  begin();
+});
