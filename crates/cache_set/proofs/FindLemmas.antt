@@ -1,8 +1,8 @@
 -- One more cache is looked at for a line that a core asks for.
-use Rattle.cache_set.proofs.Vocabulary.{arith, ◌≡◌, ◌≢◌, ◌≤◌, ℕ, zero, suc, Bool, true, false, List, [], length, map, Option, Some, None, option_map, nat_eq, if◌then◌else◌, inl, inr, refl, sym, ap, ◌∙◌, ◌<◌, IsSome, ◌⊎◌, ◌+◌, add-one, slice_set, slice_index_or, replicate, drop, nat_lt, ◌||◌, is_some, unwrap_or, eqb_tells, nat_tests, Line, length-map, get_or-set_same, get_or-set_other, length-set, get_or_past, option_or, Sets, tags_in, copy_in, copy_at, tags_of, drop-cons, drop-length, list_any, Words, State, Snoop, flusher_from, supplied_of, Supplied, Core, most_cores}
+use Rattle.cache_set.proofs.Vocabulary.{arith, ◌≡◌, ◌≢◌, ◌≤◌, ℕ, zero, suc, Bool, true, false, List, [], length, map, Option, Some, None, option_map, nat_eq, if◌then◌else◌, inl, inr, refl, sym, ap, ◌∙◌, ◌<◌, IsSome, ◌⊎◌, ◌+◌, add-one, slice_set, slice_index_or, replicate, drop, nat_lt, ◌||◌, is_some, unwrap_or, eqb_tells, nat_tests, Line, length-map, get_or-set_same, get_or-set_other, length-set, get_or_past, option_or, Sets, tags_in, copy_in, copy_at, tags_of, drop-cons, drop-length, list_any, Words, State, Snoop, first_from, flusher_from, first_supplier, sends_in, supplies_in, states_by_core, ◌∷◌, tag_in, supplied_of, Supplied, Core, most_cores}
 use Rattle.cache_set.specs.declared.finding.Found.{Found}
 use Rattle.cache_set.specs.inner.Finding.{nothing_found, noting}
-use Rattle.cache_set.proofs.CacheTags.{flusher-at}
+use Rattle.cache_set.proofs.CacheTags.{first-at, tag_at-tags}
 
 abbrev pub state_in : Option Line → Option State
 state_in o = option_map (λ copy. copy.state) o
@@ -18,6 +18,7 @@ pub record FoundBelow (upto : ℕ) (on : State → Snoop) (line : ℕ) (caches :
   pub words : ((found.words ≡ None) × ((i : ℕ) → i < upto → supplied_of on (copy_at caches i line) ≡ None))
       ⊎ ((i : ℕ) × (IsSome found.words × (supplied_of on (copy_at caches i line) ≡ found.words)))
   pub shared : list_any (has line) caches ≡ (found.shared || list_any (has line) (drop upto caches))
+  pub supplier : first_supplier 0 on line (tags_of caches) ≡ option_or found.supplier (first_supplier upto on line (drop upto (tags_of caches)))
   pub flushed : flusher_from 0 on line (tags_of caches) ≡ option_or found.flushed (flusher_from upto on line (drop upto (tags_of caches)))
   pub states : (i : ℕ) → slice_index_or found.states i None ≡ (if nat_lt i upto then state_in (copy_at caches i line) else None)
   pub room : length found.states ≡ most_cores
@@ -26,6 +27,7 @@ pub nothing-found : (on : State → Snoop) (line : ℕ) (caches : List Sets) →
 nothing-found on line caches = record {
   words = inl (refl, λ i b. absurd (omega arith));
   shared = refl;
+  supplier = refl;
   flushed = refl;
   states = λ i. let no : nat_lt i 0 ≡ false = grind (arith, nat_tests) in rw no (none i);
   room = refl;
@@ -45,7 +47,8 @@ pub passed-by : (on : State → Snoop) (line n : ℕ) (caches : List Sets) (foun
 passed-by on line n caches found b none h = record {
   words = elim h.words [ inl p ↦ inl (p.0, λ i c. below i c (p.1 i)) | inr p ↦ inr p ];
   shared = h.shared ∙ ap (λ (t : Bool). found.shared || t) rest;
-  flushed = h.flushed ∙ ap (option_or found.flushed) (rw none at (flusher-at on line n caches b));
+  supplier = h.supplier ∙ ap (option_or found.supplier) (rw none at (first-at (supplies_in on) line n caches b));
+  flushed = h.flushed ∙ ap (option_or found.flushed) (rw none at (first-at (sends_in on) line n caches b));
   states = λ i. h.states i ∙ by_number i (eqb_tells i n);
   room = h.room;
 }
@@ -73,7 +76,8 @@ pub noted : (on : State → Snoop) (line n : ℕ) (caches : List Sets) (found : 
 noted on line n caches found copy b few some h = record {
   words = elim h.words [ inl p ↦ first p.0 p.1 (on copy.state).supplies refl | inr p ↦ inr (p.0, already found.words refl p.0 p.1.0 p.1.1) ];
   shared = h.shared ∙ ap (λ (t : Bool). found.shared || t) here ∙ any found.shared;
-  flushed = h.flushed ∙ ap (option_or found.flushed) (rw some at (flusher-at on line n caches b)) ∙ next found.flushed (on copy.state).to_memory;
+  supplier = h.supplier ∙ ap (option_or found.supplier) (rw some at (first-at (supplies_in on) line n caches b)) ∙ next (supplies_in on) found.supplier (on copy.state).supplies;
+  flushed = h.flushed ∙ ap (option_or found.flushed) (rw some at (first-at (sends_in on) line n caches b)) ∙ next (sends_in on) found.flushed (on copy.state).to_memory;
   states = λ i. by_number i (eqb_tells i n);
   room = length-set found.states n (Some copy.state) ∙ h.room;
 }
@@ -102,11 +106,11 @@ noted on line n caches found copy b few some h = record {
     any true = refl
     any false = refl
 
-    next : (o : Option Core) (t : Bool) → option_or o (if t then Some (record { 0 = n }) else flusher_from (n + 1) on line (drop (n + 1) (tags_of caches)))
-        ≡ option_or (option_or o (if t then Some (record { 0 = n }) else None)) (flusher_from (n + 1) on line (drop (n + 1) (tags_of caches)))
-    next (Some c) t = refl
-    next None true = refl
-    next None false = refl
+    next : (is : Option State → Bool) (o : Option Core) (t : Bool) → option_or o (if t then Some (record { 0 = n }) else first_from (n + 1) is line (drop (n + 1) (tags_of caches)))
+        ≡ option_or (option_or o (if t then Some (record { 0 = n }) else None)) (first_from (n + 1) is line (drop (n + 1) (tags_of caches)))
+    next is (Some c) t = refl
+    next is None true = refl
+    next is None false = refl
 
     by_number : (i : ℕ) → ((nat_eq i n ≡ true) × (i ≡ n)) ⊎ ((nat_eq i n ≡ false) × (i ≢ n)) →
         slice_index_or (slice_set found.states n (Some copy.state)) i None ≡ (if nat_lt i (n + 1) then state_in (copy_at caches i line) else None)
@@ -134,14 +138,18 @@ module _ (on : State → Snoop) (line : ℕ) (caches : List Sets) (found : Found
       nothing_more true = refl
       nothing_more false = refl
 
+  nobody : (o : Option Core) → option_or o None ≡ o
+  nobody None = refl
+  nobody (Some c) = refl
+
+  no_more : drop (length caches) (tags_of caches) ≡ []
+  no_more = rw (← (length-map caches (map tags_in))) (drop-length (tags_of caches))
+
+  pub supplier-found : found.supplier ≡ first_supplier 0 on line (tags_of caches)
+  supplier-found = sym (h.supplier ∙ rw no_more (nobody found.supplier))
+
   pub flushed-found : found.flushed ≡ flusher_from 0 on line (tags_of caches)
-  flushed-found =
-      let none : drop (length caches) (tags_of caches) ≡ [] = rw (← (length-map caches (map tags_in))) (drop-length (tags_of caches)) in
-      sym (h.flushed ∙ rw none (nobody found.flushed))
-    where
-      nobody : (o : Option Core) → option_or o None ≡ o
-      nobody None = refl
-      nobody (Some c) = refl
+  flushed-found = sym (h.flushed ∙ rw no_more (nobody found.flushed))
 
   pub states-found : (i : ℕ) → slice_index_or found.states i None ≡ state_in (copy_at caches i line)
   states-found i = elim (within i) [
@@ -151,3 +159,15 @@ module _ (on : State → Snoop) (line : ℕ) (caches : List Sets) (found : Found
     where
       within : (i : ℕ) → (nat_lt i (length caches) ≡ true) ⊎ ((nat_lt i (length caches) ≡ false) × (length caches ≤ i))
       within i = grind (arith, nat_tests)
+
+  pub told-found : found.states ≡ states_by_core most_cores line (tags_of caches)
+  told-found = listed most_cores found.states caches h.room states-found
+    where
+      listed : (n : ℕ) (states : List (Option State)) (cs : List Sets) → length states ≡ n → ((i : ℕ) → slice_index_or states i None ≡ state_in (copy_at cs i line))
+          → states ≡ states_by_core n line (tags_of cs)
+      listed zero [] cs size each = refl
+      listed zero (s ∷ ss) cs size each = absurd (omega (arith, size))
+      listed (suc n) [] cs size each = absurd (omega (arith, size))
+      listed (suc n) (s ∷ ss) [] size each = ap (λ (o : Option State). o ∷ ss) (each 0) ∙ ap (λ (os : List (Option State)). None ∷ os) (listed n ss [] (omega (arith, size)) (λ i. each (suc i)))
+      listed (suc n) (s ∷ ss) (c ∷ cs) size each =
+          ap (λ (o : Option State). o ∷ ss) (each 0 ∙ sym (tag_at-tags c line)) ∙ ap (λ (os : List (Option State)). tag_in (map tags_in c) line ∷ os) (listed n ss cs (omega (arith, size)) (λ i. each (suc i)))

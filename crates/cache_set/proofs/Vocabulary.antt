@@ -25,7 +25,7 @@ pub use Rattle.protocol_tables.specs.declared.state.State.{State}
 pub use Rattle.std.proofs.lemmas.Option.{slice_get-map}
 pub use Rattle.cache_set.specs.Tags.{tag_set, tag_of, used, filled, leaving, restated, removed, TagSet}
 pub use Rattle.protocol_tables.specs.declared.state.Snoop.{Snoop}
-pub use Rattle.cache_set.specs.CacheTags.{TagSets, tags_at, at_line, sets_of, flusher_from, sends_in}
+pub use Rattle.cache_set.specs.CacheTags.{TagSets, tags_at, tag_in, at_line, sets_of, first_from, flusher_from, first_supplier, sends_in, supplies_in, states_by_core}
 pub use Rattle.protocol_tables.specs.Laws.{is_dirty}
 pub use Rattle.cache_set.specs.inner.Cleaning.{cleaned_at, cleaned_below, clean_tag_at, clean_tag_below, clean_copy, words_if_dirty}
 pub use Rattle.cache_set.specs.inner.Tags.{clean, cleaned}

@@ -52,11 +52,29 @@ abbrev pub sends_in : (State → Snoop) → Option State → Bool
 sends_in on_get_s None = false
 sends_in on_get_s (Some state) = (on_get_s state).to_memory
 
+abbrev pub supplies_in : (State → Snoop) → Option State → Bool
+supplies_in on_request None = false
+supplies_in on_request (Some state) = (on_request state).supplies
+
+-- the first core from this number on whose copy of a line is so
+abbrev pub first_from : ℕ → (Option State → Bool) → ℕ → List TagSets → Option Core
+first_from core is line [] = None
+first_from core is line (sets ∷ caches) =
+    (if is (tag_in sets line) then Some (record { 0 = core }) else first_from (core + 1) is line caches)
+
 -- the first core from this number on whose copy is sent to memory on GetS
 abbrev pub flusher_from : ℕ → (State → Snoop) → ℕ → List TagSets → Option Core
-flusher_from core on_get_s line [] = None
-flusher_from core on_get_s line (sets ∷ caches) =
-    (if sends_in on_get_s (tag_in sets line) then Some (record { 0 = core }) else flusher_from (core + 1) on_get_s line caches)
+flusher_from core on_get_s line caches = first_from core (sends_in on_get_s) line caches
+
+-- the first core from this number on whose copy supplies the line's words at this request
+abbrev pub first_supplier : ℕ → (State → Snoop) → ℕ → List TagSets → Option Core
+first_supplier core on_request line caches = first_from core (supplies_in on_request) line caches
+
+-- the state of the copy of a line of each of so many cores, by core; `None` past the last one
+abbrev pub states_by_core : ℕ → ℕ → List TagSets → List (Option State)
+states_by_core zero line caches = []
+states_by_core (suc cores) line [] = None ∷ states_by_core cores line []
+states_by_core (suc cores) line (sets ∷ caches) = tag_in sets line ∷ states_by_core cores line caches
 
 abbrev pub dirty_in : Table → Option (ℕ × State) → Bool
 dirty_in t None = false

@@ -5,7 +5,7 @@ ghost use Rattle.std.specs.Prelude.{◌≡◌, ◌<◌, ◌≤◌, ℕ, None, le
 ghost use Rattle.std.specs.List.{list_any};
 ghost use Rattle.tso_terms.specs.Limits.{most_cores};
 ghost use Rattle.cache_set.specs.Copies.{copy_in, tags_of};
-ghost use Rattle.cache_set.specs.CacheTags.{flusher_from};
+ghost use Rattle.cache_set.specs.CacheTags.{flusher_from, states_by_core, first_supplier};
 ghost use Rattle.cache_set.specs.Requests.{snoop_column};
 ghost use Rattle.cache_set.specs.inner.Copies.{state_at};
 ghost use Rattle.cache_set.specs.inner.Supplying.{HasSupplied};
@@ -32,6 +32,8 @@ pub fn answer<P: Protocol>(protocol: &P, request: Request, state: State) -> Snoo
 pub struct Found {
     /// The words of a copy that supplies them.
     pub words: Option<[u32; MAX_WORDS]>,
+    /// The first core whose copy supplies them.
+    pub supplier: Option<Core>,
     /// Whether a cache has the line.
     pub shared: bool,
     /// The core whose copy is sent to memory.
@@ -49,6 +51,9 @@ impl Found {
         if self.words.is_none() && snoop.supplies {
             self.words = Some(copy.words);
         }
+        if self.supplier.is_none() && snoop.supplies {
+            self.supplier = Some(Core(core as u8));
+        }
         if self.flushed.is_none() && snoop.to_memory {
             self.flushed = Some(Core(core as u8));
         }
@@ -62,12 +67,15 @@ impl Found {
 pub fn find<P: Protocol>(caches: &[Cache], protocol: &P, request: Request, line: u8) -> Found
     requires few { length caches.now ≤ most_cores }
     ensures words { HasSupplied (snoop_column (P.table protocol.now) request) caches.now line result.words }
+    ensures supplier { result.supplier ≡ first_supplier 0 (snoop_column (P.table protocol.now) request) line (tags_of caches.now) }
     ensures shared { result.shared ≡ list_any (λ sets. is_some (copy_in sets line)) caches.now }
     ensures flushed { result.flushed ≡ flusher_from 0 (snoop_column (P.table protocol.now) request) line (tags_of caches.now) }
     ensures states { (i : ℕ) → slice_index_or result.states i None ≡ state_at caches.now i line }
+    ensures told { result.states ≡ states_by_core most_cores line (tags_of caches.now) }
 {
     let mut found = Found {
         words: None,
+        supplier: None,
         shared: false,
         flushed: None,
         states: [None; MAX_CORES],

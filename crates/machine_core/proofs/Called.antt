@@ -13,7 +13,8 @@ use Rattle.snoop_bus.specs.declared.holding.HeldBus.{HeldBus}
 use Rattle.snoop_bus.specs.declared.holding.Stage.{Stage}
 use Rattle.snoop_bus.specs.declared.holding.Stage.TheVariants.{Load, Write, Locked}
 use Rattle.snoop_bus.specs.declared.holding.Transaction.{Transaction}
-use Rattle.snoop_bus.specs.declared.access.Access.{Access}
+use Rattle.snoop_bus.specs.declared.access.AccessReport.{AccessReport}
+use Rattle.snoop_bus.specs.declared.access.BusRequest.{BusRequest}
 use Rattle.snoop_bus.proofs.HeldLemmas.{counting-at}
 use Rattle.snoop_bus.proofs.HolderLemmas.{free-held}
 use Rattle.machine_core.specs.inner.Calls.{IsCalled, loads, writes, asks, completes, keeps}
@@ -119,9 +120,9 @@ awaited-clean : (t : Table) (y : Transaction) (line : ℕ) (caches : List TagSet
 unfolding awaiting
 awaited-clean t y line caches h e = let same : awaited_by y ≡ awaiting t GetS line caches IsD = cc in ap (λ (a : Awaited). is_dirty a.state) same ∙ h.filled _
 
-load-asks : (lines : ℕ) (old new : BusModel) (core : Core) (loc : Loc) (k i : ℕ) → SettlesMemory (table_of_rows old.rows) → IsSound old → IsSound new → AllNeat lines (contents_of old) → IsFree old
-    → would_hit old core.0 loc.0 false ≡ false → AsksFor old new core loc false → IsOwner (counted_copies new) k i → IsStale old new k
-load-asks lines old new core loc k i h sound after neat free misses at owner =
+load-asks : (lines : ℕ) (old new : BusModel) (core : Core) (loc : Loc) (request : Option BusRequest) (k i : ℕ) → SettlesMemory (table_of_rows old.rows) → IsSound old → IsSound new → AllNeat lines (contents_of old) → IsFree old
+    → would_hit old core.0 loc.0 false ≡ false → AsksFor old new core loc false request → IsOwner (counted_copies new) k i → IsStale old new k
+load-asks lines old new core loc request k i h sound after neat free misses at owner =
     ap (λ m. line_in m k) at.memory
     ∙ ask-stale t lines core.0 line old.caches old.memory k i h neat (free-apart old sound (free-quiet old free))
     (λ same. (λ e. other e same, subst (λ n. IsDirtyAt i n (requested t.on_get_s core.0 line (contents_of old))) same found))
@@ -189,9 +190,9 @@ counted-other caches h (Some y) i k within some n = counting-at caches h.holder.
     by_line (inr p) true = rw p.0 refl
     by_line (inr p) false = refl
 
-complete-call : (lines : ℕ) (old new : BusModel) (core : Core) (loc : Loc) (stage : Stage) (access : Access) (k i : ℕ) → SettlesMemory (table_of_rows old.rows) → IsSound old → AllNeat lines (contents_of old)
-    → holder_of old ≡ Some (holder core loc stage) → awaited_of new ≡ None → CompletesAt old new core.0 loc.0 access → IsOwner (counted_copies new) k i → IsStale old new k
-complete-call lines old new core loc stage access k i h sound neat holds quiet at owner = by_held old.held refl
+complete-call : (lines : ℕ) (old new : BusModel) (core : Core) (loc : Loc) (stage : Stage) (report : AccessReport) (k i : ℕ) → SettlesMemory (table_of_rows old.rows) → IsSound old → AllNeat lines (contents_of old)
+    → holder_of old ≡ Some (holder core loc stage) → awaited_of new ≡ None → CompletesAt old new core.0 loc.0 report → IsOwner (counted_copies new) k i → IsStale old new k
+complete-call lines old new core loc stage report k i h sound neat holds quiet at owner = by_held old.held refl
   where
     t : Table
     t = table_of_rows old.rows
@@ -241,7 +242,7 @@ complete-call lines old new core loc stage access k i h sound neat holds quiet a
             fill-stale t lines core.0 line y.copy.state old.caches (tags_of old.caches) old.memory k i h neat refl alone (tag_at-copy old.caches core.0 line ∙ ap (option_map (λ (copy : Line). copy.state)) absent) dirty
 
         by_transient : (y : Transaction) (τ : Transient) → x.transaction ≡ Some y → y.transient ≡ τ
-            → IsDirtyAt i k (completed_in t core.0 line τ y.copy.state y.flushed (tags_of old.caches)).caches
+            → IsDirtyAt i k (completed_in t core.0 line τ y.copy.state y.request.flushed (tags_of old.caches)).caches
             → line_in (completed_memory_in t core.0 line τ old.caches old.memory) k ≡ line_in old.memory k
         by_transient y SmD e is_so dirty = refl
         by_transient y transient e is_so dirty = fills y e (λ z. (let w : transient ≡ SmD = sym is_so ∙ z in let v : ⊥ = cc in v)) dirty
@@ -260,13 +261,13 @@ called-stale kind lines old new k i rows sound after neat called owner = by_call
     facts : SettlesMemory (table_of_rows old.rows)
     facts = subst (λ r. SettlesMemory (table_of_rows r)) (sym rows) (settles kind)
 
-    by_asks : (core : Core) (loc : Loc) (write : Bool) → IsFree old → (write ≡ false → would_hit old core.0 loc.0 false ≡ false) → AsksFor old new core loc write → line_in (memory_of new) k ≡ line_in (memory_of old) k
-    by_asks core loc true free misses at = ap (λ m. line_in m k) at.memory
-    by_asks core loc false free misses at = load-asks lines old new core loc k i facts sound after neat free (misses refl) at owner
+    by_asks : (core : Core) (loc : Loc) (write : Bool) (request : Option BusRequest) → IsFree old → (write ≡ false → would_hit old core.0 loc.0 false ≡ false) → AsksFor old new core loc write request → line_in (memory_of new) k ≡ line_in (memory_of old) k
+    by_asks core loc true request free misses at = ap (λ m. line_in m k) at.memory
+    by_asks core loc false request free misses at = load-asks lines old new core loc request k i facts sound after neat free (misses refl) at owner
 
     by_call : IsCalled old new → line_in (memory_of new) k ≡ line_in (memory_of old) k
-    by_call (loads core loc word access may at) = access-call lines old new core loc false k i facts sound neat may at.memory at.contents at.held.awaited_is owner
-    by_call (writes core loc word access may at) = access-call lines old new core loc true k i facts sound neat may at.memory at.contents at.held.awaited_is owner
-    by_call (asks core loc write free misses at) = by_asks core loc write free misses at
-    by_call (completes core loc stage access holds quiet at) = complete-call lines old new core loc stage access k i facts sound neat holds quiet at owner
+    by_call (loads core loc word report may at) = access-call lines old new core loc false k i facts sound neat may at.memory at.contents at.held.awaited_is owner
+    by_call (writes core loc word report may at) = access-call lines old new core loc true k i facts sound neat may at.memory at.contents at.held.awaited_is owner
+    by_call (asks core loc write request free misses at) = by_asks core loc write request free misses at
+    by_call (completes core loc stage report holds quiet at) = complete-call lines old new core loc stage report k i facts sound neat holds quiet at owner
     by_call (keeps same) = ap (λ m. line_in m k) same

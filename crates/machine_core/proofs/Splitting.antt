@@ -1,7 +1,9 @@
 -- A choice on a split bus that isn't the holder's next one.
 use Rattle.machine_core.proofs.Vocabulary.{◌≡◌, ◌≢◌, ℕ, ◌<◌, ◌++◌, Bool, true, false, List, [], Option, None, Some, Result, Ok, Err, IfOk, OnOk, OnErr, inr, length, slice_set, append-nil, refl, sym, ap, ◌∙◌, subst, set-get_or, Litmus, CoreState, Effect, stalled, after_choice, chosen, core_of, idle, MemoryAccess, NoAccess, Reads, Writes, Locks, access_of, Holder, Free, HeldBy, HeldBetween, Attempt, BusEffect, acts, asks, needs_bus, same_choice, BusState, HitFits, NoMemory, Split, Core, Loc, Entry, Choice, Outcome, HolderFits, BusModel, words_of, cores_of, holder_of, IsSameMachine, AsksFor, Locked, Unused, Next, Complete, Write, Hardware, Way, by_way, Caches, Used, caches_of, at_access, ask_by, not_through, hits_by, is_awaited, used_between, completing_by, use_of, HardwareFitsTest, IsHeldForAccess, held_as, held_for, core_in, holder_by, state_in, ChoiceAnswer, HasUsed, HasEffect, MayAct, attempt_in, flat_effect_in, use_by, IsOther, needed_by, IsAccessAmong, begins_in, HasMade, IsUndone, effect_made_in}
 use Rattle.tso_terms.specs.FlatMachine.{State}
-use Rattle.multiprocessor.proofs.EachUse.{asks-nothing}
+use Rattle.multiprocessor.specs.declared.accesses.CacheUse.{CacheUse}
+use Rattle.multiprocessor.specs.Caches.{asking_use}
+use Rattle.snoop_bus.specs.declared.access.BusRequest.{BusRequest}
 use Rattle.std.proofs.Common.{option_map}
 use Rattle.tso_terms.specs.declared.choice.Stall.TheVariants as stall
 use Rattle.tso_terms.specs.declared.choice.Outcome.TheVariants.{Asked}
@@ -42,9 +44,14 @@ use-frees t m choice f asked free =
     ∙ ap (λ b. used_between true b (caches_of m.bus) (chosen choice) what pending f.effect.commits) free
 
 -- the caches after an ask
-pub asked-caches : (old new : BusModel) (core : Core) (loc : Loc) (write : Bool) → AsksFor old new core loc write → IsSameMachine old new
+pub asked-caches : (old new : BusModel) (core : Core) (loc : Loc) (write : Bool) (request : Option BusRequest) → AsksFor old new core loc write request → IsSameMachine old new
     → caches_of new ≡ (ask_by (caches_of old) core.0 loc.0 write).caches
-asked-caches old new core loc write done machine = rw (machine.rows, machine.shape, done.contents, done.awaited_is) refl
+asked-caches old new core loc write request done machine = rw (machine.rows, machine.shape, done.contents, done.awaited_is) refl
+
+-- and this went on the bus for it
+pub asked-how : (old new : BusModel) (core : Core) (loc : Loc) (write : Bool) (request : Option BusRequest) → AsksFor old new core loc write request
+    → asking_use request ≡ (ask_by (caches_of old) core.0 loc.0 write).how
+asked-how old new core loc write request done = ap asking_use done.request_is
 
 -- an action that has asked keeps its access
 pub held-kept : (t : Litmus) (depth : ℕ) (state : State) (choice : Choice) (holder : Holder) → IsOther holder choice → HolderFits Split t depth state holder
@@ -108,16 +115,17 @@ performs-ask t m new choice needs free processors words holder commits =
     } in
     subst (λ g. HasEffect m new choice g Asked) (sym same) all
 
-pub use-ask : {P : Type 0} (t : Litmus) (m : Hardware P) (bus : BusModel) (choice : Choice) (core : ℕ) (access : MemoryAccess) → needs_in t m choice ≡ true → (state_in m).holder ≡ Free → core ≡ chosen choice
+pub use-ask : {P : Type 0} (t : Litmus) (m : Hardware P) (bus : BusModel) (choice : Choice) (core : ℕ) (access : MemoryAccess) (how : CacheUse) → needs_in t m choice ≡ true → (state_in m).holder ≡ Free → core ≡ chosen choice
     → access ≡ access_of t m.config.depth (state_in m).flat choice
-    → caches_of bus ≡ (at_access (not_through Unused (caches_of m.bus)) (λ loc write. ask_by (caches_of m.bus) core loc.0 write) access).caches → HasUsed (use_by t m choice (begins_in t m choice)) bus Unused
-use-ask t m bus choice core access needs free is at caches =
+    → how ≡ (at_access (not_through Unused (caches_of m.bus)) (λ loc write. ask_by (caches_of m.bus) core loc.0 write) access).how
+    → caches_of bus ≡ (at_access (not_through Unused (caches_of m.bus)) (λ loc write. ask_by (caches_of m.bus) core loc.0 write) access).caches → HasUsed (use_by t m choice (begins_in t m choice)) bus how
+use-ask t m bus choice core access how needs free is at told caches =
     let asked : Used = at_access (not_through Unused (caches_of m.bus)) (λ loc write. ask_by (caches_of m.bus) (chosen choice) loc.0 write) (access_of t m.config.depth (state_in m).flat choice) in
     let same : use_by t m choice (begins_in t m choice) ≡ asked =
     ap (use_by t m choice) (begins-asks t m choice needs ∙ ap (asks (core_of (state_in m).flat (chosen choice)) choice) free)
     ∙ ap (λ h. used_between (is_awaited h) true (caches_of m.bus) (chosen choice) (access_of t m.config.depth (state_in m).flat choice) (core_of (state_in m).flat (chosen choice)).pending []) free in
-    subst (λ u. HasUsed u bus Unused) (sym same) (record {
-      how_is = sym (asks-nothing (caches_of m.bus) (chosen choice) (access_of t m.config.depth (state_in m).flat choice));
+    subst (λ u. HasUsed u bus how) (sym same) (record {
+      how_is = told ∙ rw (is, at) refl;
       caches = caches ∙ rw (is, at) refl;
     })
 

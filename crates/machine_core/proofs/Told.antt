@@ -18,7 +18,7 @@ access-told t write core line caches = by_next (tag_at core line caches) (next_i
 
 -- the same of an access that is this one in another form
 pub told-as : (a b : Accessed) (P : Type 0) → a ≡ b → IsHit a ↔ P → IsHit b ↔ P
-told-as a b P e told = ((λ h. told.0 (ap (λ (z : Accessed). z.access.kind) e ∙ h)), (λ p. sym (ap (λ (z : Accessed). z.access.kind) e) ∙ told.1 p))
+told-as a b P e told = ((λ h. told.0 (ap (λ (z : Accessed). z.report.access.kind) e ∙ h)), (λ p. sym (ap (λ (z : Accessed). z.report.access.kind) e) ∙ told.1 p))
 
 pub not-both : (b : Bool) → b ≡ false → b ≡ true → ⊥
 not-both b f t = let z : ⊥ = cc in z

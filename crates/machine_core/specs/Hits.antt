@@ -14,7 +14,7 @@ use Rattle.snoop_bus.specs.Accesses.{load_of, write_of, would_hit}
 
 -- the access is a hit
 abbrev pub IsHit : Accessed → Type 0
-IsHit a = a.access.kind ≡ Hit
+IsHit a = a.report.access.kind ≡ Hit
 
 -- a load of a core at a location is a hit exactly where `would_hit` says so of a load; a write access exactly where it says so
 -- of one; a load that doesn't hit is none either where it is asked for and completed; and a write access that is made so is a

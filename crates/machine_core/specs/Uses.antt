@@ -9,7 +9,7 @@ use Rattle.basic_laws.specs.Types.{Entry, Choice}
 use Rattle.tso_laws.specs.BusChoices.{IsPossibleOn}
 use Rattle.snoop_bus.specs.declared.access.AccessKind.TheVariants.{Hit}
 use Rattle.multiprocessor.specs.declared.accesses.CacheUse.{CacheUse}
-use Rattle.multiprocessor.specs.declared.accesses.CacheUse.TheVariants.{Unused, Forwarded, Through}
+use Rattle.multiprocessor.specs.declared.accesses.CacheUse.TheVariants.{Unused, Forwarded, Asked, Through}
 use Rattle.multiprocessor.specs.Caches.{Caches, Used, not_through, whole_by, use_of, hits_by}
 
 -- a core's use of the caches is this access: no use, or a load that its own pending stores answer, where there is none; else one
@@ -24,7 +24,8 @@ IsUseFor c core (Locks loc) u = u ≡ whole_by c core loc.0 true
 abbrev pub IsHitUse : CacheUse → Type 0
 IsHitUse Unused = ⊥
 IsHitUse Forwarded = ⊥
-IsHitUse (Through a) = a.kind ≡ Hit
+IsHitUse (Asked request) = ⊥
+IsHitUse (Through r) = r.access.kind ≡ Hit
 
 -- what the flat machine's choice, which commits this, has to do with the caches
 abbrev pub use_at : Litmus → ℕ → State → Caches → Choice → Used

@@ -44,7 +44,7 @@ pub fn complete<P: Protocol>(
         MemoryAccess::Lock(loc) => {
             let core = core_of(choice);
             let place = hardware.processors[core.0 as usize].place;
-            let (next, access) = read_first(
+            let (next, report) = read_first(
                 core,
                 place,
                 loc,
@@ -52,7 +52,7 @@ pub fn complete<P: Protocol>(
                 &mut hardware.commits,
             )?;
             hardware.next = next;
-            Ok((Outcome::Committed, CacheUse::Through(access)))
+            Ok((Outcome::Committed, CacheUse::Through(report)))
         }
         _ => act(hardware, test, choice, Way::Asked),
     }

@@ -85,9 +85,9 @@ fn begin<P: Protocol>(
         None => act(hardware, test, choice, Way::Whole),
         Some((loc, write)) => match next_of(hardware) {
             None => {
-                hardware.bus.ask(core, loc, write);
+                let request = hardware.bus.ask(core, loc, write);
                 hardware.next = Next::Complete(choice);
-                Ok((Outcome::Asked, CacheUse::Unused))
+                Ok((Outcome::Asked, CacheUse::asking(request)))
             }
             Some(_) => Ok((Outcome::Stalled(Stall::Bus), CacheUse::Unused)),
         },

@@ -4,7 +4,7 @@ use Rattle.tso_terms.specs.declared.choice.Stall.{Stall}
 use Rattle.store_buffer.specs.Stores.{Stores}
 use Rattle.multiprocessor.proofs.Acting.{writes-oldest}
 use Rattle.multiprocessor.proofs.CacheUses.{rests}
-use Rattle.snoop_bus.specs.declared.access.Access as bus_access
+use Rattle.snoop_bus.specs.declared.access.AccessReport as bus_report
 
 -- only a load and a store are ever completed
 pub whole-by : (way : Way) (b : BusModel) (core : Core) (what : MemoryAccess) → (HasAsked b core what → ⊥) → MayMakeBy way b core what → way ≡ Whole
@@ -47,10 +47,10 @@ drained core s (x ∷ xs) store h =
       commits = store_of core y ∷ [];
     }) (sym e)
 
-pub acts-drains : (turn : Turn) (p : Processor) (left : Stores) (b b' : BusModel) (noted noted' : Noted) (store : Pending) (access : bus_access.Access) → Some store ≡ slice_get p.stores.items 0
-    → left.items ≡ drop 1 p.stores.items → IsStored turn.core.0 store b b' noted noted' → IsMade turn true store.loc b b' access
-    → HasActed turn.way (drain_access (pending_in turn.core.0 p)) turn.core.0 p (record { place = p.place; registers = p.registers; stores = left }) b b' noted noted' (effect_of_drain turn.core.0 p (words_of b)) (Committed, Through access)
-acts-drains turn p left b b' noted noted' store access h rest stored_is made =
+pub acts-drains : (turn : Turn) (p : Processor) (left : Stores) (b b' : BusModel) (noted noted' : Noted) (store : Pending) (report : bus_report.AccessReport) → Some store ≡ slice_get p.stores.items 0
+    → left.items ≡ drop 1 p.stores.items → IsStored turn.core.0 store b b' noted noted' → IsMade turn true store.loc b b' report
+    → HasActed turn.way (drain_access (pending_in turn.core.0 p)) turn.core.0 p (record { place = p.place; registers = p.registers; stores = left }) b b' noted noted' (effect_of_drain turn.core.0 p (words_of b)) (Committed, Through report)
+acts-drains turn p left b b' noted noted' store report h rest stored_is made =
     let core : ℕ = turn.core.0 in
     let f : Effect = record {
       outcome = Committed;
@@ -58,7 +58,7 @@ acts-drains turn p left b b' noted noted' store access h rest stored_is made =
       commits = store_of core store ∷ [];
     } in
     let q : Processor = record { place = p.place; registers = p.registers; stores = left } in
-    let all : HasActed turn.way (Writes store.loc) core p q b b' noted noted' f (Committed, Through access) = record {
+    let all : HasActed turn.way (Writes store.loc) core p q b b' noted noted' f (Committed, Through report) = record {
       outcome = refl;
       after = ap (λ items. record { place = p.place; registers = p.registers; pending = map (store_of core) items }) rest;
       words = stored_is.words;
@@ -66,5 +66,5 @@ acts-drains turn p left b b' noted noted' store access h rest stored_is made =
       caches = made.caches;
       holder = made.holder;
     } in
-    subst (λ g. HasActed turn.way (drain_access (pending_in core p)) core p q b b' noted noted' g (Committed, Through access)) (sym (drained core (core_state core p) p.stores.items store h))
-    (subst (λ a. HasActed turn.way a core p q b b' noted noted' f (Committed, Through access)) (writes-oldest core p.stores.items store h) all)
+    subst (λ g. HasActed turn.way (drain_access (pending_in core p)) core p q b b' noted noted' g (Committed, Through report)) (sym (drained core (core_state core p) p.stores.items store h))
+    (subst (λ a. HasActed turn.way a core p q b b' noted noted' f (Committed, Through report)) (writes-oldest core p.stores.items store h) all)

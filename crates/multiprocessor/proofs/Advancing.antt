@@ -1,6 +1,6 @@
 -- Each choice on either bus counts an access only where one more instruction has made its own.
 use Rattle.multiprocessor.proofs.Vocabulary.{◌≡◌, ◌≢◌, ◌<◌, ℕ, List, drop, length, Option, None, Some, slice_get, refl, sym, ap, ◌∙◌, arith, Litmus, IsTest, action_of, CoreState, State, effect_by, step_of, effect_of, core_of, chosen, program_of, NoAccess, Locks, access_of, Holder, Free, HeldBy, HeldBetween, Attempt, BusEffect, acts, asks, begins, completes, writes_last, as_read, effect_on, Bus, Atomic, Split, Instr, Action, Store, Fence, Lock, Entry, Choice, Step, HasRead, HolderFits, Unused, Caches, is_awaited, use_of, use_with, HasIssuedItsStores, zero, suc, nat_lt, Effect, stored, is_none_pending, not_through, if-by, begins-by, completes-by, split-by}
-use Rattle.multiprocessor.proofs.EachUse.{asks-nothing}
+use Rattle.multiprocessor.proofs.EachUse.{asks-uncounted}
 use Rattle.multiprocessor.proofs.CountBounds.{effect-advances}
 use Rattle.multiprocessor.proofs.CountsOnBus.{AdvancesOn, advances-acts, advances-frees, advances-reads, advances-writes, advances-rests}
 use Rattle.multiprocessor.proofs.Accessing.{commits-at-once}
@@ -36,8 +36,8 @@ goes-acts t depth state holder choice c test h issued =
 
 goes-asks : (t : Litmus) (depth : ℕ) (state : State) (holder : Holder) (choice : Choice) (c : Caches) → HasIssuedItsStores (core_of state (chosen choice))
     → Goes t depth state holder choice c (asks (core_of state (chosen choice)) choice holder)
-goes-asks t depth state Free choice c issued = advances-rests (core_of state (chosen choice)) Free _ _ issued refl (omega arith) (asks-nothing c (chosen choice) (access_of t depth state choice))
-goes-asks t depth state holder choice c issued = advances-rests (core_of state (chosen choice)) holder _ _ issued refl (omega arith) refl
+goes-asks t depth state Free choice c issued = advances-rests (core_of state (chosen choice)) Free _ _ issued refl (omega arith) (asks-uncounted c (chosen choice) (access_of t depth state choice))
+goes-asks t depth state holder choice c issued = advances-rests (core_of state (chosen choice)) holder _ _ issued refl (omega arith) (λ core cs. refl)
 
 goes-begins : (t : Litmus) (depth : ℕ) (state : State) (holder : Holder) (a : Attempt) (c : Caches) → IsTest t → chosen a.choice < length t.programs → HasIssuedItsStores (core_of state (chosen a.choice))
     → Goes t depth state holder a.choice c (begins t depth state a holder)

@@ -1,5 +1,5 @@
 -- What a choice has to do with the caches, from what its core did.
-use Rattle.multiprocessor.proofs.Vocabulary.{◌≡◌, ◌||◌, ◌==◌, ℕ, Bool, true, false, if◌then◌else◌, List, [], ◌∷◌, map, filter, Option, None, Some, is_some, slice_get, refl, sym, ap, ◌∙◌, subst, option_map, last_or, list_any, writes_to, CoreState, Reg, Loc, Update, Entry, Pending, newest_for, Access, BusModel, words_of, IsSameMachine, LoadsAt, WritesAt, Processor, CacheUse, Unused, Forwarded, Through, store_of, core_state, pending_in, effect_of_lock, effect_of_drain, Caches, caches_of, not_through, load_after, use_of, HasUsed, drain_with, fenced_with, locked_with, whole_by}
+use Rattle.multiprocessor.proofs.Vocabulary.{◌≡◌, ◌||◌, ◌==◌, ℕ, Bool, true, false, if◌then◌else◌, List, [], ◌∷◌, map, filter, Option, None, Some, is_some, slice_get, refl, sym, ap, ◌∙◌, subst, option_map, last_or, list_any, writes_to, CoreState, Reg, Loc, Update, Entry, Pending, newest_for, AccessReport, BusModel, words_of, IsSameMachine, LoadsAt, WritesAt, Processor, CacheUse, Unused, Forwarded, Through, store_of, core_state, pending_in, effect_of_lock, effect_of_drain, Caches, caches_of, not_through, load_after, use_of, HasUsed, drain_with, fenced_with, locked_with, whole_by}
 
 or_true : (b : Bool) → true ≡ (b || true)
 or_true true = refl
@@ -25,15 +25,15 @@ unanswered core loc items h = sym (found-stores core loc None items) ∙ ap is_s
 pub forwards : (b : BusModel) (pending : List Entry) (core loc : ℕ) → list_any (writes_to loc) pending ≡ true → HasUsed (load_after (caches_of b) pending core loc) b Forwarded
 forwards b pending core loc h = rw h (record { how_is = refl; caches = refl })
 
-pub loads : (old new : BusModel) (pending : List Entry) (core loc word : ℕ) (access : Access) → list_any (writes_to loc) pending ≡ false
-    → LoadsAt old new core loc word access → IsSameMachine old new → HasUsed (load_after (caches_of old) pending core loc) new (Through access)
-loads old new pending core loc word access h done machine =
-    rw h (record { how_is = ap Through done.access_is; caches = rw (machine.rows, machine.shape, done.contents, done.held.awaited_is) refl })
+pub loads : (old new : BusModel) (pending : List Entry) (core loc word : ℕ) (report : AccessReport) → list_any (writes_to loc) pending ≡ false
+    → LoadsAt old new core loc word report → IsSameMachine old new → HasUsed (load_after (caches_of old) pending core loc) new (Through report)
+loads old new pending core loc word report h done machine =
+    rw h (record { how_is = ap Through done.report_is; caches = rw (machine.rows, machine.shape, done.contents, done.held.awaited_is) refl })
 
-pub writes : (old new : BusModel) (core loc word : ℕ) (access : Access) → WritesAt old new core loc word access → IsSameMachine old new
-    → HasUsed (whole_by (caches_of old) core loc true) new (Through access)
-writes old new core loc word access done machine =
-    record { how_is = ap Through done.access_is; caches = rw (machine.rows, machine.shape, done.contents, done.held.awaited_is) refl }
+pub writes : (old new : BusModel) (core loc word : ℕ) (report : AccessReport) → WritesAt old new core loc word report → IsSameMachine old new
+    → HasUsed (whole_by (caches_of old) core loc true) new (Through report)
+writes old new core loc word report done machine =
+    record { how_is = ap Through done.report_is; caches = rw (machine.rows, machine.shape, done.contents, done.held.awaited_is) refl }
 
 -- where nothing is committed the caches are not used
 pub rests : (b : BusModel) (pending commits : List Entry) → commits ≡ [] → HasUsed (use_of (caches_of b) pending commits) b Unused
@@ -52,12 +52,12 @@ locked-uses : (c : Caches) (pending : List Entry) (core : ℕ) (s : CoreState) (
 locked-uses c pending core s loc reg word value [] h = refl
 locked-uses c pending core s loc reg word value (p ∷ ps) h = absurd (let z : ⊥ = cc in z)
 
-pub locks : (core : ℕ) (p : Processor) (old new : BusModel) (loc : Loc) (reg : Reg) (update : Update) (word : ℕ) (access : Access) → p.stores.items ≡ []
-    → WritesAt old new core loc.0 word access → IsSameMachine old new
-    → HasUsed (use_of (caches_of old) (pending_in core p) (effect_of_lock loc reg update core p (words_of old)).commits) new (Through access)
-locks core p old new loc reg update word access h done machine =
-    subst (λ u. HasUsed u new (Through access)) (sym (locked-uses (caches_of old) (pending_in core p) core (core_state core p) loc reg _ _ p.stores.items h))
-    (writes old new core loc.0 word access done machine)
+pub locks : (core : ℕ) (p : Processor) (old new : BusModel) (loc : Loc) (reg : Reg) (update : Update) (word : ℕ) (report : AccessReport) → p.stores.items ≡ []
+    → WritesAt old new core loc.0 word report → IsSameMachine old new
+    → HasUsed (use_of (caches_of old) (pending_in core p) (effect_of_lock loc reg update core p (words_of old)).commits) new (Through report)
+locks core p old new loc reg update word report h done machine =
+    subst (λ u. HasUsed u new (Through report)) (sym (locked-uses (caches_of old) (pending_in core p) core (core_state core p) loc reg _ _ p.stores.items h))
+    (writes old new core loc.0 word report done machine)
 
 drained-uses : (c : Caches) (pending : List Entry) (core : ℕ) (s : CoreState) (items : List Pending) (store : Pending) → Some store ≡ slice_get items 0
     → use_of c pending (drain_with s (map (store_of core) items)).commits ≡ whole_by c core store.loc.0 true

@@ -1,5 +1,6 @@
 -- Why counting never overflows: no count is larger than the number of instructions that the cores are done with.
-use Rattle.multiprocessor.proofs.Vocabulary.{◌≡◌, ◌≤◌, ◌<◌, ◌+◌, ◌-◌, ◌⊎◌, inl, inr, ℕ, zero, suc, Bool, true, false, nat_lt, if◌then◌else◌, List, [], ◌∷◌, ◌++◌, length, length-append, length-set, slice_get, slice_index, slice_index_or, Option, Some, None, All, refl, ap, ◌∙◌, arith, All-set, most_instructions, Litmus, IsTest, action_of, entry, value_in, with_value, value_of, updated, CoreState, State, Effect, stalled, stored, effect_by, step_of, effect_of, chosen, core_of, program_of, Reg, Core, Loc, Instr, Action, Store, Fence, Lock, Entry, W, Choice, Step, Drain, Outcome, Buffered, Stalled, Counts, CacheUse, Unused, Forwarded, Through, no_counts, with_access, with_write_back, with_forward, with_flush, counts_at_core, flush_counted, with_use_counted, IsAtMost, HasIssuedItsStores, done_by, drain_with, fenced_with, locked_with, All-head, All-tail, All-weaker}
+use Rattle.snoop_bus.specs.declared.access.Access.{Access}
+use Rattle.multiprocessor.proofs.Vocabulary.{◌≡◌, ◌≤◌, ◌<◌, ◌+◌, ◌-◌, ◌⊎◌, inl, inr, ℕ, zero, suc, Bool, true, false, nat_lt, if◌then◌else◌, List, [], ◌∷◌, ◌++◌, length, length-append, length-set, slice_get, slice_index, slice_index_or, Option, Some, None, All, refl, ap, ◌∙◌, arith, All-set, most_instructions, Litmus, IsTest, action_of, entry, value_in, with_value, value_of, updated, CoreState, State, Effect, stalled, stored, effect_by, step_of, effect_of, chosen, core_of, program_of, Reg, Core, Loc, Instr, Action, Store, Fence, Lock, Entry, W, Choice, Step, Drain, Outcome, Buffered, Stalled, Counts, CacheUse, Unused, Forwarded, Asked, Through, no_counts, with_access, with_write_back, with_forward, with_flush, counts_at_core, flush_counted, with_use_counted, IsAtMost, HasIssuedItsStores, done_by, drain_with, fenced_with, locked_with, All-head, All-tail, All-weaker}
 use Rattle.tso_terms.specs.declared.choice.Stall.TheVariants as stall
 use Rattle.snoop_bus.specs.declared.access.AccessKind.{AccessKind}
 use Rattle.snoop_bus.specs.declared.access.AccessKind.TheVariants.{Hit, Upgrade, Miss}
@@ -73,7 +74,9 @@ flush-counted n (Some core) cs all =
 pub use-counted : (n core : ℕ) (how : CacheUse) (cs : List Counts) → All (IsAtMost n) cs → All (IsAtMost (n + 1)) (with_use_counted core how cs)
 use-counted n core Unused cs all = All-weaker (IsAtMost n) (IsAtMost (n + 1)) (IsAtMost-next n) cs all
 use-counted n core Forwarded cs all = at_core-grows (IsAtMost n) (IsAtMost (n + 1)) core with_forward cs (none-counted n) (IsAtMost-next n) (forward-grows n) all
-use-counted n core (Through a) cs all =
+use-counted n core (Asked request) cs all = All-weaker (IsAtMost n) (IsAtMost (n + 1)) (IsAtMost-next n) cs all
+use-counted n core (Through r) cs all =
+    let a : Access = r.access in
     let change : Counts → Counts = λ c. with_write_back a.wrote_back (with_access a.kind c) in
     flush-counted n a.flushed (counts_at_core core change cs)
     (at_core-grows (IsAtMost n) (WrittenBack n) core change cs (none-counted n) (no-access n) (λ c k. write_back-grows n a.wrote_back (with_access a.kind c) (access-grows n a.kind c k)) all)
@@ -85,7 +88,8 @@ length-flush (Some core) cs = length-set cs core.0 _
 pub length-counted : (core : ℕ) (how : CacheUse) (cs : List Counts) → length (with_use_counted core how cs) ≡ length cs
 length-counted core Unused cs = refl
 length-counted core Forwarded cs = length-set cs core _
-length-counted core (Through a) cs = length-flush a.flushed _ ∙ length-set cs core _
+length-counted core (Asked request) cs = refl
+length-counted core (Through r) cs = length-flush r.access.flushed _ ∙ length-set cs core _
 
 -- a core after an effect: it is done with no fewer instructions, and with one more where something was committed
 pub record Advances (s : CoreState) (f : Effect) : Type 0 where

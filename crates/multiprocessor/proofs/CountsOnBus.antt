@@ -1,5 +1,5 @@
 -- The counts after a choice on either bus.
-use Rattle.multiprocessor.proofs.Vocabulary.{◌≡◌, ◌≢◌, ◌≤◌, ◌<◌, ◌+◌, ◌*◌, ◌⊎◌, inl, inr, ℕ, Bool, true, false, if◌then◌else◌, List, [], ◌∷◌, length, slice_set, Option, Some, None, All, refl, sym, ap, ◌∙◌, subst, arith, sum_by, option_map, All-set, most_instructions, Litmus, CoreState, Effect, chosen, core_of, idle, MemoryAccess, Holder, Free, HeldBy, HeldBetween, BusEffect, acts, BusState, Entry, Choice, Table, table_of_rows, TagSets, flusher_from, Awaited, asking, asked_for, awaiting, completed, completed_in, flusher_of, Counts, CacheUse, Unused, Caches, Used, use_of, used_between, Statistics, with_use_counted, IsAtMost, HasIssuedItsStores, IsAmong, IsFlusherAmong, IsSenderAmong, IsTallied, done_by, done_in, half_done, most_counted, suc, request_for, awaited_as, whole_in, sends_in, tags_at}
+use Rattle.multiprocessor.proofs.Vocabulary.{BusRequest, asking_use, ◌≡◌, ◌≢◌, ◌≤◌, ◌<◌, ◌+◌, ◌*◌, ◌⊎◌, inl, inr, ℕ, Bool, true, false, if◌then◌else◌, List, [], ◌∷◌, length, slice_set, Option, Some, None, All, refl, sym, ap, ◌∙◌, subst, arith, sum_by, option_map, All-set, most_instructions, Litmus, CoreState, Effect, chosen, core_of, idle, MemoryAccess, Holder, Free, HeldBy, HeldBetween, BusEffect, acts, BusState, Entry, Choice, Table, table_of_rows, TagSets, flusher_from, Awaited, asking, asked_for, awaiting, completed, completed_in, flusher_of, Counts, CacheUse, Unused, Caches, Used, use_of, used_between, Statistics, with_use_counted, IsAtMost, HasIssuedItsStores, IsAmong, IsFlusherAmong, IsSenderAmong, IsTallied, done_by, done_in, half_done, most_counted, suc, request_for, awaited_as, whole_in, sends_in, tags_at}
 use Rattle.std.proofs.lemmas.List.Sums.{sum_by-set, sum_by-le}
 use Rattle.protocol_tables.specs.declared.state.State as protocol
 use Rattle.protocol_tables.specs.declared.state.Snoop.{Snoop}
@@ -9,7 +9,7 @@ use Rattle.protocol_tables.specs.declared.requests.Request.TheVariants.{GetS, Ge
 use Rattle.protocol_tables.specs.declared.requests.Transient.{Transient}
 use Rattle.protocol_tables.specs.declared.requests.Transient.TheVariants.{SmD}
 use Rattle.multiprocessor.proofs.CountBounds.{Advances, IsAtMost-more, use-counted, length-counted}
-use Rattle.multiprocessor.proofs.EachUse.{each-use}
+use Rattle.multiprocessor.proofs.EachUse.{each-use, IsUncounted, unused-uncounted}
 
 -- the core whose copy is sent to memory is on the bus
 flusher-among : (k : ℕ) (f : protocol.State → Snoop) (line : ℕ) (caches : List TagSets) → IsAmong (k + length caches) (flusher_from k f line caches)
@@ -21,11 +21,11 @@ flusher-among k f line (sets ∷ caches) =
     ]
 
 -- and so is who sent what is awaited
-completed-among : (t : Table) (core line n : ℕ) (o : Option Awaited) (caches : List TagSets) → IsSenderAmong n o → IsAmong n (completed t core line o caches).access.flushed
+completed-among : (t : Table) (core line n : ℕ) (o : Option Awaited) (caches : List TagSets) → IsSenderAmong n o → IsAmong n (completed t core line o caches).report.access.flushed
 completed-among t core line n None caches h = tt
 completed-among t core line n (Some x) caches h = by_transient x.transient
   where
-    by_transient : (tr : Transient) → IsAmong n (completed_in t core line tr x.state x.flushed caches).access.flushed
+    by_transient : (tr : Transient) → IsAmong n (completed_in t core line tr x.state x.flushed caches).report.access.flushed
     by_transient SmD = tt
     by_transient _ = h
 
@@ -40,7 +40,7 @@ asked-among t request core line caches =
     elim (asked_for request core line caches) as (λ o. IsSenderAmong (length caches) (option_map (awaiting t request line caches) o))
     [ None ↦ tt | Some tr ↦ sender-among t request line caches ]
 
-whole-among : (t : Table) (write : Bool) (core line : ℕ) (caches : List TagSets) (copy next : Option protocol.State) → IsAmong (length caches) (whole_in t write core line caches copy next).access.flushed
+whole-among : (t : Table) (write : Bool) (core line : ℕ) (caches : List TagSets) (copy next : Option protocol.State) → IsAmong (length caches) (whole_in t write core line caches copy next).report.access.flushed
 unfolding awaiting
 whole-among t write core line caches copy (Some state) = tt
 whole-among t write core line caches copy None =
@@ -50,18 +50,22 @@ whole-among t write core line caches copy None =
 abbrev SendersAmong : ℕ → Used → Type 0
 SendersAmong n u = IsFlusherAmong n u.how × IsSenderAmong n u.caches.awaited
 
+asking-among : (n : ℕ) (o : Option BusRequest) → IsFlusherAmong n (asking_use o)
+asking-among n None = tt
+asking-among n (Some request) = tt
+
 pub senders : (before after : Bool) (c : Caches) (core : ℕ) (what : MemoryAccess) (pending commits : List Entry) → IsSenderAmong (length c.contents) c.awaited
     → SendersAmong (length c.contents) (used_between before after c core what pending commits)
 senders before after c core what pending commits h =
     each-use (SendersAmong (length c.contents)) c (tt, h) (tt, h) (λ k loc write. (whole-among (table_of_rows c.rows) write k _ c.contents _ _, h)) core
-    (λ loc write. (tt, asked-among (table_of_rows c.rows) (request_for write) core _ c.contents))
+    (λ loc write. (asking-among (length c.contents) _, asked-among (table_of_rows c.rows) (request_for write) core _ c.contents))
     (λ loc. (completed-among (table_of_rows c.rows) core _ (length c.contents) c.awaited c.contents h, tt)) before after what pending commits
 
 -- a core after an effect on either bus: no fewer instructions have made their accesses, and one more where an access is counted
 pub record AdvancesOn (s : CoreState) (holder : Holder) (f : BusEffect) (how : CacheUse) : Type 0 where
   pub issued : HasIssuedItsStores f.effect.after
   pub done : done_by s + half_done holder ≤ done_by f.effect.after + half_done f.holder
-  pub more : (how ≡ Unused) ⊎ (done_by s + half_done holder + 1 ≤ done_by f.effect.after + half_done f.holder)
+  pub more : IsUncounted how ⊎ (done_by s + half_done holder + 1 ≤ done_by f.effect.after + half_done f.holder)
 
 -- how many instructions all cores are done with
 done-bound : (cores : List CoreState) → All HasIssuedItsStores cores → sum_by done_by cores ≤ length cores * most_instructions
@@ -80,10 +84,10 @@ few-counted t state s size tallied =
     λ k d l. IsAtMost-more (done_in state) most_counted _ few (tallied.done k d l)
 
 -- the counts after a choice
-counts-after : (n m core : ℕ) (how : CacheUse) (cs : List Counts) → n ≤ m → (how ≡ Unused) ⊎ (n + 1 ≤ m)
+counts-after : (n m core : ℕ) (how : CacheUse) (cs : List Counts) → n ≤ m → IsUncounted how ⊎ (n + 1 ≤ m)
     → All (IsAtMost n) cs → All (IsAtMost m) (with_use_counted core how cs)
 counts-after n m core how cs le (inl none) all =
-    subst (λ u. All (IsAtMost m) (with_use_counted core u cs)) (sym none) (λ k d l. IsAtMost-more n m _ le (all k d l))
+    subst (λ u. All (IsAtMost m) u) (sym (none core cs)) (λ k d l. IsAtMost-more n m _ le (all k d l))
 counts-after n m core how cs le (inr more) all =
     let next : All (IsAtMost (n + 1)) (with_use_counted core how cs) = use-counted n core how cs all in
     λ k d l. IsAtMost-more (n + 1) m _ more (next k d l)
@@ -110,7 +114,7 @@ tallied-after t state next choice f s u cores contents h tallied go among after 
       sender = subst (λ n. IsSenderAmong n u.caches.awaited) contents among.1;
     }
   where
-    one-more : (a b p q x y v w : ℕ) (how : CacheUse) → a ≡ p + v → b ≡ q + w → q + x ≡ p + y → (how ≡ Unused) ⊎ (x + v + 1 ≤ y + w) → (how ≡ Unused) ⊎ (a + 1 ≤ b)
+    one-more : (a b p q x y v w : ℕ) (how : CacheUse) → a ≡ p + v → b ≡ q + w → q + x ≡ p + y → IsUncounted how ⊎ (x + v + 1 ≤ y + w) → IsUncounted how ⊎ (a + 1 ≤ b)
     one-more a b p q x y v w how d e s (inl none) = inl none
     one-more a b p q x y v w how d e s (inr more) = inr (let z : a + 1 ≤ b = omega arith in z)
 
@@ -124,8 +128,8 @@ advances-whole s holder f c pending go =
       more = by_commits go.more;
     }
   where
-    by_commits : (f.commits ≡ []) ⊎ (done_by s + 1 ≤ done_by f.after) → ((use_of c pending f.commits).how ≡ Unused) ⊎ (done_by s + half_done holder + 1 ≤ done_by f.after + half_done holder)
-    by_commits (inl none) = inl (ap (λ es. (use_of c pending es).how) none)
+    by_commits : (f.commits ≡ []) ⊎ (done_by s + 1 ≤ done_by f.after) → IsUncounted (use_of c pending f.commits).how ⊎ (done_by s + half_done holder + 1 ≤ done_by f.after + half_done holder)
+    by_commits (inl none) = inl (unused-uncounted _ (ap (λ es. (use_of c pending es).how) none))
     by_commits (inr more) = inr (omega arith)
 
 pub advances-acts : (s : CoreState) (holder : Holder) (b : Bool) (f : Effect) (c : Caches) (core : ℕ) (what : MemoryAccess) (pending : List Entry) → Advances s f
@@ -143,7 +147,7 @@ advances-frees s choice f how some go =
       more = by_commits go.more;
     }
   where
-    by_commits : (f.commits ≡ []) ⊎ (done_by s + 1 ≤ done_by f.after) → (how ≡ Unused) ⊎ (done_by s + 0 + 1 ≤ done_by f.after + 0)
+    by_commits : (f.commits ≡ []) ⊎ (done_by s + 1 ≤ done_by f.after) → IsUncounted how ⊎ (done_by s + 0 + 1 ≤ done_by f.after + 0)
     by_commits (inl none) = absurd (some none)
     by_commits (inr more) = inr (omega arith)
 
@@ -159,7 +163,7 @@ pub advances-writes : (s : CoreState) (e : Entry) (f : Effect) (g : BusEffect) (
 advances-writes s e f g how unused some go after holder = record {
   issued = rw after go.issued;
   done = rw (after, holder) (by_commits go.more);
-  more = inl unused;
+  more = inl (unused-uncounted how unused);
 }
   where
     by_commits : (f.commits ≡ []) ⊎ (done_by s + 1 ≤ done_by f.after) → done_by s + 1 ≤ done_by f.after + 0
@@ -167,9 +171,9 @@ advances-writes s e f g how unused some go after holder = record {
     by_commits (inr more) = omega arith
 
 -- a choice that asks or stalls
-pub advances-rests : (s : CoreState) (holder : Holder) (f : BusEffect) (how : CacheUse) → HasIssuedItsStores s → f.effect.after ≡ s → half_done holder ≤ half_done f.holder → how ≡ Unused → AdvancesOn s holder f how
-advances-rests s holder f how issued after half unused = record {
+pub advances-rests : (s : CoreState) (holder : Holder) (f : BusEffect) (how : CacheUse) → HasIssuedItsStores s → f.effect.after ≡ s → half_done holder ≤ half_done f.holder → IsUncounted how → AdvancesOn s holder f how
+advances-rests s holder f how issued after half uncounted = record {
   issued = rw after issued;
   done = rw after (let z : done_by s + half_done holder ≤ done_by s + half_done f.holder = omega arith in z);
-  more = inl unused;
+  more = inl uncounted;
 }

@@ -1,6 +1,6 @@
 -- The holder's next choice on a split bus.
 use Rattle.multiprocessor.proofs.Vocabulary.{◌≡◌, ℕ, zero, suc, List, [], ◌∷◌, Option, None, Some, All, slice_get, refl, ap, subst, arith, BusModel, IsFree, IsSameMachine, holder_in, transaction_in, awaited_in, CompletesAt, awaited_of, Through, caches_of, completion_by, HasUsed}
-use Rattle.snoop_bus.specs.declared.access.Access as bus_access
+use Rattle.snoop_bus.specs.declared.access.AccessReport as bus_report
 use Rattle.snoop_bus.specs.declared.holding.HeldBus.{HeldBus}
 
 pub All-got : {X : Type 0} (P : X → Type 0) (xs : List X) (i : ℕ) (x : X) → All P xs → slice_get xs i ≡ Some x → P x
@@ -16,7 +16,7 @@ nothing-held (Some h) e = absurd (let z : ⊥ = cc in z)
 pub free-awaits : (b : BusModel) → IsFree b → awaited_of b ≡ None
 free-awaits b free = nothing-held b.held free
 
-pub completes : (old new : BusModel) (core loc : ℕ) (access : bus_access.Access) → CompletesAt old new core loc access → IsSameMachine old new → awaited_of new ≡ None
-    → HasUsed (completion_by (caches_of old) core loc) new (Through access)
-completes old new core loc access done machine none =
-    record { how_is = ap Through done.access_is; caches = rw (machine.rows, machine.shape, done.contents, none) refl }
+pub completes : (old new : BusModel) (core loc : ℕ) (report : bus_report.AccessReport) → CompletesAt old new core loc report → IsSameMachine old new → awaited_of new ≡ None
+    → HasUsed (completion_by (caches_of old) core loc) new (Through report)
+completes old new core loc report done machine none =
+    record { how_is = ap Through done.report_is; caches = rw (machine.rows, machine.shape, done.contents, none) refl }

@@ -1,5 +1,5 @@
 -- A locked instruction made whole, from what the calls in it say.
-use Rattle.multiprocessor.proofs.Vocabulary.{◌≡◌, ◌++◌, ◌∷◌, inl, inr, ℕ, true, None, Result, List, [], map, slice_index, refl, sym, ap, ◌∙◌, subst, append_assoc, entry, value_in, with_value, updated, locked_access, Locks, CoreState, Effect, advanced_with, Core, Loc, NoMemory, Reg, Update, Entry, LR, LW, Committed, Pending, Noted, Access, BusModel, words_of, IsSameMachine, IsCurrentWord, WritesAt, CompletesAt, awaited_of, MayGoOn, Processor, Through, Whole, store_of, core_state, pending_in, effect_of_lock, both_parts, at_next, word_on_bus, caches_of, completion_by, HasUsed, whole, MayMake, Acts, HasActed, SucceedsUnlessCommitting, Notes, locked_with}
+use Rattle.multiprocessor.proofs.Vocabulary.{◌≡◌, ◌++◌, ◌∷◌, inl, inr, ℕ, true, None, Result, List, [], map, slice_index, refl, sym, ap, ◌∙◌, subst, append_assoc, entry, value_in, with_value, updated, locked_access, Locks, CoreState, Effect, advanced_with, Core, Loc, NoMemory, Reg, Update, Entry, LR, LW, Committed, Pending, Noted, AccessReport, BusModel, words_of, IsSameMachine, IsCurrentWord, WritesAt, CompletesAt, awaited_of, MayGoOn, Processor, Through, Whole, store_of, core_state, pending_in, effect_of_lock, both_parts, at_next, word_on_bus, caches_of, completion_by, HasUsed, whole, MayMake, Acts, HasActed, SucceedsUnlessCommitting, Notes, locked_with}
 use Rattle.snoop_bus.specs.declared.access.Updated.{Updated}
 use Rattle.multiprocessor.proofs.CoreLemmas.{index-got}
 use Rattle.multiprocessor.proofs.CacheUses.{writes}
@@ -12,16 +12,16 @@ locked-made core s loc reg word value [] h = refl
 locked-made core s loc reg word value (p ∷ ps) h = absurd (let z : ⊥ = cc in z)
 
 pub acts-locks : (core : Core) (loc : Loc) (reg : Reg) (update : Update) (p q : Processor) (b b' : BusModel) (value : ℕ) (u : Updated) → p.stores.items ≡ [] → value ≡ value_in p.registers reg
-    → IsCurrentWord b loc.0 u.before → u.after ≡ updated update u.before value → WritesAt b b' core.0 loc.0 u.after u.access → IsSameMachine b b'
+    → IsCurrentWord b loc.0 u.before → u.after ≡ updated update u.before value → WritesAt b b' core.0 loc.0 u.after u.report → IsSameMachine b b'
     → (noted mid noted' : Noted) → mid.entries ≡ noted.entries → noted'.entries ≡ mid.entries ++ both_parts core.0 p.place loc u.before u.after
-    → q ≡ at_next p (with_value p.registers reg u.before) → Acts (whole core) (locked_access loc (pending_in core.0 p)) (effect_of_lock loc reg update) p q b b' noted noted' (Committed, Through u.access)
+    → q ≡ at_next p (with_value p.registers reg u.before) → Acts (whole core) (locked_access loc (pending_in core.0 p)) (effect_of_lock loc reg update) p q b b' noted noted' (Committed, Through u.report)
 acts-locks core loc reg update p q b b' value u none value_is before after done machine noted mid noted' room notes next =
-    subst (λ f. HasActed Whole (locked_access loc (pending_in core.0 p)) core.0 p q b b' noted noted' f (Committed, Through u.access)) (sym effect) (record {
+    subst (λ f. HasActed Whole (locked_access loc (pending_in core.0 p)) core.0 p q b b' noted noted' f (Committed, Through u.report)) (sym effect) (record {
       outcome = refl;
       after = rw next refl;
       words = done.words;
       commits = rw (← room) notes;
-      caches = writes b b' core.0 loc.0 u.after u.access done machine;
+      caches = writes b b' core.0 loc.0 u.after u.report done machine;
       holder = done.held.holder_is;
     })
   where
@@ -61,5 +61,5 @@ module _ (core : Core) (place : ℕ) (loc : Loc) (b b' : BusModel) (value : ℕ)
   pub first-noted : (noted mid noted' : Noted) → mid.entries ≡ noted.entries → noted'.entries ≡ mid.entries ++ read ∷ [] → Notes noted noted' (entry core.0 place LR loc (word_on_bus b loc))
   first-noted noted mid noted' room notes = rw (← room, ← first-entry) notes
 
-pub first-uses : (b b' : BusModel) (core loc : ℕ) (access : Access) → CompletesAt b b' core loc access → IsSameMachine b b' → awaited_of b' ≡ None → HasUsed (completion_by (caches_of b) core loc) b' (Through access)
-first-uses b b' core loc access done machine nothing = record { how_is = ap Through done.access_is; caches = rw (machine.rows, machine.shape, done.contents, nothing) refl }
+pub first-uses : (b b' : BusModel) (core loc : ℕ) (report : AccessReport) → CompletesAt b b' core loc report → IsSameMachine b b' → awaited_of b' ≡ None → HasUsed (completion_by (caches_of b) core loc) b' (Through report)
+first-uses b b' core loc report done machine nothing = record { how_is = ap Through done.report_is; caches = rw (machine.rows, machine.shape, done.contents, nothing) refl }

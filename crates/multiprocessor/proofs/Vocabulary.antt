@@ -10,13 +10,14 @@ pub use Rattle.tso_terms.specs.FlatMachine.{CoreState, Effect, stalled, memory_a
 pub use Rattle.basic_laws.specs.Types.{Reg, Loc, Update, Entry, Core, Outcome, Committed, Stalled, Buffered, Moved, W, R, F, LR, LW, NoMemory, Split, Atomic, Choice, Bus, Instr, Action, Step, Drain, Kind}
 pub use Rattle.store_buffer.specs.declared.Pending.{Pending}
 pub use Rattle.store_buffer.specs.inner.Newest.{newest_for}
-pub use Rattle.snoop_bus.specs.declared.access.Access.{Access}
+pub use Rattle.snoop_bus.specs.declared.access.AccessReport.{AccessReport}
+pub use Rattle.snoop_bus.specs.declared.access.BusRequest.{BusRequest}
 pub use Rattle.snoop_bus.specs.Bus.{BusModel, words_of, IsSameMachine, cores_of, IsFree}
 pub use Rattle.snoop_bus.specs.Accesses.{LoadsAt, WritesAt, CompletesAt, awaited_of, IsCurrentWord}
 pub use Rattle.multiprocessor.specs.declared.accesses.CacheUse.{CacheUse}
-pub use Rattle.multiprocessor.specs.declared.accesses.CacheUse.TheVariants.{Unused, Forwarded, Through}
+pub use Rattle.multiprocessor.specs.declared.accesses.CacheUse.TheVariants.{Unused, Forwarded, Asked, Through}
 pub use Rattle.multiprocessor.specs.inner.Cores.{pending_in, effect_of_lock, effect_of_drain, effect_of_store, action_by, both_parts, at_next, word_on_bus, own_access, step_by, effect_of_fence, buffered_entries}
-pub use Rattle.multiprocessor.specs.Caches.{Caches, caches_of, not_through, load_after, use_of, Used, at_access, ask_by, is_awaited, used_between, completion_by, use_by_kind, use_with, whole_by, asking_by}
+pub use Rattle.multiprocessor.specs.Caches.{Caches, caches_of, not_through, asking_use, load_after, use_of, Used, at_access, ask_by, is_awaited, used_between, completion_by, use_by_kind, use_with, whole_by, asking_by}
 pub use Rattle.multiprocessor.specs.Effects.{HasUsed, ChoiceAnswer}
 pub use Rattle.basic_laws.proofs.WithPending.{drain_with, fenced_with, locked_with}
 pub use Rattle.tso_terms.specs.MemoryAccess.{MemoryAccess, NoAccess, Writes, drain_access, store_access, Reads, load_access, locked_access, Locks, access_of, access_by, step_access}

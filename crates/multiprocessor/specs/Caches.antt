@@ -1,15 +1,16 @@
 -- The caches of a run, without their words, and what the choices have to do with them: they go along by the bus's own
 -- definitions of an access that is made whole, and of its two halves on a split bus. (Primer, chapters 2, 6 and 7; which
 -- copies are sent to memory is this project's profile.)
-use Rattle.std.specs.Prelude.{ℕ, ◌/◌, Bool, true, false, if◌then◌else◌, List, [], ◌∷◌, Option, None}
+use Rattle.std.specs.Prelude.{ℕ, ◌/◌, Bool, true, false, if◌then◌else◌, List, [], ◌∷◌, Option, None, Some}
 use Rattle.std.specs.List.{list_any}
 use Rattle.multiprocessor.specs.Vocabulary.{access_of, after_on, Attempt, awaited_of, BusEffect, BusModel, BusState, chosen, contents_of, core_of, effect_on, Free, Geometry, HeldBetween, HeldBy, Holder, Litmus, Locks, MemoryAccess, NoAccess, Reads, State, table_of_rows, TableColumns, Writes, writes_to}
 use Rattle.basic_laws.specs.Types.{Loc, Entry, Kind, R, W, F, LR, LW, Choice}
 use Rattle.snoop_bus.specs.CacheContents.{Accessed}
+use Rattle.snoop_bus.specs.declared.access.BusRequest.{BusRequest}
 use Rattle.cache_set.specs.CacheTags.{TagSets}
 use Rattle.snoop_bus.specs.Asks.{Awaited, AskedAccess, hits, request_for, asking, completed, whole_access}
 use Rattle.multiprocessor.specs.declared.accesses.CacheUse.{CacheUse}
-use Rattle.multiprocessor.specs.declared.accesses.CacheUse.TheVariants.{Unused, Forwarded, Through}
+use Rattle.multiprocessor.specs.declared.accesses.CacheUse.TheVariants.{Unused, Forwarded, Asked, Through}
 use Rattle.tso_terms.specs.declared.choice.Bus as kind
 
 -- the caches without their words: the protocol's table row by row, their shape, the lines and states in them, and what an
@@ -34,7 +35,7 @@ not_through how c = record { how = how; caches = c }
 -- an access with these contents after it, and what is awaited then
 abbrev pub through : Caches → Option Awaited → Accessed → Used
 through c awaited a =
-    record { how = Through a.access; caches = record { rows = c.rows; shape = c.shape; contents = a.caches; awaited = awaited } }
+    record { how = Through a.report; caches = record { rows = c.rows; shape = c.shape; contents = a.caches; awaited = awaited } }
 
 -- a core's access at a location that is made whole, a load or a write access
 abbrev pub whole_by : Caches → ℕ → ℕ → Bool → Used
@@ -51,6 +52,11 @@ at_access none at (Reads loc) = at loc false
 at_access none at (Writes loc) = at loc true
 at_access none at (Locks loc) = at loc true
 
+-- an ask by this request; a write access that hits has none
+abbrev pub asking_use : Option BusRequest → CacheUse
+asking_use None = Unused
+asking_use (Some request) = Asked request
+
 -- the first half of such an access on a split bus: the other caches see what is asked for, and that is awaited; it is no
 -- access yet
 abbrev pub asked_with : Caches → AskedAccess → Caches
@@ -58,7 +64,8 @@ asked_with c a = record { rows = c.rows; shape = c.shape; contents = a.caches; a
 
 abbrev pub ask_by : Caches → ℕ → ℕ → Bool → Used
 ask_by c core loc write =
-    not_through Unused (asked_with c (asking (table_of_rows c.rows) (request_for write) core (loc / c.shape.words) c.contents))
+    let asked = asking (table_of_rows c.rows) (request_for write) core (loc / c.shape.words) c.contents in
+    not_through (asking_use asked.request) (asked_with c asked)
 
 -- of an action that may make no access
 abbrev pub asking_by : Caches → ℕ → MemoryAccess → Used

@@ -7,7 +7,7 @@ use Rattle.snoop_bus.specs.declared.access.AccessKind.{AccessKind}
 use Rattle.snoop_bus.specs.declared.access.AccessKind.TheVariants.{Hit, Upgrade, Miss}
 use Rattle.multiprocessor.specs.declared.counts.Counts.{Counts}
 use Rattle.multiprocessor.specs.declared.accesses.CacheUse.{CacheUse}
-use Rattle.multiprocessor.specs.declared.accesses.CacheUse.TheVariants.{Unused, Forwarded, Through}
+use Rattle.multiprocessor.specs.declared.accesses.CacheUse.TheVariants.{Unused, Forwarded, Asked, Through}
 use Rattle.multiprocessor.specs.Caches.{Caches, Used, caches_of, use_on, state_after_on}
 
 abbrev pub counts : ℕ → ℕ → ℕ → ℕ → ℕ → ℕ → Counts
@@ -48,7 +48,9 @@ flush_counted (Some core) cs = counts_at_core core.0 with_flush cs
 abbrev pub with_use_counted : ℕ → CacheUse → List Counts → List Counts
 with_use_counted core Unused cs = cs
 with_use_counted core Forwarded cs = counts_at_core core with_forward cs
-with_use_counted core (Through a) cs = flush_counted a.flushed (counts_at_core core (λ c. with_write_back a.wrote_back (with_access a.kind c)) cs)
+with_use_counted core (Asked request) cs = cs
+with_use_counted core (Through r) cs =
+    flush_counted r.access.flushed (counts_at_core core (λ c. with_write_back r.access.wrote_back (with_access r.access.kind c)) cs)
 
 -- how far the statistics of a run have come: the caches, and the counts of each core
 pub record Statistics : Type 0 where

@@ -5,7 +5,7 @@
 //! holder's access, and not its instruction: that a locked instruction has its store part still to do, and with which
 //! entry, is kept here.
 
-use snoop_bus::Access;
+use snoop_bus::{AccessReport, BusRequest};
 use tso_terms::{Choice, Entry, Loc};
 
 /// What a choice had to do with the caches.
@@ -15,8 +15,25 @@ pub enum CacheUse {
     Unused,
     /// It was a load that the core's own pending stores answered.
     Forwarded,
+    /// It asked for a split bus, by this request. Its access isn't made yet.
+    Asked(BusRequest),
     /// It went through the core's cache, by this access.
-    Through(Access),
+    Through(AccessReport),
+}
+
+impl CacheUse {
+    ghost use Rattle.std.specs.Prelude.{◌≡◌};
+    ghost use Rattle.multiprocessor.specs.Caches.{asking_use};
+
+    /// What a choice had to do with the caches that asked for a split bus. A write access that hits has no request.
+    pub fn asking(request: Option<BusRequest>) -> CacheUse
+        ensures { result ≡ asking_use request }
+    {
+        match request {
+            None => CacheUse::Unused,
+            Some(request) => CacheUse::Asked(request),
+        }
+    }
 }
 
 /// What a choice is to read or write beyond its core's own buffer.

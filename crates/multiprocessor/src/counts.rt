@@ -51,9 +51,10 @@ pub fn tally(counts: &mut [Counts], core: Core, cache_use: CacheUse)
     ensures { counts.new ≡ with_use_counted core.0 cache_use counts.old }
 {
     match cache_use {
-        CacheUse::Unused => {}
+        CacheUse::Unused | CacheUse::Asked(_) => {}
         CacheUse::Forwarded => counts[core.0 as usize].forwards += 1,
-        CacheUse::Through(access) => {
+        CacheUse::Through(report) => {
+            let access = report.access;
             tally_access(&mut counts[core.0 as usize], access);
             if let Some(flusher) = access.flushed {
                 counts[flusher.0 as usize].flushes += 1;

@@ -20,7 +20,7 @@ use crate::processor::{Processor, advance};
 use commit_order::Commits;
 use protocol_tables::Protocol;
 use snoop_bus::holding::Stage;
-use snoop_bus::{Access, SnoopBus};
+use snoop_bus::{AccessReport, SnoopBus};
 use tso_terms::{Core, Kind, Loc, NoMemory, Outcome, Reg, Stall, Update};
 
 /// A locked instruction: the location that it reads and writes, its register, and what it makes of the word.
@@ -57,14 +57,14 @@ pub fn read_and_write<P: Protocol>(
     let place = processor.place;
     let value = processor.register(reg);
     commits.make_room(2)?;
-    let updated = bus.update(core, loc, update, value)?;
+    let updated = bus.update(core, loc, update, value);
     // There is room for both parts.
     let load_part = entry(core, place, Kind::LR, loc, updated.before);
     commits.note(load_part).unwrap();
     let store_part = entry(core, place, Kind::LW, loc, updated.after);
     commits.note(store_part).unwrap();
     advance(processor, reg, updated.before);
-    Ok((Outcome::Committed, CacheUse::Through(updated.access)))
+    Ok((Outcome::Committed, CacheUse::Through(updated.report)))
 }
 
 /// The load part of a locked instruction that has asked for the bus. It is committed, and the holder goes on with the store part.
@@ -76,7 +76,7 @@ pub fn read_first<P: Protocol>(
     loc: Loc,
     bus: &mut SnoopBus<P>,
     commits: &mut Commits,
-) -> Result<(Next, Access), NoMemory>
+) -> Result<(Next, AccessReport), NoMemory>
     requires holds { holder_of bus.old ≡ Some (holder core loc Stage.Write) }
 
     ensures next { IfOk result (λ r. r.0 ≡ Next.Write (first_read core.0 place loc bus.old)) }
@@ -89,9 +89,9 @@ pub fn read_first<P: Protocol>(
     ensures err_commits { OnErr result (commits.new.entries ≡ commits.old.entries) }
 {
     commits.make_room(1)?;
-    let (value, access) = bus.complete_read(core, loc)?;
+    let (value, report) = bus.lock_asked(core, loc);
     // There is room for the entry.
     let read = entry(core, place, Kind::LR, loc, value);
     commits.note(read).unwrap();
-    Ok((Next::Write(read), access))
+    Ok((Next::Write(read), report))
 }

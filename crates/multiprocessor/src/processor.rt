@@ -27,7 +27,7 @@ use crate::pending_stores::PendingStores;
 use crate::turn::{Turn, Way};
 use commit_order::Commits;
 use protocol_tables::Protocol;
-use snoop_bus::{Access, SnoopBus};
+use snoop_bus::{AccessReport, SnoopBus};
 use store_buffer::Pending;
 use tso_terms::{Action, Core, Entry, Instr, Kind, Loc, NoMemory, Outcome, Reg, Stall};
 
@@ -158,9 +158,9 @@ fn store<P: Protocol>(
     }
     let place = processor.place;
     let pending = Pending { place, loc, value };
-    let access = write(turn, pending, bus, commits)?;
+    let report = write(turn, pending, bus, commits)?;
     processor.place += 1;
-    Ok((Outcome::Committed, CacheUse::Through(access)))
+    Ok((Outcome::Committed, CacheUse::Through(report)))
 }
 
 /// A plain store waits in the buffer, or stalls where that is full.
@@ -201,7 +201,7 @@ fn load<P: Protocol>(
     ensures stores { processor.new.stores ≡ processor.old.stores }
 {
     commits.make_room(1)?;
-    let (value, cache_use) = see(&processor.stores, turn, loc, bus)?;
+    let (value, cache_use) = see(&processor.stores, turn, loc, bus);
     // There is room for the entry.
     let read = entry(turn.core, processor.place, Kind::R, loc, value);
     commits.note(read).unwrap();
@@ -216,39 +216,37 @@ fn see<P: Protocol>(
     turn: Turn,
     loc: Loc,
     bus: &mut SnoopBus<P>,
-) -> Result<(u32, CacheUse), NoMemory>
+) -> (u32, CacheUse)
     requires access { MayAccess turn bus.old loc (load_access loc (filter (writes_to loc.0) (buffered_entries turn.core.0 stores.now))) }
 
-    ensures value { IfOk result (λ r. r.0 ≡ seen_by turn.core.0 stores.now (words_of bus.old) loc) }
+    ensures value { result.0 ≡ seen_by turn.core.0 stores.now (words_of bus.old) loc }
     ensures words { words_of bus.new ≡ words_of bus.old }
-    ensures caches { IfOk result (λ r. HasUsed (by_way turn.way (load_after (caches_of bus.old) (buffered_entries turn.core.0 stores.now) turn.core.0 loc.0) (completing_by (caches_of bus.old) turn.core.0 (load_access loc (filter (writes_to loc.0) (buffered_entries turn.core.0 stores.now))))) bus.new r.1) }
-    ensures holder { OnOk result (holder_of bus.new ≡ by_way turn.way (holder_of bus.old) None) }
+    ensures caches { HasUsed (by_way turn.way (load_after (caches_of bus.old) (buffered_entries turn.core.0 stores.now) turn.core.0 loc.0) (completing_by (caches_of bus.old) turn.core.0 (load_access loc (filter (writes_to loc.0) (buffered_entries turn.core.0 stores.now))))) bus.new result.1 }
+    ensures holder { holder_of bus.new ≡ by_way turn.way (holder_of bus.old) None }
     ensures cores { cores_of bus.new ≡ cores_of bus.old }
-    ensures err { OnErr result (bus.new ≡ bus.old) }
 {
     match stores.newest_for(loc) {
-        Some(value) => Ok((value, CacheUse::Forwarded)),
+        Some(value) => (value, CacheUse::Forwarded),
         None => {
-            let (word, access) = read(turn, loc, bus)?;
-            Ok((word, CacheUse::Through(access)))
+            let (word, report) = read(turn, loc, bus);
+            (word, CacheUse::Through(report))
         }
     }
 }
 
-/// The word at a location of the bus, and what the access was.
+/// The word at a location of the bus, and what the access did.
 #[inline(always)]
-fn read<P: Protocol>(turn: Turn, loc: Loc, bus: &mut SnoopBus<P>) -> Result<(u32, Access), NoMemory>
+fn read<P: Protocol>(turn: Turn, loc: Loc, bus: &mut SnoopBus<P>) -> (u32, AccessReport)
     requires access { MayAccess turn bus.old loc (Reads loc) }
 
-    ensures word { IfOk result (λ r. IsCurrentWord bus.old loc.0 r.0) }
+    ensures word { IsCurrentWord bus.old loc.0 result.0 }
     ensures words { words_of bus.new ≡ words_of bus.old }
-    ensures made { IfOk result (λ r. IsMade turn false loc bus.old bus.new r.1) }
+    ensures made { IsMade turn false loc bus.old bus.new result.1 }
     ensures cores { cores_of bus.new ≡ cores_of bus.old }
-    ensures err { OnErr result (bus.new ≡ bus.old) }
 {
     match turn.way {
-        Way::Whole => bus.load(turn.core, loc),
-        Way::Asked => bus.complete_load(turn.core, loc),
+        Way::Whole => bus.read(turn.core, loc),
+        Way::Asked => bus.read_asked(turn.core, loc),
     }
 }
 
@@ -307,9 +305,9 @@ pub fn drain<P: Protocol>(
     match processor.stores.oldest() {
         None => Ok((Outcome::Stalled(Stall::Empty), CacheUse::Unused)),
         Some(store) => {
-            let access = write(turn, store, bus, commits)?;
+            let report = write(turn, store, bus, commits)?;
             processor.stores.take_oldest();
-            Ok((Outcome::Committed, CacheUse::Through(access)))
+            Ok((Outcome::Committed, CacheUse::Through(report)))
         }
     }
 }
@@ -323,7 +321,7 @@ fn write<P: Protocol>(
     store: Pending,
     bus: &mut SnoopBus<P>,
     commits: &mut Commits,
-) -> Result<Access, NoMemory>
+) -> Result<AccessReport, NoMemory>
     requires access { MayAccess turn bus.old store.loc (Writes store.loc) }
 
     ensures stored { OnOk result (IsStored turn.core.0 store bus.old bus.new commits.old commits.new) }
@@ -334,30 +332,23 @@ fn write<P: Protocol>(
     ensures sizes { HasSameSizes bus.old bus.new }
 {
     commits.make_room(1)?;
-    let access = write_word(turn, store.loc, store.value, bus)?;
+    let report = write_word(turn, store.loc, store.value, bus);
     // There is room for the entry.
     commits.note(store_entry(turn.core, store)).unwrap();
-    Ok(access)
+    Ok(report)
 }
 
-/// Writes the word at a location of the bus, and answers what the access was.
+/// Writes the word at a location of the bus, and answers what the access did.
 #[inline(always)]
-fn write_word<P: Protocol>(
-    turn: Turn,
-    loc: Loc,
-    value: u32,
-    bus: &mut SnoopBus<P>,
-) -> Result<Access, NoMemory>
+fn write_word<P: Protocol>(turn: Turn, loc: Loc, value: u32, bus: &mut SnoopBus<P>) -> AccessReport
     requires access { MayAccess turn bus.old loc (Writes loc) }
 
-    ensures words { OnOk result (words_of bus.new ≡ slice_set (words_of bus.old) loc.0 value) }
-    ensures made { IfOk result (IsMade turn true loc bus.old bus.new) }
-
-    ensures err { OnErr result (bus.new ≡ bus.old) }
+    ensures words { words_of bus.new ≡ slice_set (words_of bus.old) loc.0 value }
+    ensures made { IsMade turn true loc bus.old bus.new result }
     ensures sizes { HasSameSizes bus.old bus.new }
 {
     match turn.way {
-        Way::Whole => bus.store(turn.core, loc, value),
-        Way::Asked => bus.complete_store(turn.core, loc, value),
+        Way::Whole => bus.write(turn.core, loc, value),
+        Way::Asked => bus.write_asked(turn.core, loc, value),
     }
 }

@@ -106,7 +106,7 @@ pub use Rattle.protocol_tables.specs.Tables.{Table, table_of}
 pub use Rattle.snoop_bus.specs.Asks.{Awaited}
 pub use Rattle.multiprocessor.specs.Caches.{is_awaited, at_access}
 pub use Rattle.machine_core.specs.Running.{Running, new_machine, machine_after, attempt_on, machine_effect, machine_use}
-pub use Rattle.trace_report.specs.Steps.{moved_by, moved_at, moved_from, buffer_if_changed, sent_on, placed, line_states, placed_states_from, number_of_lines, states_of, number_of_state, change_of, changes_in, steps_from, trace_under, line_state}
+pub use Rattle.trace_report.specs.Steps.{moved_by, moved_at, moved_from, buffer_if_changed, placed, line_states, placed_states_from, number_of_lines, states_of, number_of_state, change_of, changes_in, steps_from, trace_under, line_state}
 unfoldable pub use Rattle.trace_report.specs.Steps.{trace_step_of}
 pub use Rattle.trace_report.specs.Told.{IsTraced}
 pub use Rattle.trace_report.proofs.Traced.{traced-first}

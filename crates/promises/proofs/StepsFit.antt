@@ -1,14 +1,11 @@
 -- Each step of a trace fits its test.
-use Rattle.promises.proofs.PrintedVocabulary.{◌≡◌, ℕ, ◌<◌, Bool, true, false, List, [], ◌∷◌, ◌++◌, drop, subst, ◌∙◌, zero, suc, ◌≤◌, Option, arith, ◌+◌, length, All, Some, None, ◌==◌, if◌then◌else◌, IfSome, slice_get, length-replicate, Litmus, IsTest, Bus, Atomic, Split, ProtocolKind, Configuration, IsConfigurationWithinLimits, All-head, All-tail, All-weaker, All-cons, All-nil, All-drop, All-append, IsWord, index_of, Entry, HasWord, IsEntryFor, has_ended, CoresExist, Choice, Drain, chosen, program_of, core_of, Core, IsAt, AreStoresKnown, LineRequest, StateChange, Asked, TraceStepFits, action_of, access_of, Instr, Action, Move, access-known, Table, table_of, Awaited, is_awaited, Running, new_machine, machine_after, moved_by, moved_at, moved_from, buffer_if_changed, sent_on, placed, line_states, placed_states_from, number_of_lines, states_of, number_of_state, change_of, changes_in, steps_from, trace_under, trace_step_of, IsTraced, traced-first, step-known, traced-next, attempt_on, machine_effect, machine_use}
+use Rattle.promises.proofs.PrintedVocabulary.{◌≡◌, ℕ, ◌<◌, Bool, true, false, List, [], ◌∷◌, ◌++◌, drop, subst, ◌∙◌, zero, suc, ◌≤◌, Option, arith, ◌+◌, length, All, Some, None, ◌==◌, if◌then◌else◌, IfSome, slice_get, length-replicate, Litmus, IsTest, Bus, Atomic, Split, ProtocolKind, Configuration, IsConfigurationWithinLimits, All-head, All-tail, All-weaker, All-cons, All-nil, All-drop, All-append, IsWord, index_of, Entry, HasWord, IsEntryFor, has_ended, CoresExist, Choice, Drain, chosen, program_of, core_of, Core, IsAt, AreStoresKnown, LineRequest, StateChange, Asked, TraceStepFits, action_of, access_of, Instr, Action, Move, access-known, Table, table_of, Awaited, is_awaited, Running, new_machine, machine_after, moved_by, moved_at, moved_from, buffer_if_changed, placed, line_states, placed_states_from, number_of_lines, states_of, number_of_state, change_of, changes_in, steps_from, trace_under, trace_step_of, IsTraced, traced-first, step-known, traced-next, attempt_on, machine_effect, machine_use}
 use Rattle.basic_laws.specs.Types.{Step, Outcome}
 use Rattle.multiprocessor.specs.Statistics.{no_counts}
-use Rattle.multiprocessor.specs.declared.accesses.CacheUse.{CacheUse}
-use Rattle.multiprocessor.specs.declared.accesses.CacheUse.TheVariants.{Through}
-use Rattle.multiprocessor.specs.inner.Keeping.{IsAmong, IsFlusherAmong, IsSenderAmong}
+use Rattle.multiprocessor.specs.inner.Keeping.{IsAmong}
 use Rattle.multiprocessor.proofs.CountBounds.{length-counted}
-use Rattle.multiprocessor.proofs.CountsOnBus.{senders}
 use Rattle.trace_report.specs.declared.states.PlacedState.{PlacedState}
-use Rattle.trace_report.proofs.FlushesTold.{IsSound, sound-first, sound-after}
+use Rattle.trace_report.proofs.FlushesTold.{IsSound, sound-first, sound-after, told-among}
 use Rattle.promises.proofs.MachinesFit.{PendingFits, pending-entry, CoresFit, HolderFits, BusFits, effect-fits, memory-fits, cores-fit, start-fits}
 use Rattle.promises.proofs.Lists.{word-at}
 
@@ -77,12 +74,6 @@ small-core : (n : ℕ) (o : Option Core) → n ≤ 8 → IsAmong n o → IfSome 
 small-core n None few among = tt
 small-core n (Some core) few among = omega (arith, few, among)
 
-sent-among : (n : ℕ) (bus : Bus) (outcome : Outcome) (request : Option LineRequest) (how : CacheUse) (awaited : Option Awaited) → IsFlusherAmong n how → IsSenderAmong n awaited
-    → IsAmong n (sent_on bus outcome request how awaited).flushed
-sent-among n Atomic outcome request (Through a) awaited p q = p
-sent-among n Split Asked request how (Some a) p q = q
-sent-among n bus outcome request how awaited p q = tt
-
 abbrev IsOfCore : PlacedState → Type 0
 IsOfCore p = p.core.0 < 256
 
@@ -131,14 +122,8 @@ step-fits t c m choice test within traced exists f =
     let size = length m.statistics.caches.contents in
     let few_here = f.test.cores in
     let counted = f.counts in
-    let counted_next = next.counts in
     let sized = f.sound.size in
-    let sized_next = next.sound.size in
-    let how = senders (is_awaited m.state.holder) (is_awaited (machine_effect m choice).holder) m.statistics.caches (chosen choice) (access_of m.test m.depth m.state.flat choice) waited
-    (machine_effect m choice).effect.commits f.sound.sender in
-    let same : length end.statistics.caches.contents ≡ size = omega (arith, counted, counted_next, sized, sized_next) in
-    let awaited : IsSenderAmong size end.statistics.caches.awaited = subst (λ n. IsSenderAmong n end.statistics.caches.awaited) same next.sound.sender in
-    let flushed = sent-among size m.bus (machine_effect m choice).effect.outcome _ (machine_use m choice).how end.statistics.caches.awaited how.0 awaited in
+    let flushed = told-among m choice f.sound in
     record {
       known = step-known t c m choice test traced within.1.line_size;
       chosen_core = small;

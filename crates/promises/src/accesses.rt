@@ -1,13 +1,13 @@
 //! What the calls of a bus leave, beyond the words that are seen: coherent copies, and the lines in memory. No crate above
 //! rests on either, so here it is asked for. (Primer, chapters 2 and 6.)
 
-ghost use Rattle.std.specs.Prelude.{◌≡◌, ◌<◌, ◌≤◌, ◌+◌, ◌%◌, ◌^◌, false, true, IfOk, OnErr, length, option_copied};
+ghost use Rattle.std.specs.Prelude.{◌≡◌, ◌<◌, ◌≤◌, ◌+◌, ◌%◌, ◌^◌, false, true, IsOk, IfOk, length, option_copied};
 ghost use Rattle.cache_set.specs.Contents.{copy_of};
 ghost use Rattle.snoop_bus.specs.Bus.{words_of, cores_of, IsFree, IsCoherent, IsSameMachine};
 ghost use Rattle.snoop_bus.specs.inner.Bus.{HasLines};
 ghost use Rattle.snoop_bus.specs.Accesses.{contents_of, memory_of, memory_after_load, memory_after_write};
-ghost use Rattle.snoop_bus.specs.Accesses.{IsCurrentWord, WritesAt, write_of};
-ghost use Rattle.snoop_bus.specs.inner.Accesses.{contents_settled, copies_of, IsOutOfMemory, MayGoOn};
+ghost use Rattle.snoop_bus.specs.Accesses.{IsCurrentWord, LoadsAt, WritesAt, load_of, write_of};
+ghost use Rattle.snoop_bus.specs.inner.Accesses.{contents_settled, copies_of, MayGoOn};
 
 use cache_set::Line;
 use protocol_tables::Protocol;
@@ -39,7 +39,7 @@ pub fn a_bus_that_begins_anew<P: Protocol>(bus: &mut SnoopBus<P>, init: &[u32])
     bus.restart(init);
 }
 
-/// A load leaves the copies coherent, and memory as the load leaves it.
+/// A load succeeds, and leaves the copies coherent, and memory as the load leaves it.
 pub fn a_load<P: Protocol>(
     bus: &mut SnoopBus<P>,
     core: Core,
@@ -48,6 +48,10 @@ pub fn a_load<P: Protocol>(
     requires core { core.0 < cores_of bus.old }
     requires loc { loc.0 < length (words_of bus.old) }
     requires free { MayGoOn bus.old core.0 loc.0 false }
+    ensures succeeds { IsOk result }
+    ensures done { IfOk result (λ r. LoadsAt bus.old bus.new core.0 loc.0 r.0 (load_of bus.old core.0 loc.0).report) }
+    ensures access { IfOk result (λ r. r.1 ≡ (load_of bus.old core.0 loc.0).report.access) }
+    ensures machine { IsSameMachine bus.old bus.new }
     ensures coherent { IsCoherent bus.new }
     ensures memory { IfOk result (λ _. memory_of bus.new ≡ memory_after_load bus.old core.0 loc.0) }
 {
@@ -64,13 +68,17 @@ pub fn a_store<P: Protocol>(
     requires core { core.0 < cores_of bus.old }
     requires loc { loc.0 < length (words_of bus.old) }
     requires free { MayGoOn bus.old core.0 loc.0 true }
+    ensures succeeds { IsOk result }
+    ensures done { WritesAt bus.old bus.new core.0 loc.0 value (write_of bus.old core.0 loc.0).report }
+    ensures access { IfOk result (λ access. access ≡ (write_of bus.old core.0 loc.0).report.access) }
+    ensures machine { IsSameMachine bus.old bus.new }
     ensures coherent { IsCoherent bus.new }
     ensures memory { IfOk result (λ _. memory_of bus.new ≡ memory_after_write bus.old core.0 loc.0) }
 {
     bus.store(core, loc, value)
 }
 
-/// So does an exchange, which answers the word that was seen and writes its own; where memory is refused nothing has changed.
+/// So does an exchange, which answers the word that was seen and writes its own.
 pub fn an_exchange<P: Protocol>(
     bus: &mut SnoopBus<P>,
     core: Core,
@@ -80,9 +88,10 @@ pub fn an_exchange<P: Protocol>(
     requires core { core.0 < cores_of bus.old }
     requires loc { loc.0 < length (words_of bus.old) }
     requires free { MayGoOn bus.old core.0 loc.0 true }
+    ensures succeeds { IsOk result }
     ensures word { IfOk result (λ r. IsCurrentWord bus.old loc.0 r.0) }
-    ensures done { IfOk result (λ r. WritesAt bus.old bus.new core.0 loc.0 value r.1) }
-    ensures refused { OnErr result (IsOutOfMemory bus.old bus.new (write_of bus.old core.0 loc.0).access) }
+    ensures done { WritesAt bus.old bus.new core.0 loc.0 value (write_of bus.old core.0 loc.0).report }
+    ensures access { IfOk result (λ r. r.1 ≡ (write_of bus.old core.0 loc.0).report.access) }
     ensures machine { IsSameMachine bus.old bus.new }
     ensures coherent { IsCoherent bus.new }
     ensures memory { IfOk result (λ _. memory_of bus.new ≡ memory_after_write bus.old core.0 loc.0) }
@@ -100,9 +109,10 @@ pub fn an_addition<P: Protocol>(
     requires core { core.0 < cores_of bus.old }
     requires loc { loc.0 < length (words_of bus.old) }
     requires free { MayGoOn bus.old core.0 loc.0 true }
+    ensures succeeds { IsOk result }
     ensures word { IfOk result (λ r. IsCurrentWord bus.old loc.0 r.0) }
-    ensures done { IfOk result (λ r. WritesAt bus.old bus.new core.0 loc.0 ((r.0 + value) % 2 ^ 32) r.1) }
-    ensures refused { OnErr result (IsOutOfMemory bus.old bus.new (write_of bus.old core.0 loc.0).access) }
+    ensures done { IfOk result (λ r. WritesAt bus.old bus.new core.0 loc.0 ((r.0 + value) % 2 ^ 32) (write_of bus.old core.0 loc.0).report) }
+    ensures access { IfOk result (λ r. r.1 ≡ (write_of bus.old core.0 loc.0).report.access) }
     ensures machine { IsSameMachine bus.old bus.new }
     ensures coherent { IsCoherent bus.new }
     ensures memory { IfOk result (λ _. memory_of bus.new ≡ memory_after_write bus.old core.0 loc.0) }

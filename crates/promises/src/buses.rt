@@ -16,7 +16,7 @@ ghost use Rattle.snoop_bus.specs.Bus.{BusModel, IsCoherent, IsFree, counted_copi
 ghost use Rattle.cache_set.specs.CacheTags.{TagSets};
 ghost use Rattle.snoop_bus.specs.Rows.{table_of_rows};
 ghost use Rattle.snoop_bus.specs.WholeAccesses.{LoadsInHalves, WritesInHalves};
-ghost use Rattle.snoop_bus.specs.declared.access.Access.{Access};
+ghost use Rattle.snoop_bus.specs.declared.access.AccessReport.{AccessReport};
 ghost use Rattle.tso_laws.specs.Between.{ArePaired, IsApart};
 ghost use Rattle.tso_laws.specs.BusChoices.{IsPossibleOn};
 ghost use Rattle.tso_laws.specs.BusRuns.{IsFlatRun, made_for_bus, wait_for_bus, waiting};
@@ -71,33 +71,33 @@ pub fn a_use_of_the_caches_is_an_access()
     accesses_are_what_is_counted();
 }
 
-/// A load in halves answers the same word, and it and a write access leave the same words, memory, lines and states.
+/// A load in halves answers the same word, and it and a write access do the same and leave the same words, memory, lines and states.
 pub fn halves_leave_the_words_and_lines_of_whole_accesses()
-    ensures load_word { (old whole between new : BusModel) (core : Core) (loc : Loc) (word other : ℕ) (a b : Access)
+    ensures load_word { (old whole between new : BusModel) (core : Core) (loc : Loc) (word other : ℕ) (a b : AccessReport)
         → would_hit old core.0 loc.0 false ≡ false → LoadsAt old whole core.0 loc.0 word a
         → LoadsInHalves old between new core loc other b → word ≡ other }
-    ensures load_access { (old whole between new : BusModel) (core : Core) (loc : Loc) (word other : ℕ) (a b : Access)
+    ensures load_report { (old whole between new : BusModel) (core : Core) (loc : Loc) (word other : ℕ) (a b : AccessReport)
         → would_hit old core.0 loc.0 false ≡ false → LoadsAt old whole core.0 loc.0 word a
         → LoadsInHalves old between new core loc other b → a ≡ b }
-    ensures load_words { (old whole between new : BusModel) (core : Core) (loc : Loc) (word other : ℕ) (a b : Access)
+    ensures load_words { (old whole between new : BusModel) (core : Core) (loc : Loc) (word other : ℕ) (a b : AccessReport)
         → would_hit old core.0 loc.0 false ≡ false → LoadsAt old whole core.0 loc.0 word a
         → LoadsInHalves old between new core loc other b → words_of whole ≡ words_of new }
-    ensures load_memory { (old whole between new : BusModel) (core : Core) (loc : Loc) (word other : ℕ) (a b : Access)
+    ensures load_memory { (old whole between new : BusModel) (core : Core) (loc : Loc) (word other : ℕ) (a b : AccessReport)
         → would_hit old core.0 loc.0 false ≡ false → LoadsAt old whole core.0 loc.0 word a
         → LoadsInHalves old between new core loc other b → memory_of whole ≡ memory_of new }
-    ensures load_contents { (old whole between new : BusModel) (core : Core) (loc : Loc) (word other : ℕ) (a b : Access)
+    ensures load_contents { (old whole between new : BusModel) (core : Core) (loc : Loc) (word other : ℕ) (a b : AccessReport)
         → would_hit old core.0 loc.0 false ≡ false → LoadsAt old whole core.0 loc.0 word a
         → LoadsInHalves old between new core loc other b → contents_of whole ≡ contents_of new }
-    ensures write_access { (old whole between new : BusModel) (core : Core) (loc : Loc) (word : ℕ) (a b : Access)
+    ensures write_report { (old whole between new : BusModel) (core : Core) (loc : Loc) (word : ℕ) (a b : AccessReport)
         → WritesInPlace (table_of_rows old.rows).written → IsFree old → IsCoherent old → WritesAt old whole core.0 loc.0 word a
         → WritesInHalves old between new core loc word b → a ≡ b }
-    ensures write_words { (old whole between new : BusModel) (core : Core) (loc : Loc) (word : ℕ) (a b : Access)
+    ensures write_words { (old whole between new : BusModel) (core : Core) (loc : Loc) (word : ℕ) (a b : AccessReport)
         → WritesInPlace (table_of_rows old.rows).written → IsFree old → IsCoherent old → WritesAt old whole core.0 loc.0 word a
         → WritesInHalves old between new core loc word b → words_of whole ≡ words_of new }
-    ensures write_memory { (old whole between new : BusModel) (core : Core) (loc : Loc) (word : ℕ) (a b : Access)
+    ensures write_memory { (old whole between new : BusModel) (core : Core) (loc : Loc) (word : ℕ) (a b : AccessReport)
         → WritesInPlace (table_of_rows old.rows).written → IsFree old → IsCoherent old → WritesAt old whole core.0 loc.0 word a
         → WritesInHalves old between new core loc word b → memory_of whole ≡ memory_of new }
-    ensures write_contents { (old whole between new : BusModel) (core : Core) (loc : Loc) (word : ℕ) (a b : Access)
+    ensures write_contents { (old whole between new : BusModel) (core : Core) (loc : Loc) (word : ℕ) (a b : AccessReport)
         → WritesInPlace (table_of_rows old.rows).written → IsFree old → IsCoherent old → WritesAt old whole core.0 loc.0 word a
         → WritesInHalves old between new core loc word b → contents_of whole ≡ contents_of new }
 {

@@ -1,5 +1,5 @@
 -- Which access it is, by the core's own copy.
-use Rattle.snoop_bus.proofs.Vocabulary.{◌≡◌, ℕ, Bool, sym, Option, option_map, List, refl, ap, ◌∙◌, Table, Line, Victim, tag_of, leaving, TagSets, tags_at, sets_of, writes_back, dirty_in, Sets, set_at, copy_at, cache_of, tags_of, victim_at, Words, next_in_place, whole_access, whole_in, whole_memory, whole_memory_in, State}
+use Rattle.snoop_bus.proofs.Vocabulary.{◌≡◌, ℕ, Bool, sym, Option, None, Some, option_map, Departure, departing, was_written_back, evicted_by, List, refl, ap, ◌∙◌, Table, Line, Victim, tag_of, leaving, TagSets, tags_at, sets_of, writes_back, dirty_in, Sets, set_at, copy_at, cache_of, tags_of, victim_at, Words, next_in_place, whole_access, whole_in, whole_memory, whole_memory_in, State}
 use Rattle.cache_set.proofs.TagLemmas.{victim_tag, leaving-tags}
 use Rattle.cache_set.proofs.CacheTags.{sets_of-tags, tag_at-tags, tags_at-tags}
 
@@ -17,11 +17,20 @@ pub memory-here : (t : Table) (write : Bool) (caches : List Sets) (core line : �
 memory-here t write caches core line memory o found =
     ap (λ (x : Option State). whole_memory_in t write core line caches x (next_in_place t write x) memory) (tag_here caches core line ∙ ap (option_map (λ copy. copy.state)) found)
 
-pub writes_back-tags : (t : Table) (caches : List Sets) (core line : ℕ) → writes_back t core line (tags_of caches) ≡ dirty_in t (victim_tag (victim_at caches core line))
-writes_back-tags t caches core line =
-    ap (λ (sets : TagSets). dirty_in t (leaving (tags_at sets line))) (sets_of-tags caches core)
+-- what leaves, as the lines and states alone say
+leaving-here : (caches : List Sets) (core line : ℕ) → leaving (tags_at (sets_of (tags_of caches) core) line) ≡ victim_tag (victim_at caches core line)
+leaving-here caches core line =
+    ap (λ (sets : TagSets). leaving (tags_at sets line)) (sets_of-tags caches core)
     ∙ rw (tags_at-tags (cache_of caches core) line, leaving-tags (set_at (cache_of caches core) line)) refl
 
--- whether the victim was written back, as the lines and states alone say
-pub writes_back_is : (t : Table) (caches : List Sets) (core line : ℕ) (v : Option Victim) (wrote_back : Bool) → wrote_back ≡ dirty_in t (victim_tag v) → v ≡ victim_at caches core line → wrote_back ≡ writes_back t core line (tags_of caches)
-writes_back_is t caches core line v wrote_back dirty is = dirty ∙ ap (λ (o : Option Victim). dirty_in t (victim_tag o)) is ∙ sym (writes_back-tags t caches core line)
+pub left_is : (t : Table) (caches : List Sets) (core line : ℕ) (v : Option Victim) (left : Option Departure) → left ≡ option_map (departing t) (victim_tag v) → v ≡ victim_at caches core line → left ≡ evicted_by t core line (tags_of caches)
+left_is t caches core line v left departs is =
+    departs ∙ ap (λ (o : Option Victim). option_map (departing t) (victim_tag o)) is ∙ sym (ap (option_map (departing t)) (leaving-here caches core line))
+
+-- it was written back where the table says so
+pub written_is : (t : Table) (core line : ℕ) (caches : List TagSets) → was_written_back (evicted_by t core line caches) ≡ writes_back t core line caches
+written_is t core line caches = by_tag (leaving (tags_at (sets_of caches core) line))
+  where
+    by_tag : (o : Option (ℕ × State)) → was_written_back (option_map (departing t) o) ≡ dirty_in t o
+    by_tag None = refl
+    by_tag (Some tag) = refl

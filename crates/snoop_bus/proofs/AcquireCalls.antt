@@ -1,5 +1,5 @@
 -- What the calls of a write access rest on, and what it leaves where nobody else holds the bus.
-use Rattle.snoop_bus.proofs.Vocabulary.{get_or_default, ◌≡◌, ℕ, ◌<◌, true, false, is_some, Option, Some, None, IsSome, List, [], length, slice_index_or, refl, sym, ap, ◌∙◌, WritesInPlace, Table, State, M, Line, Access, Hierarchy, HeldBus, Words, Sets, copy_in, copy_at, IsReady, Acquires, KeepsWords, KeepsBeside}
+use Rattle.snoop_bus.proofs.Vocabulary.{get_or_default, ◌≡◌, ℕ, ◌<◌, true, false, is_some, Option, Some, None, IsSome, List, [], length, slice_index_or, refl, sym, ap, ◌∙◌, WritesInPlace, Table, State, M, Line, AccessReport, Hierarchy, HeldBus, Words, Sets, copy_in, copy_at, IsReady, Acquires, KeepsWords, KeepsBeside}
 use Rattle.snoop_bus.proofs.WriteLemmas.{written_m}
 
 -- what a look at a core's own sets found
@@ -39,6 +39,6 @@ module _ (held : Option HeldBus) (free : held ≡ None) where
   pub kept_alone : (c0 c2 : List Sets) (m0 m2 : List Words) → KeepsWords c0 c2 m0 m2 → KeepsBeside held c0 c2 m0 m2
   kept_alone c0 c2 m0 m2 keeps = rw free (record { words = keeps; awaited = tt; ways = keeps.ways })
 
-  pub acquired_alone : (t : Table) (core line : ℕ) (c0 c2 : List Sets) (m0 m2 : List Words) (words : Words) (access : Access) →
-      Acquires t None core line c0 c2 m0 m2 words access → Acquires t held core line c0 c2 m0 m2 words access
-  acquired_alone t core line c0 c2 m0 m2 words access a = rw free a
+  pub acquired_alone : (t : Table) (core line : ℕ) (c0 c2 : List Sets) (m0 m2 : List Words) (words : Words) (report : AccessReport) →
+      Acquires t None core line c0 c2 m0 m2 words report → Acquires t held core line c0 c2 m0 m2 words report
+  acquired_alone t core line c0 c2 m0 m2 words report a = rw free a

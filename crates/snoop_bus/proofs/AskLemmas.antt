@@ -1,5 +1,5 @@
 -- What an ask answers and leaves.
-use Rattle.snoop_bus.proofs.Vocabulary.{get_or-set_same, get_or-set_other, length-set, list_any, ◌≡◌, ◌⊎◌, inl, inr, ℕ, ◌<◌, true, false, Option, Some, None, is_some, List, [], length, refl, sym, ap, subst, ◌∙◌, slice_set, if◌then◌else◌, is_dirty, GivesUp, Shares, CleansByMemory, Supplies, FillsExclusiveOnlyAlone, Table, State, I, M, Snoop, GetS, GetM, Transient, IsD, Core, Line, copy_with, Words, line_in, Coherent, state_of_copy, is_held, flusher_from, Sets, copy_in, copy_at, cache_of, tags_of, ways_of, current_words, AllCoherent, flushed, sent_words, copy_left_by, LeftByOthers, Supplied, KeepsWords, with_counted_copy, asked_memory, transacting, cases_Bool}
+use Rattle.snoop_bus.proofs.Vocabulary.{get_or-set_same, get_or-set_other, length-set, list_any, ◌≡◌, ◌⊎◌, inl, inr, ℕ, ◌<◌, true, false, Option, Some, None, is_some, List, [], length, refl, sym, ap, subst, ◌∙◌, slice_set, if◌then◌else◌, is_dirty, GivesUp, Shares, CleansByMemory, Supplies, FillsExclusiveOnlyAlone, Table, State, I, M, Snoop, GetS, GetM, Transient, IsD, Core, Line, copy_with, Words, line_in, Coherent, state_of_copy, is_held, flusher_from, first_supplier, states_by_core, supplier_in, moved_in, requesting, most_cores, Supplier, Sets, copy_in, copy_at, cache_of, tags_of, ways_of, current_words, AllCoherent, flushed, sent_words, copy_left_by, LeftByOthers, Supplied, KeepsWords, with_counted_copy, asked_memory, transacting, cases_Bool}
 use Rattle.snoop_bus.proofs.CacheTags.{is_held-copies}
 use Rattle.snoop_bus.proofs.Coherence.{shared-coherent, fill-coherent, write-coherent}
 use Rattle.snoop_bus.proofs.Asked.{Asked, own_line, others_line, asked-keeps}
@@ -12,7 +12,7 @@ quiet_none on law (Some copy) h = h copy refl
 quiet_none on law None h = elim (cases_Bool (on I).to_memory) [ inl e ↦ let no : is_dirty I ≡ true = law.1 I e in cc | inr e ↦ e ]
 
 module _ (t : Table) (fills : FillsExclusiveOnlyAlone t.filled) (shares : Shares t.on_get_s) (cleans : CleansByMemory t.on_get_s) (supplies : Supplies t.on_get_s)
-    (c0 c1 : List Sets) (m0 m1 : List Words) (core line : ℕ) (w : Words) (x : State) (f : Option Core) where
+    (c0 c1 : List Sets) (m0 m1 : List Words) (core line : ℕ) (w : Words) (x : State) (f : Option Core) (s : Supplier) (states : List (Option State)) where
   -- the steps of an ask for a load
   pub record LoadAsk : Type 0 where
     pub coherent : AllCoherent c0 m0
@@ -25,6 +25,8 @@ module _ (t : Table) (fills : FillsExclusiveOnlyAlone t.filled) (shares : Shares
     pub left : LeftByOthers t.on_get_s core line c0 c1
     pub ways : ways_of c1 ≡ ways_of c0
     pub flusher : f ≡ flusher_from 0 t.on_get_s line (tags_of c0)
+    pub supplier : s ≡ supplier_in (first_supplier 0 t.on_get_s line (tags_of c0))
+    pub told : states ≡ states_by_core most_cores line (tags_of c0)
     pub memory : m1 ≡ (if is_some f then slice_set m0 line w else m0)
 
   module _ (h : LoadAsk) where
@@ -63,9 +65,9 @@ module _ (t : Table) (fills : FillsExclusiveOnlyAlone t.filled) (shares : Shares
     flushing : (m1 ≡ flushed line (sent_words t.on_get_s line c0) m0) × ((line_in m1 line ≡ w) ⊎ ((line_in m1 line ≡ line_in m0 line) × ((i : ℕ) → (t.on_get_s (state_of_copy (copy_at c0 i line))).to_memory ≡ false)))
     flushing = flusher (flusher_from 0 t.on_get_s line (tags_of c0)) (sends t.on_get_s line 0 c0) h.flusher
 
-    pub load_ask-transaction : record { transient = IsD; copy = copy_with x w; flushed = f } ≡ transacting t GetS line (current_words c0 m0 line) (tags_of c0) IsD
-    unfolding transacting
-    load_ask-transaction = rw (h.flusher, words_are, state_is) refl
+    pub load_ask-transaction : record { transient = IsD; copy = copy_with x w; request = record { request = GetS; line = line; supplier = Some s; flushed = f; states = states } } ≡ transacting t GetS line (current_words c0 m0 line) (tags_of c0) IsD
+    unfolding transacting requesting
+    load_ask-transaction = rw (h.flusher, words_are, state_is, h.supplier, h.told) refl
 
     pub load_ask-memory : m1 ≡ asked_memory t GetS line c0 m0
     load_ask-memory = flushing.0
@@ -106,6 +108,7 @@ module _ (t : Table) (gives : GivesUp t.on_get_m) (c0 c1 : List Sets) (m : List 
         (write-coherent w (line_in m line) core (λ i. copy_at new i line) (own_line t.on_get_m c0 c1 m m core line (copy_with M w) write_asked)
         (λ i d. others_line t.on_get_m c0 c1 m m core line (copy_with M w) write_asked i d ∙ gives_up t.on_get_m gives (copy_at c0 i line))))
 
-    pub write_ask-transaction : (x : Transient) → record { transient = x; copy = copy_with M w; flushed = None } ≡ transacting t GetM line (current_words c0 m line) (tags_of c0) x
-    unfolding transacting
-    write_ask-transaction x = rw h.words refl
+    pub write_ask-transaction : (x : Transient) (s : Option Supplier) (states : List (Option State)) → s ≡ moved_in x (supplier_in (first_supplier 0 t.on_get_m line (tags_of c0))) → states ≡ states_by_core most_cores line (tags_of c0)
+        → record { transient = x; copy = copy_with M w; request = record { request = GetM; line = line; supplier = s; flushed = None; states = states } } ≡ transacting t GetM line (current_words c0 m line) (tags_of c0) x
+    unfolding transacting requesting
+    write_ask-transaction x s states supplier told = rw (h.words, supplier, told) refl

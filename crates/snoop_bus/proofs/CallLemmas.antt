@@ -1,5 +1,5 @@
 -- What the calls of a bus do, in the bus's own words, from what they do to its caches and memory.
-use Rattle.snoop_bus.proofs.Vocabulary.{◌≡◌, ◌⊎◌, inl, inr, ℕ, ◌<◌, ◌≤◌, ◌*◌, ◌/◌, ◌%◌, Bool, IsTrue, Option, Some, None, List, length, refl, sym, ap, ◌∙◌, Table, Access, Updated, Hierarchy, Geometry, Words, line_in, words_in_lines, rows_of, table_of_rows, Sets, tags_of, HeldBus, counted_copies_of, BusModel, bus_with, current_words, program_words, IsBus, IsCurrentWord, LoadsAt, WritesAt, KeepsHolder, MayGoOn, IsReady, KeepsWords, Loads, Updates, hits, true, false, whole_access, whole_memory}
+use Rattle.snoop_bus.proofs.Vocabulary.{◌≡◌, ◌⊎◌, inl, inr, ℕ, ◌<◌, ◌≤◌, ◌*◌, ◌/◌, ◌%◌, Bool, IsTrue, Option, Some, None, List, length, refl, sym, ap, ◌∙◌, Table, AccessReport, Updated, Hierarchy, Geometry, Words, line_in, words_in_lines, rows_of, table_of_rows, Sets, tags_of, HeldBus, counted_copies_of, BusModel, bus_with, current_words, program_words, IsBus, IsCurrentWord, LoadsAt, WritesAt, KeepsHolder, MayGoOn, IsReady, KeepsWords, Loads, Updates, hits, true, false, whole_access, whole_memory}
 use Rattle.snoop_bus.proofs.RowLemmas.{table_of-rows}
 use Rattle.snoop_bus.proofs.HolderLemmas.{free-held}
 use Rattle.snoop_bus.proofs.WordLemmas.{length-words, line_below, words-get, words-same, words-set}
@@ -42,13 +42,13 @@ module _ (t : Table) (shape : Geometry) (locations : ℕ) (old new : Hierarchy) 
   back : t ≡ table_of_rows (rows_of t)
   back = sym (table_of-rows t)
 
-  pub load_done : (word : ℕ) (access : Access) → 0 < shape.words → locations ≤ length old.memory.items * shape.words → loc < locations →
-      Loads t held core (loc / shape.words) (loc % shape.words) old.caches.items new.caches.items old.memory.items new.memory.items word access →
-      KeepsWords (counted_copies_of held old.caches.items) (counted_copies_of held new.caches.items) old.memory.items new.memory.items → LoadsAt before after core loc word access
-  load_done word access some enough within h keeps = record {
+  pub load_done : (word : ℕ) (report : AccessReport) → 0 < shape.words → locations ≤ length old.memory.items * shape.words → loc < locations →
+      Loads t held core (loc / shape.words) (loc % shape.words) old.caches.items new.caches.items old.memory.items new.memory.items word report →
+      KeepsWords (counted_copies_of held old.caches.items) (counted_copies_of held new.caches.items) old.memory.items new.memory.items → LoadsAt before after core loc word report
+  load_done word report some enough within h keeps = record {
     word_is = words-get shape.words (current_words (counted_copies_of held old.caches.items) old.memory.items) locations loc within ∙ ap (λ (w : ℕ). Some w) (sym h.word_is);
     words = words-same shape.words locations (length old.memory.items) (current_words (counted_copies_of held old.caches.items) old.memory.items) (current_words (counted_copies_of held new.caches.items) new.memory.items) some enough keeps.words;
-    access_is = h.made.access_is ∙ ap (λ (u : Table). (whole_access u false core (loc / shape.words) (tags_of old.caches.items)).access) back;
+    report_is = h.made.report_is ∙ ap (λ (u : Table). (whole_access u false core (loc / shape.words) (tags_of old.caches.items)).report) back;
     contents = h.made.tags ∙ ap (λ (u : Table). (whole_access u false core (loc / shape.words) (tags_of old.caches.items)).caches) back;
     memory = h.made.memory ∙ ap (λ (u : Table). whole_memory u false core (loc / shape.words) old.caches.items old.memory.items) back;
     held = same_holder;
@@ -60,10 +60,10 @@ module _ (t : Table) (shape : Geometry) (locations : ℕ) (old new : Hierarchy) 
     write_word = words-get shape.words (current_words (counted_copies_of held old.caches.items) old.memory.items) locations loc within ∙ ap (λ (w : ℕ). Some w) (sym h.word_is)
 
     -- the word that is written may rest on the one that was there
-    pub write_done : 0 < shape.words → locations ≤ length old.memory.items * shape.words → WritesAt before after core loc x.after x.access
+    pub write_done : 0 < shape.words → locations ≤ length old.memory.items * shape.words → WritesAt before after core loc x.after x.report
     write_done some enough = record {
       words = words-set shape.words locations (length old.memory.items) (current_words (counted_copies_of held old.caches.items) old.memory.items) (current_words (counted_copies_of held new.caches.items) new.memory.items) loc x.after some enough within h.offset_in h.lines;
-      access_is = h.made.access_is ∙ ap (λ (u : Table). (whole_access u true core (loc / shape.words) (tags_of old.caches.items)).access) back;
+      report_is = h.made.report_is ∙ ap (λ (u : Table). (whole_access u true core (loc / shape.words) (tags_of old.caches.items)).report) back;
       contents = h.made.tags ∙ ap (λ (u : Table). (whole_access u true core (loc / shape.words) (tags_of old.caches.items)).caches) back;
       memory = h.made.memory ∙ ap (λ (u : Table). whole_memory u true core (loc / shape.words) old.caches.items old.memory.items) back;
       held = same_holder;

@@ -1,5 +1,5 @@
 -- What a bus has once the access of its holder was completed.
-use Rattle.snoop_bus.proofs.Vocabulary.{◌≡◌, ◌/◌, ◌%◌, ℕ, Option, Some, None, List, length, slice_index, refl, sym, ap, ◌∙◌, Core, Loc, Table, Transient, SmD, Access, Hierarchy, HeldBus, Stage, Locked, M, Transaction, Geometry, Words, state_of_copy, Sets, copy_at, ways_of, victim_at, counted_copies_of, counted_in, holder, held_by, BusModel, bus_with, words_of, holder_of, program_words, current_words, IsSameMachine, IsBus, awaited_in, completed_memory, completed_memory_in, IsCurrentWord, CompletesAt, words_due, Completes, KeepsWords}
+use Rattle.snoop_bus.proofs.Vocabulary.{◌≡◌, ◌/◌, ◌%◌, ℕ, Option, Some, None, List, length, slice_index, refl, sym, ap, ◌∙◌, Core, Loc, Table, Transient, SmD, AccessReport, Hierarchy, HeldBus, Stage, Locked, M, Transaction, Geometry, Words, state_of_copy, Sets, copy_at, ways_of, victim_at, counted_copies_of, counted_in, holder, held_by, BusModel, bus_with, words_of, holder_of, program_words, current_words, IsSameMachine, IsBus, awaited_in, completed_memory, completed_memory_in, IsCurrentWord, CompletesAt, words_due, Completes, KeepsWords}
 use Rattle.cache_set.specs.declared.shape.Target.{Target}
 use Rattle.snoop_bus.proofs.MemoryLemmas.{length-written_back}
 use Rattle.snoop_bus.proofs.WordLemmas.{words-get, words-same}
@@ -37,8 +37,8 @@ module _ (t : Table) (shape : Geometry) (locations : ℕ) (held : Option HeldBus
     known : Holds old.caches.items old.memory.items shape locations core loc stage held h.transaction
     known = rw (ap (λ (x : HeldBus). x.transaction) held_is) some.1
 
-    size : (access : Access) → Completes t h.transaction target.core target.line old new access → length new.memory.items ≡ length old.memory.items
-    size access ok = ap length ok.memory ∙ length-completed t target.core target.line h.transaction old.caches.items old.memory.items
+    size : (report : AccessReport) → Completes t h.transaction target.core target.line old new report → length new.memory.items ≡ length old.memory.items
+    size report ok = ap length ok.memory ∙ length-completed t target.core target.line h.transaction old.caches.items old.memory.items
 
     -- the word that was seen is answered
     pub word_due : (word : ℕ) → word ≡ slice_index (words_due h.transaction target.core target.line old) target.offset → IsCurrentWord now loc.0 word
@@ -47,10 +47,10 @@ module _ (t : Table) (shape : Geometry) (locations : ℕ) (held : Option HeldBus
         ∙ ap (λ (w : ℕ). Some w) (sym (rw s.target_is at e)))
 
     -- what goes by the protocol's table
-    pub completes : (access : Access) (left : Option HeldBus) → Completes t h.transaction target.core target.line old new access → CompletesAt now (bus_with t shape locations new.caches.items new.memory.items left) core.0 loc.0 access
-    completes access left ok =
+    pub completes : (report : AccessReport) (left : Option HeldBus) → Completes t h.transaction target.core target.line old new report → CompletesAt now (bus_with t shape locations new.caches.items new.memory.items left) core.0 loc.0 report
+    completes report left ok =
         let there = rw s.target_is at ok in
-        rw (← s.now_is, known.held_is) (record { access_is = rw (table_of-rows t) there.access_is; contents = rw (table_of-rows t) there.tags; memory = rw (table_of-rows t) there.memory })
+        rw (← s.now_is, known.held_is) (record { report_is = rw (table_of-rows t) there.report_is; contents = rw (table_of-rows t) there.tags; memory = rw (table_of-rows t) there.memory })
 
     pub same_machine : (left : Option HeldBus) → IsSameMachine now (bus_with t shape locations new.caches.items new.memory.items left)
     same_machine left = rw (← s.now_is) (record { rows = refl; shape = refl; cores = same_cores old.caches.items new.caches.items s.ways; locations = refl })
@@ -67,13 +67,13 @@ module _ (t : Table) (shape : Geometry) (locations : ℕ) (held : Option HeldBus
       pub words_beside : (left : HeldBus) → left ≡ held_by core loc Locked h.line None → program_words shape locations (counted_copies_of (Some left) new.caches.items) new.memory.items ≡ words_of now
       words_beside left is = rw is words_stay
 
-      pub freed : (access : Access) → Completes t h.transaction target.core target.line old new access → IsBus shape locations new.caches.items new.memory.items None
-      freed access ok = bus-kept shape locations old new held None s.bus (size access ok) there s.ways tt tt
+      pub freed : (report : AccessReport) → Completes t h.transaction target.core target.line old new report → IsBus shape locations new.caches.items new.memory.items None
+      freed report ok = bus-kept shape locations old new held None s.bus (size report ok) there s.ways tt tt
 
       -- a locked instruction that has read keeps the bus
-      pub locked : (access : Access) (left : HeldBus) → left ≡ held_by core loc Locked h.line None → state_of_copy (copy_at new.caches.items target.core target.line) ≡ M →
-          Completes t h.transaction target.core target.line old new access → IsBus shape locations new.caches.items new.memory.items (Some left)
-      locked access left is own ok = rw (is, held_is)
-          (bus-kept shape locations old new held (Some (held_by core loc Locked (loc.0 / shape.words) None)) s.bus (size access ok) there s.ways
-          (now_held old.caches.items new.caches.items old.memory.items new.memory.items core loc Locked (loc.0 / shape.words) None s.ways known.core_in known.some_set known.within (size access ok) (rw s.target_is at own))
+      pub locked : (report : AccessReport) (left : HeldBus) → left ≡ held_by core loc Locked h.line None → state_of_copy (copy_at new.caches.items target.core target.line) ≡ M →
+          Completes t h.transaction target.core target.line old new report → IsBus shape locations new.caches.items new.memory.items (Some left)
+      locked report left is own ok = rw (is, held_is)
+          (bus-kept shape locations old new held (Some (held_by core loc Locked (loc.0 / shape.words) None)) s.bus (size report ok) there s.ways
+          (now_held old.caches.items new.caches.items old.memory.items new.memory.items core loc Locked (loc.0 / shape.words) None s.ways known.core_in known.some_set known.within (size report ok) (rw s.target_is at own))
           (record { loc_in = known.loc_in; line_is = refl }))

@@ -1,5 +1,5 @@
 -- What a hit answers and leaves.
-use Rattle.snoop_bus.proofs.Vocabulary.{cases_eq, ◌≡◌, ◌≢◌, ◌⊎◌, inl, inr, ℕ, ◌<◌, true, false, nat_eq, Option, Some, None, IfSome, option_map, List, length, map, refl, sym, ap, ◌∙◌, slice_set, slice_index, if◌then◌else◌, WritesInPlace, in_place, Table, State, M, Line, to_front, with_state, Hit, Access, Accessed, used_by, Words, state_of_copy, Sets, in_set, copy_in, copy_at, cache_of, tags_of, ways_of, current_words, AllCoherent, ChangesCopy, Loads, Acquires, HeldBus, counted_copies_of, IsHeld, Bool, next_in_place, whole_access, whole_in, whole_memory_in, IsMadeWhole, KeepsBeside}
+use Rattle.snoop_bus.proofs.Vocabulary.{cases_eq, ◌≡◌, ◌≢◌, ◌⊎◌, inl, inr, ℕ, ◌<◌, true, false, nat_eq, Option, Some, None, IfSome, option_map, List, length, map, refl, sym, ap, ◌∙◌, slice_set, slice_index, if◌then◌else◌, WritesInPlace, in_place, Table, State, M, Line, to_front, with_state, Hit, AccessReport, moving_nothing, Accessed, used_by, Words, state_of_copy, Sets, in_set, copy_in, copy_at, cache_of, tags_of, ways_of, current_words, AllCoherent, ChangesCopy, Loads, Acquires, HeldBus, counted_copies_of, IsHeld, Bool, next_in_place, whole_access, whole_in, whole_memory_in, IsMadeWhole, KeepsBeside}
 use Rattle.snoop_bus.proofs.BesideLemmas.{own_word, held-same, held-placed, counted-same, counted-changes, placed-counts, ways-counted}
 use Rattle.cache_set.proofs.Numbers.{differ, itself}
 use Rattle.snoop_bus.proofs.CurrentWords.{same_copies, same-coherent, same-seen}
@@ -8,14 +8,14 @@ use Rattle.snoop_bus.proofs.AccessLemmas.{whole-here, memory-here}
 use Rattle.snoop_bus.proofs.OwnLemmas.{Owned, owned-coherent, owned-seen}
 use Rattle.snoop_bus.proofs.WriteLemmas.{here_now, written_m, hit_owned}
 
-abbrev hit : Access
-hit = record { kind = Hit; wrote_back = false; flushed = None }
+abbrev hit : AccessReport
+hit = moving_nothing Hit
 
 -- an access in place goes by the table
 made_in_place : (t : Table) (write : Bool) (core line : ℕ) (c0 c2 : List Sets) (m : List Words) (copy : Line) (next : State) → copy_at c0 core line ≡ Some copy → next_in_place t write (Some copy.state) ≡ Some next →
     tags_of c2 ≡ used_by core line next (tags_of c0) → IsMadeWhole t write core line c0 c2 m m hit
 made_in_place t write core line c0 c2 m copy next found writes tags = record {
-  access_is = sym (ap (λ (a : Accessed). a.access) kind);
+  report_is = sym (ap (λ (a : Accessed). a.report) kind);
   tags = tags ∙ sym (ap (λ (a : Accessed). a.caches) kind);
   memory = sym (memory-here t write c0 core line m (Some copy) found ∙ ap (λ x. whole_memory_in t write core line c0 (Some copy.state) x m) writes);
 }

@@ -1,5 +1,5 @@
 -- An ask for a write access, and what an ask leaves.
-use Rattle.snoop_bus.proofs.Vocabulary.{◌≢◌, IfSome, I, S, E, O, SmD, in_place, ◌≡◌, ◌⊎◌, inl, inr, ℕ, ◌<◌, Bool, true, false, not, IsTrue, IsSome, is_some, Option, Some, None, option_map, List, length, refl, sym, ap, ◌∙◌, Core, Loc, Table, transient_of, State, M, GetS, GetM, Transient, IsD, ImD, Line, copy_with, Words, state_of_copy, TagSets, requested, Sets, copy_at, cache_of, tags_of, ways_of, current_words, HeldBus, Transaction, Stage, Load, Write, stage_for, Awaits, IsHeld, held_by, hits, request_for, asked_for, asked_caches, or_invalid, transacting, transaction_of, next_in_place}
+use Rattle.snoop_bus.proofs.Vocabulary.{◌≢◌, IfSome, I, S, E, O, SmD, in_place, ◌≡◌, ◌⊎◌, inl, inr, ℕ, ◌<◌, Bool, true, false, not, IsTrue, IsSome, is_some, Option, Some, None, option_map, List, length, refl, sym, ap, ◌∙◌, Core, Loc, Table, transient_of, State, M, GetS, GetM, Transient, IsD, ImD, Line, copy_with, Words, state_of_copy, TagSets, requested, Sets, copy_at, cache_of, tags_of, ways_of, current_words, HeldBus, BusRequest, Transaction, Stage, Load, Write, stage_for, Awaits, IsHeld, held_by, hits, request_for, asked_for, asked_caches, or_invalid, transacting, transaction_of, next_in_place}
 use Rattle.snoop_bus.proofs.NewLemmas.{same_cores}
 use Rattle.snoop_bus.proofs.AccessLemmas.{tag_here}
 use Rattle.snoop_bus.proofs.HeldLemmas.{same_sets}
@@ -13,12 +13,12 @@ asked_by-copy caches core line = ap (λ (o : Option State). transient_of (or_inv
     by_copy (Some copy) = refl
 
 -- what its copy is then, and what it is where nothing is asked for
-pub write_ask-awaits : (own : Option Line) (x : Transient) (w : Words) → transient_of (state_of_copy own) GetM ≡ Some x → IfSome own (λ copy. copy.state ≢ I) → ((copy : Line) → own ≡ Some copy → copy.words ≡ w) →
-    Awaits Write (Some (record { transient = x; copy = copy_with M w; flushed = None })) own
-write_ask-awaits None x w asks valid same = let is : x ≡ ImD = cc in rw is (λ p. cc, (refl, refl))
-write_ask-awaits (Some copy) x w asks valid same = by_state copy.state refl asks
+pub write_ask-awaits : (own : Option Line) (x : Transient) (w : Words) (q : BusRequest) → transient_of (state_of_copy own) GetM ≡ Some x → IfSome own (λ copy. copy.state ≢ I) → ((copy : Line) → own ≡ Some copy → copy.words ≡ w) →
+    Awaits Write (Some (record { transient = x; copy = copy_with M w; request = q })) own
+write_ask-awaits None x w q asks valid same = let is : x ≡ ImD = cc in rw is (λ p. cc, (refl, refl))
+write_ask-awaits (Some copy) x w q asks valid same = by_state copy.state refl asks
   where
-    by_state : (s : State) → copy.state ≡ s → transient_of s GetM ≡ Some x → Awaits Write (Some (record { transient = x; copy = copy_with M w; flushed = None })) (Some copy)
+    by_state : (s : State) → copy.state ≡ s → transient_of s GetM ≡ Some x → Awaits Write (Some (record { transient = x; copy = copy_with M w; request = q })) (Some copy)
     by_state I e a = absurd (valid e)
     by_state S e a = let is : x ≡ SmD = cc in rw is (λ p. cc, (inl (ap (λ (y : Line). Some y) (rw (← same copy refl, ← e) refl)), refl))
     by_state E e a = cc

@@ -18,10 +18,11 @@ pub use Rattle.cache_set.specs.inner.Cleaning.{clean_copy, words_if_dirty, clean
 pub use Rattle.std.proofs.lemmas.List.{get_or-set_same, get_or-set_other, take-map, map-set, set-get_or, length-map, ext_get_or, set-set, length-set, get_or_past, drop_more, get_or_default, with_items_is, replicate_more, take_all, drop_all, append-nil}
 pub use Rattle.cache_set.specs.Copies.{Sets, copy_in, copy_at, cache_of, tags_of, tags_in, set_at, in_set}
 pub use Rattle.snoop_bus.specs.Bus.{current_words, words_among, AllCoherent, empty_caches, bus_with, BusModel, words_of, holder_of, program_words, IsSameMachine, IsFree, IsCoherent, cores_of}
-pub use Rattle.snoop_bus.specs.CacheContents.{accessed, Accessed}
-pub use Rattle.cache_set.specs.CacheTags.{TagSets, tag_in, tags_at, at_line, sets_of, at_others, requested, is_held, used_by, filled_by, flusher_from, sends_in, writes_back, dirty_in, at_core}
-pub use Rattle.snoop_bus.specs.Asks.{tag_at, asked_memory, hits, request_for, asked_for, asked_caches, or_invalid, awaited_in, completed_memory, completed_memory_in, asking, completed, in_halves, next_in_place, awaited_as, whole_access, whole_in, whole_memory, whole_memory_in}
-unfoldable pub use Rattle.snoop_bus.specs.Asks.{awaiting}
+pub use Rattle.snoop_bus.specs.CacheContents.{accessed, Accessed, departing, evicted_by, missing, moving_nothing, requested_by}
+pub use Rattle.snoop_bus.specs.inner.CacheContents.{was_written_back}
+pub use Rattle.cache_set.specs.CacheTags.{TagSets, tag_in, tags_at, at_line, sets_of, at_others, requested, is_held, used_by, filled_by, flusher_from, first_supplier, states_by_core, sends_in, writes_back, dirty_in, at_core}
+pub use Rattle.snoop_bus.specs.Asks.{tag_at, asked_memory, hits, request_for, asked_for, asked_caches, or_invalid, awaited_in, completed_memory, completed_memory_in, asking, completed, in_halves, with_request, supplier_in, moved_in, next_in_place, awaited_as, whole_access, whole_in, whole_memory, whole_memory_in}
+unfoldable pub use Rattle.snoop_bus.specs.Asks.{awaiting, requesting}
 pub use Rattle.std.specs.Map.{remove_entry, lookup}
 pub use Rattle.std.proofs.lemmas.Option.{slice_get-map, slice_get-get_or}
 pub use Rattle.cache_set.specs.declared.Victim.{Victim}
@@ -50,9 +51,12 @@ pub use Rattle.snoop_bus.specs.declared.access.Updated.{Updated}
 pub use Rattle.snoop_bus.specs.declared.hierarchy.Hierarchy.{Hierarchy}
 pub use Rattle.snoop_bus.specs.declared.holding.HeldBus.{HeldBus}
 pub use Rattle.snoop_bus.specs.Held.{counted_copies_of, with_copy, with_counted_copy, stage_for, holder, holder_in, counted_in}
-pub use Rattle.snoop_bus.specs.inner.Held.{IsHeld, IsPlaced, Awaits, held_by, AskedOf, kept_by, kept_words}
+pub use Rattle.snoop_bus.specs.inner.Held.{request_in, IsHeld, IsPlaced, Awaits, held_by, AskedOf, kept_by, kept_words}
 pub use Rattle.snoop_bus.specs.inner.Accessing.{KeepsWords, SetsWord, Updates, IsReady, Acquires, Loads, Writes, IsMadeWhole, KeepsBeside}
-pub use Rattle.snoop_bus.specs.declared.access.Access.{Access}
+pub use Rattle.snoop_bus.specs.declared.access.AccessReport.{AccessReport}
+pub use Rattle.snoop_bus.specs.declared.access.BusRequest.{BusRequest}
+pub use Rattle.snoop_bus.specs.declared.access.Departure.{Departure}
+pub use Rattle.snoop_bus.specs.declared.access.Supplier.{Supplier}
 pub use Rattle.cache_set.specs.inner.Tags.{clean, cleaned}
 pub use Rattle.protocol_tables.specs.declared.requests.Transient.TheVariants.{IsD, ImD, SmD}
 pub use Rattle.snoop_bus.specs.inner.Asks.{transaction_of, transaction_at}

@@ -3,7 +3,8 @@
 use Rattle.std.specs.Prelude.{◌≡◌, ℕ, ◌/◌, Bool, true, false, Option, Some, None, List, length, slice_get, slice_set}
 use Rattle.std.specs.Int.{div_ceil}
 use Rattle.snoop_bus.specs.Vocabulary.{Core, Loc, State, Table}
-use Rattle.snoop_bus.specs.declared.access.Access.{Access}
+use Rattle.snoop_bus.specs.declared.access.AccessReport.{AccessReport}
+use Rattle.snoop_bus.specs.declared.access.BusRequest.{BusRequest}
 use Rattle.cache_set.specs.Geometry.{Geometry}
 use Rattle.snoop_bus.specs.Rows.{table_of_rows}
 use Rattle.cache_set.specs.Lines.{Words, lines_of_words, line_of_words}
@@ -36,7 +37,7 @@ memory_of b = b.memory
 abbrev pub line_of_location : BusModel → ℕ → ℕ
 line_of_location b loc = loc / b.shape.words
 
--- a core's load at a location: what access it is, and the contents after it
+-- a core's load at a location: what it does, and the contents after it
 abbrev pub load_of : BusModel → ℕ → ℕ → Accessed
 load_of b core loc = whole_access (table_of_rows b.rows) false core (line_of_location b loc) (contents_of b)
 
@@ -63,14 +64,14 @@ IsCurrentWord b loc word = slice_get (words_of b) loc ≡ Some word
 abbrev pub awaited_of : BusModel → Option Awaited
 awaited_of b = awaited_in (transaction_in b.held)
 
--- the first half of a core's access at a location: what it awaits, the contents after it, and memory after it
+-- the first half of a core's access at a location: what goes on the bus, what it awaits, the contents after it, and memory after it
 abbrev pub ask_of : BusModel → ℕ → ℕ → Bool → AskedAccess
 ask_of b core loc write = asking (table_of_rows b.rows) (request_for write) core (line_of_location b loc) (contents_of b)
 
 abbrev pub memory_after_ask : BusModel → ℕ → Bool → List Words
 memory_after_ask b loc write = asked_memory (table_of_rows b.rows) (request_for write) (line_of_location b loc) b.caches b.memory
 
--- the second half: what access it is, the contents after it, and memory after it
+-- the second half: what it does, the contents after it, and memory after it
 abbrev pub completion_of : BusModel → ℕ → ℕ → Accessed
 completion_of b core loc = completed (table_of_rows b.rows) core (line_of_location b loc) (awaited_of b) (contents_of b)
 
@@ -82,28 +83,29 @@ pub record KeepsHolder (old new : BusModel) : Type 0 where
   pub holder_is : holder_of new ≡ holder_of old
   pub awaited_is : awaited_of new ≡ awaited_of old
 
--- a core's load at a location answered this word and was this access: the word is the one that is seen, no word
+-- a core's load at a location answered this word and did this: the word is the one that is seen, no word
 -- that is seen changes, and contents and memory are those after the load
-pub record LoadsAt (old new : BusModel) (core loc word : ℕ) (access : Access) : Type 0 where
+pub record LoadsAt (old new : BusModel) (core loc word : ℕ) (report : AccessReport) : Type 0 where
   pub word_is : IsCurrentWord old loc word
   pub words : words_of new ≡ words_of old
-  pub access_is : access ≡ (load_of old core loc).access
+  pub report_is : report ≡ (load_of old core loc).report
   pub contents : contents_of new ≡ (load_of old core loc).caches
   pub memory : memory_of new ≡ memory_after_load old core loc
   pub held : KeepsHolder old new
 
--- a core's write access at a location wrote this word and was this access: no other word that is seen changes, and
+-- a core's write access at a location wrote this word and did this: no other word that is seen changes, and
 -- contents and memory are those after the write access
-pub record WritesAt (old new : BusModel) (core loc word : ℕ) (access : Access) : Type 0 where
+pub record WritesAt (old new : BusModel) (core loc word : ℕ) (report : AccessReport) : Type 0 where
   pub words : words_of new ≡ slice_set (words_of old) loc word
-  pub access_is : access ≡ (write_of old core loc).access
+  pub report_is : report ≡ (write_of old core loc).report
   pub contents : contents_of new ≡ (write_of old core loc).caches
   pub memory : memory_of new ≡ memory_after_write old core loc
   pub held : KeepsHolder old new
 
--- a core asked for an access at a location: its action holds the bus and awaits what it asked for, no word that is seen
+-- a core asked for an access at a location, and this went on the bus: its action holds the bus and awaits what it asked for, no word that is seen
 -- changes, contents and memory are those after the ask, and the core's own copies are as they were
-pub record AsksFor (old new : BusModel) (core : Core) (loc : Loc) (write : Bool) : Type 0 where
+pub record AsksFor (old new : BusModel) (core : Core) (loc : Loc) (write : Bool) (request : Option BusRequest) : Type 0 where
+  pub request_is : request ≡ (ask_of old core.0 loc.0 write).request
   pub own : cache_of new.caches core.0 ≡ cache_of old.caches core.0
   pub words : words_of new ≡ words_of old
   pub holder_is : holder_of new ≡ Some (holder core loc (stage_for write))
@@ -111,9 +113,9 @@ pub record AsksFor (old new : BusModel) (core : Core) (loc : Loc) (write : Bool)
   pub contents : contents_of new ≡ (ask_of old core.0 loc.0 write).caches
   pub memory : memory_of new ≡ memory_after_ask old loc.0 write
 
--- a core's action at a location was completed and was this access: contents and memory are those after the completion
-pub record CompletesAt (old new : BusModel) (core loc : ℕ) (access : Access) : Type 0 where
-  pub access_is : access ≡ (completion_of old core loc).access
+-- a core's action at a location was completed and did this: contents and memory are those after the completion
+pub record CompletesAt (old new : BusModel) (core loc : ℕ) (report : AccessReport) : Type 0 where
+  pub report_is : report ≡ (completion_of old core loc).report
   pub contents : contents_of new ≡ (completion_of old core loc).caches
   pub memory : memory_of new ≡ memory_after_completion old core loc
 

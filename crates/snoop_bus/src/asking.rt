@@ -2,7 +2,7 @@
 //! core's line. Their copies change at once, so from here on the kept words must count as the core's copy. (Primer, chapter
 //! 7.)
 ghost use Rattle.std.specs.Prelude.{◌≡◌, ◌<◌, Some, None, false, length};
-ghost use Rattle.snoop_bus.specs.Asks.{request_for, asked_caches, asked_memory};
+ghost use Rattle.snoop_bus.specs.Asks.{request_for, asked_caches, asked_memory, supplier_in, moved_in};
 ghost use Rattle.snoop_bus.specs.inner.Asks.{transacting_at, transaction_at, held_after_ask};
 ghost use Rattle.snoop_bus.specs.Held.{with_counted_copy, counted_in, counted_copies_of};
 ghost use Rattle.snoop_bus.specs.inner.Held.{Awaits, IsHeld};
@@ -14,6 +14,7 @@ ghost use Rattle.snoop_bus.specs.declared.holding.Stage.TheVariants.{Write};
 ghost use Rattle.protocol_tables.specs.declared.requests.Request.TheVariants.{GetS, GetM};
 ghost use Rattle.protocol_tables.specs.declared.requests.Transient.TheVariants.{IsD};
 
+use crate::access::{BusRequest, Supplier};
 use crate::hierarchy::Hierarchy;
 use crate::holding::{HeldBus, Stage, Transaction, held_at};
 use cache_set::Line;
@@ -21,6 +22,26 @@ use cache_set::cache::know_sets;
 use cache_set::finding::find;
 use protocol_tables::{Protocol, Request, State, Transient, transient};
 use tso_terms::{Core, Loc};
+
+/// Memory supplies the words where no core does.
+fn supplier_in(core: Option<Core>) -> Supplier
+    ensures { result ≡ supplier_in core }
+{
+    match core {
+        None => Supplier::Memory,
+        Some(core) => Supplier::Cache(core),
+    }
+}
+
+/// Who supplies the words of a line that this is awaited of; `None` in an upgrade, since the core has them.
+fn moved_in(transient: Transient, supplier: Supplier) -> Option<Supplier>
+    ensures { result ≡ moved_in transient supplier }
+{
+    match transient {
+        Transient::SmD => None,
+        Transient::IsD | Transient::ImD => Some(supplier),
+    }
+}
 
 /// What a core asks the bus for: the line of a location, to read the word or to write it.
 #[derive(Clone, Copy)]
@@ -81,10 +102,17 @@ impl Hierarchy {
         let state = protocol.filled(found.shared);
         self.snoop_others(protocol, Request::GetS, core, line, &found.states);
         self.flush(line, words, found.flushed);
+        let supplier = Some(supplier_in(found.supplier));
         Transaction {
             transient: Transient::IsD,
             copy: Line { state, words },
-            flushed: found.flushed,
+            request: BusRequest {
+                request: Request::GetS,
+                line,
+                supplier,
+                flushed: found.flushed,
+                states: found.states,
+            },
         }
     }
 
@@ -119,10 +147,17 @@ impl Hierarchy {
             state: State::M,
             words,
         };
+        let supplier = moved_in(transient, supplier_in(found.supplier));
         Some(Transaction {
             transient,
             copy,
-            flushed: None,
+            request: BusRequest {
+                request: Request::GetM,
+                line,
+                supplier,
+                flushed: None,
+                states: found.states,
+            },
         })
     }
 }

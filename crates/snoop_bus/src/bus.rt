@@ -2,8 +2,8 @@
 //! equal copies, and memory is stale only where a copy is dirty. Every call keeps it, and an access changes no word that is
 //! seen but the one it writes. (Primer, chapters 2, 6 and 7.)
 
-ghost use Rattle.std.specs.Prelude.{◌≡◌, ◌+◌, ◌%◌, ◌^◌, ◌<◌, ◌≤◌, true, false};
-ghost use Rattle.std.specs.Prelude.{Some, IfSome, IfOk, OnOk, OnErr, length, slice_set};
+ghost use Rattle.std.specs.Prelude.{◌≡◌, ◌<◌, ◌≤◌, true, false};
+ghost use Rattle.std.specs.Prelude.{None, Some, IfSome, IfOk, length, slice_set};
 ghost use Rattle.tso_terms.specs.Thread.{updated};
 ghost use Rattle.tso_terms.specs.Limits.{most_locations};
 ghost use Rattle.tso_terms.specs.Limits.{most_cores};
@@ -11,14 +11,14 @@ ghost use Rattle.snoop_bus.specs.Bus.{words_of, holder_of, IsFree, cores_of, IsC
 ghost use Rattle.snoop_bus.specs.Held.{holder};
 ghost use Rattle.snoop_bus.specs.Accesses.{new_bus, contents_of, memory_of};
 ghost use Rattle.snoop_bus.specs.inner.Accesses.{contents_settled, memory_words_of};
-ghost use Rattle.snoop_bus.specs.Accesses.{load_of, write_of, would_hit, awaited_of, completion_of};
+ghost use Rattle.snoop_bus.specs.Accesses.{would_hit, awaited_of};
 ghost use Rattle.snoop_bus.specs.Accesses.{IsCurrentWord, LoadsAt, WritesAt, AsksFor, CompletesAt};
-ghost use Rattle.snoop_bus.specs.inner.Accesses.{MayGoOn, KeepsOut, IsOutOfMemory};
+ghost use Rattle.snoop_bus.specs.inner.Accesses.{MayGoOn, KeepsOut};
 
-use crate::access::{Access, Updated};
+use crate::access::{AccessReport, BusRequest, Updated};
 use crate::asking::Wanted;
 use crate::hierarchy::Hierarchy;
-use crate::holding::{HeldBus, Stage, held_at};
+use crate::holding::{HeldBus, Stage, held_at, request_in};
 use crate::shape::Shape;
 use cache_set::cache::empty_caches;
 use cache_set::lines::lines_of;
@@ -41,11 +41,11 @@ pub const MAX_LOCATIONS: usize = tso_terms::limits::MAX_LOCATIONS;
 /// caches see the request, and the words come from the copy that supplies them or from memory; at the completion
 /// the core's own line is filled, and a victim goes to memory if it is dirty. The line is then at the front of its set.
 ///
-/// `load`, `store`, `swap` and `add` make both halves, and are whole when they return. In between a core's
+/// `read`, `write` and `update` make both halves, and are whole when they return. In between a core's
 /// action may also hold the bus; then only accesses that hit go on.
 ///
-/// The caches take all their memory when they are made. An access answers a `Result` all the same, which leaves room for
-/// caches that take it at a miss.
+/// The caches take all their memory when they are made, so no access fails. The calls of the module `results` answer a
+/// `Result` all the same, which is always `Ok`.
 #[derive(Drop)]
 pub struct SnoopBus<P: Protocol> {
     protocol: P,
@@ -96,116 +96,62 @@ impl<P: Protocol> SnoopBus<P> {
         })
     }
 
-    /// The word at a location, and what the access was. No word that is seen changes, and
+    /// The word at a location, and what the access did. No word that is seen changes, and
     /// who holds the bus stays: beside one who does, only a hit may be made.
-    ///
-    /// Errors: out of memory only, which a hit doesn't take; nothing is changed then.
     #[inline(always)]
-    pub fn load(&mut self, core: Core, loc: Loc) -> Result<(u32, Access), NoMemory>
+    pub fn read(&mut self, core: Core, loc: Loc) -> (u32, AccessReport)
         requires core { core.0 < cores_of self.old }
         requires loc { loc.0 < length (words_of self.old) }
         requires free { MayGoOn self.old core.0 loc.0 false }
 
-        ensures done { IfOk result (λ r. LoadsAt self.old self.new core.0 loc.0 r.0 r.1) }
-        ensures refused { OnErr result (IsOutOfMemory self.old self.new (load_of self.old core.0 loc.0).access) }
+        ensures done { LoadsAt self.old self.new core.0 loc.0 result.0 result.1 }
         ensures coherent { IsCoherent self.new }
         ensures machine { IsSameMachine self.old self.new }
     {
         let target = self.shape.target_of(core, loc);
-        Ok(self.hierarchy.load(&self.protocol, self.held, target))
+        self.hierarchy.load(&self.protocol, self.held, target)
     }
 
-    /// Writes the word at a location. Answers what the access was. No other word that is seen changes.
-    ///
-    /// Errors: out of memory only, which a hit and an upgrade don't take; nothing is changed then.
+    /// Writes the word at a location. Answers what the access did. No other word that is seen changes.
     #[inline(always)]
-    pub fn store(&mut self, core: Core, loc: Loc, value: u32) -> Result<Access, NoMemory>
+    pub fn write(&mut self, core: Core, loc: Loc, value: u32) -> AccessReport
         requires core { core.0 < cores_of self.old }
         requires loc { loc.0 < length (words_of self.old) }
         requires free { MayGoOn self.old core.0 loc.0 true }
 
-        ensures done { IfOk result (λ access. WritesAt self.old self.new core.0 loc.0 value access) }
-        ensures refused { OnErr result (IsOutOfMemory self.old self.new (write_of self.old core.0 loc.0).access) }
+        ensures done { WritesAt self.old self.new core.0 loc.0 value result }
         ensures coherent { IsCoherent self.new }
         ensures machine { IsSameMachine self.old self.new }
     {
-        let (_, access) = self.swap(core, loc, value)?;
-        Ok(access)
-    }
-
-    /// Writes the word at a location. Answers the word that was there, and what the one write access was.
-    ///
-    /// Errors: out of memory only, which a hit and an upgrade don't take; nothing is changed then.
-    #[inline(always)]
-    pub fn swap(&mut self, core: Core, loc: Loc, value: u32) -> Result<(u32, Access), NoMemory>
-        requires core { core.0 < cores_of self.old }
-        requires loc { loc.0 < length (words_of self.old) }
-        requires free { MayGoOn self.old core.0 loc.0 true }
-
-        ensures word { IfOk result (λ r. IsCurrentWord self.old loc.0 r.0) }
-        ensures done { IfOk result (λ r. WritesAt self.old self.new core.0 loc.0 value r.1) }
-        ensures refused { OnErr result (IsOutOfMemory self.old self.new (write_of self.old core.0 loc.0).access) }
-        ensures coherent { IsCoherent self.new }
-        ensures machine { IsSameMachine self.old self.new }
-    {
-        let updated = self.update(core, loc, Update::Exchange, value)?;
-        Ok((updated.before, updated.access))
-    }
-
-    /// Adds to the word at a location, modulo 2^32. Answers the word that was there, and what the one
-    /// write access was.
-    ///
-    /// Errors: out of memory only, which a hit and an upgrade don't take; nothing is changed then.
-    pub fn add(&mut self, core: Core, loc: Loc, value: u32) -> Result<(u32, Access), NoMemory>
-        requires core { core.0 < cores_of self.old }
-        requires loc { loc.0 < length (words_of self.old) }
-        requires free { MayGoOn self.old core.0 loc.0 true }
-
-        ensures word { IfOk result (λ r. IsCurrentWord self.old loc.0 r.0) }
-        ensures done { IfOk result (λ r. WritesAt self.old self.new core.0 loc.0 ((r.0 + value) % 2 ^ 32) r.1) }
-        ensures refused { OnErr result (IsOutOfMemory self.old self.new (write_of self.old core.0 loc.0).access) }
-        ensures coherent { IsCoherent self.new }
-        ensures machine { IsSameMachine self.old self.new }
-    {
-        let updated = self.update(core, loc, Update::Add, value)?;
-        Ok((updated.before, updated.access))
+        self.update(core, loc, Update::Exchange, value).report
     }
 
     /// Makes of the word at a location what the update makes of it and of this value, by one write access.
-    ///
-    /// Errors: out of memory only, which a hit and an upgrade don't take; nothing is changed then.
     #[inline(always)]
-    pub fn update(
-        &mut self,
-        core: Core,
-        loc: Loc,
-        update: Update,
-        value: u32,
-    ) -> Result<Updated, NoMemory>
+    pub fn update(&mut self, core: Core, loc: Loc, update: Update, value: u32) -> Updated
         requires core { core.0 < cores_of self.old }
         requires loc { loc.0 < length (words_of self.old) }
         requires free { MayGoOn self.old core.0 loc.0 true }
 
-        ensures before { IfOk result (λ u. IsCurrentWord self.old loc.0 u.before) }
-        ensures after { IfOk result (λ u. u.after ≡ updated update u.before value) }
-        ensures done { IfOk result (λ u. WritesAt self.old self.new core.0 loc.0 u.after u.access) }
-        ensures refused { OnErr result (IsOutOfMemory self.old self.new (write_of self.old core.0 loc.0).access) }
+        ensures before { IsCurrentWord self.old loc.0 result.before }
+        ensures after { result.after ≡ updated update result.before value }
+        ensures done { WritesAt self.old self.new core.0 loc.0 result.after result.report }
         ensures coherent { IsCoherent self.new }
         ensures machine { IsSameMachine self.old self.new }
     {
         let target = self.shape.target_of(core, loc);
         let Target { core, line, offset } = target;
-        let (words, access) = self
+        let (words, report) = self
             .hierarchy
             .acquire(&self.protocol, self.held, core, line);
         let before = words[usize::from(offset)];
         let after = update.apply(before, value);
         self.hierarchy.write(target, after);
-        Ok(Updated {
+        Updated {
             before,
             after,
-            access,
-        })
+            report,
+        }
     }
 
     /// Whether an access would be a hit, which needs no bus. While another core's write access holds the bus,
@@ -224,14 +170,15 @@ impl<P: Protocol> SnoopBus<P> {
     }
 
     /// The first half of an access that isn't a load's hit. The other caches see the request, where there is
-    /// one, and the core's action holds the bus. No word that is seen changes, and no memory is taken.
-    pub fn ask(&mut self, core: Core, loc: Loc, write: bool)
+    /// one, and the core's action holds the bus. Answers what went on the bus: nothing where a write access hits. No
+    /// word that is seen changes.
+    pub fn ask(&mut self, core: Core, loc: Loc, write: bool) -> Option<BusRequest>
         requires core { core.0 < cores_of self.old }
         requires loc { loc.0 < length (words_of self.old) }
         requires free { IsFree self.old }
         requires misses { write ≡ false → would_hit self.old core.0 loc.0 false ≡ false }
 
-        ensures done { AsksFor self.old self.new core loc write }
+        ensures done { AsksFor self.old self.new core loc write result }
         ensures coherent { IsCoherent self.new }
         ensures machine { IsSameMachine self.old self.new }
     {
@@ -244,20 +191,18 @@ impl<P: Protocol> SnoopBus<P> {
         };
         let held = self.hierarchy.ask(&self.protocol, wanted);
         self.held = Some(held);
+        request_in(held.transaction)
     }
 
     /// The second half of a load that asked: the line comes in, and nobody holds the bus. Answers the word,
-    /// and what the access was. No word that is seen changes.
-    ///
-    /// Errors: out of memory only; nothing is changed then, and the bus is still held.
-    pub fn complete_load(&mut self, core: Core, loc: Loc) -> Result<(u32, Access), NoMemory>
+    /// and what the access did. No word that is seen changes.
+    pub fn read_asked(&mut self, core: Core, loc: Loc) -> (u32, AccessReport)
         requires holds { holder_of self.old ≡ Some (holder core loc Stage.Load) }
 
-        ensures word { IfOk result (λ r. IsCurrentWord self.old loc.0 r.0) }
+        ensures word { IsCurrentWord self.old loc.0 result.0 }
         ensures words { words_of self.new ≡ words_of self.old }
-        ensures done { IfOk result (λ r. CompletesAt self.old self.new core.0 loc.0 r.1) }
-        ensures free { OnOk result (IsFree self.new) }
-        ensures refused { OnErr result (IsOutOfMemory self.old self.new (completion_of self.old core.0 loc.0).access) }
+        ensures done { CompletesAt self.old self.new core.0 loc.0 result.1 }
+        ensures free { IsFree self.new }
         ensures coherent { IsCoherent self.new }
         ensures machine { IsSameMachine self.old self.new }
     {
@@ -267,43 +212,36 @@ impl<P: Protocol> SnoopBus<P> {
             .hierarchy
             .complete_load(&self.protocol, target, held.transaction);
         self.held = None;
-        Ok(done)
+        done
     }
 
     /// The second half of a store that asked: the word is written, and nobody holds the bus. Answers what
-    /// the access was. No other word that is seen changes.
-    ///
-    /// Errors: out of memory only, which only a miss takes; nothing is changed then, and the bus is still
-    /// held.
-    pub fn complete_store(&mut self, core: Core, loc: Loc, value: u32) -> Result<Access, NoMemory>
+    /// the access did. No other word that is seen changes.
+    pub fn write_asked(&mut self, core: Core, loc: Loc, value: u32) -> AccessReport
         requires holds { holder_of self.old ≡ Some (holder core loc Stage.Write) }
 
-        ensures words { OnOk result (words_of self.new ≡ slice_set (words_of self.old) loc.0 value) }
-        ensures done { IfOk result (λ access. CompletesAt self.old self.new core.0 loc.0 access) }
-        ensures free { OnOk result (IsFree self.new) }
-        ensures refused { OnErr result (IsOutOfMemory self.old self.new (completion_of self.old core.0 loc.0).access) }
+        ensures words { words_of self.new ≡ slice_set (words_of self.old) loc.0 value }
+        ensures done { CompletesAt self.old self.new core.0 loc.0 result }
+        ensures free { IsFree self.new }
         ensures coherent { IsCoherent self.new }
         ensures machine { IsSameMachine self.old self.new }
     {
-        let (_, access) = self.complete_read(core, loc)?;
+        let (_, report) = self.lock_asked(core, loc);
         self.complete_write(core, loc, value);
-        Ok(access)
+        report
     }
 
     /// The read of a locked instruction that asked: the line is the core's own, and its action keeps the
-    /// bus, with nothing left to await. Answers the word, and what the one write access was. No word that is
+    /// bus, with nothing left to await. Answers the word, and what the one write access did. No word that is
     /// seen changes.
-    ///
-    /// Errors: out of memory only, which only a miss takes; nothing is changed then.
-    pub fn complete_read(&mut self, core: Core, loc: Loc) -> Result<(u32, Access), NoMemory>
+    pub fn lock_asked(&mut self, core: Core, loc: Loc) -> (u32, AccessReport)
         requires holds { holder_of self.old ≡ Some (holder core loc Stage.Write) }
 
-        ensures word { IfOk result (λ r. IsCurrentWord self.old loc.0 r.0) }
+        ensures word { IsCurrentWord self.old loc.0 result.0 }
         ensures words { words_of self.new ≡ words_of self.old }
-        ensures done { IfOk result (λ r. CompletesAt self.old self.new core.0 loc.0 r.1) }
-        ensures holds { OnOk result (holder_of self.new ≡ Some (holder core loc Stage.Locked)) }
-        ensures awaited { OnOk result (awaited_of self.new ≡ None) }
-        ensures refused { OnErr result (IsOutOfMemory self.old self.new (completion_of self.old core.0 loc.0).access) }
+        ensures done { CompletesAt self.old self.new core.0 loc.0 result.1 }
+        ensures holds { holder_of self.new ≡ Some (holder core loc Stage.Locked) }
+        ensures awaited { awaited_of self.new ≡ None }
         ensures coherent { IsCoherent self.new }
         ensures machine { IsSameMachine self.old self.new }
     {
@@ -313,15 +251,15 @@ impl<P: Protocol> SnoopBus<P> {
             line,
             offset,
         } = self.shape.target_of(core, loc);
-        let (words, access) = self
+        let (words, report) = self
             .hierarchy
             .acquire_asked(&self.protocol, at, line, held.transaction);
         self.held = Some(held_at(core, loc, Stage::Locked, held.line, None));
-        Ok((words[usize::from(offset)], access))
+        (words[usize::from(offset)], report)
     }
 
     /// The write of a locked instruction that has read; then nobody holds the bus. No other word that is
-    /// seen changes, and no memory is taken.
+    /// seen changes.
     pub fn complete_write(&mut self, core: Core, loc: Loc, value: u32)
         requires holds { holder_of self.old ≡ Some (holder core loc Stage.Locked) }
 

@@ -4,8 +4,9 @@
 ghost use Rattle.std.specs.Prelude.{◌≡◌, IfSome};
 ghost use Rattle.snoop_bus.specs.Bus.{holder_of};
 ghost use Rattle.snoop_bus.specs.inner.Accesses.{StandsAlone};
-ghost use Rattle.snoop_bus.specs.inner.Held.{held_by};
+ghost use Rattle.snoop_bus.specs.inner.Held.{request_in, held_by};
 
+use crate::access::BusRequest;
 use crate::bus::SnoopBus;
 use cache_set::Line;
 use protocol_tables::{Protocol, Transient};
@@ -37,8 +38,8 @@ pub struct Transaction {
     pub transient: Transient,
     /// The words that the bus keeps, in the state in which the line is to be filled.
     pub copy: Line,
-    /// The core whose copy was sent to memory on GetS.
-    pub flushed: Option<Core>,
+    /// The request, and what the caches had of the line.
+    pub request: BusRequest,
 }
 
 /// The action that holds the bus, the line of its location, and its transaction; a write access that hits
@@ -64,6 +65,16 @@ pub fn held_at(
         holder: BusAction { core, loc, stage },
         line,
         transaction,
+    }
+}
+
+/// The request of a transaction, if there is one.
+pub fn request_in(transaction: Option<Transaction>) -> Option<BusRequest>
+    ensures { result ≡ request_in transaction }
+{
+    match transaction {
+        None => None,
+        Some(transaction) => Some(transaction.request),
     }
 }
 

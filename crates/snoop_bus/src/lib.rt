@@ -17,12 +17,13 @@ pub mod holding;
 mod loading;
 pub mod looking;
 mod restarting;
+mod results;
 pub mod shape;
 mod snoop;
 pub mod whole_accesses;
 mod writing;
 
-pub use access::{Access, AccessKind, Updated};
+pub use access::{Access, AccessKind, AccessReport, BusRequest, Departure, Supplier, Updated};
 pub use bus::SnoopBus;
 pub use holding::{BusAction, HeldBus, Stage, Transaction};
 pub use looking::CachedLine;

@@ -7,21 +7,21 @@ ghost use Rattle.cache_set.specs.Limits.{most_words};
 ghost use Rattle.cache_set.specs.Copies.{copy_at};
 ghost use Rattle.snoop_bus.specs.inner.Accessing.{IsReady, Loads, KeepsBeside};
 
-use crate::access::{Access, AccessKind};
+use crate::access::{AccessKind, AccessReport};
 use crate::hierarchy::Hierarchy;
 use crate::holding::HeldBus;
 use cache_set::shape::Target;
 use protocol_tables::Protocol;
 
 impl Hierarchy {
-    /// A core's load of a word of a line: the word, and what the access was.
+    /// A core's load of a word of a line: the word, and what the access did.
     #[inline(always)]
     pub fn load<P: Protocol>(
         &mut self,
         protocol: &P,
         held: Option<HeldBus>,
         target: Target,
-    ) -> (u32, Access)
+    ) -> (u32, AccessReport)
         requires ready { IsReady held target.core target.line self.old }
         requires offset { target.offset < most_words }
         requires free { (held ≡ None) ⊎ IsSome (copy_at self.old.caches.items target.core target.line) }
@@ -35,12 +35,13 @@ impl Hierarchy {
             cache.touch(line);
             return (
                 copy.words[usize::from(offset)],
-                Access::quiet(AccessKind::Hit),
+                AccessReport::quiet(AccessKind::Hit),
             );
         }
         // Only a hit goes on beside an action that holds the bus.
         prove!(held.is_none());
-        let transaction = self.ask_load(protocol, core, line);
-        self.complete_load(protocol, target, Some(transaction))
+        let transaction = Some(self.ask_load(protocol, core, line));
+        let (word, report) = self.complete_load(protocol, target, transaction);
+        (word, report.requested_by(transaction))
     }
 }

@@ -3,13 +3,15 @@
 ghost use Rattle.std.specs.Prelude.{◌≡◌, ◌≢◌, ◌<◌, ◌≤◌, ℕ, None, IfSome, length};
 ghost use Rattle.std.specs.Prelude.{slice_set, slice_index_or, is_some, option_map, if◌then◌else◌};
 ghost use Rattle.tso_terms.specs.Limits.{most_cores};
-ghost use Rattle.cache_set.specs.CacheTags.{requested, dirty_in};
+ghost use Rattle.cache_set.specs.CacheTags.{requested};
 ghost use Rattle.cache_set.specs.Copies.{tags_of, cache_of};
 ghost use Rattle.cache_set.specs.inner.Copies.{ways_of, ways_in, copy_state_in, state_at, OnlyAt};
 ghost use Rattle.cache_set.specs.Requests.{snoop_column};
 ghost use Rattle.snoop_bus.specs.inner.Requests.{after_request, copy_left_by, LeftByOthers};
 ghost use Rattle.snoop_bus.specs.MemoryAfter.{written_back};
+ghost use Rattle.snoop_bus.specs.CacheContents.{departing};
 
+use crate::access::Departure;
 use crate::bus::MAX_CORES;
 use crate::hierarchy::Hierarchy;
 use cache_set::cache::Cache;
@@ -67,21 +69,29 @@ impl Hierarchy {
         }
     }
 
-    /// A victim is written to memory if it is dirty. Answers whether it was.
-    pub fn write_back<P: Protocol>(&mut self, protocol: &P, victim: Option<Victim>) -> bool
+    /// A victim is written to memory if it is dirty. Answers that the line left, and whether it was written.
+    pub fn write_back<P: Protocol>(
+        &mut self,
+        protocol: &P,
+        victim: Option<Victim>,
+    ) -> Option<Departure>
         requires { IfSome victim (λ v. v.line < length self.old.memory.items) }
         ensures memory { self.new.memory.items ≡ written_back (P.table protocol.now) victim self.old.memory.items }
-        ensures dirty { result ≡ dirty_in (P.table protocol.now) (option_map (λ v. (v.line, v.content.state)) victim) }
+        ensures left { result ≡ option_map (departing (P.table protocol.now)) (option_map (λ v. (v.line, v.content.state)) victim) }
         ensures caches { self.new.caches.items ≡ self.old.caches.items }
     {
-        if let Some(victim) = victim {
-            if protocol.evicts_dirty(victim.content.state) {
-                let words = victim.content.words;
-                self.memory[usize::from(victim.line)] = words;
-                return true;
-            }
+        let Some(victim) = victim else {
+            return None;
+        };
+        let written_back = protocol.evicts_dirty(victim.content.state);
+        if written_back {
+            let words = victim.content.words;
+            self.memory[usize::from(victim.line)] = words;
         }
-        false
+        Some(Departure {
+            line: victim.line,
+            written_back,
+        })
     }
 
     /// The words of a copy that is sent to memory on GetS go there, if there is one.

@@ -10,7 +10,7 @@ ghost use Rattle.cache_set.specs.inner.Copies.{ways_of};
 ghost use Rattle.snoop_bus.specs.inner.Requests.{ChangesCopy};
 ghost use Rattle.snoop_bus.specs.inner.Accessing.{IsReady, MayWrite, Acquires, KeepsBeside};
 
-use crate::access::{Access, AccessKind};
+use crate::access::{AccessKind, AccessReport};
 use crate::hierarchy::Hierarchy;
 use crate::holding::HeldBus;
 use cache_set::MAX_WORDS;
@@ -19,7 +19,7 @@ use protocol_tables::{Protocol, State};
 
 impl Hierarchy {
     /// A core's write access to a line, but for the word that it writes: the core's copy is then in M, and
-    /// no other core has one. Answers the words that the line has, and what the access was.
+    /// no other core has one. Answers the words that the line has, and what the access did.
     #[inline(always)]
     pub fn acquire<P: Protocol>(
         &mut self,
@@ -27,7 +27,7 @@ impl Hierarchy {
         held: Option<HeldBus>,
         core: usize,
         line: u8,
-    ) -> ([u32; MAX_WORDS], Access)
+    ) -> ([u32; MAX_WORDS], AccessReport)
         requires ready { IsReady held core line self.old }
         requires free { MayWrite (P.table protocol.now) held core line (tags_of self.old.caches.items) }
 
@@ -38,13 +38,14 @@ impl Hierarchy {
             if protocol.written(copy.state).is_some() {
                 let words = copy.words;
                 self.enter(core, line, State::M);
-                return (words, Access::quiet(AccessKind::Hit));
+                return (words, AccessReport::quiet(AccessKind::Hit));
             }
         }
         // Only a hit goes on beside an action that holds the bus.
         prove!(held.is_none());
         let transaction = self.ask_write(protocol, core, line);
-        self.acquire_asked(protocol, core, line, transaction)
+        let (words, report) = self.acquire_asked(protocol, core, line, transaction);
+        (words, report.requested_by(transaction))
     }
 
     /// A core's copy of a line goes to another state than I, and to the front of its set.

@@ -1,4 +1,5 @@
 -- The accesses that a trace tells, and those that are counted.
+use Rattle.multiprocessor.specs.declared.accesses.CacheUse.TheVariants as uses
 use Rattle.trace_report.proofs.Vocabulary.{◌≡◌, ◌∙◌, ℕ, zero, suc, ◌+◌, ◌<◌, ◌==◌, ◌&&◌, Bool, true, false, List, [], ◌∷◌, length, replicate, slice_index_or, Option, Some, None, refl, sym, ap, subst, arith, get_or_past, test-true, test-false, chosen, has_ended, CoresExist, Core, Choice, AccessKind, Hit, Upgrade, Miss, Running, machine_use, machine_after, Statistics, no_counts, with_access, with_forward, with_write_back, with_flush, counts_at_core, flush_counted, with_use_counted, statistics_from, Counts, CacheUse, Unused, Forwarded, Through, length-counted, ShownStep, is_forwarded, access_kind_in, trace_step_of, steps_from, count_of_accesses, is_kind, is_access_of_kind, tells_access, tells_forward, one_if, steps_that, if◌then◌else◌, cases_Bool, inl, inr}
 use Rattle.machine_core.proofs.Changed.{slot}
 
@@ -59,10 +60,11 @@ pub counted-access : (kind : AccessKind) (core k : ℕ) (how : CacheUse) (cs : L
     → count_of_accesses kind (of (with_use_counted core how cs) k) ≡ count_of_accesses kind (of cs k) + one_if ((core == k) && is_access_of_kind kind (access_kind_in how))
 counted-access kind core k Unused cs h = none-told (core == k) (count_of_accesses kind (of cs k))
 counted-access kind core k Forwarded cs h = kept (count_of_accesses kind) core k with_forward cs (forward-kept kind) ∙ none-told (core == k) (count_of_accesses kind (of cs k))
-counted-access kind core k (Through a) cs h =
-    flushed-kept (count_of_accesses kind) k a.flushed (counts_at_core core (λ n. with_write_back a.wrote_back (with_access a.kind n)) cs) (flush-kept kind)
-    ∙ added (count_of_accesses kind) core k (λ n. with_write_back a.wrote_back (with_access a.kind n)) cs (is_kind kind a.kind) h
-    (λ n. written-kept kind a.wrote_back (with_access a.kind n) ∙ access-adds kind a.kind n)
+counted-access kind core k (uses.Asked request) cs h = none-told (core == k) (count_of_accesses kind (of cs k))
+counted-access kind core k (Through r) cs h =
+    flushed-kept (count_of_accesses kind) k r.access.flushed (counts_at_core core (λ n. with_write_back r.access.wrote_back (with_access r.access.kind n)) cs) (flush-kept kind)
+    ∙ added (count_of_accesses kind) core k (λ n. with_write_back r.access.wrote_back (with_access r.access.kind n)) cs (is_kind kind r.access.kind) h
+    (λ n. written-kept kind r.access.wrote_back (with_access r.access.kind n) ∙ access-adds kind r.access.kind n)
 
 -- an access is no load that a core's own stores answer, and sends no copy
 pub through-keeps : (k : AccessKind) (b : Bool) (n : Counts) → ((with_write_back b (with_access k n)).forwards ≡ n.forwards) × ((with_write_back b (with_access k n)).flushes ≡ n.flushes)
@@ -75,9 +77,10 @@ pub counted-forward : (core k : ℕ) (how : CacheUse) (cs : List Counts) → cor
     → (of (with_use_counted core how cs) k).forwards ≡ (of cs k).forwards + one_if ((core == k) && is_forwarded how)
 counted-forward core k Unused cs h = none-told (core == k) (of cs k).forwards
 counted-forward core k Forwarded cs h = added (λ (n : Counts). n.forwards) core k with_forward cs true h (λ n. refl)
-counted-forward core k (Through a) cs h =
-    flushed-kept (λ (n : Counts). n.forwards) k a.flushed (counts_at_core core (λ n. with_write_back a.wrote_back (with_access a.kind n)) cs) (λ n. refl)
-    ∙ (kept (λ (n : Counts). n.forwards) core k (λ n. with_write_back a.wrote_back (with_access a.kind n)) cs (λ n. (through-keeps a.kind a.wrote_back n).0) ∙ none-told (core == k) (of cs k).forwards)
+counted-forward core k (uses.Asked request) cs h = none-told (core == k) (of cs k).forwards
+counted-forward core k (Through r) cs h =
+    flushed-kept (λ (n : Counts). n.forwards) k r.access.flushed (counts_at_core core (λ n. with_write_back r.access.wrote_back (with_access r.access.kind n)) cs) (λ n. refl)
+    ∙ (kept (λ (n : Counts). n.forwards) core k (λ n. with_write_back r.access.wrote_back (with_access r.access.kind n)) cs (λ n. (through-keeps r.access.kind r.access.wrote_back n).0) ∙ none-told (core == k) (of cs k).forwards)
 
 -- ---- along the choices
 

@@ -2,10 +2,12 @@
 -- the caches on either bus makes of them.
 use Rattle.trace_report.proofs.Vocabulary.{◌≡◌, ◌≢◌, ◌∙◌, ◌<◌, ◌/◌, ℕ, Bool, true, false, List, Option, Some, None, inl, inr, refl, sym, ap, subst, MemoryAccess, NoAccess, Reads, Writes, Locks, Holder, HeldBy, chosen, Choice, Table, transient_of, I, E, M, Request, GetS, GetM, Transient, Geometry, table_of_rows, TagSets, tag_in, sets_of, snoop_column, Awaited, tag_at, or_invalid, awaiting, asking, asked_caches_in, Caches, Used, is_awaited, asking_by, completing_by, Unused, IsUseFor, KeepsNoCopyInI, AllNeat, found-valid, all-requested, own-kept, at_access, whole_by, Bus, Outcome, request_for}
 use Rattle.std.specs.Option.{option_map}
+use Rattle.snoop_bus.specs.CacheContents.{evicted_by}
+use Rattle.multiprocessor.specs.declared.accesses.CacheUse.{CacheUse}
+use Rattle.trace_report.specs.Steps.{left_in}
 use Rattle.protocol_tables.specs.declared.state.State.{State}
-use Rattle.multiprocessor.proofs.EachUse.{asks-nothing}
-use Rattle.trace_report.proofs.InPlace.{wrote_in, IsStill, none-still, use-still, is_write_access}
-use Rattle.trace_report.proofs.VictimsLeave.{MayComplete, ComesIn, modified, completed-neat, completed-fills, whole-neat, whole-fills}
+use Rattle.trace_report.proofs.InPlace.{wrote_in, asking-clean, IsStill, none-still, use-still, is_write_access}
+use Rattle.trace_report.proofs.VictimsLeave.{MayComplete, ComesIn, modified, completed-neat, completed-fills, completed-left, whole-neat, whole-fills, whole-left}
 use Rattle.trace_report.proofs.UsesOnBus.{Stays, UsesOn, made, unused, begun, ended}
 
 -- what is awaited may come in, for the line of this access
@@ -31,13 +33,14 @@ abbrev pub NeatAfter : ℕ → Used → Type 0
 NeatAfter lines u = AllNeat lines u.caches.contents
 
 -- the line of the access comes in, and a dirty one gives way to it
-pub record Fills (c : Caches) (core : ℕ) (what : MemoryAccess) : Type 0 where
+pub record Fills (c : Caches) (core : ℕ) (what : MemoryAccess) (how : CacheUse) : Type 0 where
   pub came : ℕ
   pub accessed : at_access None (λ loc write. Some (loc.0 / c.shape.words)) what ≡ Some came
   pub line : ComesIn (table_of_rows c.rows) core came c.contents
+  pub left : left_in how ≡ evicted_by (table_of_rows c.rows) core came c.contents
 
 abbrev pub FillsIf : Caches → ℕ → MemoryAccess → Used → Type 0
-FillsIf c core what u = wrote_in u.how ≡ true → Fills c core what
+FillsIf c core what u = wrote_in u.how ≡ true → Fills c core what u.how
 
 -- ---- it is asked for
 
@@ -78,7 +81,7 @@ completes-neat lines c core _ l may h = completed-neat lines (table_of_rows c.ro
 
 completes-fills : (c : Caches) (core : ℕ) (what : MemoryAccess) → MayMake c core what → FillsIf c core what (completing_by c core what)
 completes-fills c core NoAccess may dirty = absurd (let z : ⊥ = cc in z)
-completes-fills c core _ may dirty = record { came = _; accessed = refl; line = completed-fills (table_of_rows c.rows) core _ c.awaited c.contents may dirty }
+completes-fills c core _ may dirty = record { came = _; accessed = refl; line = completed-fills (table_of_rows c.rows) core _ c.awaited c.contents may dirty; left = completed-left (table_of_rows c.rows) core _ c.awaited c.contents dirty }
 
 -- ---- it is made whole
 
@@ -90,7 +93,7 @@ use-neat lines c core what u is within keeps h = subst (NeatAfter lines) (sym is
 
 whole-fills-by : (c : Caches) (core loc : ℕ) (write : Bool) (what : MemoryAccess) → KeepsNoCopyInI (table_of_rows c.rows) → at_access None (λ at write. Some (at.0 / c.shape.words)) what ≡ Some (loc / c.shape.words)
     → FillsIf c core what (whole_by c core loc write)
-whole-fills-by c core loc write what keeps at dirty = record { came = loc / c.shape.words; accessed = at; line = whole-fills (table_of_rows c.rows) write core (loc / c.shape.words) c.contents keeps dirty }
+whole-fills-by c core loc write what keeps at dirty = record { came = loc / c.shape.words; accessed = at; line = whole-fills (table_of_rows c.rows) write core (loc / c.shape.words) c.contents keeps dirty; left = whole-left (table_of_rows c.rows) write core (loc / c.shape.words) c.contents keeps dirty }
 
 use-fills : (c : Caches) (core : ℕ) (what : MemoryAccess) (u : Used) → IsUseFor c core what u → KeepsNoCopyInI (table_of_rows c.rows) → FillsIf c core what u
 use-fills c core NoAccess u (inl is) keeps = subst (FillsIf c core NoAccess) (sym is) (λ dirty. absurd (let z : ⊥ = cc in z))
@@ -121,8 +124,8 @@ module _ (on : Bus) (c : Caches) (a : Choice) (before after : Choice → MemoryA
     own-may held = subst (λ x. HolderMayMake before x c) held may
 
     pub neat-after : (lines : ℕ) → UsesOn on c a before after holder next o u → IsWithin lines c.shape.words (before a) → AllNeat lines c.contents → NeatAfter lines u
-    neat-after lines (made it why stays nothing) within h = use-neat lines c (chosen a) (before a) u it within keeps h
-    neat-after lines (unused is stays nothing) within h = subst (NeatAfter lines) (sym is) h
+    neat-after lines (made it why stays) within h = use-neat lines c (chosen a) (before a) u it within keeps h
+    neat-after lines (unused is stays) within h = subst (NeatAfter lines) (sym is) h
     neat-after lines (begun split is snoop_column free held same) within h = subst (NeatAfter lines) (sym is) (asks-neat lines c (chosen a) (before a) h)
     neat-after lines (ended split is some held rest) within h = subst (NeatAfter lines) (sym is) (completes-neat lines c (chosen a) (before a) within (own-may held) h)
 
@@ -136,9 +139,9 @@ module _ (on : Bus) (c : Caches) (a : Choice) (before after : Choice → MemoryA
             subst (MayMake u.caches (chosen other)) (sym held.1) (still-may c (chosen a) u (chosen other) (before other) still (subst (λ x. HolderMayMake before x c) held.0 may))
 
         by_use : (other : Choice) → next ≡ HeldBy other → UsesOn on c a before after holder next o u → MayMake u.caches (chosen other) (after other)
-        by_use other q (made it (inl free) stays nothing) = let f = free.2 in absurd (let z : ⊥ = cc in z)
-        by_use other q (made it (inr free) stays nothing) = kept other stays q (use-still c (chosen a) (before a) u it free)
-        by_use other q (unused is stays nothing) = kept other stays q (subst (IsStill c (chosen a)) (sym is) (none-still c (chosen a) Unused refl refl))
+        by_use other q (made it (inl free) stays) = let f = free.2 in absurd (let z : ⊥ = cc in z)
+        by_use other q (made it (inr free) stays) = kept other stays q (use-still c (chosen a) (before a) u it free)
+        by_use other q (unused is stays) = kept other stays q (subst (IsStill c (chosen a)) (sym is) (none-still c (chosen a) Unused refl refl))
         by_use other q (begun split is snoop_column free held same) =
             let this : a ≡ other = cc in
             subst (λ k. MayMake u.caches (chosen k) (after k)) this
@@ -151,8 +154,8 @@ module _ (on : Bus) (c : Caches) (a : Choice) (before after : Choice → MemoryA
 
     -- a choice that writes a line back
     pub fills-by : UsesOn on c a before after holder next o u → FillsIf c (chosen a) (before a) u
-    fills-by (made it why stays nothing) = use-fills c (chosen a) (before a) u it keeps
-    fills-by (unused is stays nothing) = subst (FillsIf c (chosen a) (before a)) (sym is) (λ dirty. absurd (let z : ⊥ = cc in z))
+    fills-by (made it why stays) = use-fills c (chosen a) (before a) u it keeps
+    fills-by (unused is stays) = subst (FillsIf c (chosen a) (before a)) (sym is) (λ dirty. absurd (let z : ⊥ = cc in z))
     fills-by (begun split is snoop free held same) = λ dirty.
-        (let z : false ≡ true = sym (ap wrote_in (asks-nothing c (chosen a) (before a))) ∙ subst (λ (x : Used). wrote_in x.how ≡ true) is dirty in absurd (let y : ⊥ = cc in y))
+        (let z : false ≡ true = sym (asking-clean c (chosen a) (before a)).0 ∙ subst (λ (x : Used). wrote_in x.how ≡ true) is dirty in absurd (let y : ⊥ = cc in y))
     fills-by (ended split is some held rest) = subst (FillsIf c (chosen a) (before a)) (sym is) (completes-fills c (chosen a) (before a) (own-may held))

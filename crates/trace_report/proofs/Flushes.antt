@@ -1,11 +1,11 @@
 -- What a choice makes of the copies that are sent to memory: those that its step tells, those that it counts, and those that are
 -- told already and counted later.
-use Rattle.trace_report.proofs.Vocabulary.{◌≡◌, ◌≢◌, ◌∙◌, ℕ, Bool, true, false, List, Option, Some, None, refl, sym, ap, subst, chosen, MemoryAccess, NoAccess, Holder, Bus, Atomic, Split, Core, Choice, Outcome, Table, transient_of, Request, GetS, GetM, Transient, SmD, table_of_rows, TagSets, Awaited, tag_at, or_invalid, asking, awaiting, completed, completed_in, CacheUse, Unused, Caches, Used, asking_by, is_awaited, nothing_sent, sent_whole, sent_at, sent_on, LineRequest, inl, inr, completing_by, request_for}
+use Rattle.trace_report.proofs.Vocabulary.{◌≡◌, ◌≢◌, ◌∙◌, ◌/◌, ℕ, Bool, true, false, List, Option, Some, None, refl, sym, ap, subst, chosen, MemoryAccess, NoAccess, Holder, Bus, Core, Choice, Outcome, Table, transient_of, Request, GetS, GetM, Transient, SmD, table_of_rows, TagSets, Awaited, tag_at, or_invalid, asked_for, asking, awaiting, requesting, completed, completed_in, next_in_place, whole_in, whole_by, Through, Caches, Used, IsUseFor, asking_by, is_awaited, nothing_sent, sent_by, sent_with, inl, inr, completing_by, request_for}
 use Rattle.std.specs.Option.{option_map}
-use Rattle.tso_terms.specs.declared.choice.Outcome.TheVariants as out
+use Rattle.multiprocessor.specs.Caches.{asking_use}
 use Rattle.protocol_tables.specs.declared.state.State.TheVariants as tag
 use Rattle.protocol_tables.specs.declared.state.State as protocol
-use Rattle.trace_report.proofs.InPlace.{flush_in, use-still, use-keeps, is_write_access}
+use Rattle.trace_report.proofs.InPlace.{flush_in, asking-clean, use-keeps, is_write_access}
 use Rattle.trace_report.proofs.UsesOnBus.{UsesOn, made, unused, begun, ended}
 
 -- whose copy was sent for what is awaited
@@ -39,17 +39,30 @@ asking-quiet t request core line caches = awaiting-quiet t request line caches (
 
 asks-quiet : (c : Caches) (core : ℕ) (what : MemoryAccess) → UpgradesQuietly c.awaited → UpgradesQuietly (asking_by c core what).caches.awaited × (flush_in (asking_by c core what).how ≡ None)
 asks-quiet c core NoAccess quiet = (quiet, refl)
-asks-quiet c core what quiet = (asking-quiet (table_of_rows c.rows) (request_for (is_write_access what)) core _ c.contents, refl)
+asks-quiet c core what quiet = (asking-quiet (table_of_rows c.rows) (request_for (is_write_access what)) core _ c.contents, (asking-clean c core what).1)
 
 -- ---- it is completed
 
-completed-flush : (t : Table) (core line : ℕ) (w : Option Awaited) (caches : List TagSets) → UpgradesQuietly w → (completed t core line w caches).access.flushed ≡ flush_awaited w
+completed-flush : (t : Table) (core line : ℕ) (w : Option Awaited) (caches : List TagSets) → UpgradesQuietly w → (completed t core line w caches).report.access.flushed ≡ flush_awaited w
 completed-flush t core line None caches quiet = refl
 completed-flush t core line (Some x) caches quiet = by_transient x.transient quiet
   where
-    by_transient : (transient : Transient) → (transient ≡ SmD → x.flushed ≡ None) → (completed_in t core line transient x.state x.flushed caches).access.flushed ≡ x.flushed
+    by_transient : (transient : Transient) → (transient ≡ SmD → x.flushed ≡ None) → (completed_in t core line transient x.state x.flushed caches).report.access.flushed ≡ x.flushed
     by_transient SmD q = sym (q refl)
     by_transient _ q = refl
+
+-- and nothing is told of it
+pub completed-request : (t : Table) (core line : ℕ) (w : Option Awaited) (caches : List TagSets) → (completed t core line w caches).report.request ≡ None
+completed-request t core line None caches = refl
+completed-request t core line (Some x) caches = by_transient x.transient
+  where
+    by_transient : (transient : Transient) → (completed_in t core line transient x.state x.flushed caches).report.request ≡ None
+    by_transient SmD = refl
+    by_transient _ = refl
+
+pub completes-untold : (c : Caches) (core : ℕ) (what : MemoryAccess) → sent_by (completing_by c core what).how ≡ nothing_sent
+completes-untold c core NoAccess = refl
+completes-untold c core _ = ap sent_with (completed-request (table_of_rows c.rows) core _ c.awaited c.contents)
 
 -- then nothing is awaited any more
 completes-flush : (c : Caches) (core : ℕ) (what : MemoryAccess) → what ≢ NoAccess → UpgradesQuietly c.awaited
@@ -57,40 +70,53 @@ completes-flush : (c : Caches) (core : ℕ) (what : MemoryAccess) → what ≢ N
 completes-flush c core NoAccess some quiet = absurd (some refl)
 completes-flush c core _ some quiet = (completed-flush (table_of_rows c.rows) core _ c.awaited c.contents quiet, refl)
 
+-- ---- it is told where it is asked for
+
+asked-told : (t : Table) (request : Request) (line : ℕ) (caches : List TagSets) (o : Option Transient)
+    → (sent_by (asking_use (option_map (requesting t request line caches) o))).flushed ≡ flush_awaited (option_map (awaiting t request line caches) o)
+unfolding awaiting requesting
+asked-told t request line caches None = refl
+asked-told t request line caches (Some x) = refl
+
+asks-told : (c : Caches) (core : ℕ) (what : MemoryAccess) → flush_awaited c.awaited ≡ None → (sent_by (asking_by c core what).how).flushed ≡ flush_awaited (asking_by c core what).caches.awaited
+asks-told c core NoAccess resting = sym resting
+asks-told c core what resting =
+    asked-told (table_of_rows c.rows) (request_for (is_write_access what)) _ c.contents (asked_for (request_for (is_write_access what)) core _ c.contents)
+
+-- ---- and with an access that is made whole
+
+whole-told : (t : Table) (write : Bool) (core line : ℕ) (caches : List TagSets) (copy next : Option protocol.State)
+    → (sent_by (Through (whole_in t write core line caches copy next).report)).flushed ≡ flush_in (Through (whole_in t write core line caches copy next).report)
+unfolding awaiting requesting
+whole-told t write core line caches copy (Some next) = refl
+whole-told t true core line caches None None = refl
+whole-told t true core line caches (Some state) None = refl
+whole-told t false core line caches copy None = refl
+
+whole-told-by : (c : Caches) (core loc : ℕ) (write : Bool) → (sent_by (whole_by c core loc write).how).flushed ≡ flush_in (whole_by c core loc write).how
+whole-told-by c core loc write =
+    let line = loc / c.shape.words in
+    whole-told (table_of_rows c.rows) write core line c.contents (tag_at core line c.contents) (next_in_place (table_of_rows c.rows) write (tag_at core line c.contents))
+
+use-told : (c : Caches) (core : ℕ) (what : MemoryAccess) (u : Used) → IsUseFor c core what u → (sent_by u.how).flushed ≡ flush_in u.how
+use-told c core NoAccess u (inl is) = rw is refl
+use-told c core NoAccess u (inr is) = rw is refl
+use-told c core what u is = rw is (whole-told-by c core _ (is_write_access what))
+
 -- ---- a choice on either bus
 
-pub none-sent : (o : Outcome) (r : Option LineRequest) → sent_at o r None ≡ nothing_sent
-none-sent out.Committed r = refl
-none-sent _ r = refl
+module _ (c : Caches) (a : Choice) (before after : Choice → MemoryAccess) (holder next : Holder) (o : Outcome) (u : Used) (quiet : UpgradesQuietly c.awaited)
+    (resting : is_awaited holder ≡ false → flush_awaited c.awaited ≡ None) where
+  abbrev TurnsOn : Type 0
+  TurnsOn = Turns (is_awaited holder) (is_awaited next) c.awaited u.caches.awaited (sent_by u.how).flushed (flush_in u.how)
 
-asked-told : (r : Option LineRequest) (w : Option Awaited) → (sent_at out.Asked r w).flushed ≡ flush_awaited w
-asked-told r None = refl
-asked-told r (Some x) = refl
-
-whole-told : (r : Option LineRequest) (how : CacheUse) → (sent_whole r how).flushed ≡ flush_in how
-whole-told r Unused = refl
-whole-told r _ = refl
-
-module _ (r : Option LineRequest) (c : Caches) (a : Choice) (before after : Choice → MemoryAccess) (holder next : Holder) (o : Outcome) (u : Used) (quiet : UpgradesQuietly c.awaited) where
-  abbrev TurnsOn : Bus → Type 0
-  TurnsOn on = Turns (is_awaited holder) (is_awaited next) c.awaited u.caches.awaited (sent_on on o r u.how u.caches.awaited).flushed (flush_in u.how)
-
-  pub choice-turn : (on : Bus) → UsesOn on c a before after holder next o u → TurnsOn on
-  choice-turn Atomic (made it why stays nothing) = whole (whole-told r u.how) (use-keeps c (chosen a) (before a) u it).1 stays.waits
-  choice-turn Split (made it (inl free) stays nothing) = absurd (let q = free.0 in let z : ⊥ = cc in z)
-  choice-turn Split (made it (inr free) stays nothing) =
-      let still = use-still c (chosen a) (before a) u it free in
-      whole (ap (λ x. x.flushed) (nothing r u.caches.awaited) ∙ sym still.unsent) still.awaited stays.waits
-  choice-turn Atomic (unused is stays nothing) = whole (whole-told r u.how) (ap (λ (x : Used). x.caches.awaited) is) stays.waits
-  choice-turn Split (unused is stays nothing) =
-      whole (ap (λ x. x.flushed) (nothing r u.caches.awaited) ∙ sym (ap (λ (x : Used). flush_in x.how) is)) (ap (λ (x : Used). x.caches.awaited) is) stays.waits
-  choice-turn Atomic (begun split is outcome free held same) = absurd (let z : ⊥ = cc in z)
-  choice-turn Split (begun split is outcome free held same) =
+  pub choice-turn : (on : Bus) → UsesOn on c a before after holder next o u → TurnsOn
+  choice-turn on (made it why stays) = whole (use-told c (chosen a) (before a) u it) (use-keeps c (chosen a) (before a) u it).1 stays.waits
+  choice-turn on (unused is stays) = whole (rw is refl) (ap (λ (x : Used). x.caches.awaited) is) stays.waits
+  choice-turn on (begun split is outcome free held same) =
       let q = asks-quiet c (chosen a) (before a) quiet in
-      asked (ap (λ x. (sent_at x r u.caches.awaited).flushed) outcome ∙ asked-told r u.caches.awaited) (ap (λ (x : Used). flush_in x.how) is ∙ q.1) (ap is_awaited free) (ap is_awaited held)
-      (subst (λ (x : Used). UpgradesQuietly x.caches.awaited) (sym is) q.0)
-  choice-turn Atomic (ended split is some held rest) = absurd (let z : ⊥ = cc in z)
-  choice-turn Split (ended split is some held rest) =
+      asked (subst (λ (x : Used). (sent_by x.how).flushed ≡ flush_awaited x.caches.awaited) (sym is) (asks-told c (chosen a) (before a) (resting (ap is_awaited free))))
+      (ap (λ (x : Used). flush_in x.how) is ∙ q.1) (ap is_awaited free) (ap is_awaited held) (subst (λ (x : Used). UpgradesQuietly x.caches.awaited) (sym is) q.0)
+  choice-turn on (ended split is some held rest) =
       let f = completes-flush c (chosen a) (before a) some quiet in
-      let none = ap (λ (x : Used). x.caches.awaited) is ∙ f.1 in
-      arrived (ap (λ w. (sent_at o r w).flushed) none ∙ ap (λ x. x.flushed) (none-sent o r)) (ap (λ (x : Used). flush_in x.how) is ∙ f.0) none
+      arrived (ap (λ (x : Used). (sent_by x.how).flushed) is ∙ ap (λ x. x.flushed) (completes-untold c (chosen a) (before a))) (ap (λ (x : Used). flush_in x.how) is ∙ f.0) (ap (λ (x : Used). x.caches.awaited) is ∙ f.1)

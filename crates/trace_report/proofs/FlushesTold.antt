@@ -1,6 +1,8 @@
 -- The flushes that a trace tells, and those that are counted.
-use Rattle.trace_report.proofs.Vocabulary.{◌≡◌, ◌∙◌, ℕ, ◌+◌, ◌==◌, ◌&&◌, Bool, true, false, List, [], ◌∷◌, length, map, Option, Some, None, refl, sym, ap, subst, arith, length-replicate, length-map, Litmus, chosen, core_of, has_ended, MemoryAccess, access_of, BusRun, Core, Choice, Table, Entry, tags_in, Configuration, AllStores, start-stores, LiveIn, live-after, live-start, Caches, is_awaited, used_between, no_counts, with_access, with_forward, with_write_back, with_flush, counts_at_core, flush_counted, with_use_counted, Counts, CacheUse, Unused, Forwarded, Through, Running, new_machine, attempt_on, machine_use, machine_after, length-counted, trace_step_of, steps_from, request_at, is_sender, tells_flush, one_if, steps_that, CoresExist, cases_Bool, ended-free, inl, inr, machine_effect, IsAmong, IsFlusherAmong, IsSenderAmong}
+use Rattle.multiprocessor.specs.declared.accesses.CacheUse.TheVariants as uses
+use Rattle.trace_report.proofs.Vocabulary.{◌≡◌, ◌∙◌, ℕ, ◌+◌, ◌==◌, ◌&&◌, Bool, true, false, List, [], ◌∷◌, length, map, Option, Some, None, refl, sym, ap, subst, arith, length-replicate, length-map, Litmus, chosen, core_of, has_ended, MemoryAccess, access_of, BusRun, Core, Choice, Table, Entry, tags_in, Configuration, AllStores, start-stores, LiveIn, live-after, live-start, Caches, is_awaited, used_between, no_counts, with_access, with_forward, with_write_back, with_flush, counts_at_core, flush_counted, with_use_counted, Counts, CacheUse, Unused, Forwarded, Through, Running, new_machine, attempt_on, machine_use, machine_after, length-counted, trace_step_of, steps_from, is_sender, tells_flush, one_if, steps_that, CoresExist, cases_Bool, ended-free, inl, inr, machine_effect, IsAmong, IsFlusherAmong, IsSenderAmong}
 use Rattle.std.proofs.Common.{length-set}
+use Rattle.snoop_bus.specs.Asks.{Awaited}
 use Rattle.snoop_bus.specs.Bus.{empty_caches}
 use Rattle.multiprocessor.proofs.CountsOnBus.{senders}
 use Rattle.trace_report.proofs.AccessesTold.{of, kept, added, counts_after, end_of, summed, through-keeps}
@@ -24,10 +26,11 @@ sender-adds k (Some core) cs among =
 counted-flush : (core k : ℕ) (how : CacheUse) (cs : List Counts) → IsFlusherAmong (length cs) how → (of (with_use_counted core how cs) k).flushes ≡ (of cs k).flushes + one_if (is_sender k (flush_in how))
 counted-flush core k Unused cs among = omega arith
 counted-flush core k Forwarded cs among = kept (λ (n : Counts). n.flushes) core k with_forward cs (λ n. refl) ∙ (omega arith)
-counted-flush core k (Through a) cs among =
-    let change : Counts → Counts = λ n. with_write_back a.wrote_back (with_access a.kind n) in
-    sender-adds k a.flushed (counts_at_core core change cs) (subst (λ size. IsAmong size a.flushed) (sym (length-set cs core (change (of cs core)))) among)
-    ∙ ap (λ n. n + one_if (is_sender k a.flushed)) (kept (λ (n : Counts). n.flushes) core k change cs (λ n. (through-keeps a.kind a.wrote_back n).1))
+counted-flush core k (uses.Asked request) cs among = omega arith
+counted-flush core k (Through r) cs among =
+    let change : Counts → Counts = λ n. with_write_back r.access.wrote_back (with_access r.access.kind n) in
+    sender-adds k r.access.flushed (counts_at_core core change cs) (subst (λ size. IsAmong size r.access.flushed) (sym (length-set cs core (change (of cs core)))) among)
+    ∙ ap (λ n. n + one_if (is_sender k r.access.flushed)) (kept (λ (n : Counts). n.flushes) core k change cs (λ n. (through-keeps r.access.kind r.access.wrote_back n).1))
 
 -- ---- the caches stay as many
 
@@ -75,14 +78,34 @@ TurnsOn m c =
 turn : (m : Running) (c : Choice) → IsSound m → TurnsOn m c
 unfolding trace_step_of
 turn m c s =
-    choice-turn (request_at m.statistics.caches.shape.words (access_of m.test m.depth m.state.flat c)) m.statistics.caches c (access_of m.test m.depth m.state.flat) (access_of m.test m.depth (machine_after m c).state.flat)
-    m.state.holder (machine_after m c).state.holder (machine_effect m c).effect.outcome (machine_use m c) s.quiet m.bus (uses-of m c s).0
+    choice-turn m.statistics.caches c (access_of m.test m.depth m.state.flat) (access_of m.test m.depth (machine_after m c).state.flat)
+    m.state.holder (machine_after m c).state.holder (machine_effect m c).effect.outcome (machine_use m c) s.quiet s.resting m.bus (uses-of m c s).0
 
 among-all : (m : Running) (c : Choice) → IsSound m
     → IsFlusherAmong (length m.statistics.caches.contents) (machine_use m c).how × IsSenderAmong (length m.statistics.caches.contents) (machine_use m c).caches.awaited
 among-all m c s =
     senders (is_awaited m.state.holder) (is_awaited (machine_effect m c).holder) m.statistics.caches (chosen c) (access_of m.test m.depth m.state.flat c) (core_of m.state.flat (chosen c)).pending
     (machine_effect m c).effect.commits s.sender
+
+-- whose copy a step tells as sent is one of the cores
+pub told-among : (m : Running) (c : Choice) → IsSound m → IsAmong (length m.statistics.caches.contents) (trace_step_of m c).flushed
+told-among m c s = by_turn (turn m c s)
+  where
+    size : ℕ
+    size = length m.statistics.caches.contents
+
+    of_use : (how : CacheUse) → IsFlusherAmong size how → IsAmong size (flush_in how)
+    of_use (Through r) among = among
+    of_use _ among = tt
+
+    of_awaited : (w : Option Awaited) → IsSenderAmong size w → IsAmong size (flush_awaited w)
+    of_awaited None among = tt
+    of_awaited (Some x) among = among
+
+    by_turn : TurnsOn m c → IsAmong size (trace_step_of m c).flushed
+    by_turn (whole told after waits) = subst (IsAmong size) (sym told) (of_use (machine_use m c).how (among-all m c s).0)
+    by_turn (asked told how waits next quiet) = subst (IsAmong size) (sym told) (of_awaited (machine_use m c).caches.awaited (among-all m c s).1)
+    by_turn (arrived told how after) = subst (IsAmong size) (sym told) tt
 
 pub sound-after : (m : Running) (c : Choice) → IsSound m → IsSound (machine_after m c)
 sound-after m c s =

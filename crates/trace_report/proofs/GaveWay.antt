@@ -1,54 +1,20 @@
 -- The line that a step tells as written back is the one that gave way in its set; and where one is written back it is told.
-use Rattle.trace_report.proofs.Vocabulary.{arith, ◌∷◌, ◌≡◌, ◌∙◌, ◌⊎◌, ◌-◌, ◌<◌, ◌≤◌, ◌/◌, ◌%◌, ◌==◌, ◌&&◌, ℕ, Bool, true, false, nat_lt, if◌then◌else◌, List, [], length, slice_get, slice_index_or, Option, Some, None, is_some, option_map, inl, inr, refl, sym, ap, subst, replicate, nat_tests, length-map, length-replicate, get_or-replicate, get_or_past, get_or-map, lt-or, Litmus, IsTest, chosen, MemoryAccess, NoAccess, access_of, Choice, Table, table_of_rows, TagSet, leaving, TagSets, tags_at, sets_of, dirty_in, Configuration, Caches, at_access, Running, new_machine, machine_use, machine_after, CacheUse, Through, no_set, sets-leave, request_at, number_of_lines, last_line, among, giving_way, wrote_back_by, WriteBacksAreTold, after_choices, KeepsNoCopyInI, tells_write_back}
+use Rattle.trace_report.proofs.Vocabulary.{arith, [], ◌∷◌, ◌≡◌, ◌∙◌, ◌<◌, ◌/◌, ◌==◌, ◌&&◌, ℕ, Bool, true, false, nat_lt, if◌then◌else◌, List, length, Option, Some, None, is_some, refl, sym, ap, subst, nat_tests, Litmus, IsTest, chosen, core_of, MemoryAccess, access_of, Choice, Table, table_of_rows, leaving, TagSets, tags_at, sets_of, dirty_in, Configuration, Caches, is_awaited, Running, new_machine, machine_use, machine_after, machine_effect, sets-leave, number_of_lines, among, left_in, written_line, WriteBacksAreTold, after_choices, KeepsNoCopyInI, tells_write_back}
+use Rattle.std.specs.Option.{option_map}
+use Rattle.snoop_bus.specs.CacheContents.{departing}
+use Rattle.snoop_bus.specs.inner.CacheContents.{was_written_back}
+use Rattle.snoop_bus.specs.declared.access.BusRequest.{BusRequest}
+use Rattle.snoop_bus.specs.declared.access.Departure.{Departure}
+use Rattle.multiprocessor.specs.Caches.{asking_use}
+use Rattle.multiprocessor.proofs.EachUse.{each-use}
 use Rattle.protocol_tables.specs.declared.state.State as protocol
 use Rattle.trace_report.specs.Steps as steps
 use Rattle.trace_report.proofs.Awaiting.{Fills}
-use Rattle.trace_report.proofs.Kept.{rooms_in, IsKept, fills-of, kept-first, kept-along}
-use Rattle.trace_report.proofs.Rooms.{room_of, rooms_of}
-use Rattle.trace_report.proofs.InPlace.{wrote_in}
+use Rattle.trace_report.proofs.Kept.{IsKept, fills-of, kept-first, kept-along}
+use Rattle.trace_report.proofs.InPlace.{wrote_in, IsConsistent}
+use Rattle.trace_report.proofs.VictimsLeave.{completed-consistent, whole-consistent}
 
 -- ---- the line that gives way
-
--- it is the last of its set, by the shape of the caches too
-last-there : (m : Running) (core came : ℕ) (v : ℕ × protocol.State) → rooms_of m.statistics.caches.contents ≡ rooms_in m → core < length m.test.programs
-    → leaving (tags_at (sets_of m.statistics.caches.contents core) came) ≡ Some v → last_line m core (came % m.statistics.caches.shape.sets) ≡ Some v.0
-last-there m core came v rooms within leaves = by_place (lt-or (length sets) place)
-  where
-    sets : TagSets
-    sets = sets_of m.statistics.caches.contents core
-
-    place : ℕ
-    place = came % length sets
-
-    room : room_of sets ≡ replicate m.statistics.caches.shape.sets m.statistics.caches.shape.ways
-    room = sym (get_or-map room_of m.statistics.caches.contents core []) ∙ (ap (λ rs. slice_index_or rs core []) rooms ∙ get_or-replicate (length m.test.programs) core _ [] within)
-
-    sized : length sets ≡ m.statistics.caches.shape.sets
-    sized = sym (length-map sets (λ (s : TagSet). s.ways)) ∙ (ap length room ∙ length-replicate m.statistics.caches.shape.sets m.statistics.caches.shape.ways)
-
-    by_place : (place < length sets) ⊎ (length sets ≤ place) → last_line m core (came % m.statistics.caches.shape.sets) ≡ Some v.0
-    by_place (inl l) =
-        let ways : (slice_index_or sets place no_set).ways ≡ m.statistics.caches.shape.ways =
-        sym (get_or-map (λ (s : TagSet). s.ways) sets place no_set) ∙ (ap (λ r. slice_index_or r place 1) room
-        ∙ get_or-replicate m.statistics.caches.shape.sets place m.statistics.caches.shape.ways 1 (subst (λ n. place < n) sized l)) in
-        ap (option_map (λ tag. tag.0)) (subst (λ n. slice_get (slice_index_or sets (came % n) no_set).tags (m.statistics.caches.shape.ways - 1) ≡ Some v) sized
-        (subst (λ n. slice_get (slice_index_or sets place no_set).tags (n - 1) ≡ Some v) ways leaves))
-    by_place (inr past) =
-        let none : leaving no_set ≡ Some v = subst (λ s. leaving s ≡ Some v) (get_or_past sets place no_set past) leaves in absurd (let z : ⊥ = cc in z)
-
--- it is told where the line that comes in is asked for
-asked-there : (m : Running) (core came : ℕ) (what : MemoryAccess) → at_access None (λ loc write. Some (loc.0 / m.statistics.caches.shape.words)) what ≡ Some came
-    → giving_way m core (request_at m.statistics.caches.shape.words what) ≡ among (number_of_lines m) (last_line m core (came % m.statistics.caches.shape.sets))
-asked-there m core came what at = by_access what at
-  where
-    here : (line : ℕ) → Some line ≡ Some came
-        → among (number_of_lines m) (last_line m core (line % m.statistics.caches.shape.sets)) ≡ among (number_of_lines m) (last_line m core (came % m.statistics.caches.shape.sets))
-    here line q = let same : line ≡ came = cc in ap (λ l. among (number_of_lines m) (last_line m core (l % m.statistics.caches.shape.sets))) same
-
-    by_access : (what : MemoryAccess) → at_access None (λ loc write. Some (loc.0 / m.statistics.caches.shape.words)) what ≡ Some came
-        → giving_way m core (request_at m.statistics.caches.shape.words what) ≡ among (number_of_lines m) (last_line m core (came % m.statistics.caches.shape.sets))
-    by_access NoAccess q = absurd (let z : ⊥ = cc in z)
-    by_access _ q = here _ q
 
 among-these : (lines line : ℕ) → line < lines → among lines (Some line) ≡ Some line
 among-these lines line l = let there : nat_lt line lines ≡ true = grind (arith, nat_tests, l) in rw there refl
@@ -58,10 +24,10 @@ asked_by m choice = access_of m.test m.depth m.state.flat choice
 
 -- where a dirty line is written back
 record Gives (m : Running) (choice : Choice) : Type 0 where
-  fills : Fills m.statistics.caches (chosen choice) (asked_by m choice)
+  fills : Fills m.statistics.caches (chosen choice) (asked_by m choice) (machine_use m choice).how
   victim : ℕ × protocol.State
   last : leaving (tags_at (sets_of m.statistics.caches.contents (chosen choice)) fills.came) ≡ Some victim
-  told : giving_way m (chosen choice) (request_at m.statistics.caches.shape.words (asked_by m choice)) ≡ Some victim.0
+  told : among (number_of_lines m) (written_line (left_in (machine_use m choice).how)) ≡ Some victim.0
 
 gives : (m : Running) (choice : Choice) → IsKept m → chosen choice < length m.statistics.counts → wrote_in (machine_use m choice).how ≡ true → Gives m choice
 gives m choice k there dirty = by_victim (leaving (tags_at sets f.came)) refl
@@ -75,7 +41,7 @@ gives m choice k there dirty = by_victim (leaving (tags_at sets f.came)) refl
     sets : TagSets
     sets = sets_of caches.contents core
 
-    f : Fills caches core (asked_by m choice)
+    f : Fills caches core (asked_by m choice) (machine_use m choice).how
     f = fills-of m choice k dirty
 
     by_victim : (o : Option (ℕ × protocol.State)) → leaving (tags_at sets f.came) ≡ o → Gives m choice
@@ -84,38 +50,48 @@ gives m choice k there dirty = by_victim (leaving (tags_at sets f.came)) refl
       fills = f;
       victim = v;
       last = q;
-      told = asked-there m core f.came (asked_by m choice) f.accessed ∙ (ap (among (number_of_lines m)) (last-there m core f.came v k.rooms (subst (λ n. core < n) k.cores there) q)
+      told = ap (λ o. among (number_of_lines m) (written_line o)) (f.left ∙ ap (option_map (departing (table_of_rows caches.rows))) q)
+          ∙ (ap (λ b. among (number_of_lines m) (if b then Some v.0 else None)) (sym (ap (dirty_in (table_of_rows caches.rows)) q) ∙ f.line.writes)
           ∙ among-these (number_of_lines m) v.0 (sets-leave (number_of_lines m) f.came v.1 sets v (k.neat core) f.line.absent q).within);
     }
 
 -- ---- what a step tells
 
-told-where : (how : CacheUse) (victim : Option ℕ) → (wrote_in how ≡ true → is_some victim ≡ true) → is_some (wrote_back_by how victim) ≡ wrote_in how
-told-where (Through a) victim h = by_test a.wrote_back h
-  where
-    by_test : (b : Bool) → (b ≡ true → is_some victim ≡ true) → is_some (if b then victim else None) ≡ b
-    by_test true h = h refl
-    by_test false h = refl
-told-where _ victim h = refl
+-- what a choice does with the caches tells a line exactly where it says that one was written back
+asking-consistent : (o : Option BusRequest) → IsConsistent (asking_use o)
+asking-consistent None = refl
+asking-consistent (Some request) = refl
+
+consistent : (m : Running) (c : Choice) → IsConsistent (machine_use m c).how
+consistent m c =
+    let f = machine_effect m c in
+    let caches = m.statistics.caches in
+    let t = table_of_rows caches.rows in
+    each-use (λ u. IsConsistent u.how) caches refl refl (λ k loc write. whole-consistent t write k (loc / caches.shape.words) caches.contents) (chosen c) (λ loc write. asking-consistent _)
+    (λ loc. completed-consistent t (chosen c) (loc / caches.shape.words) caches.awaited caches.contents) (is_awaited m.state.holder) (is_awaited f.holder) (access_of m.test m.depth m.state.flat c)
+    (core_of m.state.flat (chosen c)).pending f.effect.commits
+
+none-written : (o : Option Departure) → was_written_back o ≡ false → written_line o ≡ None
+none-written None clean = refl
+none-written (Some left) clean = ap (λ b. if b then Some left.line else None) clean
+
+-- where none was, none is told
+quiet-told : (m : Running) (c : Choice) → wrote_in (machine_use m c).how ≡ false → among (number_of_lines m) (written_line (left_in (machine_use m c).how)) ≡ None
+quiet-told m c clean = ap (among (number_of_lines m)) (none-written (left_in (machine_use m c).how) (consistent m c ∙ clean))
 
 pub step-told : (k : ℕ) (m : Running) (c : Choice) → IsKept m → chosen c < length m.statistics.counts → tells_write_back k (steps.trace_step_of m c) ≡ ((chosen c == k) && wrote_in (machine_use m c).how)
 unfolding steps.trace_step_of
-step-told k m c kept there = ap (λ b. (chosen c == k) && b) (told-where (machine_use m c).how _ (λ dirty. ap is_some (gives m c kept there dirty).told))
-
-wrote-parts : (how : CacheUse) (victim : Option ℕ) (line : ℕ) → wrote_back_by how victim ≡ Some line → (wrote_in how ≡ true) × (victim ≡ Some line)
-wrote-parts (Through a) victim line h = by_test a.wrote_back refl h
+step-told k m c kept there = ap (λ b. (chosen c == k) && b) (by_wrote (wrote_in (machine_use m c).how) refl)
   where
-    by_test : (b : Bool) → a.wrote_back ≡ b → (if b then victim else None) ≡ Some line → (a.wrote_back ≡ true) × (victim ≡ Some line)
-    by_test true q h = (q, h)
-    by_test false q h = absurd (let z : ⊥ = cc in z)
-wrote-parts _ victim line h = absurd (let z : ⊥ = cc in z)
+    by_wrote : (b : Bool) → wrote_in (machine_use m c).how ≡ b → is_some (among (number_of_lines m) (written_line (left_in (machine_use m c).how))) ≡ wrote_in (machine_use m c).how
+    by_wrote true q = ap is_some (gives m c kept there q).told ∙ sym q
+    by_wrote false q = ap is_some (quiet-told m c q) ∙ sym q
 
 gave-way : (m : Running) (choice : Choice) → IsKept m → chosen choice < length m.statistics.counts → WriteBacksAreTold m choice
 unfolding steps.trace_step_of
 gave-way m choice kept within line told =
-    let parts = wrote-parts (machine_use m choice).how _ line told in
-    let g = gives m choice kept within parts.0 in
-    let both : Some g.victim.0 ≡ Some line = sym g.told ∙ parts.1 in
+    let g = gives m choice kept within (wrote (wrote_in (machine_use m choice).how) refl told) in
+    let both : Some g.victim.0 ≡ Some line = sym g.told ∙ told in
     let same : g.victim.0 ≡ line = cc in
     record {
       came = g.fills.came;
@@ -125,6 +101,10 @@ gave-way m choice kept within line told =
       last = subst (λ l. leaving (tags_at (sets_of m.statistics.caches.contents (chosen choice)) g.fills.came) ≡ Some (l, g.victim.1)) same g.last;
       dirty = subst (λ o. dirty_in (table_of_rows m.statistics.caches.rows) o ≡ true) g.last g.fills.line.writes;
     }
+  where
+    wrote : (b : Bool) → wrote_in (machine_use m choice).how ≡ b → among (number_of_lines m) (written_line (left_in (machine_use m choice).how)) ≡ Some line → wrote_in (machine_use m choice).how ≡ true
+    wrote true q told = q
+    wrote false q told = let none : None ≡ Some line = sym (quiet-told m choice q) ∙ told in absurd (let z : ⊥ = cc in z)
 
 -- ---- along the choices
 

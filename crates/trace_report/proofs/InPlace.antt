@@ -1,5 +1,9 @@
 -- An access that needs no bus: no other cache sees it, nothing is sent to memory, and no line leaves.
 use Rattle.trace_report.proofs.Vocabulary.{◌≡◌, ◌≢◌, ◌∙◌, ◌/◌, ℕ, Bool, false, not, List, slice_index_or, Option, Some, None, is_some, inl, inr, refl, sym, subst, eqb_tells, MemoryAccess, NoAccess, Locks, needs_bus, Table, table_of_rows, TagSet, tag_of, used, TagSets, tags_at, tag_in, at_line, sets_of, used_by, tag_at, Caches, Used, not_through, hits_by, Unused, IsUseFor, no_set, absent-remove, would_hit, through, whole_by, Forwarded, Through, next_in_place, whole_in, CacheUse, Core, at_access}
+use Rattle.multiprocessor.specs.Caches.{asking_use, asking_by}
+use Rattle.snoop_bus.specs.declared.access.BusRequest.{BusRequest}
+use Rattle.snoop_bus.specs.inner.CacheContents.{was_written_back}
+use Rattle.trace_report.specs.Steps.{left_in}
 use Rattle.protocol_tables.specs.declared.state.State.{State}
 use Rattle.machine_core.proofs.Changed.{set-at, core-at}
 use Rattle.machine_core.proofs.Snooped.{own-alone}
@@ -10,12 +14,25 @@ is_write_access what = at_access false (λ loc write. write) what
 
 -- whether a dirty line is written back as the caches are used, and whose copy is sent to memory
 abbrev pub wrote_in : CacheUse → Bool
-wrote_in (Through a) = a.wrote_back
+wrote_in (Through r) = r.access.wrote_back
 wrote_in _ = false
 
 abbrev pub flush_in : CacheUse → Option Core
-flush_in (Through a) = a.flushed
+flush_in (Through r) = r.access.flushed
 flush_in _ = None
+
+-- an access tells a line that was written back exactly where it says that one was
+abbrev pub IsConsistent : CacheUse → Type 0
+IsConsistent how = was_written_back (left_in how) ≡ wrote_in how
+
+-- an ask writes nothing back, and sends nothing yet
+pub asking-clean : (c : Caches) (core : ℕ) (what : MemoryAccess) → (wrote_in (asking_by c core what).how ≡ false) × (flush_in (asking_by c core what).how ≡ None)
+asking-clean c core NoAccess = (refl, refl)
+asking-clean c core _ = by_request _
+  where
+    by_request : (o : Option BusRequest) → (wrote_in (asking_use o) ≡ false) × (flush_in (asking_use o) ≡ None)
+    by_request None = (refl, refl)
+    by_request (Some request) = (refl, refl)
 
 -- where a line is used that is there, a line that isn't there stays away
 tags-absent : (other line : ℕ) (state found : State) (s : TagSet) → tag_of s line ≡ Some found → tag_of s other ≡ None → tag_of (used line state s) other ≡ None

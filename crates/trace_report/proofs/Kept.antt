@@ -1,13 +1,12 @@
--- What a machine keeps along the choices of a run: its lines are neat, their sets have their room, and what it awaits may come in.
+-- What a machine keeps along the choices of a run: its lines are neat, and what it awaits may come in.
 use Rattle.trace_report.proofs.Vocabulary.{arith, ◌≡◌, ◌≢◌, ◌∙◌, ◌/◌, ◌<◌, ℕ, zero, suc, Bool, true, false, List, length, map, replicate, slice_index_or, Some, inl, inr, refl, sym, ap, subst, div_ceil, div_ceil_times, length-replicate, div-mul-le_self, mul-le-mul_right, lt-or, Litmus, IsTest, chosen, MemoryAccess, NoAccess, access_of, Choice, Table, table_of_rows, rows_of, tags_in, TagSet, Configuration, no_counts, Running, new_machine, machine_use, machine_after, length-counted, AreStoresKnown, number_of_lines, KeepsNoCopyInI, IsNeat, none-neat, no-sets, no_set, AllNeat, Geometry, [], after_choices, core_of, is_awaited, ◌∷◌, machine_effect}
 use Rattle.protocol_tables.specs.declared.state.State as protocol
 use Rattle.protocol_tables.specs.declared.state.State.TheVariants as tag
 use Rattle.trace_report.proofs.Awaiting.{HolderMayMake, IsWithin, FillsIf, neat-after, may-after, fills-by}
 use Rattle.multiprocessor.proofs.EachUse.{used-machine}
-use Rattle.trace_report.proofs.Rooms.{room_of, rooms_of, used-rooms}
 use Rattle.trace_report.proofs.FlushesTold.{IsSound, sound-first, sound-after, uses-of}
 use Rattle.trace_report.proofs.Places.{AccessKnown, access-known, stores-first}
-use Rattle.trace_report.proofs.Whole.{shape-kept, words-kept, stores-kept}
+use Rattle.trace_report.proofs.Whole.{words-kept, stores-kept}
 
 -- ---- the lines of a test
 
@@ -28,10 +27,6 @@ within-lines t words _ some h = line-below (length t.locations) words _ some h
 
 -- ---- along the choices
 
--- the room of its caches, by their shape
-abbrev pub rooms_in : Running → List (List ℕ)
-rooms_in m = replicate (length m.test.programs) (replicate m.statistics.caches.shape.sets m.statistics.caches.shape.ways)
-
 -- a machine of a run, whose test is within the limits, whose lines have a word at least, and whose protocol keeps no copy in I
 pub record IsKept (m : Running) : Type 0 where
   pub sound : IsSound m
@@ -41,13 +36,7 @@ pub record IsKept (m : Running) : Type 0 where
   pub cores : length m.statistics.counts ≡ length m.test.programs
   keeps : KeepsNoCopyInI (table_of_rows m.statistics.caches.rows)
   pub neat : AllNeat (number_of_lines m) m.statistics.caches.contents
-  pub rooms : rooms_of m.statistics.caches.contents ≡ rooms_in m
   pub may : HolderMayMake (access_of m.test m.depth m.state.flat) m.state.holder m.statistics.caches
-
-rooms-kept : (m : Running) (c : Choice) → rooms_of (machine_after m c).statistics.caches.contents ≡ rooms_of m.statistics.caches.contents
-rooms-kept m c =
-    let f = machine_effect m c in
-    used-rooms m.statistics.caches (chosen c) (is_awaited m.state.holder) (is_awaited f.holder) (access_of m.test m.depth m.state.flat c) (core_of m.state.flat (chosen c)).pending f.effect.commits
 
 -- the rows of the protocol's table stay
 pub rows-kept : (m : Running) (c : Choice) → (machine_after m c).statistics.caches.rows ≡ m.statistics.caches.rows
@@ -71,7 +60,6 @@ kept-after m c k =
       cores = length-counted (chosen c) (machine_use m c).how m.statistics.counts ∙ k.cores;
       keeps = subst (λ rows. KeepsNoCopyInI (table_of_rows rows)) (sym (rows-kept m c)) k.keeps;
       neat = subst (λ n. AllNeat n (machine_use m c).caches.contents) (sym (ap (λ n. div_ceil (length m.test.locations) n) (words-kept m c))) (neat-after m.bus caches c before after m.state.holder next (machine_effect m c).effect.outcome (machine_use m c) k.keeps k.may (number_of_lines m) uses within k.neat);
-      rooms = rooms-kept m c ∙ (k.rooms ∙ sym (ap (λ (s : Geometry). replicate (length m.test.programs) (replicate s.sets s.ways)) (shape-kept m c)));
       may = may-after m.bus caches c before after m.state.holder next (machine_effect m c).effect.outcome (machine_use m c) k.keeps k.may (number_of_lines m) uses k.neat;
     }
 
@@ -91,15 +79,6 @@ empty-neat : {A : Type 0} (lines : ℕ) (f : A → TagSet) (x : A) (cores count 
 empty-neat lines f x zero count h core = no-sets lines
 empty-neat lines f x (suc cores) count h zero = λ i. empty-sets _ f x count i (h _)
 empty-neat lines f x (suc cores) count h (suc core) = empty-neat lines f x cores count h core
-
-empty-room : {A : Type 0} (f : A → TagSet) (x : A) (count : ℕ) → room_of (map f (replicate count x)) ≡ replicate count (f x).ways
-empty-room f x zero = refl
-empty-room f x (suc count) = ap (λ r. (f x).ways ∷ r) (empty-room f x count)
-
-empty-rooms : {A : Type 0} (f : A → TagSet) (x : A) (cores count : ℕ) → rooms_of (map (map f) (replicate cores (replicate count x))) ≡ replicate cores (replicate count (f x).ways)
-empty-rooms f x zero count = refl
-empty-rooms f x (suc cores) count =
-    ap (λ r. r ∷ rooms_of (map (map f) (replicate cores (replicate count x)))) (empty-room f x count) ∙ ap (λ rs. replicate count (f x).ways ∷ rs) (empty-rooms f x cores count)
 
 keeps-first : (table : Table) → KeepsNoCopyInI table → KeepsNoCopyInI (table_of_rows (rows_of table))
 keeps-first table keeps = record { filled = filled; written = written }
@@ -121,7 +100,6 @@ kept-first table c t test words keeps = record {
   cores = length-replicate (length t.programs) no_counts;
   keeps = keeps-first table keeps;
   neat = empty-neat (number_of_lines (new_machine table c t)) tags_in _ (length t.programs) c.shape.sets (λ P. record { kind = tt; once = tt });
-  rooms = empty-rooms tags_in _ (length t.programs) c.shape.sets;
   may = tt;
 }
 

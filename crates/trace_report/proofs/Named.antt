@@ -1,28 +1,61 @@
 -- The lines and stores that a step names are the test's.
-use Rattle.trace_report.proofs.Vocabulary.{ℕ, zero, suc, ◌+◌, ◌<◌, ◌≤◌, Bool, true, false, ◌==◌, ◌%◌, ◌≡◌, nat_lt, if◌then◌else◌, refl, List, [], ◌∷◌, length, Option, Some, None, IfSome, All, arith, All-nil, All-cons, All-head, All-tail, All-append, nat_tests, Litmus, MemoryAccess, NoAccess, Bus, Atomic, Split, Outcome, Committed, Asked, Entry, Awaited, Running, CacheUse, Through, IsAt, IsLine, goes_on_bus, request_at, sent_on, line_states, placed_states_from, number_of_lines, states_of, number_of_state, change_of, changes_in, last_line, among, giving_way, wrote_back_by, buffer_if_changed, LineRequest, StateChange, PlacedState, cases_Bool, inl, inr}
+use Rattle.trace_report.proofs.Vocabulary.{ℕ, zero, suc, ◌+◌, ◌/◌, ◌<◌, ◌≤◌, Bool, true, false, ◌==◌, ◌≡◌, nat_lt, if◌then◌else◌, refl, List, [], ◌∷◌, length, Option, Some, None, IfSome, All, option_map, arith, All-nil, All-cons, All-head, All-tail, All-append, nat_tests, list_any, writes_to, Litmus, MemoryAccess, NoAccess, Entry, Kind, R, F, LW, HasLocation, IsLocationFor, Table, table_of_rows, Transient, SmD, Awaited, asked_for, completed, completed_in, whole_in, request_for, requesting, Caches, Running, CacheUse, Forwarded, Through, at_access, not_through, whole_by, use_by_kind, use_of, used_between, IsAt, IsLine, sent_by, line_states, placed_states_from, number_of_lines, states_of, number_of_state, change_of, changes_in, among, buffer_if_changed, StateChange, PlacedState, cases_Bool, inl, inr}
+use Rattle.multiprocessor.specs.Caches.{ask_by, asking_use, completion_by}
+use Rattle.protocol_tables.specs.declared.state.State.{State}
 use Rattle.trace_report.proofs.Places.{AccessKnown, line-at, line-within}
 
 -- ---- requests
 
-abbrev IsKnownRequest : Litmus → ℕ → Option LineRequest → Type 0
-IsKnownRequest t words r = IfSome r (λ q. IsLine t words q.line)
+module _ (t : Litmus) (c : Caches) (some : 0 < c.shape.words) where
+  -- a request that is told is for one of the test's lines
+  abbrev pub IsKnownSent : CacheUse → Type 0
+  IsKnownSent how = IfSome (sent_by how).request (λ q. IsLine t c.shape.words q.line)
 
-pub request-known : (t : Litmus) (words : ℕ) (what : MemoryAccess) → 0 < words → AccessKnown t what → IfSome (request_at words what) (λ q. IsLine t words q.line)
-request-known t words NoAccess some k = tt
-request-known t words _ some k = line-at t words _ some k
+  whole-sent : (table : Table) (write : Bool) (core line : ℕ) (copy next : Option State) → IsLine t c.shape.words line → IsKnownSent (Through (whole_in table write core line c.contents copy next).report)
+  unfolding requesting
+  whole-sent table write core line copy (Some next) k = tt
+  whole-sent table write core line copy None k = k
 
-whole-known : (t : Litmus) (words : ℕ) (request : Option LineRequest) (b : Bool) → IsKnownRequest t words request → IsKnownRequest t words (if b then request else None)
-whole-known t words request true k = k
-whole-known t words request false k = tt
+  whole-known : (core loc : ℕ) (write : Bool) → loc < length t.locations → IsKnownSent (whole_by c core loc write).how
+  whole-known core loc write k = whole-sent (table_of_rows c.rows) write core (loc / c.shape.words) _ _ (line-at t c.shape.words loc some k)
 
-pub sent-known : (t : Litmus) (words : ℕ) (bus : Bus) (outcome : Outcome) (request : Option LineRequest) (how : CacheUse) (awaited : Option Awaited)
-    → IfSome request (λ q. IsLine t words q.line) → IfSome (sent_on bus outcome request how awaited).request (λ q. IsLine t words q.line)
-sent-known t words Atomic outcome request (Through a) awaited k = whole-known t words request (goes_on_bus a.kind) k
-sent-known t words Atomic outcome request _ awaited k = tt
-sent-known t words Split Committed request how awaited k = tt
-sent-known t words Split Asked request how None k = tt
-sent-known t words Split Asked request how (Some a) k = k
-sent-known t words Split _ request how awaited k = tt
+  completed-known : (core loc : ℕ) → IsKnownSent (completion_by c core loc).how
+  completed-known core loc = by_awaited c.awaited
+    where
+      by_transient : (y : Transient) (x : Awaited) → IsKnownSent (Through (completed_in (table_of_rows c.rows) core (loc / c.shape.words) y x.state x.flushed c.contents).report)
+      by_transient SmD x = tt
+      by_transient _ x = tt
+
+      by_awaited : (w : Option Awaited) → IsKnownSent (Through (completed (table_of_rows c.rows) core (loc / c.shape.words) w c.contents).report)
+      by_awaited None = tt
+      by_awaited (Some x) = by_transient x.transient x
+
+  asked-known : (core loc : ℕ) (write : Bool) → loc < length t.locations → IsKnownSent (ask_by c core loc write).how
+  unfolding requesting
+  asked-known core loc write k = by_transient (asked_for (request_for write) core (loc / c.shape.words) c.contents)
+    where
+      by_transient : (o : Option Transient) → IsKnownSent (asking_use (option_map (requesting (table_of_rows c.rows) (request_for write) (loc / c.shape.words) c.contents) o))
+      by_transient None = tt
+      by_transient (Some x) = line-at t c.shape.words loc some k
+
+  committed-known : (pending commits : List Entry) → All (HasLocation t) commits → IsKnownSent (use_of c pending commits).how
+  committed-known pending [] k = tt
+  committed-known pending (e ∷ es) k = by_kind e.kind (All-head (HasLocation t) e es k)
+    where
+      by_kind : (kind : Kind) → IsLocationFor t kind e.loc.0 → IsKnownSent (use_by_kind c pending e kind).how
+      by_kind R at = elim (list_any (writes_to e.loc.0) pending) as (λ b. IsKnownSent (if b then not_through Forwarded c else whole_by c e.core.0 e.loc.0 false).how) [ true ↦ tt | false ↦ whole-known e.core.0 e.loc.0 false at ]
+      by_kind F at = tt
+      by_kind LW at = tt
+      by_kind _ at = whole-known e.core.0 e.loc.0 true at
+
+  pub sent-known : (core : ℕ) (before after : Bool) (what : MemoryAccess) (pending commits : List Entry) → AccessKnown t what → All (HasLocation t) commits
+      → IsKnownSent (used_between before after c core what pending commits).how
+  sent-known core false true NoAccess pending commits k all = tt
+  sent-known core false true what pending commits k all = asked-known core _ (at_access false (λ loc write. write) what) k
+  sent-known core true false NoAccess pending commits k all = tt
+  sent-known core true false _ pending commits k all = completed-known core _
+  sent-known core false false what pending commits k all = committed-known pending commits all
+  sent-known core true true what pending commits k all = committed-known pending commits all
 
 -- ---- states and changes
 
@@ -61,23 +94,15 @@ changes-known t words (b ∷ bs) (a ∷ rest) k =
     All-append (IsChangeOnLine t words) (change_of b a) (changes_in bs rest) (change-known t words b a (All-head (IsOnLine t words) b bs k))
     (changes-known t words bs rest (All-tail (IsOnLine t words) b bs k))
 
--- ---- the line that gives way
+-- ---- the line that is written back
 
-pub victim-known : (m : Running) (core : ℕ) (request : Option LineRequest) → 0 < m.statistics.caches.shape.words → IfSome (giving_way m core request) (IsLine m.test m.statistics.caches.shape.words)
-victim-known m core None some = tt
-victim-known m core (Some r) some = by_line (last_line m core (r.line % m.statistics.caches.shape.sets))
+pub written-back-known : (m : Running) (line : Option ℕ) → 0 < m.statistics.caches.shape.words → IfSome (among (number_of_lines m) line) (IsLine m.test m.statistics.caches.shape.words)
+written-back-known m None some = tt
+written-back-known m (Some line) some = by_test (nat_lt line (number_of_lines m)) refl
   where
-    by_test : (line : ℕ) (b : Bool) → nat_lt line (number_of_lines m) ≡ b → IfSome (if b then Some line else None) (IsLine m.test m.statistics.caches.shape.words)
-    by_test line true q = line-within m.test m.statistics.caches.shape.words line some (let h : line < number_of_lines m = grind (arith, nat_tests, q) in h)
-    by_test line false q = tt
-
-    by_line : (o : Option ℕ) → IfSome (among (number_of_lines m) o) (IsLine m.test m.statistics.caches.shape.words)
-    by_line None = tt
-    by_line (Some line) = by_test line (nat_lt line (number_of_lines m)) refl
-
-pub written-back-known : (t : Litmus) (words : ℕ) (how : CacheUse) (victim : Option ℕ) → IfSome victim (IsLine t words) → IfSome (wrote_back_by how victim) (IsLine t words)
-written-back-known t words (Through a) victim k = elim (cases_Bool a.wrote_back) [ inl is ↦ rw is k | inr is ↦ rw is tt ]
-written-back-known t words _ victim k = tt
+    by_test : (b : Bool) → nat_lt line (number_of_lines m) ≡ b → IfSome (if b then Some line else None) (IsLine m.test m.statistics.caches.shape.words)
+    by_test true q = line-within m.test m.statistics.caches.shape.words line some (let h : line < number_of_lines m = grind (arith, nat_tests, q) in h)
+    by_test false q = tt
 
 -- ---- the buffer
 

@@ -1,5 +1,5 @@
 -- A choice that stalled: nothing else is told of it.
-use Rattle.trace_report.proofs.Vocabulary.{◌≡◌, ◌⊎◌, inl, inr, ◌∙◌, ℕ, Bool, true, false, List, [], ◌++◌, length, drop, Option, Some, None, refl, sym, ap, Litmus, action_of, CoreState, State, effect_by, effect_of, core_of, chosen, MemoryAccess, NoAccess, access_by, step_access, access_of, next_of, Attempt, needs_bus, as_read, BusState, effect_on, Bus, Atomic, Split, Instr, Action, Move, Entry, Choice, Step, Drain, Outcome, Moved, Stalled, Stall, Awaited, Caches, is_awaited, used_between, Running, machine_use, machine_after, CacheUse, Unused, states_of, changes_in, is_forwarded, access_kind_in, request_at, nothing_sent, sent_on, moved_at, moved_by, moved_from, giving_way, wrote_back_by, buffer_if_changed, stores_on, stalled_step, LineRequest, Sent, step_of, effect-by, needs-some}
+use Rattle.trace_report.proofs.Vocabulary.{◌≡◌, ◌⊎◌, inl, inr, ◌∙◌, ℕ, Bool, true, false, List, [], ◌++◌, length, drop, Option, Some, None, refl, sym, ap, Litmus, action_of, CoreState, State, effect_by, effect_of, core_of, chosen, MemoryAccess, NoAccess, access_by, step_access, access_of, next_of, Attempt, needs_bus, as_read, BusState, effect_on, Bus, Atomic, Split, Instr, Action, Move, Entry, Choice, Step, Drain, Outcome, Moved, Stalled, Stall, Caches, is_awaited, used_between, Running, machine_use, machine_after, CacheUse, Unused, states_of, changes_in, is_forwarded, access_kind_in, sent_by, left_in, written_line, among, number_of_lines, moved_at, moved_by, moved_from, buffer_if_changed, stores_on, stalled_step, step_of, effect-by, needs-some}
 use Rattle.machine_core.specs.Running as running
 use Rattle.trace_report.specs.Steps as steps
 use Rattle.trace_report.proofs.Effects.{stall-rests, drop-all}
@@ -64,11 +64,6 @@ unused : (before after : Bool) (c : Caches) (core : ℕ) (what : MemoryAccess) (
 unused before after c core what pending commits same none =
     ap (λ b. (used_between before b c core what pending commits).how) same ∙ (ap (λ es. (used_between before before c core what pending es).how) none ∙ used-alike before c core what pending)
 
-sends-nothing : (bus : Bus) (o : Outcome) (why : Stall) (request : Option LineRequest) (how : CacheUse) (awaited : Option Awaited) → o ≡ Stalled why → how ≡ Unused
-    → sent_on bus o request how awaited ≡ nothing_sent
-sends-nothing Atomic o why request how awaited stalls none = ap (λ h. sent_on Atomic o request h awaited) none
-sends-nothing Split o why request how awaited stalls none = ap (λ x. sent_on Split x request how awaited) stalls
-
 -- what a choice did that stalled and changed nothing
 pub stall-shown : (m : Running) (choice : Choice) (why : Stall) → machine_after m choice ≡ m → (running.machine_effect m choice).effect.outcome ≡ Stalled why
     → stalled_step choice why ≡ steps.trace_step_of m choice
@@ -82,14 +77,11 @@ stall-shown m choice why same stalls =
     let held : is_awaited f.holder ≡ is_awaited m.state.holder = ap (λ (n : Running). is_awaited n.state.holder) same in
     let how : (machine_use m choice).how ≡ Unused =
     unused (is_awaited m.state.holder) (is_awaited f.holder) m.statistics.caches core (access_of m.test m.depth m.state.flat choice) (core_of m.state.flat core).pending f.effect.commits held rests.commits in
-    let request = request_at m.statistics.caches.shape.words (access_of m.test m.depth m.state.flat choice) in
-    let sent : sent_on m.bus f.effect.outcome request (machine_use m choice).how end.statistics.caches.awaited ≡ nothing_sent =
-    sends-nothing m.bus f.effect.outcome why request (machine_use m choice).how end.statistics.caches.awaited stalls how in
     let changes : changes_in (states_of m) (states_of end) ≡ [] = ap (λ (n : Running). changes_in (states_of m) (states_of n)) same ∙ unchanged (states_of m) in
     sym (same-fields choice _ _ _ _ _ _ _ _ _ _ _ _ _ _ _ _ _ _ _ _ stalls
     (ap (λ es. es ++ drop (length (stores_on m choice)) (stores_on end choice)) rests.commits ∙ (ap (λ es. drop (length (stores_on m choice)) es) stores ∙ drop-all (stores_on m choice)))
     (stall-moves m.test (core_of m.state.flat core).place choice f.effect.outcome why (core_of end.state.flat core).registers stalls
     (effect-moves m.bus m.test m.depth m.state (running.attempt_on m choice)))
-    (ap is_forwarded how) (ap access_kind_in how) (ap (λ (s : Sent). s.request) sent) (ap (λ (s : Sent). s.flushed) sent)
-    (ap (λ h. wrote_back_by h (giving_way m core request)) how) changes
+    (ap is_forwarded how) (ap access_kind_in how) (ap (λ h. (sent_by h).request) how) (ap (λ h. (sent_by h).flushed) how)
+    (ap (λ h. among (number_of_lines m) (written_line (left_in h))) how) changes
     (ap (λ es. buffer_if_changed (length (stores_on m choice)) es) stores ∙ rw (same-test (length (stores_on m choice))) refl))

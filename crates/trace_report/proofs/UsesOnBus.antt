@@ -1,36 +1,8 @@
 -- What a choice has to do with the caches on either bus, and who holds the bus after it.
-use Rattle.trace_report.proofs.Vocabulary.{◌≡◌, ◌≢◌, ◌⊎◌, ℕ, Bool, true, false, inl, inr, refl, ap, subst, each-at, Litmus, State, chosen, core_of, effect_of, applied, MemoryAccess, NoAccess, access_of, next_of, Holder, Free, HeldBy, HeldBetween, BusEffect, needs_bus, acts, asks, begins, completes, as_read, writes_last, split_effect, BusState, Bus, Atomic, Split, Choice, Step, Entry, quiet-same, IsStore, AllStores, access-kept, IsOther, HolderWaits, Unused, Caches, Used, not_through, asking_by, completing_by, hits_by, attempt_of, is_awaited, used_between, use_on, state_after_on, IsUseFor, choice-use, zero, suc, nat_lt, List, [], ◌∷◌, length, Option, Some, None, sym, Each, action_of, CoreState, Effect, is_none_pending, stored, effect_by, effect_on, Instr, Action, Store, Fence, Lock, Drain, Outcome, Awaited, nothing_sent, sent_at, LineRequest, slice_index_or, set-get_or, idle, choice-stores, if-by, begins-by, completes-by, split-by, last-unused, drain_with, step_of}
+use Rattle.trace_report.proofs.Vocabulary.{◌≡◌, ◌≢◌, ◌⊎◌, ℕ, Bool, true, false, inl, inr, refl, ap, subst, each-at, Litmus, State, chosen, core_of, effect_of, applied, MemoryAccess, NoAccess, access_of, next_of, Holder, Free, HeldBy, HeldBetween, BusEffect, needs_bus, acts, asks, begins, completes, as_read, writes_last, split_effect, BusState, Bus, Atomic, Split, Choice, Step, Entry, quiet-same, IsStore, AllStores, access-kept, IsOther, HolderWaits, Unused, Caches, Used, not_through, asking_by, completing_by, hits_by, attempt_of, is_awaited, used_between, use_on, state_after_on, IsUseFor, choice-use, zero, suc, nat_lt, List, [], ◌∷◌, length, Option, Some, None, sym, Each, action_of, CoreState, Effect, is_none_pending, stored, effect_by, effect_on, Instr, Action, Store, Fence, Lock, Drain, Outcome, Awaited, slice_index_or, set-get_or, idle, choice-stores, if-by, begins-by, completes-by, split-by, last-unused, drain_with, step_of}
 use Rattle.tso_terms.specs.declared.choice.Stall.TheVariants as stall
 use Rattle.tso_terms.specs.declared.choice.Outcome.TheVariants as out
 use Rattle.tso_laws.specs.inner.Pending.{PendingIsOwn}
-
--- ---- choices on the flat machine
-
--- a choice with this outcome asks for nothing
-abbrev pub AsksNothing : Outcome → Type 0
-AsksNothing o = (r : Option LineRequest) (w : Option Awaited) → sent_at o r w ≡ nothing_sent
-
-stored-nothing : (depth : ℕ) (s : CoreState) (e : Entry) → AsksNothing (stored depth s e).outcome
-stored-nothing zero s e = λ r w. refl
-stored-nothing (suc n) s e = if-by (λ (f : Effect). AsksNothing f.outcome) (nat_lt (length s.pending) (suc n)) _ _ (λ q r w. refl) (λ q r w. refl)
-
-step-nothing : (depth core : ℕ) (memory : List ℕ) (i : Option Instr) (s : CoreState) → AsksNothing (step_of depth memory core i s).outcome
-step-nothing depth core memory None s = λ r w. refl
-step-nothing depth core memory (Some x) s = by_action (action_of x)
-  where
-    by_action : (a : Action) → AsksNothing (effect_by depth memory core a s).outcome
-    by_action (Store loc operand) = stored-nothing depth s _
-    by_action Fence = if-by (λ (f : Effect). AsksNothing f.outcome) (is_none_pending s.pending) _ _ (λ q r w. refl) (λ q r w. refl)
-    by_action (Lock loc reg update) = if-by (λ (f : Effect). AsksNothing f.outcome) (is_none_pending s.pending) _ _ (λ q r w. refl) (λ q r w. refl)
-    by_action _ = λ r w. refl
-
-drain-nothing : (s : CoreState) (q : List Entry) → AsksNothing (drain_with s q).outcome
-drain-nothing s [] = λ r w. refl
-drain-nothing s (p ∷ ps) = λ r w. refl
-
-pub flat-nothing : (t : Litmus) (depth : ℕ) (state : State) (a : Choice) → AsksNothing (effect_of t depth state a).outcome
-flat-nothing t depth state (Step core) = step-nothing depth core.0 state.memory (next_of t state core.0) (core_of state core.0)
-flat-nothing t depth state (Drain core) = drain-nothing (core_of state core.0) (core_of state core.0).pending
 
 -- ---- on either bus
 
@@ -44,8 +16,8 @@ pub record Stays (before after : Choice → MemoryAccess) (holder next : Holder)
 -- completes what it has asked for
 pub data UsesOn (on : Bus) (c : Caches) (a : Choice) (before after : Choice → MemoryAccess) (holder next : Holder) (o : Outcome) (u : Used) : Type 0 where
   made : IsUseFor c (chosen a) (before a) u → ((on ≡ Atomic) × (holder ≡ Free) × (next ≡ Free)) ⊎ (needs_bus (before a) (hits_by c (chosen a) (before a)) ≡ false)
-      → Stays before after holder next → AsksNothing o → UsesOn on c a before after holder next o u
-  unused : u ≡ not_through Unused c → Stays before after holder next → AsksNothing o → UsesOn on c a before after holder next o u
+      → Stays before after holder next → UsesOn on c a before after holder next o u
+  unused : u ≡ not_through Unused c → Stays before after holder next → UsesOn on c a before after holder next o u
   begun : on ≡ Split → u ≡ asking_by c (chosen a) (before a) → o ≡ out.Asked → holder ≡ Free → next ≡ HeldBy a → after a ≡ before a → UsesOn on c a before after holder next o u
   ended : on ≡ Split → u ≡ completing_by c (chosen a) (before a) → before a ≢ NoAccess → holder ≡ HeldBy a → is_awaited next ≡ false → UsesOn on c a before after holder next o u
 
@@ -68,7 +40,7 @@ asks-uses t d state c a Free stores =
     (begun refl refl refl refl refl (ap (λ (s : State). access_of t d s a) same), subst AllStores (sym same) stores)
 asks-uses t d state c a holder stores =
     let same = quiet-same state (chosen a) (out.Stalled stall.Bus) in
-    (unused refl (still t d state _ holder same) (λ r w. refl), subst AllStores (sym same) stores)
+    (unused refl (still t d state _ holder same), subst AllStores (sym same) stores)
 
 acts-uses : (on : Bus) (t : Litmus) (d : ℕ) (state : State) (c : Caches) (a : Choice) (holder : Holder) → AllStores state
     → ((on ≡ Atomic) × (holder ≡ Free) × (holder ≡ Free)) ⊎ (needs_bus (access_of t d state a) (hits_by c (chosen a) (access_of t d state a)) ≡ false)
@@ -77,8 +49,8 @@ acts-uses on t d state c a holder stores why stays = (by_waiting (is_awaited hol
   where
     by_waiting : (b : Bool) → UsesOn on c a (access_of t d state) (access_of t d (applied state (chosen a) (effect_of t d state a))) holder holder (effect_of t d state a).outcome
         (used_between b b c (chosen a) (access_of t d state a) (core_of state (chosen a)).pending (effect_of t d state a).commits)
-    by_waiting true = made (choice-use t d state c a (own-stores state stores)) why stays (flat-nothing t d state a)
-    by_waiting false = made (choice-use t d state c a (own-stores state stores)) why stays (flat-nothing t d state a)
+    by_waiting true = made (choice-use t d state c a (own-stores state stores)) why stays
+    by_waiting false = made (choice-use t d state c a (own-stores state stores)) why stays
 
 -- another choice leaves the holder at its access
 other-stays : (t : Litmus) (d : ℕ) (state : State) (a : Choice) (holder : Holder) → HolderWaits Split t d state holder → IsOther holder a
@@ -110,7 +82,7 @@ completes-uses t d state c a some stores =
 writes-uses : (t : Litmus) (d : ℕ) (state : State) (c : Caches) (e : Entry) → AllStores state → UsesBy Split t d state c (Step e.core) (HeldBetween e) (writes_last t d state e)
 writes-uses t d state c e stores = (
   unused (last-unused c (core_of state e.core.0).pending d e.core.0 (as_read state e).memory (next_of t state e.core.0) (core_of state e.core.0))
-      (record { held = λ other q. absurd (let z : ⊥ = cc in z); waits = refl }) (flat-nothing t d (as_read state e) (Step e.core)),
+      (record { held = λ other q. absurd (let z : ⊥ = cc in z); waits = refl }),
   λ k. choice-stores t d (as_read state e) (Step e.core) stores k,
 )
 

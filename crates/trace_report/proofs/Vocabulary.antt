@@ -35,10 +35,10 @@ pub use Rattle.basic_laws.proofs.Cores.{starts-idle, length-starts}
 pub use Rattle.trace_report.specs.Known.{IsAt, IsLine, AreStoresKnown, StepNamesExist}
 pub use Rattle.std.proofs.lemmas.Bool.Decides.{nat_tests, eqb_tells}
 pub use Rattle.snoop_bus.specs.Asks.{Awaited, tag_at, or_invalid, asking, completed, completed_in, asked_caches_in, asked_for, awaited_by, next_in_place, awaited_as, request_for, whole_in, whole_access, asked_at_once, to_fill}
-unfoldable pub use Rattle.snoop_bus.specs.Asks.{awaiting}
+unfoldable pub use Rattle.snoop_bus.specs.Asks.{awaiting, requesting}
 pub use Rattle.machine_core.specs.Running.{Running, attempt_on, machine_use, machine_after, new_machine, configuration_of, machine_effect}
 pub use Rattle.multiprocessor.specs.declared.accesses.CacheUse.{CacheUse}
-pub use Rattle.trace_report.specs.Steps.{goes_on_bus, request_at, sent_on, line_states, placed_states_from, number_of_lines, states_of, number_of_state, change_of, changes_in, last_line, among, giving_way, wrote_back_by, buffer_if_changed, moved_by, placed, is_forwarded, access_kind_in, moved_from, nothing_sent, moved_at, steps_from, trace_of, sent_whole, sent_at, state_with, awaited_at, sent_asked, line_state}
+pub use Rattle.trace_report.specs.Steps.{sent_by, sent_with, left_in, written_line, line_states, placed_states_from, number_of_lines, states_of, number_of_state, change_of, changes_in, among, buffer_if_changed, moved_by, placed, is_forwarded, access_kind_in, moved_from, nothing_sent, moved_at, steps_from, trace_of, state_with, awaited_at, line_state}
 unfoldable pub use Rattle.trace_report.specs.Steps.{trace_step_of}
 pub use Rattle.trace_report.specs.declared.step.LineRequest.{LineRequest}
 pub use Rattle.trace_report.specs.declared.step.StateChange.{StateChange}

@@ -1,9 +1,9 @@
 -- What a choice did, from what was looked at before it and after it.
-use Rattle.trace_report.proofs.Vocabulary.{◌≡◌, ◌∙◌, ℕ, Bool, true, List, [], ◌∷◌, ◌++◌, length, drop, Option, ◌<◌, ◌==◌, inl, inr, refl, sym, ap, subst, arith, option_map, get_or-set_same, All, length-set, Litmus, IsTest, idle, core_of, chosen, access_of, Core, Choice, Outcome, Entry, AccessKind, Geometry, IsLineSize, test-true, Configuration, Running, attempt_on, machine_use, machine_after, CacheUse, ShownStep, waited_before, states_of, number_of_state, changes_in, is_forwarded, access_kind_in, request_at, sent_on, moved_from, giving_way, wrote_back_by, buffer_if_changed, trace_step_of, IsTraced, IsTracedInStates, stores_on, waited_on, IsLeftBy, HasLocation, IsAt, AreStoresKnown, StepNamesExist, All-append, All-drop, All-weaker, LineRequest, StateChange, PlacedState, Sent, machine_effect, is_awaited}
+use Rattle.trace_report.proofs.Vocabulary.{◌≡◌, ◌∙◌, ℕ, Bool, true, List, [], ◌∷◌, ◌++◌, length, drop, Option, ◌<◌, ◌==◌, inl, inr, refl, sym, ap, subst, arith, option_map, get_or-set_same, All, length-set, Litmus, IsTest, idle, core_of, chosen, access_of, Core, Choice, Outcome, Entry, AccessKind, Geometry, IsLineSize, test-true, Configuration, Running, attempt_on, machine_use, machine_after, CacheUse, ShownStep, div_ceil, waited_before, states_of, number_of_state, changes_in, is_forwarded, access_kind_in, sent_by, left_in, written_line, among, number_of_lines, moved_from, buffer_if_changed, trace_step_of, IsTraced, IsTracedInStates, stores_on, waited_on, IsLeftBy, HasLocation, IsAt, AreStoresKnown, StepNamesExist, All-append, All-drop, All-weaker, LineRequest, StateChange, PlacedState, Sent, machine_effect, is_awaited}
 use Rattle.trace_report.specs.inner.Told.{IsLookedAt}
 use Rattle.trace_report.proofs.Effects.{Form, effect-form, waited-is}
 use Rattle.trace_report.proofs.Places.{effect-places, stores-next, access-known, at-place}
-use Rattle.trace_report.proofs.Named.{sent-known, request-known, victim-known, written-back-known, changes-known, states-known, buffer-known}
+use Rattle.trace_report.proofs.Named.{sent-known, written-back-known, changes-known, states-known, buffer-known}
 use Rattle.multiprocessor.proofs.EachUse.{used-machine}
 use Rattle.trace_report.specs.declared.step.Moved.{Moved}
 use Rattle.trace_report.specs.declared.telling.Left.{Left}
@@ -71,44 +71,36 @@ left-looked m next choice outcome before committed l there next_is outcome_is be
 
 -- what was looked at before the choice and after it
 pub record WasLookedAt (t : Litmus) (config : Configuration) (m next : Running) (choice : Choice) (how : CacheUse) (outcome : Outcome)
-    (place : ℕ) (request : Option LineRequest) (victim : Option ℕ) (sent : Sent) (left : Left) : Type 0 where
+    (place lines : ℕ) (left : Left) : Type 0 where
   pub machine : IsTraced t config m
   pub next_is : next ≡ machine_after m choice
   pub outcome_is : outcome ≡ (machine_effect m choice).effect.outcome
   pub how_is : how ≡ (machine_use m choice).how
   pub place_is : place ≡ (core_of m.state.flat (chosen choice)).place
-  pub request_is : request ≡ request_at config.shape.words (access_of m.test m.depth m.state.flat choice)
-  pub victim_is : victim ≡ giving_way m (chosen choice) request
-  pub sent_is : sent ≡ sent_on config.bus outcome request how next.statistics.caches.awaited
+  pub lines_are : lines ≡ div_ceil (length t.locations) config.shape.words
   pub left_is : Leaves m choice left
 
 pub told-whole : (t : Litmus) (config : Configuration) (m next : Running) (choice : Choice) (how : CacheUse) (outcome : Outcome)
-    (place : ℕ) (request : Option LineRequest) (victim : Option ℕ) (sent : Sent) (left : Left)
-    (moved : Option Moved) (forwarded : Bool) (access : Option AccessKind) (wrote_back : Option ℕ)
-    → WasLookedAt t config m next choice how outcome place request victim sent left
+    (place lines : ℕ) (left : Left) (moved : Option Moved) (forwarded : Bool) (access : Option AccessKind) (sent : Sent) (wrote_back : Option ℕ)
+    → WasLookedAt t config m next choice how outcome place lines left
     → moved ≡ moved_from t place choice (core_of next.state.flat (chosen choice)).registers → forwarded ≡ is_forwarded how → access ≡ access_kind_in how
-    → wrote_back ≡ wrote_back_by how victim
+    → sent ≡ sent_by how → wrote_back ≡ among lines (written_line (left_in how))
     → parts choice outcome left.entries.items moved forwarded access sent.request sent.flushed wrote_back left.changes.items (option_map (λ stores. stores.items) left.buffer) ≡ trace_step_of m choice
 unfolding trace_step_of
-told-whole t config m next choice how outcome place request victim sent left moved forwarded access wrote_back l moved_is forwarded_is access_is wrote_back_is =
-    let f = (machine_effect m choice).effect in
+told-whole t config m next choice how outcome place lines left moved forwarded access sent wrote_back l moved_is forwarded_is access_is sent_is wrote_back_is =
     let used = (machine_use m choice).how in
     let core = chosen choice in
     let old = core_of m.state.flat core in
     let end = machine_after m choice in
     let shape : m.statistics.caches.shape.words ≡ config.shape.words = ap (λ (c : Configuration). c.shape.words) l.machine.config in
-    let bus : m.bus ≡ config.bus = ap (λ (c : Configuration). c.bus) l.machine.config in
-    let asked = request_at m.statistics.caches.shape.words (access_of m.test m.depth m.state.flat choice) in
-    let request_same : request ≡ asked = l.request_is ∙ ap (λ n. request_at n (access_of m.test m.depth m.state.flat choice)) (sym shape) in
-    let sent_same : sent ≡ sent_on m.bus f.outcome asked used end.statistics.caches.awaited =
-    l.sent_is ∙ (ap (λ b. sent_on b outcome request how next.statistics.caches.awaited) (sym bus) ∙ (ap (λ o. sent_on m.bus o request how next.statistics.caches.awaited) l.outcome_is
-    ∙ (ap (λ r. sent_on m.bus f.outcome r how next.statistics.caches.awaited) request_same ∙ (ap (λ h. sent_on m.bus f.outcome asked h next.statistics.caches.awaited) l.how_is
-    ∙ ap (λ (n : Running). sent_on m.bus f.outcome asked used n.statistics.caches.awaited) l.next_is)))) in
+    let lines_same : lines ≡ number_of_lines m =
+    l.lines_are ∙ (ap (λ n. div_ceil (length t.locations) n) (sym shape) ∙ ap (λ (u : Litmus). div_ceil (length u.locations) m.statistics.caches.shape.words) (sym l.machine.test)) in
+    let sent_same : sent ≡ sent_by used = sent_is ∙ ap sent_by l.how_is in
     let moved_same : moved ≡ moved_from m.test old.place choice (core_of end.state.flat core).registers =
     moved_is ∙ (ap (λ n. moved_from t n choice (core_of next.state.flat core).registers) l.place_is ∙ (ap (λ u. moved_from u old.place choice (core_of next.state.flat core).registers) (sym l.machine.test)
     ∙ ap (λ (n : Running). moved_from m.test old.place choice (core_of n.state.flat core).registers) l.next_is)) in
-    let wrote_back_same : wrote_back ≡ wrote_back_by used (giving_way m core asked) =
-    wrote_back_is ∙ (ap (λ h. wrote_back_by h victim) l.how_is ∙ (ap (wrote_back_by used) l.victim_is ∙ ap (λ r. wrote_back_by used (giving_way m core r)) request_same)) in
+    let wrote_back_same : wrote_back ≡ among (number_of_lines m) (written_line (left_in used)) =
+    wrote_back_is ∙ (ap (λ h. among lines (written_line (left_in h))) l.how_is ∙ ap (λ n. among n (written_line (left_in used))) lines_same) in
     same-fields choice _ _ _ _ _ _ _ _ _ _ _ _ _ _ _ _ _ _ _ _ l.outcome_is l.left_is.entries moved_same (forwarded_is ∙ ap is_forwarded l.how_is) (access_is ∙ ap access_kind_in l.how_is)
     (ap (λ (s : Sent). s.request) sent_same) (ap (λ (s : Sent). s.flushed) sent_same) wrote_back_same l.left_is.changes l.left_is.buffer
 
@@ -176,9 +168,9 @@ known-here m choice valid known some =
     record {
       entries = All-append (HasLocation t) f.commits (drop (length (stores_on m choice)) (stores_on end choice)) places.commits
           (All-weaker (IsAt t) (HasLocation t) (at-place t) _ (All-drop (IsAt t) (length (stores_on m choice)) (stores_on end choice) stores));
-      request = sent-known t words m.bus f.outcome _ (machine_use m choice).how end.statistics.caches.awaited
-          (request-known t words (access_of t m.depth m.state.flat choice) some (access-known t m.depth m.state.flat choice valid known));
-      wrote_back = written-back-known t words (machine_use m choice).how _ (victim-known m (chosen choice) (request_at words (access_of t m.depth m.state.flat choice)) some);
+      request = sent-known t m.statistics.caches some (chosen choice) (is_awaited m.state.holder) (is_awaited (machine_effect m choice).holder) (access_of t m.depth m.state.flat choice)
+          (core_of m.state.flat (chosen choice)).pending f.commits (access-known t m.depth m.state.flat choice valid known) places.commits;
+      wrote_back = written-back-known m (written_line (left_in (machine_use m choice).how)) some;
       changes = changes-known t words (states_of m) (states_of end) (states-known m some);
       buffer = buffer-known t (length (stores_on m choice)) (stores_on end choice) stores;
     }

@@ -1,4 +1,5 @@
 -- The write-backs that a trace tells are those that are counted; and all that it tells of the accesses.
+use Rattle.multiprocessor.specs.declared.accesses.CacheUse.TheVariants as uses
 use Rattle.trace_report.proofs.Vocabulary.{◌≡◌, ◌≢◌, ◌∙◌, ℕ, ◌+◌, ◌<◌, ◌==◌, ◌&&◌, Bool, true, false, List, length, Some, refl, sym, ap, subst, arith, length-replicate, chosen, CoresExist, Choice, filled_by_sharing, written_in_place, I, AccessKind, Hit, Running, new_machine, machine_use, no_counts, with_access, with_forward, with_write_back, counts_at_core, with_use_counted, Counts, CacheUse, Unused, Forwarded, Through, trace_step_of, steps_from, count_of_accesses, is_sender, tells_write_back, one_if, steps_that, ProtocolsKeepNoCopyInI, AccessesAreTold}
 use Rattle.protocol_tables.specs.declared.kind.ProtocolKind.TheVariants.{Mesi, Moesi}
 use Rattle.protocol_tables.specs.declared.state.State.{State}
@@ -19,9 +20,10 @@ counted-write-back : (core k : ℕ) (how : CacheUse) (cs : List Counts) → core
     → (of (with_use_counted core how cs) k).write_backs ≡ (of cs k).write_backs + one_if ((core == k) && wrote_in how)
 counted-write-back core k Unused cs h = none-told (core == k) (of cs k).write_backs
 counted-write-back core k Forwarded cs h = kept (λ (n : Counts). n.write_backs) core k with_forward cs (λ n. refl) ∙ none-told (core == k) (of cs k).write_backs
-counted-write-back core k (Through a) cs h =
-    flushed-kept (λ (n : Counts). n.write_backs) k a.flushed (counts_at_core core (λ n. with_write_back a.wrote_back (with_access a.kind n)) cs) (λ n. refl)
-    ∙ added (λ (n : Counts). n.write_backs) core k (λ n. with_write_back a.wrote_back (with_access a.kind n)) cs a.wrote_back h (adds a.wrote_back a.kind)
+counted-write-back core k (uses.Asked request) cs h = none-told (core == k) (of cs k).write_backs
+counted-write-back core k (Through r) cs h =
+    flushed-kept (λ (n : Counts). n.write_backs) k r.access.flushed (counts_at_core core (λ n. with_write_back r.access.wrote_back (with_access r.access.kind n)) cs) (λ n. refl)
+    ∙ added (λ (n : Counts). n.write_backs) core k (λ n. with_write_back r.access.wrote_back (with_access r.access.kind n)) cs r.access.wrote_back h (adds r.access.wrote_back r.access.kind)
 
 write-backs-counted : (m : Running) (choices : List Choice) (k : ℕ) → IsKept m → CoresExist (length m.statistics.counts) choices
     → (of (counts_after m choices) k).write_backs + 0 ≡ (of m.statistics.counts k).write_backs + 0 + steps_that (tells_write_back k) (steps_from m choices)

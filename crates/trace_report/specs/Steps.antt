@@ -1,32 +1,29 @@
 -- What each choice of a run did. It is told from the machine before the choice, the machine after it, and what the choice had to
 -- do with the caches. (This project's profile, after the tables of Primer, chapters 6 and 7.)
-use Rattle.std.specs.Prelude.{ℕ, zero, suc, ◌+◌, ◌-◌, ◌/◌, ◌%◌, ◌==◌, ◌&&◌, nat_lt, Bool, true, false, if◌then◌else◌, List, [], ◌∷◌, ◌++◌, length, drop, slice_get, slice_index_or, Option, Some, None}
-use Rattle.std.specs.Option.{option_map}
+use Rattle.std.specs.Prelude.{ℕ, zero, suc, ◌+◌, ◌/◌, ◌==◌, ◌&&◌, nat_lt, Bool, true, false, if◌then◌else◌, List, [], ◌∷◌, ◌++◌, length, drop, slice_get, Option, Some, None}
 use Rattle.std.specs.Int.{div_ceil}
 use Rattle.tso_terms.specs.Litmus.{Litmus}
 use Rattle.tso_terms.specs.Actions.{action_of}
 use Rattle.tso_terms.specs.Thread.{value_in}
 use Rattle.tso_terms.specs.FlatMachine.{Effect, core_of, program_of, chosen}
-use Rattle.tso_terms.specs.MemoryAccess.{MemoryAccess, access_of}
 use Rattle.tso_terms.specs.Runs.{has_ended}
-use Rattle.basic_laws.specs.Types.{Action, Bus, Atomic, Split, Instr, Choice, Step, Drain, Outcome, Committed, Buffered, Asked, Stalled, Entry}
+use Rattle.basic_laws.specs.Types.{Action, Instr, Choice, Step, Drain, Outcome, Entry}
 use Rattle.protocol_tables.specs.Tables.{Table, table_of}
 use Rattle.protocol_tables.specs.declared.kind.ProtocolKind.{ProtocolKind}
 use Rattle.protocol_tables.specs.declared.state.State.{State}
 use Rattle.protocol_tables.specs.declared.requests.Transient.{Transient}
 use Rattle.protocol_tables.specs.declared.requests.Transient.TheVariants.{IsD, ImD, SmD}
-use Rattle.cache_set.specs.Tags.{tag_set}
-use Rattle.cache_set.specs.CacheTags.{sets_of}
-use Rattle.snoop_bus.specs.Asks.{Awaited, tag_at, or_invalid, request_for}
+use Rattle.snoop_bus.specs.Asks.{tag_at, or_invalid}
 use Rattle.snoop_bus.specs.declared.access.AccessKind.{AccessKind}
-use Rattle.snoop_bus.specs.declared.access.AccessKind.TheVariants.{Hit, Upgrade, Miss}
+use Rattle.snoop_bus.specs.declared.access.BusRequest.{BusRequest}
+use Rattle.snoop_bus.specs.declared.access.Departure.{Departure}
 use Rattle.multiprocessor.specs.Configuration.{Configuration}
-use Rattle.multiprocessor.specs.Caches.{at_access}
 use Rattle.machine_core.specs.Running.{Running, new_machine, machine_effect, machine_use, machine_after}
 use Rattle.machine_core.specs.Looking.{bus_holder_of}
 use Rattle.machine_core.specs.declared.looking.BusHolder.{BusHolder}
 use Rattle.multiprocessor.specs.declared.accesses.CacheUse.{CacheUse}
 use Rattle.multiprocessor.specs.declared.accesses.CacheUse.TheVariants.{Unused, Forwarded, Through}
+use Rattle.multiprocessor.specs.declared.accesses.CacheUse.TheVariants as uses
 use Rattle.trace_report.specs.Shown.{ShownStep}
 use Rattle.trace_report.specs.declared.step.Moved.{Moved}
 use Rattle.trace_report.specs.declared.step.LineRequest.{LineRequest}
@@ -37,7 +34,6 @@ use Rattle.trace_report.specs.declared.sending.Sent.{Sent}
 use Rattle.tso_terms.specs.declared.action.Action.TheVariants as action
 use Rattle.protocol_tables.specs.declared.state.State.TheVariants as tag
 use Rattle.trace_report.specs.declared.step.LineState.TheVariants as state
-use Rattle.tso_terms.specs.declared.choice.Outcome.TheVariants as out
 
 -- ---- the entries, the register, the buffer
 
@@ -67,52 +63,32 @@ buffer_if_changed waited pending = if length pending == waited then None else So
 abbrev pub is_forwarded : CacheUse → Bool
 is_forwarded Unused = false
 is_forwarded Forwarded = true
-is_forwarded (Through a) = false
+is_forwarded (uses.Asked request) = false
+is_forwarded (Through r) = false
 
 -- what the access was, if there was one
 abbrev pub access_kind_in : CacheUse → Option AccessKind
 access_kind_in Unused = None
 access_kind_in Forwarded = None
-access_kind_in (Through a) = Some a.kind
+access_kind_in (uses.Asked request) = None
+access_kind_in (Through r) = Some r.access.kind
 
 -- ---- the bus
-
--- an access asks for the line of its location: to read it, or to write it
-abbrev pub request_at : ℕ → MemoryAccess → Option LineRequest
-request_at words what = at_access None (λ loc write. Some (record { request = request_for write; line = loc.0 / words })) what
-
--- a hit is served by the core's own copy; an upgrade and a miss go on the bus
-abbrev pub goes_on_bus : AccessKind → Bool
-goes_on_bus Hit = false
-goes_on_bus Upgrade = true
-goes_on_bus Miss = true
 
 abbrev pub nothing_sent : Sent
 nothing_sent = record { request = None; flushed = None }
 
--- what goes on the bus and to memory, the request and the core whose copy is sent there, of an access that is made whole
-abbrev pub sent_whole : Option LineRequest → CacheUse → Sent
-sent_whole request Unused = nothing_sent
-sent_whole request Forwarded = nothing_sent
-sent_whole request (Through a) = record { request = if goes_on_bus a.kind then request else None; flushed = a.flushed }
+-- what goes on the bus and to memory by a request: the request for its line, and the core whose copy is sent there
+abbrev pub sent_with : Option BusRequest → Sent
+sent_with None = nothing_sent
+sent_with (Some q) = record { request = Some (record { request = q.request; line = q.line }); flushed = q.flushed }
 
--- of one that was asked for: nothing where a write access hits
-abbrev pub sent_asked : Option LineRequest → Option Awaited → Sent
-sent_asked request None = nothing_sent
-sent_asked request (Some awaited) = record { request = request; flushed = awaited.flushed }
-
--- of a choice on a split bus: what goes on the bus goes when it is asked for
-abbrev pub sent_at : Outcome → Option LineRequest → Option Awaited → Sent
-sent_at Committed request awaited = nothing_sent
-sent_at Buffered request awaited = nothing_sent
-sent_at out.Moved request awaited = nothing_sent
-sent_at Asked request awaited = sent_asked request awaited
-sent_at (Stalled why) request awaited = nothing_sent
-
--- on the atomic bus an access is made whole
-abbrev pub sent_on : Bus → Outcome → Option LineRequest → CacheUse → Option Awaited → Sent
-sent_on Atomic outcome request how awaited = sent_whole request how
-sent_on Split outcome request how awaited = sent_at outcome request awaited
+-- of a choice, as its access says; on a split bus it is told where it is asked for
+abbrev pub sent_by : CacheUse → Sent
+sent_by Unused = nothing_sent
+sent_by Forwarded = nothing_sent
+sent_by (uses.Asked request) = sent_with (Some request)
+sent_by (Through r) = sent_with r.request
 
 -- ---- the states of lines
 
@@ -177,26 +153,22 @@ changes_in (before ∷ befores) (after ∷ afters) = change_of before after ++ c
 
 -- ---- the line that is written back
 
--- the line that stands last in a full set of a core's cache
-abbrev pub last_line : Running → ℕ → ℕ → Option ℕ
-last_line m core set =
-    option_map (λ tag. tag.0) (slice_get (slice_index_or (sets_of m.statistics.caches.contents core) set (tag_set [] 1)).tags (m.statistics.caches.shape.ways - 1))
+-- the line that left the core's cache, as its access says
+abbrev pub left_in : CacheUse → Option Departure
+left_in Unused = None
+left_in Forwarded = None
+left_in (uses.Asked request) = None
+left_in (Through r) = r.left
+
+-- its number, where it was written back
+abbrev pub written_line : Option Departure → Option ℕ
+written_line None = None
+written_line (Some left) = if left.written_back then Some left.line else None
 
 -- a line, if it is one of so many: caches have no others
 abbrev pub among : ℕ → Option ℕ → Option ℕ
 among lines None = None
 among lines (Some line) = if nat_lt line lines then Some line else None
-
--- the line that gives way where the line that is asked for comes into the core's cache: the last of its set, if that is full
-abbrev pub giving_way : Running → ℕ → Option LineRequest → Option ℕ
-giving_way m core None = None
-giving_way m core (Some r) = among (number_of_lines m) (last_line m core (r.line % m.statistics.caches.shape.sets))
-
--- where the access sent a dirty line away, the line that gave way
-abbrev pub wrote_back_by : CacheUse → Option ℕ → Option ℕ
-wrote_back_by Unused victim = None
-wrote_back_by Forwarded victim = None
-wrote_back_by (Through a) victim = if a.wrote_back then victim else None
 
 -- ---- the step
 
@@ -205,8 +177,6 @@ abbrev pub step_with : Running → Choice → Effect → CacheUse → Running �
 step_with m choice f how next =
     let before = core_of m.state.flat (chosen choice) in
     let after = core_of next.state.flat (chosen choice) in
-    let request = request_at m.statistics.caches.shape.words (access_of m.test m.depth m.state.flat choice) in
-    let sent = sent_on m.bus f.outcome request how next.statistics.caches.awaited in
     record {
       choice = choice;
       outcome = f.outcome;
@@ -214,9 +184,9 @@ step_with m choice f how next =
       moved = moved_from m.test before.place choice after.registers;
       forwarded = is_forwarded how;
       access = access_kind_in how;
-      request = sent.request;
-      flushed = sent.flushed;
-      wrote_back = wrote_back_by how (giving_way m (chosen choice) request);
+      request = (sent_by how).request;
+      flushed = (sent_by how).flushed;
+      wrote_back = among (number_of_lines m) (written_line (left_in how));
       changes = changes_in (states_of m) (states_of next);
       buffer = buffer_if_changed (length before.pending) after.pending;
     }

@@ -28,7 +28,6 @@ pub mod text;
 mod texts_as_json;
 pub mod told_runs;
 mod traced_run;
-mod victim;
 
 pub use kept_trace::{TracedRun, simulate_telling_last, simulate_tracing};
 pub use states::states_of;

@@ -1,16 +1,13 @@
-//! What a choice puts on the bus, and sends to memory from another core's cache. On a split bus that is told at the ask,
-//! for then the other caches see it. (Primer, chapter 7.)
+//! What a choice puts on the bus, and sends to memory from another core's cache, as its access says. On a split bus that is told
+//! at the ask, for then the other caches see it. (Primer, chapter 7.)
 
-ghost use Rattle.std.specs.Prelude.{◌≡◌, ◌<◌, ◌/◌, option_map};
-ghost use Rattle.snoop_bus.specs.Asks.{awaited_by};
-ghost use Rattle.multiprocessor.specs.inner.Keeping.{memory_access_in};
-ghost use Rattle.trace_report.specs.Steps.{request_at, sent_on};
+ghost use Rattle.std.specs.Prelude.{◌≡◌};
+ghost use Rattle.trace_report.specs.Steps.{sent_by, sent_with};
 
 use crate::step::LineRequest;
-use machine_core::{CacheUse, MemoryAccess};
-use protocol_tables::Request;
-use snoop_bus::{AccessKind, Transaction};
-use tso_terms::{Bus, Core, Outcome};
+use machine_core::CacheUse;
+use snoop_bus::BusRequest;
+use tso_terms::Core;
 
 /// What goes on the bus and to memory.
 #[derive(Clone, Copy)]
@@ -21,57 +18,32 @@ pub struct Sent {
     pub flushed: Option<Core>,
 }
 
-impl Sent {
-    const NOTHING: Sent = Sent {
-        request: None,
-        flushed: None,
-    };
+/// What a choice sends that had this to do with the caches.
+pub fn sent_by(cache_use: CacheUse) -> Sent
+    ensures { result ≡ sent_by cache_use }
+{
+    match cache_use {
+        CacheUse::Unused | CacheUse::Forwarded => sent_with(None),
+        CacheUse::Asked(request) => sent_with(Some(request)),
+        CacheUse::Through(report) => sent_with(report.request),
+    }
 }
 
-/// What an access asks for, where lines have so many words.
-pub fn request_at(access: MemoryAccess, words: u8) -> Option<LineRequest>
-    requires { 0 < words }
-    ensures { result ≡ request_at words (memory_access_in access) }
+/// What is sent by a request.
+fn sent_with(request: Option<BusRequest>) -> Sent
+    ensures { result ≡ sent_with request }
 {
-    let (request, loc) = match access {
-        MemoryAccess::Nothing => return None,
-        MemoryAccess::Read(loc) => (Request::GetS, loc),
-        MemoryAccess::Write(loc) | MemoryAccess::Lock(loc) => (Request::GetM, loc),
-    };
-    let line = loc.0 / words;
-    Some(LineRequest { request, line })
-}
-
-/// What a choice sends, on either bus: on the atomic bus with its access, on a split bus where it asks.
-pub fn sent_on(
-    bus: Bus,
-    outcome: Outcome,
-    request: Option<LineRequest>,
-    cache_use: CacheUse,
-    awaited: Option<Transaction>,
-) -> Sent
-    ensures { result ≡ sent_on bus outcome request cache_use (option_map awaited_by awaited) }
-{
-    match (bus, outcome) {
-        // An access is made whole, and a hit sends nothing.
-        (Bus::Atomic, _) => match cache_use {
-            CacheUse::Unused | CacheUse::Forwarded => Sent::NOTHING,
-            CacheUse::Through(access) => Sent {
-                request: match access.kind {
-                    AccessKind::Hit => None,
-                    AccessKind::Upgrade | AccessKind::Miss => request,
-                },
-                flushed: access.flushed,
-            },
+    match request {
+        None => Sent {
+            request: None,
+            flushed: None,
         },
-        // A write access that hits sends nothing.
-        (Bus::Split, Outcome::Asked) => match awaited {
-            None => Sent::NOTHING,
-            Some(transaction) => Sent {
-                request,
-                flushed: transaction.flushed,
-            },
+        Some(sent) => Sent {
+            request: Some(LineRequest {
+                request: sent.request,
+                line: sent.line,
+            }),
+            flushed: sent.flushed,
         },
-        (Bus::Split, _) => Sent::NOTHING,
     }
 }

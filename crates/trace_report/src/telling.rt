@@ -9,7 +9,7 @@ ghost use Rattle.tso_terms.specs.Runs.{stall_count};
 ghost use Rattle.machine_core.specs.Running.{machine_after, AnswerFits};
 ghost use Rattle.trace_report.specs.Shown.{shown_step};
 ghost use Rattle.trace_report.specs.inner.Steps.{waited_before};
-ghost use Rattle.trace_report.specs.Steps.{is_forwarded, access_kind_in, moved_from, moved_by, buffer_if_changed, wrote_back_by, trace_step_of, states_of};
+ghost use Rattle.trace_report.specs.Steps.{is_forwarded, access_kind_in, moved_from, moved_by, buffer_if_changed, among, left_in, written_line, trace_step_of, states_of};
 ghost use Rattle.trace_report.specs.Known.{StepNamesExist};
 ghost use Rattle.trace_report.specs.inner.Told.{IsLookedAt};
 ghost use Rattle.trace_report.specs.Told.{IsTracedInStates};
@@ -17,10 +17,9 @@ ghost use Rattle.trace_report.specs.inner.Left.{IsLeftBy};
 ghost use Rattle.trace_report.specs.Stalls.{stalled_step};
 ghost use Rattle.trace_report.specs.inner.ToldSteps.{told_step, stalls_told};
 
-use crate::sending::{request_at, sent_on};
+use crate::sending::sent_by;
 use crate::states::{PlacedState, changes_in, states_of};
 use crate::step::{Moved, StateChange, Step, core_of};
-use crate::victim::giving_way;
 use machine_core::{CacheUse, Config, Machine};
 use protocol_tables::Protocol;
 use snoop_bus::AccessKind;
@@ -108,8 +107,7 @@ pub fn tell_or_stall<P: Protocol>(
     let core = core_of(choice);
     let place = machine.place(core).unwrap_or(0);
     let committed = machine.committed().len();
-    let request = request_at(machine.access(choice), config.words());
-    let victim = giving_way(machine, test, config, core, request);
+    let lines = test.locations().div_ceil(config.words());
     let (outcome, cache_use) = machine.choose_telling(choice)?;
     if let Outcome::Stalled(stall) = outcome {
         return Ok(Told::Stalled(stall));
@@ -120,8 +118,8 @@ pub fn tell_or_stall<P: Protocol>(
         committed,
     };
     let left = left_behind(alloc, machine, states, test, config, made)?;
-    let sent = sent_on(config.bus(), outcome, request, cache_use, machine.awaited());
-    let (forwarded, access, wrote_back) = answered_by(cache_use, victim);
+    let sent = sent_by(cache_use);
+    let (forwarded, access) = answered_by(cache_use);
     Ok(Told::Made(Step {
         choice,
         outcome,
@@ -131,7 +129,7 @@ pub fn tell_or_stall<P: Protocol>(
         access,
         request: sent.request,
         flushed: sent.flushed,
-        wrote_back,
+        wrote_back: written_back(cache_use, lines),
         changes: left.changes,
         buffer: left.buffer,
     }))
@@ -268,20 +266,35 @@ fn moved_by<P: Protocol>(machine: &Machine<P>, core: Core, instr: Instr) -> Opti
     }
 }
 
-/// Whether the core's own pending stores answered the choice; what its access was; and where that sent a dirty line away, the
-/// line that gave way.
-fn answered_by(cache_use: CacheUse, victim: Option<u8>) -> (bool, Option<AccessKind>, Option<u8>)
+/// Whether the core's own pending stores answered the choice, and what its access was.
+fn answered_by(cache_use: CacheUse) -> (bool, Option<AccessKind>)
     ensures forwarded { result.0 ≡ is_forwarded cache_use }
     ensures access { result.1 ≡ access_kind_in cache_use }
-    ensures wrote_back { result.2 ≡ wrote_back_by cache_use victim }
 {
     match cache_use {
-        CacheUse::Unused => (false, None, None),
-        CacheUse::Forwarded => (true, None, None),
-        CacheUse::Through(access) => {
-            let wrote_back = if access.wrote_back { victim } else { None };
-            (false, Some(access.kind), wrote_back)
-        }
+        CacheUse::Unused | CacheUse::Asked(_) => (false, None),
+        CacheUse::Forwarded => (true, None),
+        CacheUse::Through(report) => (false, Some(report.access.kind)),
+    }
+}
+
+/// The line that left the core's cache and was written back, if it is one of so many: caches have no others.
+fn written_back(cache_use: CacheUse, lines: u8) -> Option<u8>
+    ensures { result ≡ among lines (written_line (left_in cache_use)) }
+{
+    let CacheUse::Through(report) = cache_use else {
+        return None;
+    };
+    let Some(left) = report.left else {
+        return None;
+    };
+    if !left.written_back {
+        return None;
+    }
+    if left.line < lines {
+        Some(left.line)
+    } else {
+        None
     }
 }
 

@@ -1,16 +1,20 @@
 -- Where locations and lines lie, and lines in the order of their use, in caches small enough to be followed by eye.
 use Rattle.std.specs.Prelude.{ℕ, Bool, List, [], ◌∷◌, Option}
 use Rattle.worked_examples.specs.Vocabulary.{Accessed, Core, M, S, State, TagSet, TagSets}
+use Rattle.snoop_bus.specs.declared.access.Access.{Access}
 use Rattle.snoop_bus.specs.declared.access.AccessKind.{AccessKind}
 
 -- a set with room for so many lines, and these lines with their states, the most recently used first
 abbrev pub set_for : ℕ → List (ℕ × State) → TagSet
 set_for ways tags = record { tags = tags; ways = ways }
 
--- what an access was, whether a dirty line left, whose copy was sent to memory; and all caches after it
-abbrev pub was : AccessKind → Bool → Option Core → List TagSets → Accessed
-was kind wrote_back flushed caches =
-    record { access = record { kind = kind; wrote_back = wrote_back; flushed = flushed }; caches = caches }
+-- what an access was, and all caches after it
+abbrev pub outcome_of : Accessed → Access × List TagSets
+outcome_of a = (a.report.access, a.caches)
+
+-- what it was: whether a dirty line left, whose copy was sent to memory; and all caches after it
+abbrev pub was : AccessKind → Bool → Option Core → List TagSets → Access × List TagSets
+was kind wrote_back flushed caches = (record { kind = kind; wrote_back = wrote_back; flushed = flushed }, caches)
 
 abbrev pub p1 : Core
 p1 = record { 0 = 1 }

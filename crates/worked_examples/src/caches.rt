@@ -7,6 +7,7 @@ ghost use Rattle.protocol_tables.specs.declared.requests.Request.TheVariants.{Ge
 ghost use Rattle.protocol_tables.specs.declared.requests.Transient.TheVariants.{IsD, ImD, SmD};
 ghost use Rattle.protocol_tables.specs.Tables.{msi, mesi, moesi};
 ghost use Rattle.snoop_bus.specs.declared.access.AccessKind.TheVariants.{Hit, Upgrade, Miss};
+ghost use Rattle.snoop_bus.specs.declared.access.Supplier.TheVariants.{Cache, Memory};
 ghost use Rattle.protocol_tables.specs.Laws.{is_dirty, in_place};
 ghost use Rattle.snoop_bus.specs.Coherent.{may_share};
 ghost use Rattle.cache_set.specs.Lines.{line_of_words, lines_of_words};
@@ -15,13 +16,13 @@ ghost use Rattle.snoop_bus.specs.Asks.{hits, asking, completed, whole_access};
 ghost use Rattle.snoop_bus.specs.Bus.{words_of};
 ghost use Rattle.snoop_bus.specs.Accesses.{line_of_location, lines_with, load_of, memory_after_load, memory_after_write};
 ghost use Rattle.snoop_bus.specs.inner.Accesses.{memory_words_of};
-ghost use Rattle.worked_examples.specs.LinesInSets.{set_for, was, p1};
-ghost use Rattle.worked_examples.specs.inner.LinesInSets.{shape, words, awaits, asked, eight_words, five_words};
+ghost use Rattle.worked_examples.specs.LinesInSets.{set_for, outcome_of, was, p1};
+ghost use Rattle.worked_examples.specs.inner.LinesInSets.{requested, departed, by_state, under_way};
+ghost use Rattle.worked_examples.specs.inner.LinesInSets.{shape, words, awaits, asked, ask_leaves, eight_words, five_words};
 ghost use Rattle.worked_examples.specs.LinesInSets.{alone};
 ghost use Rattle.worked_examples.specs.inner.LinesInSets.{eight_locations, none, stale, eight_in_memory, fresh_in_memory};
 ghost use Rattle.worked_examples.specs.LinesInSets.{two_sets, four_second, four_first, full, dirty_last};
 ghost use Rattle.worked_examples.specs.LinesInSets.{shares_both, shares_seven, has_five, three_sets};
-ghost use Rattle.worked_examples.specs.inner.LinesInSets.{by_state, under_way};
 
 /// In which line and which set a location lies: where P1 loads it, that set of P1 has that line.
 #[tactic(auto, unfolding(snoop_bus::specs::Asks::awaiting))]
@@ -81,37 +82,66 @@ pub fn worked_words()
 #[tactic(auto, unfolding(snoop_bus::specs::Asks::awaiting))]
 pub fn worked_fronts()
     // A load that hits, and writes that hit, on M and on E.
-    ensures load_hit { whole_access msi false 0 4 (two_sets (four_second S) shares_both) ≡ was Hit false None (two_sets (four_first S) shares_both) }
-    ensures write_hit_on_modified { whole_access msi true 0 4 (two_sets (four_second M) shares_seven)
+    ensures load_hit { outcome_of (whole_access msi false 0 4 (two_sets (four_second S) shares_both)) ≡ was Hit false None (two_sets (four_first S) shares_both) }
+    ensures write_hit_on_modified { outcome_of (whole_access msi true 0 4 (two_sets (four_second M) shares_seven))
         ≡ was Hit false None (two_sets (four_first M) shares_seven) }
-    ensures write_hit_on_exclusive { whole_access mesi true 0 4 (two_sets (four_second E) shares_seven)
+    ensures write_hit_on_exclusive { outcome_of (whole_access mesi true 0 4 (two_sets (four_second E) shares_seven))
         ≡ was Hit false None (two_sets (four_first M) shares_seven) }
 
     // Upgrades, of S and of O: the other copy is gone.
-    ensures upgrade_of_shared { whole_access msi true 0 4 (two_sets (four_second S) shares_both)
+    ensures upgrade_of_shared { outcome_of (whole_access msi true 0 4 (two_sets (four_second S) shares_both))
         ≡ was Upgrade false None (two_sets (four_first M) shares_seven) }
-    ensures upgrade_of_owned { whole_access moesi true 0 4 (two_sets (four_second O) shares_both)
+    ensures upgrade_of_owned { outcome_of (whole_access moesi true 0 4 (two_sets (four_second O) shares_both))
         ≡ was Upgrade false None (two_sets (four_first M) shares_seven) }
 
     // Misses of a line that P1 has modified: P1's copy changes where it stands.
-    ensures load_miss { whole_access msi false 0 5 (two_sets (four_second S) (has_five M))
+    ensures load_miss { outcome_of (whole_access msi false 0 5 (two_sets (four_second S) (has_five M)))
         ≡ was Miss false (Some p1) (two_sets ((5, S) ∷ four_second S) (has_five S)) }
-    ensures load_miss_in_moesi { whole_access moesi false 0 5 (two_sets (four_second S) (has_five M))
+    ensures load_miss_in_moesi { outcome_of (whole_access moesi false 0 5 (two_sets (four_second S) (has_five M)))
         ≡ was Miss false None (two_sets ((5, S) ∷ four_second S) (has_five O)) }
-    ensures write_miss { whole_access msi true 0 5 (two_sets (four_second S) (has_five M))
+    ensures write_miss { outcome_of (whole_access msi true 0 5 (two_sets (four_second S) (has_five M)))
         ≡ was Miss false None (two_sets ((5, M) ∷ four_second S) shares_seven) }
 
     // P1 has the line alone, and clean: it is filled in S beside it.
-    ensures load_miss_in_mesi { whole_access mesi false 0 5 (two_sets (four_second S) (has_five E))
+    ensures load_miss_in_mesi { outcome_of (whole_access mesi false 0 5 (two_sets (four_second S) (has_five E)))
         ≡ was Miss false None (two_sets ((5, S) ∷ four_second S) (has_five S)) }
 
     // P1 writes: the copies of P0 and P2 are gone.
-    ensures upgrade_among_three { whole_access msi true 1 4 (three_sets shares_both (four_second S) shares_both)
+    ensures upgrade_among_three { outcome_of (whole_access msi true 1 4 (three_sets shares_both (four_second S) shares_both))
         ≡ was Upgrade false None (three_sets shares_seven (four_first M) shares_seven) }
 
     // A miss where the set is full: the line used longest ago leaves, and is written back.
-    ensures load_miss_alone { whole_access mesi false 0 5 (full dirty_last) ≡ was Miss true None (full ((5, E) ∷ (7, S) ∷ (4, S) ∷ [])) }
-    ensures write_miss_alone { whole_access mesi true 0 5 (full dirty_last) ≡ was Miss true None (full ((5, M) ∷ (7, S) ∷ (4, S) ∷ [])) }
+    ensures load_miss_alone { outcome_of (whole_access mesi false 0 5 (full dirty_last)) ≡ was Miss true None (full ((5, E) ∷ (7, S) ∷ (4, S) ∷ [])) }
+    ensures write_miss_alone { outcome_of (whole_access mesi true 0 5 (full dirty_last)) ≡ was Miss true None (full ((5, M) ∷ (7, S) ∷ (4, S) ∷ [])) }
+{}
+
+/// What accesses say beside that: what went on the bus, who supplied the words, the copies that were there, and the line that left.
+#[tactic(auto, unfolding(snoop_bus::specs::Asks::awaiting, snoop_bus::specs::Asks::requesting))]
+pub fn worked_reports()
+    // A hit asks nothing, and an upgrade for no words.
+    ensures a_hit_asks_nothing { (whole_access msi false 0 4 (two_sets (four_second S) shares_both)).report.request ≡ None }
+    ensures an_upgrade_moves_no_words { (whole_access msi true 0 4 (two_sets (four_second S) shares_both)).report.request
+        ≡ requested GetM 4 None None (Some S) (Some S) }
+
+    // P1 has modified the line: in MSI its copy is sent to memory too.
+    ensures a_modified_copy_supplies { (whole_access msi false 0 5 (two_sets (four_second S) (has_five M))).report.request
+        ≡ requested GetS 5 (Some (Cache p1)) (Some p1) None (Some M) }
+    ensures an_owner_supplies { (whole_access moesi false 0 5 (two_sets (four_second S) (has_five M))).report.request
+        ≡ requested GetS 5 (Some (Cache p1)) None None (Some M) }
+    ensures a_shared_copy_does_not { (whole_access msi false 0 7 (two_sets [] shares_seven)).report.request
+        ≡ requested GetS 7 (Some Memory) None None (Some S) }
+
+    // The line that was used longest ago leaves: it is written to memory where it is dirty.
+    ensures a_dirty_line_is_written { (whole_access mesi false 0 5 (full dirty_last)).report.left ≡ departed 2 true }
+    ensures a_clean_line_is_not { (whole_access mesi false 0 5 (full (four_first S))).report.left ≡ departed 2 false }
+    ensures none_leaves_where_there_is_room { (whole_access mesi false 0 5 (two_sets (four_second S) [])).report.left ≡ None }
+
+    // In halves the ask tells the request, and the completion the line that left.
+    ensures an_ask_tells_its_request { (asking msi GetS 0 5 (two_sets (four_second S) (has_five M))).request
+        ≡ requested GetS 5 (Some (Cache p1)) (Some p1) None (Some M) }
+    ensures a_hit_asks_for_nothing { (asking msi GetM 0 4 (two_sets (four_second M) shares_seven)).request ≡ None }
+    ensures a_completion_tells_no_request { (completed mesi 0 5 (Some (awaits IsD E None)) (full dirty_last)).report.request ≡ None }
+    ensures a_completion_tells_what_left { (completed mesi 0 5 (Some (awaits IsD E None)) (full dirty_last)).report.left ≡ departed 2 true }
 {}
 
 /// Which accesses hit, by the state of the line.
@@ -129,34 +159,34 @@ pub fn worked_hits()
 #[tactic(auto, unfolding(snoop_bus::specs::Asks::awaiting))]
 pub fn worked_halves()
     // For an upgrade: the own line stays where it stands until the completion.
-    ensures upgrade_is_asked { asking msi GetM 0 4 (two_sets (four_second S) shares_both)
+    ensures upgrade_is_asked { ask_leaves (asking msi GetM 0 4 (two_sets (four_second S) shares_both))
         ≡ asked (Some (awaits SmD M None)) (two_sets (four_second S) shares_seven) }
-    ensures upgrade_is_completed { completed msi 0 4 (Some (awaits SmD M None)) (two_sets (four_second S) shares_seven)
+    ensures upgrade_is_completed { outcome_of (completed msi 0 4 (Some (awaits SmD M None)) (two_sets (four_second S) shares_seven))
         ≡ was Upgrade false None (two_sets (four_first M) shares_seven) }
 
     // For a load, and for a write, of a line that P1 has modified.
-    ensures load_is_asked { asking msi GetS 0 5 (two_sets (four_second S) (has_five M))
+    ensures load_is_asked { ask_leaves (asking msi GetS 0 5 (two_sets (four_second S) (has_five M)))
         ≡ asked (Some (awaits IsD S (Some p1))) (two_sets (four_second S) (has_five S)) }
-    ensures load_is_completed { completed msi 0 5 (Some (awaits IsD S (Some p1))) (two_sets (four_second S) (has_five S))
+    ensures load_is_completed { outcome_of (completed msi 0 5 (Some (awaits IsD S (Some p1))) (two_sets (four_second S) (has_five S)))
         ≡ was Miss false (Some p1) (two_sets ((5, S) ∷ four_second S) (has_five S)) }
-    ensures write_is_asked { asking msi GetM 0 5 (two_sets (four_second S) (has_five M))
+    ensures write_is_asked { ask_leaves (asking msi GetM 0 5 (two_sets (four_second S) (has_five M)))
         ≡ asked (Some (awaits ImD M None)) (two_sets (four_second S) shares_seven) }
-    ensures write_is_completed { completed msi 0 5 (Some (awaits ImD M None)) (two_sets (four_second S) shares_seven)
+    ensures write_is_completed { outcome_of (completed msi 0 5 (Some (awaits ImD M None)) (two_sets (four_second S) shares_seven))
         ≡ was Miss false None (two_sets ((5, M) ∷ four_second S) shares_seven) }
 
     // In MESI a load is to be filled in E where no other core has the line, and in S where one has.
-    ensures exclusive_is_asked { asking mesi GetS 0 5 (full dirty_last) ≡ asked (Some (awaits IsD E None)) (full dirty_last) }
-    ensures shared_is_asked { asking mesi GetS 0 5 (two_sets (four_second S) (has_five E))
+    ensures exclusive_is_asked { ask_leaves (asking mesi GetS 0 5 (full dirty_last)) ≡ asked (Some (awaits IsD E None)) (full dirty_last) }
+    ensures shared_is_asked { ask_leaves (asking mesi GetS 0 5 (two_sets (four_second S) (has_five E)))
         ≡ asked (Some (awaits IsD S None)) (two_sets (four_second S) (has_five S)) }
 
     // Where the set is full, another line leaves at the completion.
-    ensures full_set_is_left { completed mesi 0 5 (Some (awaits IsD E None)) (full dirty_last)
+    ensures full_set_is_left { outcome_of (completed mesi 0 5 (Some (awaits IsD E None)) (full dirty_last))
         ≡ was Miss true None (full ((5, E) ∷ (7, S) ∷ (4, S) ∷ [])) }
 
     // A write access that hits awaits nothing: its line goes to the front at the completion.
-    ensures hit_is_asked { asking msi GetM 0 4 (two_sets (four_second M) shares_seven)
+    ensures hit_is_asked { ask_leaves (asking msi GetM 0 4 (two_sets (four_second M) shares_seven))
         ≡ asked None (two_sets (four_second M) shares_seven) }
-    ensures hit_is_completed { completed msi 0 4 None (two_sets (four_second M) shares_seven)
+    ensures hit_is_completed { outcome_of (completed msi 0 4 None (two_sets (four_second M) shares_seven))
         ≡ was Hit false None (two_sets (four_first M) shares_seven) }
 {}
 

@@ -5,7 +5,7 @@ use Rattle.std.specs.List.{sum_by}
 use Rattle.multiprocessor.specs.Vocabulary.{Awaited, BusState, CoreState, Free, HeldBetween, HeldBy, Holder, IsTest, Litmus, Locks, MemoryAccess, most_cores, most_instructions, NoAccess, Reads, Writes}
 use Rattle.tso_terms.specs.declared.instruction.Core.{Core}
 use Rattle.multiprocessor.specs.declared.accesses.CacheUse.{CacheUse}
-use Rattle.multiprocessor.specs.declared.accesses.CacheUse.TheVariants.{Unused, Forwarded, Through}
+use Rattle.multiprocessor.specs.declared.accesses.CacheUse.TheVariants.{Unused, Forwarded, Asked, Through}
 use Rattle.multiprocessor.specs.declared.accesses.MemoryAccess as code
 use Rattle.multiprocessor.specs.declared.accesses.MemoryAccess.TheVariants.{Nothing, Read, Write, Lock}
 use Rattle.multiprocessor.specs.Statistics.{Statistics}
@@ -42,7 +42,8 @@ IsAmong cores (Some core) = core.0 < cores
 abbrev pub IsFlusherAmong : ℕ → CacheUse → Type 0
 IsFlusherAmong cores Unused = Unit {0}
 IsFlusherAmong cores Forwarded = Unit {0}
-IsFlusherAmong cores (Through a) = IsAmong cores a.flushed
+IsFlusherAmong cores (Asked request) = Unit {0}
+IsFlusherAmong cores (Through r) = IsAmong cores r.access.flushed
 
 -- what an action that holds the bus awaits was sent by one of so many cores
 abbrev pub IsSenderAmong : ℕ → Option Awaited → Type 0

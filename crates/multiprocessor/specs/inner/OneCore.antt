@@ -13,7 +13,7 @@ use Rattle.multiprocessor.specs.inner.Cores.{pending_in}
 use Rattle.multiprocessor.specs.inner.Turns.{by_way}
 use Rattle.multiprocessor.specs.Caches.{caches_of, whole_by, completing_by, completion_by, use_of}
 use Rattle.multiprocessor.specs.Effects.{ChoiceAnswer, HasUsed}
-use Rattle.snoop_bus.specs.declared.access.Access as bus_access
+use Rattle.snoop_bus.specs.declared.access.AccessReport.{AccessReport}
 
 -- an action of the core that makes its access this way had this effect, and answered its outcome and how it used the caches;
 -- an access that was asked for frees the bus
@@ -61,7 +61,7 @@ pub record IsStored (core : ℕ) (store : Pending) (bus bus' : BusModel) (noted 
   pub words : words_of bus' ≡ slice_set (words_of bus) store.loc.0 store.value
   pub commits : Notes noted noted' (store_of core store)
 
--- an access made in this turn, a load or a write access, was this one, whole or by its completion; the latter frees the bus
-pub record IsMade (turn : Turn) (write : Bool) (loc : Loc) (old new : BusModel) (access : bus_access.Access) : Type 0 where
-  pub caches : HasUsed (by_way turn.way (whole_by (caches_of old) turn.core.0 loc.0 write) (completion_by (caches_of old) turn.core.0 loc.0)) new (Through access)
+-- an access made in this turn, a load or a write access, did this, whole or by its completion; the latter frees the bus
+pub record IsMade (turn : Turn) (write : Bool) (loc : Loc) (old new : BusModel) (report : AccessReport) : Type 0 where
+  pub caches : HasUsed (by_way turn.way (whole_by (caches_of old) turn.core.0 loc.0 write) (completion_by (caches_of old) turn.core.0 loc.0)) new (Through report)
   pub holder : holder_of new ≡ by_way turn.way (holder_of old) None

@@ -1,10 +1,8 @@
--- What the calls of a bus leave, said of its copies, and when a call is refused memory. Beside an action that holds the bus
+-- What the calls of a bus leave, said of its copies. Beside an action that holds the bus
 -- only a hit may be made, and none at the line that is being written.
 use Rattle.std.specs.Prelude.{◌≡◌, ◌≢◌, ◌⊎◌, ℕ, Bool, false, IsTrue, Option, Some, None, option_map, List, [], slice_get, slice_index_or}
 use Rattle.snoop_bus.specs.Vocabulary.{Core, is_dirty, Loc, M, State}
 use Rattle.cache_set.specs.Contents.{Contents, contents}
-use Rattle.snoop_bus.specs.declared.access.Access.{Access}
-use Rattle.snoop_bus.specs.declared.access.AccessKind.TheVariants.{Miss}
 use Rattle.snoop_bus.specs.declared.holding.BusAction.{BusAction}
 use Rattle.snoop_bus.specs.declared.holding.Stage.TheVariants.{Load, Locked}
 use Rattle.snoop_bus.specs.declared.looking.CachedLine.{CachedLine}
@@ -52,8 +50,3 @@ contents_settled b = settled (contents_of b)
 pub record StandsAlone (b : BusModel) (h : BusAction) : Type 0 where
   pub others : h.stage ≢ Load → (core : ℕ) → core ≢ h.core.0 → tag_at core (line_of_location b h.loc.0) (contents_of b) ≡ None
   pub own : h.stage ≡ Locked → tag_at h.core.0 (line_of_location b h.loc.0) (contents_of b) ≡ Some M
-
--- an access was out of memory: it was a miss, since no other takes any, and nothing has changed
-pub record IsOutOfMemory (old new : BusModel) (refused : Access) : Type 0 where
-  pub miss : refused.kind ≡ Miss
-  pub same : new ≡ old

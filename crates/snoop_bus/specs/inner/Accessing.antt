@@ -1,7 +1,7 @@
 -- The caches of all cores and memory at an access that is made whole: what it rests on, and what it leaves.
 use Rattle.std.specs.Prelude.{◌≡◌, ◌<◌, ◌≤◌, ◌⊎◌, ℕ, Bool, true, false, IsTrue, nat_eq, if◌then◌else◌, List, length, slice_set, slice_index, Option, Some, None, IfSome}
 use Rattle.snoop_bus.specs.Vocabulary.{copy_with, M, most_cores, Table}
-use Rattle.snoop_bus.specs.declared.access.Access.{Access}
+use Rattle.snoop_bus.specs.declared.access.AccessReport.{AccessReport}
 use Rattle.snoop_bus.specs.declared.access.Updated.{Updated}
 use Rattle.snoop_bus.specs.declared.hierarchy.Hierarchy.{Hierarchy}
 use Rattle.snoop_bus.specs.declared.holding.HeldBus.{HeldBus}
@@ -55,32 +55,32 @@ pub record SetsWord (line offset value : ℕ) (old_caches new_caches : List Sets
 abbrev pub counted_words : Option HeldBus → List Sets → List Words → ℕ → Words
 counted_words held caches memory line = current_words (counted_copies_of held caches) memory line
 
--- an access that is made whole was this one, and what it leaves goes by the protocol's table
-pub record IsMadeWhole (t : Table) (write : Bool) (core line : ℕ) (old new : List Sets) (before after : List Words) (access : Access) : Type 0 where
-  pub access_is : access ≡ (whole_access t write core line (tags_of old)).access
+-- an access that is made whole did this, and what it leaves goes by the protocol's table
+pub record IsMadeWhole (t : Table) (write : Bool) (core line : ℕ) (old new : List Sets) (before after : List Words) (report : AccessReport) : Type 0 where
+  pub report_is : report ≡ (whole_access t write core line (tags_of old)).report
   pub tags : tags_of new ≡ (whole_access t write core line (tags_of old)).caches
   pub memory : after ≡ whole_memory t write core line old before
 
 module _ (t : Table) (held : Option HeldBus) (core line : ℕ) where
-  -- a load answered the word at this offset in a line and was this access
-  pub record Loads (offset : ℕ) (old new : List Sets) (before after : List Words) (word : ℕ) (access : Access) : Type 0 where
+  -- a load answered the word at this offset in a line and did this
+  pub record Loads (offset : ℕ) (old new : List Sets) (before after : List Words) (word : ℕ) (report : AccessReport) : Type 0 where
     pub word_is : word ≡ slice_index (counted_words held old before line) offset
-    pub made : IsMadeWhole t false core line old new before after access
+    pub made : IsMadeWhole t false core line old new before after report
 
-  -- a write access found these words and was this access: the core has the line in M
-  pub record Acquires (old new : List Sets) (before after : List Words) (words : Words) (access : Access) : Type 0 where
+  -- a write access found these words and did this: the core has the line in M
+  pub record Acquires (old new : List Sets) (before after : List Words) (words : Words) (report : AccessReport) : Type 0 where
     pub words_are : words ≡ counted_words held old before line
     pub own : copy_at new core line ≡ Some (copy_with M words)
-    pub made : IsMadeWhole t true core line old new before after access
+    pub made : IsMadeWhole t true core line old new before after report
 
-  -- a write access wrote this value at an offset in a line, found that word there and was this access: that word alone
+  -- a write access wrote this value at an offset in a line, found that word there and did this: that word alone
   -- is seen to change
-  pub record Writes (offset value : ℕ) (old new : List Sets) (before after : List Words) (word : ℕ) (access : Access) : Type 0 where
+  pub record Writes (offset value : ℕ) (old new : List Sets) (before after : List Words) (word : ℕ) (report : AccessReport) : Type 0 where
     pub offset_in : offset < length (counted_words held old before line)
     pub word_is : word ≡ slice_index (counted_words held old before line) offset
     pub lines : OnlyWordAt line offset value (length before) (counted_words held old before) (counted_words held new after)
-    pub made : IsMadeWhole t true core line old new before after access
+    pub made : IsMadeWhole t true core line old new before after report
 
   -- a write access made this of the word that it found
   abbrev pub Updates : ℕ → List Sets → List Sets → List Words → List Words → Updated → Type 0
-  Updates offset old new before after u = Writes offset u.after old new before after u.before u.access
+  Updates offset old new before after u = Writes offset u.after old new before after u.before u.report

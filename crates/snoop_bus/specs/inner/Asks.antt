@@ -10,12 +10,12 @@ use Rattle.cache_set.specs.Copies.{Sets, tags_of}
 use Rattle.snoop_bus.specs.Held.{stage_for}
 use Rattle.snoop_bus.specs.inner.Held.{held_by}
 use Rattle.snoop_bus.specs.Bus.{current_words}
-use Rattle.snoop_bus.specs.Asks.{asked_for, flusher_of, request_for, to_fill}
+use Rattle.snoop_bus.specs.Asks.{asked_for, request_for, requesting, to_fill}
 
 -- the transaction of a request, where the line has these words, and what it awaits
 unfoldable pub transacting : Table → Request → ℕ → Words → List TagSets → Transient → Transaction
 transacting t request line words caches transient =
-    record { transient = transient; copy = copy_with (to_fill t request line caches) words; flushed = flusher_of t request line caches }
+    record { transient = transient; copy = copy_with (to_fill t request line caches) words; request = requesting t request line caches transient }
 
 -- the transaction that an ask begins; a write access that hits has none
 abbrev pub transaction_of : Table → Request → ℕ → ℕ → Words → List TagSets → Option Transaction

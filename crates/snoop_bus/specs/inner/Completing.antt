@@ -1,7 +1,7 @@
 -- The second half of an access, over the caches of all cores and memory: what it begins with, and what it leaves.
 use Rattle.std.specs.Prelude.{◌≡◌, ◌<◌, ℕ, List, length, Option}
 use Rattle.snoop_bus.specs.Vocabulary.{Table}
-use Rattle.snoop_bus.specs.declared.access.Access.{Access}
+use Rattle.snoop_bus.specs.declared.access.AccessReport.{AccessReport}
 use Rattle.snoop_bus.specs.declared.holding.Stage.{Stage}
 use Rattle.snoop_bus.specs.declared.hierarchy.Hierarchy.{Hierarchy}
 use Rattle.snoop_bus.specs.declared.holding.Transaction.{Transaction}
@@ -26,12 +26,12 @@ pub record IsAwaited (stage : Stage) (x : Option Transaction) (core line : ℕ) 
 abbrev pub words_due : Option Transaction → ℕ → ℕ → Hierarchy → Words
 words_due x core line h = current_words (counted_in core line x h.caches.items) h.memory.items line
 
--- the completion: what access it is, and the lines and states after it
+-- the completion: what it does, and the lines and states after it
 abbrev pub completion_at : Table → Option Transaction → ℕ → ℕ → List Sets → Accessed
 completion_at t x core line caches = completed t core line (awaited_in x) (tags_of caches)
 
--- an access was completed and was this one: what is left goes by the protocol's table
-pub record Completes (t : Table) (x : Option Transaction) (core line : ℕ) (old new : Hierarchy) (access : Access) : Type 0 where
-  pub access_is : access ≡ (completion_at t x core line old.caches.items).access
+-- an access was completed and did this: what is left goes by the protocol's table
+pub record Completes (t : Table) (x : Option Transaction) (core line : ℕ) (old new : Hierarchy) (report : AccessReport) : Type 0 where
+  pub report_is : report ≡ (completion_at t x core line old.caches.items).report
   pub tags : tags_of new.caches.items ≡ (completion_at t x core line old.caches.items).caches
   pub memory : new.memory.items ≡ completed_memory t core line (awaited_in x) old.caches.items old.memory.items

@@ -1,6 +1,7 @@
 -- What a bus keeps while an action holds it: from the ask on the words that it keeps count as the holder's copy, so that
 -- coherence holds between the two halves of an access too. (Primer, chapter 7.)
 use Rattle.std.specs.Prelude.{◌≡◌, ◌≢◌, ◌<◌, ◌/◌, ◌==◌, ◌⊎◌, if◌then◌else◌, ℕ, List, length, Option, Some, None}
+use Rattle.std.specs.Prelude.{option_map}
 use Rattle.snoop_bus.specs.Vocabulary.{Core, ImD, in_place, IsD, Line, Loc, M, O, S, SmD, Transient, with_state}
 use Rattle.cache_set.specs.Geometry.{Geometry}
 use Rattle.cache_set.specs.Lines.{Words}
@@ -11,6 +12,7 @@ use Rattle.snoop_bus.specs.declared.holding.Stage.TheVariants.{Load, Write, Lock
 use Rattle.snoop_bus.specs.declared.holding.Transaction.{Transaction}
 use Rattle.snoop_bus.specs.declared.holding.HeldBus.{HeldBus}
 use Rattle.snoop_bus.specs.Held.{holder}
+use Rattle.snoop_bus.specs.declared.access.BusRequest.{BusRequest}
 
 -- the holder's own copy of a line that it asked for: none, or in an upgrade one in S or O with the same words
 abbrev pub AskedOf : Transient → Line → Option Line → Type 0
@@ -51,3 +53,7 @@ kept_by here line (Some x) = if here == line then Some x.copy.words else None
 abbrev pub kept_words : Option HeldBus → ℕ → Option Words
 kept_words None line = None
 kept_words (Some h) line = kept_by h.line line h.transaction
+
+-- the request of a transaction, if there is one
+abbrev pub request_in : Option Transaction → Option BusRequest
+request_in x = option_map (λ x. x.request) x

@@ -1,11 +1,14 @@
 -- Shapes, copies and caches of the examples, by constructors alone.
-use Rattle.std.specs.Prelude.{ℕ, List, [], ◌∷◌, Option, Some, None}
+use Rattle.std.specs.Prelude.{ℕ, List, [], ◌∷◌, Option, Some, None, Bool}
 use Rattle.worked_examples.specs.Vocabulary.{Core, E, Geometry, I, M, msi, O, S, State, Table, TagSet, TagSets}
+use Rattle.protocol_tables.specs.declared.requests.Request.TheVariants.{GetM}
 use Rattle.protocol_tables.specs.declared.requests.Transient.{Transient}
 use Rattle.protocol_tables.specs.declared.requests.Transient.TheVariants.{ImD}
 use Rattle.cache_set.specs.declared.Line.{Line}
 use Rattle.cache_set.specs.declared.Victim.{Victim}
 use Rattle.cache_set.specs.Contents.{Contents}
+use Rattle.snoop_bus.specs.declared.access.BusRequest.{BusRequest}
+use Rattle.snoop_bus.specs.declared.access.Supplier.TheVariants.{Cache}
 use Rattle.snoop_bus.specs.declared.holding.Stage.TheVariants.{Write}
 use Rattle.snoop_bus.specs.declared.holding.HeldBus.{HeldBus}
 use Rattle.cache_set.specs.Lines.{Words}
@@ -14,6 +17,9 @@ use Rattle.snoop_bus.specs.Bus.{BusModel, bus_with}
 use Rattle.snoop_bus.specs.Accesses.{new_bus}
 use Rattle.snoop_bus.specs.Asks.{Awaited, AskedAccess}
 use Rattle.worked_examples.specs.LinesInSets.{set_for}
+use Rattle.protocol_tables.specs.declared.requests.Request.{Request}
+use Rattle.snoop_bus.specs.declared.access.Departure.{Departure}
+use Rattle.snoop_bus.specs.declared.access.Supplier.{Supplier}
 
 -- ---- by constructors alone
 
@@ -41,8 +47,12 @@ victim line content = record { line = line; content = content }
 abbrev pub awaits : Transient → State → Option Core → Awaited
 awaits transient state flushed = record { transient = transient; state = state; flushed = flushed }
 
-abbrev pub asked : Option Awaited → List TagSets → AskedAccess
-asked awaited caches = record { awaited = awaited; caches = caches }
+abbrev pub asked : Option Awaited → List TagSets → Option Awaited × List TagSets
+asked awaited caches = (awaited, caches)
+
+-- what an ask awaits, and all caches after it
+abbrev pub ask_leaves : AskedAccess → Option Awaited × List TagSets
+ask_leaves a = (a.awaited, a.caches)
 
 -- ---- where a location lies
 --   location       0   1   2   3   4   5   6   7
@@ -89,11 +99,20 @@ stale t = bus_with t two_words 8 (held_by_p0 ∷ held_by_p1 ∷ []) eight_in_mem
 abbrev pub fresh_in_memory : List Words
 fresh_in_memory = words 10 11 0 0 ∷ words 12 13 0 0 ∷ words 54 55 0 0 ∷ words 16 17 0 0 ∷ []
 
+abbrev pub getm_of_p0 : BusRequest
+getm_of_p0 = record {
+  request = GetM;
+  line = 2;
+  supplier = Some (Cache (record { 0 = 1 }));
+  flushed = None;
+  states = None ∷ Some M ∷ None ∷ None ∷ None ∷ None ∷ None ∷ None ∷ [];
+}
+
 abbrev pub write_of_p0 : HeldBus
 write_of_p0 = record {
   holder = record { core = record { 0 = 0 }; loc = record { 0 = 4 }; stage = Write };
   line = 2;
-  transaction = Some (record { transient = ImD; copy = copy M (words 54 55 0 0); flushed = None });
+  transaction = Some (record { transient = ImD; copy = copy M (words 54 55 0 0); request = getm_of_p0 });
 }
 
 -- P0's write of location 4 holds the bus: P1's copy is gone, and the bus keeps its words for P0
@@ -113,3 +132,18 @@ two = (2, copy M (words 12 22 32 42))
 -- a column of five states: what it has for M, O, E, S and I
 abbrev pub by_state : {A : Type 0} → (State → A) → List A
 by_state f = f M ∷ f O ∷ f E ∷ f S ∷ f I ∷ []
+
+-- what went on the bus for an access: the request, its line, who supplied the words, whose copy was sent to memory; and the
+-- states that the copies of the first two cores were in, where there are no others
+abbrev pub requested : Request → ℕ → Option Supplier → Option Core → Option State → Option State → Option BusRequest
+requested request line supplier flushed p q = Some (record {
+  request = request;
+  line = line;
+  supplier = supplier;
+  flushed = flushed;
+  states = p ∷ q ∷ None ∷ None ∷ None ∷ None ∷ None ∷ None ∷ [];
+})
+
+-- a line that left, and whether it was written to memory
+abbrev pub departed : ℕ → Bool → Option Departure
+departed line written_back = Some (record { line = line; written_back = written_back })

@@ -1,5 +1,5 @@
 use Rattle.cache_set.proofs.Vocabulary.{arith, ◌≡◌, ℕ, [], length, sym, ap, ◌∙◌, ◌<◌, subst, get_or_default, option_copied, Sets, copy_in, copy_at, snoop_column}
-use Rattle.cache_set.proofs.FindLemmas.{FoundBelow, nothing-found, passed-by, noted, words-found, shared-found, flushed-found, states-found}
+use Rattle.cache_set.proofs.FindLemmas.{FoundBelow, nothing-found, passed-by, noted, words-found, supplier-found, shared-found, flushed-found, states-found, told-found}
 use Rattle.cache_set.proofs.finding.find.Goals as goal
 use Rattle.cache_set.proofs.finding.find.Goals.{in-Some, in_default}
 
@@ -34,4 +34,12 @@ returns-clause-flushed g c = flushed-found (snoop_column (g.P.Protocol.table c.a
 
 pub returns-clause-states : goal.returns-clause-states
 returns-clause-states g c = states-found (snoop_column (g.P.Protocol.table c.args.protocol.now) c.args.request) c.args.line c.args.caches.now c.loop-core.found
+    (subst (λ (n : ℕ). FoundBelow n (snoop_column (g.P.Protocol.table c.args.protocol.now) c.args.request) c.args.line c.args.caches.now c.loop-core.found) (omega arith) c.loop-core.invariant)
+
+pub returns-clause-supplier : goal.returns-clause-supplier
+returns-clause-supplier g c = supplier-found (snoop_column (g.P.Protocol.table c.args.protocol.now) c.args.request) c.args.line c.args.caches.now c.loop-core.found
+    (subst (λ (n : ℕ). FoundBelow n (snoop_column (g.P.Protocol.table c.args.protocol.now) c.args.request) c.args.line c.args.caches.now c.loop-core.found) (omega arith) c.loop-core.invariant)
+
+pub returns-clause-told : goal.returns-clause-told
+returns-clause-told g c = told-found (snoop_column (g.P.Protocol.table c.args.protocol.now) c.args.request) c.args.line c.args.caches.now c.loop-core.found
     (subst (λ (n : ℕ). FoundBelow n (snoop_column (g.P.Protocol.table c.args.protocol.now) c.args.request) c.args.line c.args.caches.now c.loop-core.found) (omega arith) c.loop-core.invariant)

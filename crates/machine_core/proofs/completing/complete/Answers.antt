@@ -19,7 +19,7 @@ returns-in_ok-next-in-Lock-clause-makes g c =
     record {
       ok = performs-first t m _ c.args.choice c.in-Lock.loc p e locks within at (ap (λ core. first_read core p.place c.in-Lock.loc m.bus) chooses) refl c.read_first.ensures.words
           read.ensures.commits (ap (λ next. held-with next (holder_of c.read_first.new.bus)) read.ensures.next ∙ ap (held-with (Write e)) read.ensures.holds);
-      caches = uses-first t m c.read_first.new.bus c.args.choice c.in-Lock.loc p read.access c.requires.asked locks within at (rw chooses at read.ensures.used);
+      caches = uses-first t m c.read_first.new.bus c.args.choice c.in-Lock.loc p read.report c.requires.asked locks within at (rw chooses at read.ensures.used);
     }
 
 pub returns-in_ok-next-in-Lock-clause-of_test : goal.returns-in_ok-next-in-Lock-clause-of_test

@@ -13,10 +13,10 @@ returns-then-not-is_empty-clause-acts g c =
 
 pub returns-clause-acts : goal.returns-clause-acts
 returns-clause-acts g c =
-    acts-locks c.args.core c.args.locked.loc c.args.locked.reg c.args.locked.update c.args.processor.now c.advance.new.processor c.args.bus.now c.update.new.self
-    c.register-value.result c.in_ok-updated.updated (c.is_empty.ensures.0 c.if-not-is_empty.false) c.register-value.ensures c.in_ok-updated.ensures.before c.in_ok-updated.ensures.after c.in_ok-updated.ensures.done c.update.ensures.machine
+    acts-locks c.args.core c.args.locked.loc c.args.locked.reg c.args.locked.update c.args.processor.now c.advance.new.processor c.args.bus.now c.update-updated.new.self
+    c.register-value.result c.update-updated.result (c.is_empty.ensures.0 c.if-not-is_empty.false) c.register-value.ensures c.update-updated.ensures.before c.update-updated.ensures.after c.update-updated.ensures.done c.update-updated.ensures.machine
     c.args.commits.now c.make_room.new.self c.note-2.new.self c.make_room.ensures.same
-    (both-noted c.args.core.0 c.args.processor.now.place c.args.locked.loc c.in_ok-updated.updated.before c.in_ok-updated.updated.after c.make_room.new.self c.note.new.self c.note-2.new.self c.entry-load_part.result c.entry-store_part.result
+    (both-noted c.args.core.0 c.args.processor.now.place c.args.locked.loc c.update-updated.result.before c.update-updated.result.after c.make_room.new.self c.note.new.self c.note-2.new.self c.entry-load_part.result c.entry-store_part.result
     c.entry-load_part.ensures c.entry-store_part.ensures (rw c.unwrap.ensures at c.note.ensures.ok) (rw c.unwrap-2.ensures at c.note-2.ensures.ok))
     c.advance.ensures
 
@@ -24,18 +24,14 @@ pub returns-in_err-make_room-clause-succeeds : goal.returns-in_err-make_room-cla
 returns-in_err-make_room-clause-succeeds g c =
     lock-commits _ c.args.core.0 c.args.locked.loc c.args.locked.reg c.args.locked.update c.args.processor.now (words_of c.args.bus.now) (c.is_empty.ensures.0 c.if-not-is_empty.false)
 
-pub returns-in_err-updated-clause-succeeds : goal.returns-in_err-updated-clause-succeeds
-returns-in_err-updated-clause-succeeds g c =
-    lock-commits _ c.args.core.0 c.args.locked.loc c.args.locked.reg c.args.locked.update c.args.processor.now (words_of c.args.bus.now) (c.is_empty.ensures.0 c.if-not-is_empty.false)
-
-pub update-requires-clause-free : goal.update-requires-clause-free
-update-requires-clause-free g c =
+pub update-updated-requires-clause-free : goal.update-updated-requires-clause-free
+update-updated-requires-clause-free g c =
     may-lock c.args.core c.args.locked.loc c.args.processor.now c.args.bus.now (c.is_empty.ensures.0 c.if-not-is_empty.false) c.requires.access.free
 
 pub returns-clause-sizes : goal.returns-clause-sizes
 returns-clause-sizes g c = record {
-  cores = c.update.ensures.machine.cores;
-  count = ap length c.in_ok-updated.ensures.done.words ∙ length-set (words_of c.args.bus.now) c.args.locked.loc.0 c.in_ok-updated.updated.after;
+  cores = c.update-updated.ensures.machine.cores;
+  count = ap length c.update-updated.ensures.done.words ∙ length-set (words_of c.args.bus.now) c.args.locked.loc.0 c.update-updated.result.after;
 }
 
 pub returns-clause-stores : goal.returns-clause-stores

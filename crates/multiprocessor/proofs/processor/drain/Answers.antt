@@ -14,16 +14,16 @@ returns-in-None-clause-acts g c =
     acts-stalls c.args.turn.way access core p c.args.bus.now c.args.commits.now (effect_of_drain core p (words_of c.args.bus.now)) _ whole
     (sym (drain_of-nothing core (core_state core p) p.stores.items (sym c.in-None.ensures)))
 
-pub returns-in_ok-access-in-Some-clause-stores : goal.returns-in_ok-access-in-Some-clause-stores
-returns-in_ok-access-in-Some-clause-stores g c =
+pub returns-in_ok-report-in-Some-clause-stores : goal.returns-in_ok-report-in-Some-clause-stores
+returns-in_ok-report-in-Some-clause-stores g c =
     let items : c.take_oldest.new.self.items ≡ drop 1 c.args.processor.now.stores.items = ap (λ s. s.items) c.take_oldest.ensures.rest in
     subst (λ stores. All (λ s. s.loc.0 < length (words_of c.args.bus.now)) stores) (sym items)
     (All-drop (λ s. s.loc.0 < length (words_of c.args.bus.now)) 1 c.args.processor.now.stores.items c.requires.stores)
 
-pub returns-in_ok-access-in-Some-clause-acts : goal.returns-in_ok-access-in-Some-clause-acts
-returns-in_ok-access-in-Some-clause-acts g c =
+pub returns-in_ok-report-in-Some-clause-acts : goal.returns-in_ok-report-in-Some-clause-acts
+returns-in_ok-report-in-Some-clause-acts g c =
     acts-drains c.args.turn c.args.processor.now c.take_oldest.new.self c.args.bus.now c.write.new.bus c.args.commits.now c.write.new.commits c.in-Some.store _
-    c.in-Some.ensures (ap (λ s. s.items) c.take_oldest.ensures.rest) c.in_ok-access-in-Some.ensures.stored c.in_ok-access-in-Some.ensures.made
+    c.in-Some.ensures (ap (λ s. s.items) c.take_oldest.ensures.rest) c.in_ok-report-in-Some.ensures.stored c.in_ok-report-in-Some.ensures.made
 
 pub write-requires : goal.write-requires
 write-requires g c = record {
@@ -34,8 +34,8 @@ write-requires g c = record {
   };
 }
 
-pub returns-in_ok-access-in-Some-clause-depth : goal.returns-in_ok-access-in-Some-clause-depth
-returns-in_ok-access-in-Some-clause-depth g c = ap (λ s. s.depth) c.take_oldest.ensures.rest
+pub returns-in_ok-report-in-Some-clause-depth : goal.returns-in_ok-report-in-Some-clause-depth
+returns-in_ok-report-in-Some-clause-depth g c = ap (λ s. s.depth) c.take_oldest.ensures.rest
 
-pub returns-in_ok-access-in-Some-clause-sizes : goal.returns-in_ok-access-in-Some-clause-sizes
-returns-in_ok-access-in-Some-clause-sizes g c = c.write.ensures.sizes
+pub returns-in_ok-report-in-Some-clause-sizes : goal.returns-in_ok-report-in-Some-clause-sizes
+returns-in_ok-report-in-Some-clause-sizes g c = c.write.ensures.sizes

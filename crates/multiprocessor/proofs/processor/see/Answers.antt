@@ -5,8 +5,8 @@ use Rattle.multiprocessor.proofs.Acting.{reads, forwarded}
 use Rattle.multiprocessor.proofs.CacheUses.{answered, unanswered, forwards}
 use Rattle.multiprocessor.proofs.processor.see.Goals as goal
 
-pub read-requires : goal.read-requires
-read-requires g c =
+pub read-word-requires : goal.read-word-requires
+read-word-requires g c =
     let items = c.args.stores.now.items in
     let pending = buffered_entries c.args.turn.core.0 c.args.stores.now in
     let none = unanswered c.args.turn.core.0 c.args.loc.0 items c.in-None.ensures in
@@ -36,13 +36,13 @@ returns-in-Some-clause-holder g c =
     let whole = whole-none c.args.turn c.args.bus.now _ (sym (forwarded c.args.loc (writes_to c.args.loc.0) pending found)) c.requires.access.free in
     rw whole refl
 
-pub returns-in_ok-word-in-None-clause-value : goal.returns-in_ok-word-in-None-clause-value
-returns-in_ok-word-in-None-clause-value g c =
-    sym (index-got (words_of c.args.bus.now) c.args.loc.0 _ c.in_ok-word-in-None.ensures.word)
+pub returns-in-None-clause-value : goal.returns-in-None-clause-value
+returns-in-None-clause-value g c =
+    sym (index-got (words_of c.args.bus.now) c.args.loc.0 _ c.read-word.ensures.word)
     ∙ sees_memory c.args.turn.core.0 c.args.loc.0 (slice_index (words_of c.args.bus.now) c.args.loc.0) c.args.stores.now.items c.in-None.ensures
 
-pub returns-in_ok-word-in-None-clause-caches : goal.returns-in_ok-word-in-None-clause-caches
-returns-in_ok-word-in-None-clause-caches g c =
+pub returns-in-None-clause-caches : goal.returns-in-None-clause-caches
+returns-in-None-clause-caches g c =
     let pending = buffered_entries c.args.turn.core.0 c.args.stores.now in
     let none = unanswered c.args.turn.core.0 c.args.loc.0 c.args.stores.now.items c.in-None.ensures in
-    rw (none, ← reads c.args.loc pending none) c.in_ok-word-in-None.ensures.made.caches
+    rw (none, ← reads c.args.loc pending none) c.read-word.ensures.made.caches

@@ -21,12 +21,12 @@ returns-then-are_buffered g c =
 pub write-requires : goal.write-requires
 write-requires g c = record { access = access-at_once c.args.turn c.args.loc c.args.value c.args.processor.now c.args.bus.now (unbuffered c.args.processor.now.stores.depth c.are_buffered.result c.are_buffered.ensures.1 c.if-are_buffered.false) c.requires.access }
 
-pub returns-in_err-access-clause-succeeds : goal.returns-in_err-access-clause-succeeds
-returns-in_err-access-clause-succeeds g c = succeeds-at_once c.args.turn c.args.loc c.args.value c.args.processor.now c.args.bus.now (unbuffered c.args.processor.now.stores.depth c.are_buffered.result c.are_buffered.ensures.1 c.if-are_buffered.false) _ (words_of c.args.bus.now)
+pub returns-in_err-report-clause-succeeds : goal.returns-in_err-report-clause-succeeds
+returns-in_err-report-clause-succeeds g c = succeeds-at_once c.args.turn c.args.loc c.args.value c.args.processor.now c.args.bus.now (unbuffered c.args.processor.now.stores.depth c.are_buffered.result c.are_buffered.ensures.1 c.if-are_buffered.false) _ (words_of c.args.bus.now)
 
 pub returns : goal.returns
 returns g c = record {
-  acts = acts-at_once c.args.turn c.args.loc c.args.value c.args.processor.now c.args.bus.now (unbuffered c.args.processor.now.stores.depth c.are_buffered.result c.are_buffered.ensures.1 c.if-are_buffered.false) c.write.new.bus c.args.commits.now c.write.new.commits c.in_ok-access.access c.in_ok-access.ensures.stored c.in_ok-access.ensures.made;
+  acts = acts-at_once c.args.turn c.args.loc c.args.value c.args.processor.now c.args.bus.now (unbuffered c.args.processor.now.stores.depth c.are_buffered.result c.are_buffered.ensures.1 c.if-are_buffered.false) c.write.new.bus c.args.commits.now c.write.new.commits c.in_ok-report.report c.in_ok-report.ensures.stored c.in_ok-report.ensures.made;
   succeeds = λ _. refl;
   err = tt;
   sizes = c.write.ensures.sizes;

@@ -1,4 +1,4 @@
-use Rattle.trace_report.proofs.Vocabulary.{◌≡◌, ◌∙◌, ◌<◌, length, ap, sym, subst, option_map, Ok, unwrap_or, chosen, core_of, awaited_by, IsLineSize, machine_after, StepNamesExist, stalled_step, states_of, request_at, sent_on, giving_way, trace_step_of, memory_access_in}
+use Rattle.trace_report.proofs.Vocabulary.{◌≡◌, ◌∙◌, ◌<◌, length, ap, sym, subst, Ok, unwrap_or, div_ceil, chosen, core_of, IsLineSize, machine_after, StepNamesExist, stalled_step, states_of, trace_step_of}
 use Rattle.trace_report.proofs.Looking.{place-of}
 use Rattle.trace_report.proofs.Stalls.{stall-shown}
 use Rattle.trace_report.proofs.Whole.{Leaves, left-looked, WasLookedAt, told-whole, told-next, looked-next, step-known}
@@ -41,7 +41,7 @@ left_behind-requires g c =
     c.in_ok-outcome.ensures.after (subst IsLineSize c.words.ensures.value c.words.ensures.within)
 
 -- what was looked at again
-leaves : (g : _) (c : goal.After-moved_in g) → Leaves c.args.machine.now c.args.choice c.in_ok-left.left
+leaves : (g : _) (c : goal.After-written_back g) → Leaves c.args.machine.now c.args.choice c.in_ok-left.left
 leaves g c =
     let m = c.args.machine.now in
     let there : chosen c.args.choice < length m.state.flat.cores = subst (λ n. chosen c.args.choice < n) (sym c.requires.told.machine.cores) c.requires.core in
@@ -61,21 +61,18 @@ returns-clause-step g c =
     let how = c.in_ok-outcome.cache_use in
     let core = c.core_of-core.ensures in
     let left = c.in_ok-left.left in
-    let looked : WasLookedAt c.args.test.now c.args.config m next choice how c.in_ok-outcome.outcome c.unwrap_or-place.result c.request_at-request.result c.giving_way-victim.result c.sent_on-sent.result left = record {
+    let looked : WasLookedAt c.args.test.now c.args.config m next choice how c.in_ok-outcome.outcome c.unwrap_or-place.result c.div_ceil-lines.result left = record {
       machine = c.requires.told.machine;
       next_is = c.in_ok-outcome.ensures.after;
       outcome_is = c.in_ok-outcome.ensures.outcome;
       how_is = c.in_ok-outcome.ensures.how;
       place_is = c.unwrap_or-place.ensures ∙ (ap (λ o. unwrap_or o 0) c.place.ensures ∙ (place-of m c.core_of-core.result.0 ∙ ap (λ i. (core_of m.state.flat i).place) core));
-      request_is = c.request_at-request.ensures ∙ (ap (λ n. request_at n (memory_access_in c.access.result)) c.words.ensures.value
-          ∙ ap (λ a. request_at c.args.config.shape.words a) c.access.ensures);
-      victim_is = c.giving_way-victim.ensures ∙ ap (λ i. giving_way m i c.request_at-request.result) core;
-      sent_is = c.sent_on-sent.ensures ∙ (ap (λ b. sent_on b c.in_ok-outcome.outcome c.request_at-request.result how (option_map awaited_by c.awaited.result)) c.bus.ensures
-          ∙ ap (λ a. sent_on c.args.config.bus c.in_ok-outcome.outcome c.request_at-request.result how a) c.awaited.ensures);
+      lines_are = c.div_ceil-lines.ensures ∙ (ap (λ n. div_ceil n c.words.result) c.locations.ensures.value ∙ ap (λ n. div_ceil (length c.args.test.now.locations) n) c.words.ensures.value);
       left_is = leaves g c;
     } in
-    told-whole c.args.test.now c.args.config m next choice how c.in_ok-outcome.outcome c.unwrap_or-place.result c.request_at-request.result c.giving_way-victim.result c.sent_on-sent.result left
-    c.moved_in.result c.answered_by-forwarded.result.0 c.answered_by-forwarded.result.1 c.answered_by-forwarded.result.2 looked c.moved_in.ensures c.answered_by-forwarded.ensures.forwarded c.answered_by-forwarded.ensures.access c.answered_by-forwarded.ensures.wrote_back
+    told-whole c.args.test.now c.args.config m next choice how c.in_ok-outcome.outcome c.unwrap_or-place.result c.div_ceil-lines.result left
+    c.moved_in.result c.answered_by-forwarded.result.0 c.answered_by-forwarded.result.1 c.sent_by-sent.result c.written_back.result looked c.moved_in.ensures c.answered_by-forwarded.ensures.forwarded c.answered_by-forwarded.ensures.access
+    c.sent_by-sent.ensures c.written_back.ensures
 
 pub returns-clause-known : goal.returns-clause-known
 returns-clause-known g c =

@@ -26,7 +26,7 @@ returns-clause-done g c =
     let free : c.self.inside.held ≡ None = free-held c.self.inside.held (rw (← c.self.view_is) at c.requires.free) in
     let within : c.args.loc.0 < c.self.inside.locations = loc_in c.self.inside.shape.words c.self.inside.locations (counted_copies_of c.self.inside.held c.self.inside.hierarchy.caches.items) c.self.inside.hierarchy.memory.items c.args.loc.0 (rw (← c.self.view_is) at c.requires.loc) in
     rw (← c.self.view_is, free)
-    (ask_done (g.P.Protocol.table c.self.inside.protocol) c.self.inside.shape c.self.inside.locations c.self.inside.hierarchy.caches.items c.ask-held.new.self.caches.items c.self.inside.hierarchy.memory.items c.ask-held.new.self.memory.items c.args.core c.args.loc c.args.write c.ask-held.result
+    (ask_done (g.P.Protocol.table c.self.inside.protocol) c.self.inside.shape c.self.inside.locations c.self.inside.hierarchy.caches.items c.ask-held.new.self.caches.items c.self.inside.hierarchy.memory.items c.ask-held.new.self.memory.items c.args.core c.args.loc c.args.write c.ask-held.result c.request_in.result c.request_in.ensures
     (record {
       some_word = c.self.invariant.some_word;
       enough = c.self.invariant.enough_lines;

@@ -32,7 +32,7 @@ returns-clause-before g c =
     let written = word_written (g.P.Protocol.table c.self.inside.protocol) c.self.inside.held c.self.inside.hierarchy.caches.items c.acquire.new.self.caches.items c.write.new.self.caches.items c.self.inside.hierarchy.memory.items c.acquire.new.self.memory.items c.target_of-target.result.core c.target_of-target.result.line c.target_of-target.result.offset c.apply-after.result c.acquire.result.0 c.acquire.result.1
     line (search rules) (ap length c.acquire.ensures.ok.made.memory ∙ length-whole (g.P.Protocol.table c.self.inside.protocol) true c.target_of-target.result.core c.target_of-target.result.line c.self.inside.hierarchy.caches.items c.self.inside.hierarchy.memory.items)
     c.acquire.ensures.ok c.acquire.ensures.kept.words c.acquire.ensures.kept.awaited c.acquire.ensures.kept.ways c.write.ensures.copies c.write.ensures.tags c.write.ensures.ways in
-    let u : Updated = record { before = slice_index c.acquire.result.0 c.target_of-target.result.offset; after = c.apply-after.result; access = c.acquire.result.1 } in
+    let u : Updated = record { before = slice_index c.acquire.result.0 c.target_of-target.result.offset; after = c.apply-after.result; report = c.acquire.result.1 } in
     let ok : Updates (g.P.Protocol.table c.self.inside.protocol) c.self.inside.held c.args.core.0 (c.args.loc.0 / c.self.inside.shape.words) (c.args.loc.0 % c.self.inside.shape.words) c.self.inside.hierarchy.caches.items c.write.new.self.caches.items c.self.inside.hierarchy.memory.items c.write.new.self.memory.items u =
     rw (c.write.ensures.memory, c.target_of-target.ensures.value) (rw c.target_of-target.ensures.value at written.0) in
     rw (← c.self.view_is, c.from.ensures)
@@ -46,7 +46,7 @@ returns-clause-done g c =
     let written = word_written (g.P.Protocol.table c.self.inside.protocol) c.self.inside.held c.self.inside.hierarchy.caches.items c.acquire.new.self.caches.items c.write.new.self.caches.items c.self.inside.hierarchy.memory.items c.acquire.new.self.memory.items c.target_of-target.result.core c.target_of-target.result.line c.target_of-target.result.offset c.apply-after.result c.acquire.result.0 c.acquire.result.1
     line (search rules) (ap length c.acquire.ensures.ok.made.memory ∙ length-whole (g.P.Protocol.table c.self.inside.protocol) true c.target_of-target.result.core c.target_of-target.result.line c.self.inside.hierarchy.caches.items c.self.inside.hierarchy.memory.items)
     c.acquire.ensures.ok c.acquire.ensures.kept.words c.acquire.ensures.kept.awaited c.acquire.ensures.kept.ways c.write.ensures.copies c.write.ensures.tags c.write.ensures.ways in
-    let u : Updated = record { before = slice_index c.acquire.result.0 c.target_of-target.result.offset; after = c.apply-after.result; access = c.acquire.result.1 } in
+    let u : Updated = record { before = slice_index c.acquire.result.0 c.target_of-target.result.offset; after = c.apply-after.result; report = c.acquire.result.1 } in
     let ok : Updates (g.P.Protocol.table c.self.inside.protocol) c.self.inside.held c.args.core.0 (c.args.loc.0 / c.self.inside.shape.words) (c.args.loc.0 % c.self.inside.shape.words) c.self.inside.hierarchy.caches.items c.write.new.self.caches.items c.self.inside.hierarchy.memory.items c.write.new.self.memory.items u =
     rw (c.write.ensures.memory, c.target_of-target.ensures.value) (rw c.target_of-target.ensures.value at written.0) in
     rw (← c.self.view_is)
@@ -61,7 +61,7 @@ invariant_of-self g c =
     let written = word_written (g.P.Protocol.table c.self.inside.protocol) c.self.inside.held c.self.inside.hierarchy.caches.items c.acquire.new.self.caches.items c.write.new.self.caches.items c.self.inside.hierarchy.memory.items c.acquire.new.self.memory.items c.target_of-target.result.core c.target_of-target.result.line c.target_of-target.result.offset c.apply-after.result c.acquire.result.0 c.acquire.result.1
     line (search rules) (ap length c.acquire.ensures.ok.made.memory ∙ length-whole (g.P.Protocol.table c.self.inside.protocol) true c.target_of-target.result.core c.target_of-target.result.line c.self.inside.hierarchy.caches.items c.self.inside.hierarchy.memory.items)
     c.acquire.ensures.ok c.acquire.ensures.kept.words c.acquire.ensures.kept.awaited c.acquire.ensures.kept.ways c.write.ensures.copies c.write.ensures.tags c.write.ensures.ways in
-    let u : Updated = record { before = slice_index c.acquire.result.0 c.target_of-target.result.offset; after = c.apply-after.result; access = c.acquire.result.1 } in
+    let u : Updated = record { before = slice_index c.acquire.result.0 c.target_of-target.result.offset; after = c.apply-after.result; report = c.acquire.result.1 } in
     let ok : Updates (g.P.Protocol.table c.self.inside.protocol) c.self.inside.held c.args.core.0 (c.args.loc.0 / c.self.inside.shape.words) (c.args.loc.0 % c.self.inside.shape.words) c.self.inside.hierarchy.caches.items c.write.new.self.caches.items c.self.inside.hierarchy.memory.items c.write.new.self.memory.items u =
     rw (c.write.ensures.memory, c.target_of-target.ensures.value) (rw c.target_of-target.ensures.value at written.0) in
     bus-written (g.P.Protocol.table c.self.inside.protocol) c.self.inside.held u c.self.inside.shape c.self.inside.locations c.self.inside.hierarchy c.write.new.self c.args.core.0 c.args.loc.0 c.self.invariant

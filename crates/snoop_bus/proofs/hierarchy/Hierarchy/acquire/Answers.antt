@@ -61,8 +61,8 @@ pub returns-clause-ok : goal.returns-clause-ok
 returns-clause-ok g c =
     let free : c.args.held ≡ None = is_free c.args.held c.if-prove.ensures in
     let ready = ready_alone c.args.held free c.args.core c.args.line c.args.self.now c.requires.ready in
-    acquired_alone c.args.held free (g.P.Protocol.table c.args.protocol.now) c.args.core c.args.line c.args.self.now.caches.items c.acquire_asked.new.self.caches.items c.args.self.now.memory.items c.acquire_asked.new.self.memory.items c.acquire_asked.result.0 c.acquire_asked.result.1
-    (write-in_halves (g.P.Protocol.table c.args.protocol.now) c.args.core c.args.line c.ask_write-transaction.result c.args.self.now c.ask_write-transaction.new.self c.acquire_asked.new.self c.acquire_asked.result.1
+    acquired_alone c.args.held free (g.P.Protocol.table c.args.protocol.now) c.args.core c.args.line c.args.self.now.caches.items c.acquire_asked.new.self.caches.items c.args.self.now.memory.items c.acquire_asked.new.self.memory.items c.acquire_asked.result.0 c.requested_by.result
+    (write-in_halves (g.P.Protocol.table c.args.protocol.now) c.args.core c.args.line c.ask_write-transaction.result c.args.self.now c.ask_write-transaction.new.self c.acquire_asked.new.self c.acquire_asked.result.1 c.requested_by.result
     c.requires.ready.line_in (g.met.P.Protocol.writes_in_place c.args.protocol.now) c.acquire_asked.result.0
     (record {
       asks = c.ask_write-transaction.ensures.transaction;
@@ -72,6 +72,7 @@ returns-clause-ok g c =
       asked = rw c.ask_write-transaction.ensures.memory c.ask_write-transaction.ensures.words;
       completed = c.acquire_asked.ensures.words;
       completes = c.acquire_asked.ensures.ok;
+      both = c.requested_by.ensures;
     })
     (valid-tag c.args.self.now.caches.items c.args.self.now.memory.items c.args.core c.args.line ready.coherent)
     c.acquire_asked.ensures.found c.acquire_asked.ensures.own)

@@ -37,16 +37,16 @@ returns-in-None-clause-own g c =
     (rw c.in-None.is at c.requires.awaited.coherent) c.requires.awaited.line_in (rw c.in-None.is at c.requires.awaited.awaits) c.enter.ensures.copies c.enter.ensures.ways).0
 
 pub returns-in-None-clause-ok : goal.returns-in-None-clause-ok
-returns-in-None-clause-ok g c = rw c.in-None.is (record { access_is = c.quiet.ensures; tags = c.enter.ensures.tags; memory = c.enter.ensures.memory })
+returns-in-None-clause-ok g c = rw c.in-None.is (record { report_is = c.quiet.ensures; tags = c.enter.ensures.tags; memory = c.enter.ensures.memory })
 
 pub returns-in-SmD-clause-ok : goal.returns-in-SmD-clause-ok
 returns-in-SmD-clause-ok g c =
     let awaits = rw c.in-Some.is at c.requires.awaited.awaits in
     let asked = rw c.in-SmD.is at awaits.1 in
-    rw (c.in-Some.is, c.in-SmD.is, asked.1) (record { access_is = c.quiet-in-SmD.ensures; tags = c.enter-in-SmD.ensures.tags; memory = c.enter-in-SmD.ensures.memory })
+    rw (c.in-Some.is, c.in-SmD.is, asked.1) (record { report_is = c.quiet-in-SmD.ensures; tags = c.enter-in-SmD.ensures.tags; memory = c.enter-in-SmD.ensures.memory })
 
-pub fill_asked-access-requires : goal.fill_asked-access-requires
-fill_asked-access-requires g c =
+pub fill_asked-report-requires : goal.fill_asked-report-requires
+fill_asked-report-requires g c =
     let awaits = rw c.in-Some.is at c.requires.awaited.awaits in
     record {
       coherent = rw c.in-Some.is at c.requires.awaited.coherent;
@@ -63,11 +63,11 @@ returns-in-IsD g c =
     let held = c.requires.awaited in
     let caches = c.args.self.now.caches.items in
     let asked = filled_asked c.in-Some.transaction (copy_at caches c.args.core c.args.line) awaits c.in-IsD.is in
-    let filled = c.fill_asked-access.ensures in
+    let filled = c.fill_asked-report.ensures in
     record {
       found = rw c.in-Some.is (kept_words caches c.args.self.now.memory.items c.args.core c.args.line c.in-Some.transaction.copy coherent held.core_in held.some_set held.line_in);
-      ok = rw (c.in-Some.is, asked.transient) (record { access_is = filled.access; tags = filled.tags; memory = filled.memory });
-      own = rw c.in-Some.is (own_acquired caches c.fill_asked-access.new.self.caches.items c.args.self.now.memory.items c.args.core c.args.line c.in-Some.transaction coherent held.core_in held.some_set held.line_in
+      ok = rw (c.in-Some.is, asked.transient) (record { report_is = filled.report; tags = filled.tags; memory = filled.memory });
+      own = rw c.in-Some.is (own_acquired caches c.fill_asked-report.new.self.caches.items c.args.self.now.memory.items c.args.core c.args.line c.in-Some.transaction coherent held.core_in held.some_set held.line_in
           asked.state filled.own);
       words = rw c.in-Some.is filled.words;
       ways = filled.ways;

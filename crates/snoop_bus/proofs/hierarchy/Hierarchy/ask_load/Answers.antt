@@ -1,4 +1,4 @@
-use Rattle.snoop_bus.proofs.Vocabulary.{[], ◌∙◌, get_or_default, line_in}
+use Rattle.snoop_bus.proofs.Vocabulary.{[], ap, ◌∙◌, supplier_in, get_or_default, line_in}
 use Rattle.snoop_bus.proofs.AskLemmas.{load_ask-transaction, load_ask-memory, load_ask-words}
 use Rattle.snoop_bus.proofs.hierarchy.Hierarchy.ask_load.Goals as goal
 
@@ -8,7 +8,7 @@ returns-clause-transaction g c =
     let p = c.args.protocol.now in
     let line = (rw c.from.ensures at c.index.ensures) ∙ get_or_default c.args.self.now.memory.items c.args.line c.index.result.now [] c.requires.ready.line_in in
     load_ask-transaction t (g.met.P.Protocol.fills_exclusive_only_alone p) (g.met.P.Protocol.shares p) (g.met.P.Protocol.cleans_by_memory p) (g.met.P.Protocol.supplies_to_readers p)
-    c.args.self.now.caches.items c.snoop_others.new.self.caches.items c.args.self.now.memory.items c.flush.new.self.memory.items c.args.core c.args.line c.unwrap_or-words.result c.filled-state.result c.find-found.result.flushed
+    c.args.self.now.caches.items c.snoop_others.new.self.caches.items c.args.self.now.memory.items c.flush.new.self.memory.items c.args.core c.args.line c.unwrap_or-words.result c.filled-state.result c.find-found.result.flushed c.supplier_in.result c.find-found.result.states
     (record {
       coherent = c.requires.ready.coherent;
       core_in = c.requires.ready.core_in;
@@ -20,6 +20,8 @@ returns-clause-transaction g c =
       left = c.snoop_others.ensures.copies;
       ways = c.snoop_others.ensures.ways;
       flusher = rw c.deref.ensures.value at c.find-found.ensures.flushed;
+      supplier = c.supplier_in.ensures ∙ ap supplier_in (rw c.deref.ensures.value at c.find-found.ensures.supplier);
+      told = rw c.deref.ensures.value at c.find-found.ensures.told;
       memory = rw c.snoop_others.ensures.memory at c.flush.ensures.memory;
     })
 
@@ -29,7 +31,7 @@ returns-clause-memory g c =
     let p = c.args.protocol.now in
     let line = (rw c.from.ensures at c.index.ensures) ∙ get_or_default c.args.self.now.memory.items c.args.line c.index.result.now [] c.requires.ready.line_in in
     load_ask-memory t (g.met.P.Protocol.fills_exclusive_only_alone p) (g.met.P.Protocol.shares p) (g.met.P.Protocol.cleans_by_memory p) (g.met.P.Protocol.supplies_to_readers p)
-    c.args.self.now.caches.items c.snoop_others.new.self.caches.items c.args.self.now.memory.items c.flush.new.self.memory.items c.args.core c.args.line c.unwrap_or-words.result c.filled-state.result c.find-found.result.flushed
+    c.args.self.now.caches.items c.snoop_others.new.self.caches.items c.args.self.now.memory.items c.flush.new.self.memory.items c.args.core c.args.line c.unwrap_or-words.result c.filled-state.result c.find-found.result.flushed c.supplier_in.result c.find-found.result.states
     (record {
       coherent = c.requires.ready.coherent;
       core_in = c.requires.ready.core_in;
@@ -41,6 +43,8 @@ returns-clause-memory g c =
       left = c.snoop_others.ensures.copies;
       ways = c.snoop_others.ensures.ways;
       flusher = rw c.deref.ensures.value at c.find-found.ensures.flushed;
+      supplier = c.supplier_in.ensures ∙ ap supplier_in (rw c.deref.ensures.value at c.find-found.ensures.supplier);
+      told = rw c.deref.ensures.value at c.find-found.ensures.told;
       memory = rw c.snoop_others.ensures.memory at c.flush.ensures.memory;
     })
 
@@ -51,7 +55,7 @@ returns-clause-words g c =
     let line = (rw c.from.ensures at c.index.ensures) ∙ get_or_default c.args.self.now.memory.items c.args.line c.index.result.now [] c.requires.ready.line_in in
     rw c.flush.ensures.caches
     (load_ask-words t (g.met.P.Protocol.fills_exclusive_only_alone p) (g.met.P.Protocol.shares p) (g.met.P.Protocol.cleans_by_memory p) (g.met.P.Protocol.supplies_to_readers p)
-    c.args.self.now.caches.items c.snoop_others.new.self.caches.items c.args.self.now.memory.items c.flush.new.self.memory.items c.args.core c.args.line c.unwrap_or-words.result c.filled-state.result c.find-found.result.flushed
+    c.args.self.now.caches.items c.snoop_others.new.self.caches.items c.args.self.now.memory.items c.flush.new.self.memory.items c.args.core c.args.line c.unwrap_or-words.result c.filled-state.result c.find-found.result.flushed c.supplier_in.result c.find-found.result.states
     (record {
       coherent = c.requires.ready.coherent;
       core_in = c.requires.ready.core_in;
@@ -63,5 +67,7 @@ returns-clause-words g c =
       left = c.snoop_others.ensures.copies;
       ways = c.snoop_others.ensures.ways;
       flusher = rw c.deref.ensures.value at c.find-found.ensures.flushed;
+      supplier = c.supplier_in.ensures ∙ ap supplier_in (rw c.deref.ensures.value at c.find-found.ensures.supplier);
+      told = rw c.deref.ensures.value at c.find-found.ensures.told;
       memory = rw c.snoop_others.ensures.memory at c.flush.ensures.memory;
     }))

@@ -1,4 +1,4 @@
-use Rattle.snoop_bus.proofs.Vocabulary.{◌≡◌, Some, None, [], sym, ap, refl, ◌∙◌, get_or_default, transient_of, GetM, Sets, Transaction, line_in, asked_for, state_of_copy, copy_in, copy_at, tags_of, current_words, option_copied}
+use Rattle.snoop_bus.proofs.Vocabulary.{supplier_in, moved_in, ◌≡◌, Some, None, [], sym, ap, refl, ◌∙◌, get_or_default, transient_of, GetM, Sets, Transaction, line_in, asked_for, state_of_copy, copy_in, copy_at, tags_of, current_words, option_copied}
 use Rattle.snoop_bus.proofs.AcquireCalls.{own_found, own_absent}
 use Rattle.snoop_bus.proofs.AskLemmas.{write_ask-transaction, write_ask-words}
 use Rattle.snoop_bus.proofs.LoadLemmas.{found_words}
@@ -31,7 +31,9 @@ returns-clause-transaction g c =
       words = words;
       left = c.snoop_others.ensures.copies;
       ways = c.snoop_others.ensures.ways;
-    }) c.in_ok-transient.transient)
+    }) c.in_ok-transient.transient c.moved_in-supplier.result c.find-found.result.states
+    (c.moved_in-supplier.ensures ∙ ap (moved_in c.in_ok-transient.transient) (c.supplier_in.ensures ∙ ap supplier_in (rw c.deref.ensures.value at c.find-found.ensures.supplier)))
+    (rw c.deref.ensures.value at c.find-found.ensures.told))
     ∙ rw asked refl
 
 pub returns-clause-tags : goal.returns-clause-tags
@@ -64,7 +66,7 @@ returns-clause-awaits g c =
     (rw (c.unwrap_or-words.ensures, line) (rw c.deref.ensures.value at (c.find-found.ensures.words (line_in c.args.self.now.memory.items c.args.line)))) (c.requires.ready.coherent.each c.args.line c.requires.ready.line_in) in
     let here = c.index.ensures ∙ get_or_default c.args.self.now.caches.items c.args.core c.index.result.now [] c.requires.ready.core_in in
     rw (ap (λ (sets : Sets). copy_in sets c.args.line) c.snoop_others.ensures.own)
-    (write_ask-awaits own c.in_ok-transient.transient c.unwrap_or-words.result (ap (λ s. transient_of s GetM) (sym state_is) ∙ sym c.transient.ensures ∙ c.in_ok-transient.was) (rw here at c.look.ensures.not_invalid)
+    (write_ask-awaits own c.in_ok-transient.transient c.unwrap_or-words.result (record { request = GetM; line = c.args.line; supplier = c.moved_in-supplier.result; flushed = None; states = c.find-found.result.states }) (ap (λ s. transient_of s GetM) (sym state_is) ∙ sym c.transient.ensures ∙ c.in_ok-transient.was) (rw here at c.look.ensures.not_invalid)
     (λ copy is. (c.requires.ready.coherent.each c.args.line c.requires.ready.line_in).same c.args.core copy is ∙ sym words))
 
 pub returns-clause-words : goal.returns-clause-words

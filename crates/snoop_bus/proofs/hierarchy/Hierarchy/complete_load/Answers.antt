@@ -2,8 +2,8 @@ use Rattle.snoop_bus.proofs.Vocabulary.{ap, slice_index}
 use Rattle.snoop_bus.proofs.AcquireAsked.{kept_words}
 use Rattle.snoop_bus.proofs.hierarchy.Hierarchy.complete_load.Goals as goal
 
-pub fill_asked-access-requires : goal.fill_asked-access-requires
-fill_asked-access-requires g c =
+pub fill_asked-report-requires : goal.fill_asked-report-requires
+fill_asked-report-requires g c =
     let awaits = rw c.unwrap-transaction.ensures at c.requires.awaited.awaits in
     record {
       coherent = rw c.unwrap-transaction.ensures at c.requires.awaited.coherent;
@@ -14,15 +14,15 @@ fill_asked-access-requires g c =
     }
 
 pub returns-clause-words : goal.returns-clause-words
-returns-clause-words g c = rw c.unwrap-transaction.ensures c.fill_asked-access.ensures.words
+returns-clause-words g c = rw c.unwrap-transaction.ensures c.fill_asked-report.ensures.words
 
 pub returns-clause-ways : goal.returns-clause-ways
-returns-clause-ways g c = c.fill_asked-access.ensures.ways
+returns-clause-ways g c = c.fill_asked-report.ensures.ways
 
 pub returns-clause-ok : goal.returns-clause-ok
 returns-clause-ok g c =
     let awaits = rw c.unwrap-transaction.ensures at c.requires.awaited.awaits in
-    rw (c.unwrap-transaction.ensures, awaits.0) (record { access_is = c.fill_asked-access.ensures.access; tags = c.fill_asked-access.ensures.tags; memory = c.fill_asked-access.ensures.memory })
+    rw (c.unwrap-transaction.ensures, awaits.0) (record { report_is = c.fill_asked-report.ensures.report; tags = c.fill_asked-report.ensures.tags; memory = c.fill_asked-report.ensures.memory })
 
 pub returns-clause-word : goal.returns-clause-word
 returns-clause-word g c =

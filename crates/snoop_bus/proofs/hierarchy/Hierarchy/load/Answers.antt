@@ -17,8 +17,8 @@ returns-in-Some g c =
     (rw here at c.touch.ensures.exact) (rw here at c.touch.ensures.copies) (rw here at c.touch.ensures.ways) in
     record { ok = rw (c.from.ensures, c.quiet.ensures) hit.0; kept = hit.1 }
 
-pub ask_load-transaction-requires : goal.ask_load-transaction-requires
-ask_load-transaction-requires g c =
+pub ask_load-requires : goal.ask_load-requires
+ask_load-requires g c =
     let free : c.args.held ≡ None = is_free c.args.held c.if-prove.ensures in
     let here = c.index.ensures ∙ get_or_default c.args.self.now.caches.items c.args.target.core c.index.result.now [] c.requires.ready.core_in in
     record {
@@ -27,40 +27,41 @@ ask_load-transaction-requires g c =
       absent = own_absent c.args.self.now.caches.items c.args.target.core c.args.target.line c.index.result.now (option_copied c.look.result) c.requires.ready.core_in c.index.ensures c.look.ensures.found c.in_default.ensures;
     }
 
-pub complete_load-requires-clause-awaited : goal.complete_load-requires-clause-awaited
-complete_load-requires-clause-awaited g c =
+pub complete_load-word-requires-clause-awaited : goal.complete_load-word-requires-clause-awaited
+complete_load-word-requires-clause-awaited g c =
     let here = c.index.ensures ∙ get_or_default c.args.self.now.caches.items c.args.target.core c.index.result.now [] c.requires.ready.core_in in
     let some : 0 < length (cache_of c.args.self.now.caches.items c.args.target.core) = rw here at c.look.ensures.some in
     record {
-      coherent = c.ask_load-transaction.ensures.words.coherent;
-      core_in = rw (same_cores c.args.self.now.caches.items c.ask_load-transaction.new.self.caches.items c.ask_load-transaction.ensures.ways) c.requires.ready.core_in;
-      some_set = same_sets c.args.self.now.caches.items c.ask_load-transaction.new.self.caches.items c.args.target.core c.ask_load-transaction.ensures.ways some;
-      line_in = rw (ap length c.ask_load-transaction.ensures.memory ∙ length-asked (g.P.Protocol.table c.args.protocol.now) GetS c.args.target.line c.args.self.now.caches.items c.args.self.now.memory.items) c.requires.ready.line_in;
+      coherent = c.ask_load.ensures.words.coherent;
+      core_in = rw (same_cores c.args.self.now.caches.items c.ask_load.new.self.caches.items c.ask_load.ensures.ways) c.requires.ready.core_in;
+      some_set = same_sets c.args.self.now.caches.items c.ask_load.new.self.caches.items c.args.target.core c.ask_load.ensures.ways some;
+      line_in = rw (ap length c.ask_load.ensures.memory ∙ length-asked (g.P.Protocol.table c.args.protocol.now) GetS c.args.target.line c.args.self.now.caches.items c.args.self.now.memory.items) c.requires.ready.line_in;
       awaits =
-          load_ask-awaits (g.P.Protocol.table c.args.protocol.now) c.args.target.line (current_words c.args.self.now.caches.items c.args.self.now.memory.items c.args.target.line) (tags_of c.args.self.now.caches.items) (copy_at c.ask_load-transaction.new.self.caches.items c.args.target.core c.args.target.line) c.ask_load-transaction.result
-          c.ask_load-transaction.ensures.transaction c.ask_load-transaction.ensures.own;
+          load_ask-awaits (g.P.Protocol.table c.args.protocol.now) c.args.target.line (current_words c.args.self.now.caches.items c.args.self.now.memory.items c.args.target.line) (tags_of c.args.self.now.caches.items) (copy_at c.ask_load.new.self.caches.items c.args.target.core c.args.target.line) c.ask_load.result
+          c.ask_load.ensures.transaction c.ask_load.ensures.own;
     }
 
 pub returns-clause-ok : goal.returns-clause-ok
 returns-clause-ok g c =
     let absent : copy_at c.args.self.now.caches.items c.args.target.core c.args.target.line ≡ None = own_absent c.args.self.now.caches.items c.args.target.core c.args.target.line c.index.result.now (option_copied c.look.result) c.requires.ready.core_in c.index.ensures c.look.ensures.found c.in_default.ensures in
     rw (is_free c.args.held c.if-prove.ensures)
-    (load-in_halves (g.P.Protocol.table c.args.protocol.now) c.args.target.core c.args.target.line (Some c.ask_load-transaction.result) c.args.self.now c.ask_load-transaction.new.self c.complete_load.new.self c.complete_load.result.1
-    c.requires.ready.line_in c.args.target.offset c.complete_load.result.0
+    (load-in_halves (g.P.Protocol.table c.args.protocol.now) c.args.target.core c.args.target.line (Some c.ask_load.result) c.args.self.now c.ask_load.new.self c.complete_load-word.new.self c.complete_load-word.result.1 c.requested_by.result
+    c.requires.ready.line_in c.args.target.offset c.complete_load-word.result.0
     (record {
-      asks = rw (load_asks c.args.self.now.caches.items c.args.target.core c.args.target.line absent) (rw c.ask_load-transaction.ensures.transaction refl);
-      tags = load_ask-tags (g.P.Protocol.table c.args.protocol.now) c.args.self.now.caches.items c.args.target.core c.args.target.line false (tags_of c.ask_load-transaction.new.self.caches.items) refl absent c.ask_load-transaction.ensures.tags;
-      memory = c.ask_load-transaction.ensures.memory;
-      own = c.ask_load-transaction.ensures.cache;
-      asked = c.ask_load-transaction.ensures.words;
-      completed = c.complete_load.ensures.words;
-      completes = c.complete_load.ensures.ok;
+      asks = rw (load_asks c.args.self.now.caches.items c.args.target.core c.args.target.line absent) (rw c.ask_load.ensures.transaction refl);
+      tags = load_ask-tags (g.P.Protocol.table c.args.protocol.now) c.args.self.now.caches.items c.args.target.core c.args.target.line false (tags_of c.ask_load.new.self.caches.items) refl absent c.ask_load.ensures.tags;
+      memory = c.ask_load.ensures.memory;
+      own = c.ask_load.ensures.cache;
+      asked = c.ask_load.ensures.words;
+      completed = c.complete_load-word.ensures.words;
+      completes = c.complete_load-word.ensures.ok;
+      both = c.requested_by.ensures;
     })
-    absent c.complete_load.ensures.word)
+    absent c.complete_load-word.ensures.word)
 
 pub returns-clause-kept : goal.returns-clause-kept
 returns-clause-kept g c =
-    kept_alone c.args.held (is_free c.args.held c.if-prove.ensures) c.args.self.now.caches.items c.complete_load.new.self.caches.items c.args.self.now.memory.items c.complete_load.new.self.memory.items
-    (keeps-more c.args.self.now.caches.items _ c.complete_load.new.self.caches.items c.args.self.now.memory.items c.ask_load-transaction.new.self.memory.items c.complete_load.new.self.memory.items
-    (ap length c.ask_load-transaction.ensures.memory ∙ length-asked (g.P.Protocol.table c.args.protocol.now) GetS c.args.target.line c.args.self.now.caches.items c.args.self.now.memory.items)
-    c.ask_load-transaction.ensures.words c.complete_load.ensures.words)
+    kept_alone c.args.held (is_free c.args.held c.if-prove.ensures) c.args.self.now.caches.items c.complete_load-word.new.self.caches.items c.args.self.now.memory.items c.complete_load-word.new.self.memory.items
+    (keeps-more c.args.self.now.caches.items _ c.complete_load-word.new.self.caches.items c.args.self.now.memory.items c.ask_load.new.self.memory.items c.complete_load-word.new.self.memory.items
+    (ap length c.ask_load.ensures.memory ∙ length-asked (g.P.Protocol.table c.args.protocol.now) GetS c.args.target.line c.args.self.now.caches.items c.args.self.now.memory.items)
+    c.ask_load.ensures.words c.complete_load-word.ensures.words)

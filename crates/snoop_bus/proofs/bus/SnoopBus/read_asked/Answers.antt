@@ -1,6 +1,6 @@
 use Rattle.snoop_bus.proofs.Vocabulary.{None, Load}
 use Rattle.snoop_bus.proofs.Completed.{word_due, words_stay, freed, same_machine, completes}
-use Rattle.snoop_bus.proofs.bus.SnoopBus.complete_load.Goals as goal
+use Rattle.snoop_bus.proofs.bus.SnoopBus.read_asked.Goals as goal
 
 pub returns-clause-word : goal.returns-clause-word
 returns-clause-word g c = word_due (g.P.Protocol.table c.self.inside.protocol) c.self.inside.shape c.self.inside.locations c.self.inside.held c.args.self.now c.self.inside.hierarchy c.complete_load-done.new.self c.unwrap-held.result c.args.core c.args.loc Load c.target_of-target.result

@@ -1,6 +1,6 @@
 use Rattle.snoop_bus.proofs.Vocabulary.{Some, refl, ap, slice_index, Write}
 use Rattle.snoop_bus.proofs.Completed.{word_due, words_beside, locked, same_machine, completes}
-use Rattle.snoop_bus.proofs.bus.SnoopBus.complete_read.Goals as goal
+use Rattle.snoop_bus.proofs.bus.SnoopBus.lock_asked.Goals as goal
 
 pub returns-clause-word : goal.returns-clause-word
 returns-clause-word g c = rw c.from.ensures (word_due (g.P.Protocol.table c.self.inside.protocol) c.self.inside.shape c.self.inside.locations c.self.inside.held c.args.self.now c.self.inside.hierarchy c.acquire_asked.new.self c.unwrap-held.result c.args.core c.args.loc Write c.target_of-at.result

@@ -3,7 +3,7 @@ use Rattle.snoop_bus.proofs.MemoryLemmas.{length-whole}
 use Rattle.snoop_bus.proofs.CallLemmas.{bus_ready, free_or_hit, loc_in, load_done}
 use Rattle.snoop_bus.proofs.UpgradeAsk.{free_load}
 use Rattle.snoop_bus.proofs.NewLemmas.{bus-kept, same_cores}
-use Rattle.snoop_bus.proofs.bus.SnoopBus.load.Goals as goal
+use Rattle.snoop_bus.proofs.bus.SnoopBus.read.Goals as goal
 
 pub load-requires-clause-ready : goal.load-requires-clause-ready
 load-requires-clause-ready g c =
