@@ -248,6 +248,10 @@ LAWS = {
     "refutations": (
         ("refutation_laws", "refuted_claims_are_false no_run_makes_a_refuted_claim_true refuted_questions_are_answered"
          " claims_are_refuted_or_met known_values_are_right edges_have_relations worked_refutations"),
+        ("possible_reads", "readings_are_possible written_values_are_possible known_order_is_right some_write_comes_last"
+         " last_words_are_possible last_registers_are_possible truths_are_those_left claims_give_facts some_case_is_met worked_readings"),
+        ("short_refutations", "short_refutations_are_sound no_run_meets_what_is_refuted refuted_questions_have_answers"
+         " short_refutations_are_complete edges_have_names worked_short_refutations"),
     ),
 }
 

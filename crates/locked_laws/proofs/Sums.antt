@@ -49,7 +49,7 @@ regroup : (word first rest : ℕ) → (word + first) + rest ≡ word + (first + 
 regroup word first rest = omega arith
 
 -- one addition or more: the word is the total, modulo 2^32
-adding-is-total : (addend : Entry → ℕ) (w : Entry) (ws : List Entry) (word : ℕ)
+pub adding-is-total : (addend : Entry → ℕ) (w : Entry) (ws : List Entry) (word : ℕ)
     → word_after_adding addend (w ∷ ws) word ≡ (word + total_of addend (w ∷ ws)) % 2 ^ 32
 adding-is-total addend w [] word = ap (λ n. n % 2 ^ 32) (let e : word + addend w ≡ word + (addend w + 0) = omega arith in e)
 adding-is-total addend w (v ∷ vs) word =

@@ -6,6 +6,7 @@ mod NoMore
 mod SomeExecution
 mod Waiting
 mod Refuting
+mod RefutingShortly
 pub mod PrintedVocabulary
 pub mod Digits
 pub mod Cutting

@@ -17,4 +17,6 @@ mod refuted;
 #[cfg(test)]
 mod streams;
 #[cfg(test)]
+mod tabled;
+#[cfg(test)]
 mod tally;

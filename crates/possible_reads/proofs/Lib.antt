@@ -1,0 +1,11 @@
+pub mod Vocabulary
+pub mod Values
+pub mod Programs
+pub mod Coherence
+pub mod Meeting
+pub mod Additions
+pub mod Counting
+pub mod Lists
+pub mod Rounds
+pub mod Ends
+pub mod Claims

@@ -1,0 +1,134 @@
+-- Values that are possible, put together: what is among some stays among what is made of them.
+use Rattle.possible_reads.proofs.Vocabulary.{◌≡◌, ◌==◌, ℕ, zero, suc, Bool, true, false, if◌then◌else◌, List, [], ◌∷◌, Some, None, refl, sym, ap, ◌⊎◌, inl, inr, subst, map, filter, list_any, length, nat_lt, slice_get, sum_of, Entry, or-either, same-number, number-same}
+use Rattle.refutation_laws.proofs.Tests.{or-first, or-second}
+use Rattle.possible_reads.specs.Expressions.{Expression, Constant, Returned, Sum}
+use Rattle.possible_reads.specs.Possible.{Values, is_among, at_most_64, union, either_of, both_of, any_of, sums_of, values_of, can_be, kept}
+use Rattle.possible_reads.specs.Laws.{IsPossible}
+
+-- ---- lists of numbers
+
+pub itself-among : (n : ℕ) (ns : List ℕ) → is_among (n ∷ ns) n ≡ true
+itself-among n ns = or-first (n == n) _ (number-same n n refl)
+
+among-test : (test : ℕ → Bool) (ns : List ℕ) (n : ℕ) → is_among ns n ≡ true → test n ≡ true → list_any test ns ≡ true
+among-test test [] n h q = let z : ⊥ = cc in absurd z
+among-test test (m ∷ ns) n h q = elim (or-either (m == n) _ h) [
+  | inl e ↦ or-first (test m) _ (subst (λ k. test k ≡ true) (sym (same-number m n e)) q)
+  | inr k ↦ or-second (test m) _ (among-test test ns n k q)
+]
+
+among-map : (f : ℕ → ℕ) (ns : List ℕ) (n : ℕ) → is_among ns n ≡ true → is_among (map f ns) (f n) ≡ true
+among-map f [] n h = let z : ⊥ = cc in absurd z
+among-map f (m ∷ ns) n h = elim (or-either (m == n) _ h) [
+  | inl e ↦ or-first (f m == f n) _ (number-same (f m) (f n) (ap f (same-number m n e)))
+  | inr k ↦ or-second (f m == f n) _ (among-map f ns n k)
+]
+
+among-filter : (test : ℕ → Bool) (ns : List ℕ) (n : ℕ) → is_among ns n ≡ true → test n ≡ true → is_among (filter test ns) n ≡ true
+among-filter test [] n h q = h
+among-filter test (m ∷ ns) n h q = go (test m) refl (or-either (m == n) _ h) (λ k. among-filter test ns n k q)
+  where
+    go : (b : Bool) → test m ≡ b → ((m == n) ≡ true) ⊎ (is_among ns n ≡ true) → (is_among ns n ≡ true → is_among (filter test ns) n ≡ true)
+        → is_among (if b then m ∷ filter test ns else filter test ns) n ≡ true
+    go true e (inl s) rest = or-first (m == n) _ s
+    go true e (inr k) rest = or-second (m == n) _ (rest k)
+    go false e (inl s) rest =
+        let a : test m ≡ true = subst (λ k. test k ≡ true) (sym (same-number m n s)) q in
+        let z : ⊥ = cc in absurd z
+    go false e (inr k) rest = rest k
+
+among-at : (ns : List ℕ) (n : ℕ) → is_among ns n ≡ true → (i : ℕ) × (slice_get ns i ≡ Some n)
+among-at [] n h = let z : ⊥ = cc in absurd z
+among-at (m ∷ ns) n h = elim (or-either (m == n) _ h) [
+  | inl e ↦ (0, ap Some (same-number m n e))
+  | inr k ↦ let r = among-at ns n k in (suc r.0, r.1)
+]
+
+union-second : (us vs : List ℕ) (n : ℕ) → is_among vs n ≡ true → is_among (union us vs) n ≡ true
+union-second [] vs n h = h
+union-second (u ∷ us) vs n h = go (is_among (union us vs) u) (union-second us vs n h)
+  where
+    go : (b : Bool) → is_among (union us vs) n ≡ true → is_among (if b then union us vs else u ∷ union us vs) n ≡ true
+    go true k = k
+    go false k = or-second (u == n) _ k
+
+union-first : (us vs : List ℕ) (n : ℕ) → is_among us n ≡ true → is_among (union us vs) n ≡ true
+union-first [] vs n h = let z : ⊥ = cc in absurd z
+union-first (u ∷ us) vs n h = go (is_among (union us vs) u) refl (or-either (u == n) _ h) (λ k. union-first us vs n k)
+  where
+    go : (b : Bool) → is_among (union us vs) u ≡ b → ((u == n) ≡ true) ⊎ (is_among us n ≡ true)
+        → (is_among us n ≡ true → is_among (union us vs) n ≡ true) → is_among (if b then union us vs else u ∷ union us vs) n ≡ true
+    go true e (inl s) rest = subst (λ k. is_among (union us vs) k ≡ true) (same-number u n s) e
+    go true e (inr k) rest = rest k
+    go false e (inl s) rest = or-first (u == n) _ s
+    go false e (inr k) rest = or-second (u == n) _ (rest k)
+
+-- ---- values
+
+-- a test that holds of a number that is possible can hold
+pub possible-test : (vs : Values) (test : ℕ → Bool) (n : ℕ) → IsPossible vs n → test n ≡ true → can_be vs test ≡ true
+possible-test None test n h q = refl
+possible-test (Some vs) test n h q = among-test test vs n h q
+
+pub itself-possible : (n : ℕ) → IsPossible (Some (n ∷ [])) n
+itself-possible n = itself-among n []
+
+at-most : (ns : List ℕ) (n : ℕ) → is_among ns n ≡ true → IsPossible (at_most_64 ns) n
+at-most ns n h = go (nat_lt 64 (length ns))
+  where
+    go : (b : Bool) → IsPossible (if b then None else Some ns) n
+    go true = refl
+    go false = h
+
+pub either-first : (us vs : Values) (n : ℕ) → IsPossible us n → IsPossible (either_of us vs) n
+either-first None None n h = refl
+either-first None (Some vs) n h = refl
+either-first (Some us) None n h = refl
+either-first (Some us) (Some vs) n h = at-most (union us vs) n (union-first us vs n h)
+
+pub either-second : (us vs : Values) (n : ℕ) → IsPossible vs n → IsPossible (either_of us vs) n
+either-second None None n h = refl
+either-second None (Some vs) n h = refl
+either-second (Some us) None n h = refl
+either-second (Some us) (Some vs) n h = at-most (union us vs) n (union-second us vs n h)
+
+pub both-possible : (us vs : Values) (n : ℕ) → IsPossible us n → IsPossible vs n → IsPossible (both_of us vs) n
+both-possible None None n h k = refl
+both-possible None (Some vs) n h k = k
+both-possible (Some us) None n h k = h
+both-possible (Some us) (Some vs) n h k = among-filter (is_among vs) us n h k
+
+pub any-possible : {A : Type 0} (f : A → Values) (xs : List A) (i : ℕ) (x : A) (n : ℕ) → slice_get xs i ≡ Some x → IsPossible (f x) n
+    → IsPossible (any_of (map f xs)) n
+any-possible f [] i x n p h = let z : ⊥ = cc in absurd z
+any-possible f (y ∷ ys) zero x n p h =
+    let e : x ≡ y = cc in either-first (f y) (any_of (map f ys)) n (subst (λ z. IsPossible (f z) n) e h)
+any-possible f (y ∷ ys) (suc i) x n p h = either-second (f y) (any_of (map f ys)) n (any-possible f ys i x n p h)
+
+pub sum-possible : (us vs : Values) (m n : ℕ) → IsPossible us m → IsPossible vs n → IsPossible (sums_of us vs) (sum_of m n)
+sum-possible None None m n h k = refl
+sum-possible None (Some vs) m n h k = refl
+sum-possible (Some us) None m n h k = refl
+sum-possible (Some us) (Some vs) m n h k =
+    let a = among-at us m h in
+    any-possible (λ u. at_most_64 (map (sum_of u) vs)) us a.0 m (sum_of m n) a.1
+    (at-most (map (sum_of m) vs) (sum_of m n) (among-map (sum_of m) vs n k))
+
+pub kept-possible : (test : ℕ → Bool) (vs : Values) (n : ℕ) → IsPossible vs n → test n ≡ true → IsPossible (kept test vs) n
+kept-possible test None n h q = refl
+kept-possible test (Some vs) n h q = among-filter test vs n h q
+
+-- an expression's value, where the reads return this
+abbrev pub value_of : (Entry → ℕ) → Expression → ℕ
+value_of returned (Constant value) = value
+value_of returned (Returned read) = returned read
+value_of returned (Sum left right) = sum_of (value_of returned left) (value_of returned right)
+
+-- it is possible where what its reads return is
+pub value-possible : (reads : Entry → Values) (returned : Entry → ℕ) → ((e : Entry) → IsPossible (reads e) (returned e)) → (x : Expression)
+    → IsPossible (values_of reads x) (value_of returned x)
+value-possible reads returned h (Constant value) = itself-possible value
+value-possible reads returned h (Returned read) = h read
+value-possible reads returned h (Sum left right) =
+    sum-possible (values_of reads left) (values_of reads right) (value_of returned left) (value_of returned right)
+    (value-possible reads returned h left) (value-possible reads returned h right)

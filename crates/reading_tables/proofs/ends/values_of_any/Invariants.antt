@@ -1,0 +1,15 @@
+use Rattle.reading_tables.proofs.Vocabulary.{◌≡◌, drop, map, ◌≤◌, length}
+use Rattle.possible_reads.specs.Possible.{any_of, values_written}
+use Rattle.reading_tables.specs.Tables.{readings_of}
+use Rattle.reading_tables.specs.Told.{known_of}
+use Rattle.reading_tables.proofs.ends.values_of_any.Given as goal
+
+abbrev pub invariant-loop-left : goal.invariant-loop-left
+invariant-loop-left l =
+    record {
+      all : known_of l.all ≡ any_of (map (values_written l.told.test.now (readings_of l.told.readings.now)) (drop l.left l.writes));
+      within : l.left ≤ length l.writes;
+    }
+
+abbrev pub decreases-loop-left : goal.decreases-loop-left
+decreases-loop-left l = l.left

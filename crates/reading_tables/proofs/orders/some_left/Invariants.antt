@@ -1,0 +1,8 @@
+use Rattle.reading_tables.proofs.Vocabulary.{◌≡◌, drop, list_any}
+use Rattle.possible_reads.specs.Possible.{may_be_left}
+use Rattle.reading_tables.specs.Told.{facts_of}
+use Rattle.reading_tables.proofs.orders.some_left.Given as goal
+
+abbrev pub invariant-loop-v : goal.invariant-loop-v
+invariant-loop-v l =
+    list_any (may_be_left (facts_of l.facts) l.loc) l.values ≡ list_any (may_be_left (facts_of l.facts) l.loc) (drop l.v-index l.values)

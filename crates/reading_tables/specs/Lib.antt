@@ -1,0 +1,5 @@
+pub mod Told
+pub mod Tables
+pub use Rattle.possible_reads.specs.Expressions
+pub use Rattle.possible_reads.specs.Facts
+pub use Rattle.possible_reads.specs.Possible

@@ -1,0 +1,44 @@
+-- Tables as the code holds them: what each read can read from and return, and what each write can write.
+use Rattle.std.specs.Prelude.{ℕ, ◌≡◌, List, [], ◌∷◌, ◌++◌, map, Option, Some, None, Vec}
+use Rattle.std.specs.Borrow.{Bor}
+use Rattle.std.specs.Global.{Global}
+use Rattle.tso_terms.specs.Litmus.{Litmus}
+use Rattle.basic_laws.specs.Types.{Entry}
+use Rattle.refutation_laws.specs.Known.{events_of}
+use Rattle.possible_reads.specs.Expressions as expressions
+use Rattle.possible_reads.specs.Possible as spec
+use Rattle.reading_tables.specs.Told.{expression_of, written_of, known_of, AreExpressions}
+use Rattle.reading_tables.specs.declared.expressions.Written.{Written}
+use Rattle.reading_tables.specs.declared.tables.Problem.{Problem}
+use Rattle.reading_tables.specs.declared.tables.Reading.{Reading}
+use Rattle.reading_tables.specs.declared.tables.Told.{Told}
+
+pub record IsProblem (t : Litmus) (p : Problem) : Type 0 where
+  pub test : p.test.now ≡ t
+  pub events : p.events.items ≡ events_of t
+  pub expressions : AreExpressions t p.expressions
+
+abbrev pub reading_of : Reading → spec.Reading
+reading_of x = record { read = x.read; sources = x.sources.items; values = known_of x.values }
+
+abbrev pub readings_of : List Reading → List spec.Reading
+readings_of xs = map reading_of xs
+
+-- what each of these writes can write, and what one writes that isn't there
+abbrev pub AreValues : List spec.Reading → List Written → List (Option (Vec ℕ Global)) → Type 0
+AreValues table written values =
+    map known_of values
+    ≡ map (λ x. spec.values_of (spec.values_read table) (expression_of x.value)) written ++ (Some (0 ∷ []) ∷ [])
+
+pub record IsTold (told : Told) : Type 0 where
+  pub events : told.events.now ≡ events_of told.test.now
+  pub written : map written_of told.written.now ≡ expressions.written told.test.now
+  pub values : AreValues (readings_of told.readings.now) told.written.now told.values.now
+
+abbrev pub sources_or : List (Option Entry) → Option (Bor Reading) → List (Option Entry)
+sources_or others None = others
+sources_or others (Some x) = x.now.sources.items
+
+abbrev pub values_or_any : Option (Bor Reading) → spec.Values
+values_or_any None = None
+values_or_any (Some x) = known_of x.now.values

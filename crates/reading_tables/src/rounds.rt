@@ -1,0 +1,316 @@
+//! Rounds: in each, what every read can read from and return goes by what the round before left.
+ghost use Rattle.std.specs.Prelude.{◌≡◌, [], IfOk, true, map, filter};
+ghost use Rattle.tso_terms.specs.ProgramOrder as program_order;
+ghost use Rattle.refutation_laws.specs.Known.{events_of};
+ghost use Rattle.possible_reads.specs.Possible as spec;
+ghost use Rattle.reading_tables.specs.Told.{held_of, expression_of, facts_of, known_of};
+ghost use Rattle.reading_tables.specs.Tables.{IsProblem, IsTold, AreValues, reading_of, readings_of};
+
+use crate::counting::counted_values;
+use crate::expressions::{Held, Value, Written};
+use crate::facts::{Fact, may_return, told_value};
+use crate::sources::sources_after;
+use crate::tables::{Problem, Reading, Table, Told, reading_for, told_by, values_written};
+use crate::values::{both_of, copy, either_of, one, sums_of};
+use refutations::events::is_read;
+use refutations::values::first_word;
+use std::alloc::Global;
+use tso_terms::{Entry, NoMemory};
+
+fn told_values(
+    alloc: Global,
+    facts: &[Fact<'_>],
+    read: &Entry,
+) -> Result<Option<Vec<u32>>, NoMemory>
+    ensures { IfOk result (λ v. known_of v ≡ spec.told_value (facts_of facts.now) read.now) }
+{
+    match told_value(facts, read) {
+        Some(value) => one(alloc, value),
+        None => Ok(None),
+    }
+}
+
+/// What the read can return from this source.
+fn values_from(
+    alloc: Global,
+    told: Told<'_>,
+    read: &Entry,
+    source: &Option<Entry>,
+) -> Result<Option<Vec<u32>>, NoMemory>
+    requires { IsTold told }
+    ensures { IfOk result (λ v. known_of v ≡ spec.values_from told.entry.test.now (readings_of told.entry.readings.now) read.now source.now) }
+{
+    match source {
+        None => one(alloc, first_word(told.test, read.loc)),
+        Some(w) => copy(alloc, values_written(told, w)),
+    }
+}
+
+/// What the read can return from one of these sources.
+fn values_from_any(
+    alloc: Global,
+    told: Told<'_>,
+    read: &Entry,
+    sources: &[Option<Entry>],
+) -> Result<Option<Vec<u32>>, NoMemory>
+    requires { IsTold told }
+    ensures { IfOk result (λ v. known_of v
+        ≡ spec.any_of (map (spec.values_from told.entry.test.now (readings_of told.entry.readings.now) read.now) sources.now)) }
+{
+    let mut all = Some(Vec::new(alloc));
+    let mut left = sources.len();
+    while left > 0 {
+        left -= 1;
+        let values = values_from(alloc, told, read, &sources[left])?;
+        all = either_of(&values, all)?;
+    }
+    Ok(all)
+}
+
+fn returned(
+    alloc: Global,
+    values: &[u32],
+    facts: &[Fact<'_>],
+    read: &Entry,
+) -> Result<Vec<u32>, NoMemory>
+    ensures { IfOk result (λ kept. kept.items ≡ filter (spec.may_return (facts_of facts.now) read.now) values.now) }
+{
+    let mut kept = Vec::new(alloc);
+    for v in values {
+        if may_return(facts, read, *v) {
+            kept.push(*v)?;
+        }
+    }
+    Ok(kept)
+}
+
+/// Those of the values that the facts let the read return.
+fn kept_values(
+    alloc: Global,
+    values: &Option<Vec<u32>>,
+    facts: &[Fact<'_>],
+    read: &Entry,
+) -> Result<Option<Vec<u32>>, NoMemory>
+    ensures { IfOk result (λ v. known_of v ≡ spec.kept (spec.may_return (facts_of facts.now) read.now) (known_of values.now)) }
+{
+    match values {
+        None => Ok(None),
+        Some(values) => Ok(Some(returned(alloc, values, facts, read)?)),
+    }
+}
+
+/// What a read can return from one of these sources, by the facts, and by counting.
+fn values_after(
+    alloc: Global,
+    told: Told<'_>,
+    read: &Entry,
+    sources: &[Option<Entry>],
+) -> Result<Option<Vec<u32>>, NoMemory>
+    requires { IsTold told }
+    ensures { IfOk result (λ v. known_of v ≡ spec.values_after told.entry.test.now (facts_of told.entry.facts.now)
+        (readings_of told.entry.readings.now) read.now sources.now) }
+{
+    let from = values_from_any(alloc, told, read, sources)?;
+    let by_facts = told_values(alloc, told.facts, read)?;
+    let by_counting = counted_values(alloc, told, read)?;
+    let others = both_of(alloc, &by_facts, &by_counting)?;
+    both_of(alloc, &from, &others)
+}
+
+/// What a read can still read from and return.
+fn reading_after(alloc: Global, told: Told<'_>, read: &Entry) -> Result<Reading, NoMemory>
+    requires { IsTold told }
+    ensures { IfOk result (λ x. reading_of x ≡ spec.reading_after told.entry.test.now (facts_of told.entry.facts.now)
+        (readings_of told.entry.readings.now) read.now) }
+{
+    let sources = sources_after(alloc, told, read)?;
+    let values = values_after(alloc, told, read, &sources)?;
+    let kept = kept_values(alloc, &values, told.facts, read)?;
+    Ok(Reading {
+        read: *read,
+        sources,
+        values: kept,
+    })
+}
+
+fn next_readings(alloc: Global, told: Told<'_>) -> Result<Vec<Reading>, NoMemory>
+    requires { IsTold told }
+    ensures { IfOk result (λ xs. readings_of xs.items ≡ map (spec.reading_after told.entry.test.now (facts_of told.entry.facts.now)
+        (readings_of told.entry.readings.now)) (filter program_order.is_read told.entry.events.now)) }
+{
+    let mut readings = Vec::new(alloc);
+    for e in told.events {
+        if is_read(e) {
+            readings.push(reading_after(alloc, told, e)?)?;
+        }
+    }
+    Ok(readings)
+}
+
+/// What a register can hold.
+///
+/// Errors: out of memory only.
+pub fn held_values(
+    alloc: Global,
+    readings: &[Reading],
+    held: Held,
+) -> Result<Option<Vec<u32>>, NoMemory>
+    ensures { IfOk result (λ v. known_of v ≡ spec.values_of (spec.values_read (readings_of readings.now)) (held_of held)) }
+{
+    match held {
+        Held::Number(value) => one(alloc, value),
+        Held::Returned(read) => match reading_for(readings, &read) {
+            Some(x) => copy(alloc, &x.values),
+            None => Ok(None),
+        },
+    }
+}
+
+fn expression_values(
+    alloc: Global,
+    readings: &[Reading],
+    value: Value,
+) -> Result<Option<Vec<u32>>, NoMemory>
+    ensures { IfOk result (λ v. known_of v ≡ spec.values_of (spec.values_read (readings_of readings.now)) (expression_of value)) }
+{
+    match value {
+        Value::Held(held) => held_values(alloc, readings, held),
+        Value::Sum(read, held) => {
+            let word = held_values(alloc, readings, Held::Returned(read))?;
+            let addend = held_values(alloc, readings, held)?;
+            sums_of(alloc, &word, &addend)
+        }
+    }
+}
+
+/// What each write can write, and the value of none.
+fn write_values(
+    alloc: Global,
+    readings: &[Reading],
+    written: &[Written],
+) -> Result<Vec<Option<Vec<u32>>>, NoMemory>
+    ensures { IfOk result (λ vs. AreValues (readings_of readings.now) written.now vs.items) }
+{
+    let mut values = Vec::new(alloc);
+    for x in written {
+        values.push(expression_values(alloc, readings, x.value)?)?;
+    }
+    values.push(one(alloc, 0)?)?;
+    Ok(values)
+}
+
+fn same_values(a: &Option<Vec<u32>>, b: &Option<Vec<u32>>) -> bool
+    ensures { result ≡ true → known_of a.now ≡ known_of b.now }
+{
+    match (a, b) {
+        (None, None) => true,
+        (Some(a), Some(b)) => a == b,
+        _ => false,
+    }
+}
+
+fn equal_source(a: &Option<Entry>, b: &Option<Entry>) -> bool
+    ensures { result ≡ true → a.now ≡ b.now }
+{
+    match (a, b) {
+        (None, None) => true,
+        (Some(w), Some(v)) => w == v,
+        _ => false,
+    }
+}
+
+fn equal_sources(xs: &[Option<Entry>], ys: &[Option<Entry>]) -> bool
+    ensures { result ≡ true → xs.now ≡ ys.now }
+{
+    if xs.len() != ys.len() {
+        return false;
+    }
+    let mut left = xs.len();
+    while left > 0 {
+        left -= 1;
+        if !equal_source(&xs[left], &ys[left]) {
+            return false;
+        }
+    }
+    true
+}
+
+fn same_reading(a: &Reading, b: &Reading) -> bool
+    ensures { result ≡ true → reading_of a.now ≡ reading_of b.now }
+{
+    if a.read != b.read {
+        return false;
+    }
+    if !equal_sources(&a.sources, &b.sources) {
+        return false;
+    }
+    same_values(&a.values, &b.values)
+}
+
+fn same_readings(xs: &[Reading], ys: &[Reading]) -> bool
+    ensures { result ≡ true → readings_of xs.now ≡ readings_of ys.now }
+{
+    if xs.len() != ys.len() {
+        return false;
+    }
+    let mut left = xs.len();
+    while left > 0 {
+        left -= 1;
+        if !same_reading(&xs[left], &ys[left]) {
+            return false;
+        }
+    }
+    true
+}
+
+/// A table that tells nothing yet.
+fn first_table(alloc: Global, problem: &Problem<'_>) -> Result<Table, NoMemory>
+    ensures readings { IfOk result (λ x. readings_of x.readings.items ≡ []) }
+    ensures values { IfOk result (λ x. AreValues (readings_of x.readings.items) problem.now.expressions.written.items x.values.items) }
+{
+    let readings = Vec::new(alloc);
+    let values = write_values(alloc, &readings, &problem.expressions.written)?;
+    Ok(Table { readings, values })
+}
+
+/// One round more.
+fn next_table(
+    alloc: Global,
+    problem: &Problem<'_>,
+    facts: &[Fact<'_>],
+    table: &Table,
+) -> Result<Table, NoMemory>
+    requires problem { IsProblem problem.now.test.now problem.now }
+    requires values { AreValues (readings_of table.now.readings.items) problem.now.expressions.written.items table.now.values.items }
+    ensures readings { IfOk result (λ x. readings_of x.readings.items ≡ map (spec.reading_after problem.now.test.now (facts_of facts.now)
+        (readings_of table.now.readings.items)) (filter program_order.is_read (events_of problem.now.test.now))) }
+    ensures values { IfOk result (λ x. AreValues (readings_of x.readings.items) problem.now.expressions.written.items x.values.items) }
+{
+    let readings = next_readings(alloc, told_by(problem, facts, table))?;
+    let values = write_values(alloc, &readings, &problem.expressions.written)?;
+    Ok(Table { readings, values })
+}
+
+/// What each read can read from and return, where these facts are given, and what each write can write: the rounds end where one changes
+/// nothing.
+///
+/// Errors: out of memory only.
+pub fn make_table(
+    alloc: Global,
+    problem: &Problem<'_>,
+    facts: &[Fact<'_>],
+) -> Result<Table, NoMemory>
+    requires { IsProblem problem.now.test.now problem.now }
+    ensures readings { IfOk result (λ x. readings_of x.readings.items ≡ spec.readings problem.now.test.now (facts_of facts.now)) }
+    ensures values { IfOk result (λ x. AreValues (readings_of x.readings.items) problem.now.expressions.written.items x.values.items) }
+{
+    let mut table = first_table(alloc, problem)?;
+    for _round in 0..problem.events.len() {
+        let next = next_table(alloc, problem, facts, &table)?;
+        if same_readings(&next.readings, &table.readings) {
+            return Ok(next);
+        }
+        table = next;
+    }
+    Ok(table)
+}

@@ -1,0 +1,126 @@
+//! Tables: what each read can read from and return, and what each write can write.
+ghost use Rattle.std.specs.Prelude.{◌≡◌, IfOk};
+ghost use Rattle.std.specs.List.{list_all};
+ghost use Rattle.tso_terms.specs.Litmus.{Litmus};
+ghost use Rattle.refutation_laws.specs.Refutations.{sources_of};
+ghost use Rattle.possible_reads.specs.Possible as spec;
+ghost use Rattle.reading_tables.specs.Told.{facts_of, known_of};
+ghost use Rattle.reading_tables.specs.Tables.{IsProblem, IsTold, AreValues, readings_of, sources_or, values_or_any};
+
+use crate::expressions::{Expressions, Written, make_expressions};
+use crate::facts::{Fact, same_source};
+use refutations::events::{make_events, same_event, writes_to};
+use std::alloc::Global;
+use tso_terms::{Entry, NoMemory, Test};
+
+/// A test, with what goes by it alone: its events, what its writes write and its registers hold.
+#[derive(Drop)]
+pub struct Problem<'t> {
+    pub test: &'t Test,
+    pub events: Vec<Entry>,
+    pub expressions: Expressions,
+}
+
+/// A read, what it can read from, and what it can return.
+#[derive(Drop)]
+pub struct Reading {
+    pub read: Entry,
+    /// None is the initial write.
+    pub sources: Vec<Option<Entry>>,
+    /// None is any value.
+    pub values: Option<Vec<u32>>,
+}
+
+/// What each read can read from and return, and by it what each write can write; the last of the values is that of no write.
+#[derive(Drop)]
+pub struct Table {
+    pub readings: Vec<Reading>,
+    pub values: Vec<Option<Vec<u32>>>,
+}
+
+/// What is told of a test: facts, and a table.
+#[derive(Clone, Copy)]
+pub struct Told<'a> {
+    pub test: &'a Test,
+    pub events: &'a [Entry],
+    pub written: &'a [Written],
+    pub facts: &'a [Fact<'a>],
+    pub readings: &'a [Reading],
+    pub values: &'a [Option<Vec<u32>>],
+}
+
+/// A test, with what goes by it alone.
+///
+/// Errors: out of memory only.
+pub fn make_problem<'t>(alloc: Global, test: &'t Test) -> Result<Problem<'t>, NoMemory>
+    ensures { IfOk result (IsProblem test.now) }
+{
+    let events = make_events(alloc, test)?;
+    let expressions = make_expressions(alloc, test)?;
+    Ok(Problem {
+        test,
+        events,
+        expressions,
+    })
+}
+
+/// What these facts and this table tell of a test.
+pub fn told_by<'a>(problem: &'a Problem<'a>, facts: &'a [Fact<'a>], table: &'a Table) -> Told<'a>
+    requires problem { IsProblem problem.now.test.now problem.now }
+    requires values { AreValues (readings_of table.now.readings.items) problem.now.expressions.written.items table.now.values.items }
+    ensures told { IsTold result }
+    ensures test { result.test.now ≡ problem.now.test.now }
+    ensures events { result.events.now ≡ problem.now.events.items }
+    ensures written { result.written.now ≡ problem.now.expressions.written.items }
+    ensures facts { result.facts.now ≡ facts.now }
+    ensures readings { result.readings.now ≡ table.now.readings.items }
+{
+    Told {
+        test: problem.test,
+        events: &problem.events,
+        written: &problem.expressions.written,
+        facts,
+        readings: &table.readings,
+        values: &table.values,
+    }
+}
+
+/// The reading of a read, where there is one.
+pub fn reading_for<'a>(readings: &'a [Reading], read: &Entry) -> Option<&'a Reading>
+    ensures sources { (t : Litmus) → spec.sources_read t (readings_of readings.now) read.now ≡ sources_or (sources_of t read.now) result }
+    ensures values { spec.values_read (readings_of readings.now) read.now ≡ values_or_any result }
+{
+    for x in readings {
+        if same_event(&x.read, read) {
+            return Some(x);
+        }
+    }
+    None
+}
+
+/// Whether all of these are this source.
+pub fn are_one(source: &Option<Entry>, sources: &[Option<Entry>]) -> bool
+    ensures { result ≡ list_all (spec.same_source source.now) sources.now }
+{
+    for s in sources {
+        if !same_source(source, s) {
+            return false;
+        }
+    }
+    true
+}
+
+/// What this write can write.
+pub fn values_written<'a>(told: Told<'a>, write: &Entry) -> &'a Option<Vec<u32>>
+    requires { IsTold told }
+    ensures { known_of result.now ≡ spec.values_written told.entry.test.now (readings_of told.entry.readings.now) write.now }
+{
+    let mut number = 0;
+    for x in told.written {
+        if same_event(&x.write, write) {
+            return &told.values[number];
+        }
+        number += 1;
+    }
+    &told.values[number]
+}

@@ -1,0 +1,183 @@
+//! What a number can be: one of some values, or any one.
+ghost use Rattle.std.specs.Prelude.{◌≡◌, [], ◌∷◌, IfOk, Some, map};
+ghost use Rattle.tso_terms.specs.Thread.{sum_of};
+ghost use Rattle.possible_reads.specs.Possible as spec;
+ghost use Rattle.reading_tables.specs.Told.{known_of};
+
+use std::alloc::Global;
+use tso_terms::{NoMemory, Update};
+
+/// How many values are told at most. More are told as any value.
+pub const MOST: usize = 64;
+
+/// Whether this is one of the values.
+pub fn is_among(values: &[u32], value: u32) -> bool
+    ensures { result ≡ spec.is_among values.now value }
+{
+    for v in values {
+        if *v == value {
+            return true;
+        }
+    }
+    false
+}
+
+/// Whether a number can be this one, or another one than this.
+pub fn can_be_number(values: &Option<Vec<u32>>, truth: bool, value: u32) -> bool
+    ensures { result ≡ spec.can_be (known_of values.now) (spec.same_number truth value) }
+{
+    let Some(values) = values else {
+        return true;
+    };
+    some_number(values, truth, value)
+}
+
+fn some_number(values: &[u32], truth: bool, value: u32) -> bool
+    ensures { result ≡ spec.can_be (Some values.now) (spec.same_number truth value) }
+{
+    for v in values {
+        if (*v == value) == truth {
+            return true;
+        }
+    }
+    false
+}
+
+/// The same values once more.
+///
+/// Errors: out of memory only.
+pub fn copy(alloc: Global, values: &Option<Vec<u32>>) -> Result<Option<Vec<u32>>, NoMemory>
+    ensures { IfOk result (λ v. known_of v ≡ known_of values.now) }
+{
+    match values {
+        None => Ok(None),
+        Some(values) => Ok(Some(Vec::from_slice(alloc, values)?)),
+    }
+}
+
+/// One value.
+///
+/// Errors: out of memory only.
+pub fn one(alloc: Global, value: u32) -> Result<Option<Vec<u32>>, NoMemory>
+    ensures { IfOk result (λ v. known_of v ≡ Some (value ∷ [])) }
+{
+    let mut values = Vec::new(alloc);
+    values.push(value)?;
+    Ok(Some(values))
+}
+
+/// These values; more than 64 are told as any value.
+fn at_most_64(values: Vec<u32>) -> Option<Vec<u32>>
+    ensures { known_of result ≡ spec.at_most_64 values.items }
+{
+    if values.len() > MOST {
+        None
+    } else {
+        Some(values)
+    }
+}
+
+/// The values of both lists, each once.
+fn union(us: &[u32], vs: Vec<u32>) -> Result<Vec<u32>, NoMemory>
+    ensures { IfOk result (λ all. all.items ≡ spec.union us.now vs.items) }
+{
+    let mut all = vs;
+    let mut left = us.len();
+    while left > 0 {
+        left -= 1;
+        let value = us[left];
+        if !is_among(&all, value) {
+            all.insert(0, value)?;
+        }
+    }
+    Ok(all)
+}
+
+/// One of these, or one of those.
+///
+/// Errors: out of memory only.
+pub fn either_of(us: &Option<Vec<u32>>, vs: Option<Vec<u32>>) -> Result<Option<Vec<u32>>, NoMemory>
+    ensures { IfOk result (λ v. known_of v ≡ spec.either_of (known_of us.now) (known_of vs)) }
+{
+    let Some(us) = us else {
+        return Ok(None);
+    };
+    let Some(vs) = vs else {
+        return Ok(None);
+    };
+    Ok(at_most_64(union(us, vs)?))
+}
+
+/// Those of these values that are among those.
+fn common(alloc: Global, us: &[u32], vs: &[u32]) -> Result<Vec<u32>, NoMemory>
+    ensures { IfOk result (λ all. Some all.items ≡ spec.both_of (Some us.now) (Some vs.now)) }
+{
+    let mut all = Vec::new(alloc);
+    for u in us {
+        if is_among(vs, *u) {
+            all.push(*u)?;
+        }
+    }
+    Ok(all)
+}
+
+/// One of these that is one of those.
+///
+/// Errors: out of memory only.
+pub fn both_of(
+    alloc: Global,
+    us: &Option<Vec<u32>>,
+    vs: &Option<Vec<u32>>,
+) -> Result<Option<Vec<u32>>, NoMemory>
+    ensures { IfOk result (λ v. known_of v ≡ spec.both_of (known_of us.now) (known_of vs.now)) }
+{
+    match (us, vs) {
+        (None, vs) => copy(alloc, vs),
+        (us, None) => copy(alloc, us),
+        (Some(us), Some(vs)) => Ok(Some(common(alloc, us, vs)?)),
+    }
+}
+
+/// Each of these values and this number together, modulo 2^32.
+fn sums_with(alloc: Global, number: u32, values: &[u32]) -> Result<Vec<u32>, NoMemory>
+    ensures { IfOk result (λ all. all.items ≡ map (sum_of number) values.now) }
+{
+    let mut all = Vec::new(alloc);
+    for v in values {
+        all.push(Update::Add.apply(number, *v))?;
+    }
+    Ok(all)
+}
+
+/// One of these and one of those together.
+fn all_sums(alloc: Global, us: &[u32], vs: &[u32]) -> Result<Option<Vec<u32>>, NoMemory>
+    ensures { IfOk result (λ v. known_of v ≡ spec.sums_of (Some us.now) (Some vs.now)) }
+{
+    let mut all = Some(Vec::new(alloc));
+    let mut left = us.len();
+    while left > 0 {
+        left -= 1;
+        let sums = at_most_64(sums_with(alloc, us[left], vs)?);
+        all = either_of(&sums, all)?;
+    }
+    Ok(all)
+}
+
+/// The sum of two numbers that can be these, modulo 2^32.
+///
+/// Errors: out of memory only.
+pub fn sums_of(
+    alloc: Global,
+    us: &Option<Vec<u32>>,
+    vs: &Option<Vec<u32>>,
+) -> Result<Option<Vec<u32>>, NoMemory>
+    ensures { IfOk result (λ v. known_of v ≡ spec.sums_of (known_of us.now) (known_of vs.now)) }
+{
+    let Some(us) = us else {
+        return Ok(None);
+    };
+    let Some(vs) = vs else {
+        return Ok(None);
+    };
+    all_sums(alloc, us, vs)
+}

@@ -1,0 +1,4 @@
+pub mod Vocabulary
+pub mod Walking
+pub mod Relating
+pub mod Stack

@@ -1,0 +1,4 @@
+-- Words of contracts inside the crate.
+pub mod Branches
+pub mod Readers
+pub mod Stack
