@@ -10,7 +10,8 @@
      fail   the call fails, for want of room (ENOSPC), and no other does
      full   it fails so, and each later one that needs room; what gives room back, as a removal, doesn't
    NOTES is a file to which goes a line for each call, as it is made: its name, `room` where it needs room and else `-`, and the path,
-   or the number of the open file, that it changes. What goes to pipes, terminals and devices counts for nothing.
+   or the number of the open file, that it changes. What goes to pipes, terminals and devices counts for nothing. Where nothing is
+   broken, a line `refused NUMBER -` follows for a call that the system refused, as a mkdir of a folder that is there.
 
    The status is the command's, or 128 and the number of the signal that ended it; 125 where nothing could be run so. Every process
    that the command started has ended by then. It is a tracer (ptrace), since the C library makes many of these calls from inside, as
@@ -89,8 +90,13 @@ static FILE *notes;
 /* The process that is stopped after the call at which the command is broken. */
 static pid_t broken;
 
-/* The processes that are traced. */
-static pid_t *traced;
+/* The processes that are traced, and the number of the call that each is in; 0 where nobody waits for the call's end. */
+typedef struct {
+    pid_t process;
+    long call;
+} Traced;
+
+static Traced *traced;
 static size_t many, most;
 
 static void stop(const char *what) {
@@ -203,6 +209,17 @@ static int fails(const Call *call) {
     return (strcmp(kind, "fail") == 0 && seen == number) || (strcmp(kind, "full") == 0 && seen >= number && call->needs_room);
 }
 
+/* A process among those that are traced, from now on. */
+static Traced *traced_of(pid_t process) {
+    for (size_t i = 0; i < many; i++)
+        if (traced[i].process == process)
+            return &traced[i];
+    if (many == most && !(traced = realloc(traced, (most = 2 * most + 16) * sizeof *traced)))
+        stop("memory");
+    traced[many] = (Traced){process, 0};
+    return &traced[many++];
+}
+
 /* Lets a process go on that has stopped before one of the calls. */
 static void go_on(pid_t process) {
     struct user_regs_struct registers;
@@ -218,22 +235,27 @@ static void go_on(pid_t process) {
         broken = process;
         ptrace(PTRACE_SYSCALL, process, 0, 0);
         return;
+    } else if (call && strcmp(kind, "none") == 0) {
+        traced_of(process)->call = seen;
+        ptrace(PTRACE_SYSCALL, process, 0, 0);
+        return;
     }
     ptrace(PTRACE_CONT, process, 0, 0);
 }
 
-static void remember(pid_t process) {
-    for (size_t i = 0; i < many; i++)
-        if (traced[i] == process)
-            return;
-    if (many == most && !(traced = realloc(traced, (most = 2 * most + 16) * sizeof *traced)))
-        stop("memory");
-    traced[many++] = process;
+/* Notes a call that the system refused, after which its process has stopped. */
+static void note_refusal(Traced *one) {
+    struct user_regs_struct registers;
+    if (ptrace(PTRACE_GETREGS, one->process, 0, &registers) == 0 && (long)registers.rax < 0) {
+        fprintf(notes, "refused %ld -\n", one->call);
+        fflush(notes);
+    }
+    one->call = 0;
 }
 
 static void forget(pid_t process) {
     for (size_t i = 0; i < many; i++)
-        if (traced[i] == process)
+        if (traced[i].process == process)
             traced[i--] = traced[--many];
 }
 
@@ -242,7 +264,7 @@ static void kill_all(void) {
     pid_t process;
     int status;
     for (size_t i = 0; i < many; i++)
-        kill(traced[i], SIGKILL);
+        kill(traced[i].process, SIGKILL);
     while ((process = waitpid(-1, &status, __WALL)) > 0 || (process < 0 && errno == EINTR))
         if (process > 0 && WIFSTOPPED(status))
             kill(process, SIGKILL);
@@ -261,7 +283,7 @@ static int follow(pid_t first) {
                 end = status;
             continue;
         }
-        remember(process);
+        Traced *one = traced_of(process);
         int event = status >> 16, signal = WSTOPSIG(status);
         if (event == PTRACE_EVENT_SECCOMP) {
             go_on(process);
@@ -272,6 +294,9 @@ static int follow(pid_t first) {
                 return SIGKILL;
             }
             kill(-first, signal_of_kind());
+            ptrace(PTRACE_CONT, process, 0, 0);
+        } else if (signal == (SIGTRAP | 0x80) && one->call) {
+            note_refusal(one);
             ptrace(PTRACE_CONT, process, 0, 0);
         } else {
             ptrace(PTRACE_CONT, process, 0, event || signal == (SIGTRAP | 0x80) ? 0 : signal);
@@ -290,7 +315,7 @@ int main(int count, char **words) {
     if (!(notes = fopen(words[3], "we")))
         stop(words[3]);
     pid_t first = start(words + 4);
-    remember(first);
+    traced_of(first);
     int end = follow(first);
     return WIFEXITED(end) ? WEXITSTATUS(end) : 128 + WTERMSIG(end);
 }

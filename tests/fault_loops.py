@@ -18,13 +18,17 @@ FOREIGN = {"bin/other": "mine\n", "share/doc/tso/notes": "mine too\n", "empty/":
 
 ROOM = "room"
 
+# Where an installer makes its files, and what it is about to do (tools/placing.bash).
+IN_ROOM, PLAN = ".tso-installing/new", ".tso-installing/plan.new"
+
 
 class Loop:
     """A command, the rooms in which it works, and what must be true of them. What begins with `own` is the command's own, so that nothing of it
     need be there after a call that was killed."""
 
-    def __init__(self, name, source, words, prepare, may_say=(), own=b"\0"):
+    def __init__(self, name, source, words, prepare, may_say=(), own=b"\0", makes_as_another=False):
         self.name = name
+        self.makes_as_another = makes_as_another
         self.own = own
         self.source = source
         self.words = words
@@ -36,11 +40,14 @@ class Loop:
         os.mkdir(os.path.join(self.template, ROOM))
         # The toolchain's own start would cost more than all of a point.
         small_checkout.write(self.template, "path/rt", small_checkout.saying("a toolchain"), 0o755)
+        # ./tso remembers files that are older than a second: without their times none is, and a slow machine has the same calls.
+        small_checkout.write(self.template, "path/stat", "#!/bin/sh\n", 0o755)
         prepare(self)
         self.before = self.tree(self.template)
         with self.copy() as place:
             done, self.changes = fault_points.changes(self.command(place), **self.options(place))
             self.after = self.tree(place)
+        self.second_calls = {}
         self.faults = [] if done.returncode == 0 else ["unbroken: status %d, %r" % (done.returncode, done.stderr)]
 
     def options(self, place):
@@ -64,9 +71,17 @@ class Loop:
         """What stands in a place, but for what ./tso remembers."""
         return {name: what for name, what in fault_points.tree(place).items() if not name.startswith(b"checkout/out")}
 
-    def points(self, kinds=(KILL, FULL, FAIL, INT, TERM, HUP)):
-        """All points at which the command can be broken in these ways."""
-        return fault_points.points(self.changes, kinds)
+    def points(self):
+        """All points at which the command can be broken."""
+        return fault_points.points(self.changes, (KILL, FULL, FAIL, INT, TERM, HUP))
+
+    def situations(self):
+        """Those of them that differ in more than how much of a file is written. Of the two signals that the scripts heed alike each call has
+        one, and of calls that only make what is to be put, as another loop's do, one in ten has any."""
+        numbers = fault_points.situations(self.changes)
+        making = making_of(self.changes) if self.makes_as_another else ()
+        places = {number: at for at, number in enumerate(numbers) if number not in making or number % 10 == 0}
+        return [(kind, number) for kind, number in self.points() if number in places and kind != (TERM, HUP)[places[number] % 2]]
 
     def judge(self, point):
         """The faults where the command is broken at this point."""
@@ -74,15 +89,21 @@ class Loop:
         with self.copy() as place:
             done, tried = fault_points.broken(kind, number, self.command(place), **self.options(place))
             if len(tried) < number:
-                return []
-            faults = self.faults_after(kind, done, self.tree(place))
-            again = subprocess.run(self.command(place), stdout=subprocess.PIPE, stderr=subprocess.PIPE, stdin=subprocess.DEVNULL,
-                                   timeout=starts.PATIENCE, check=False, **self.options(place))
-            left = fault_points.differences(self.after, self.tree(place))
-        if again.returncode != 0 and not any(word in again.stderr for word in self.may_say):
-            left.append("status %d: %s" % (again.returncode, told(again)))
-        faults += ["the second call: " + line for line in left]
+                return ["only %d calls changed a file" % len(tried)]
+            faults = self.faults_after(kind, done, self.tree(place)) + self.faults_of_second(place)
         return ["%s at %s %s" % (line, tried[number - 1].name, tried[number - 1].what) for line in faults]
+
+    def faults_of_second(self, place):
+        """What is wrong with a second call in a place. Where an earlier point left the same state, that one's answer is the answer."""
+        state = fault_points.state(place)
+        if state not in self.second_calls:
+            again = subprocess.run(self.command(place), stdout=subprocess.PIPE, stderr=subprocess.PIPE, stdin=subprocess.DEVNULL,
+                                   timeout=fault_points.HANGS, check=False, **self.options(place))
+            left = fault_points.differences(self.after, self.tree(place))
+            if again.returncode != 0 and not any(word in again.stderr for word in self.may_say):
+                left.append("status %d: %s" % (again.returncode, told(again)))
+            self.second_calls[state] = ["the second call: " + line for line in left]
+        return self.second_calls[state]
 
     def faults_after(self, kind, done, found):
         """What is wrong in a place after the broken call: it is as it was, or as it is after the whole; or the call says that more is to be
@@ -96,6 +117,12 @@ class Loop:
         if ONCE_MORE in done.stderr or found == self.after:
             return []
         return ["%s: %s" % (told(done), line) for line in fault_points.differences(self.before, found)]
+
+
+def making_of(changes):
+    """The numbers of the changes by which an installer makes all files, in its room, before it writes down what it is about to do."""
+    begin = next(number for number, change in enumerate(changes, 1) if IN_ROOM in change.what or change.what == "new")
+    return range(begin, next(number for number, change in enumerate(changes, 1) if change.what.endswith(PLAN)))
 
 
 class Copy:
@@ -171,8 +198,8 @@ def nothing(_):
 
 LOOPS = [
     ("install", ["tso", "--install", "ROOM"], put_foreign, []),
-    ("install below folders that aren't there", ["tso", "--install", "ROOM/a/b"], nothing, []),
-    ("install over an earlier version", ["tso", "--install", "ROOM"], put_earlier, []),
+    ("install below folders that aren't there", ["tso", "--install", "ROOM/a/b"], nothing, [], b"\0", True),
+    ("install over an earlier version", ["tso", "--install", "ROOM"], put_earlier, [], b"\0", True),
     ("uninstall", ["tso", "--uninstall", "ROOM"], put_installed, [NOTHING_INSTALLED]),
     ("uninstall with the folders above", ["tso", "--uninstall", "ROOM/a/b"], put_installed_below, [NOTHING_INSTALLED]),
     ("stamp", ["tools/stamp", "ROOM/sources"], put_built, []),

@@ -10,6 +10,8 @@ A script makes a fresh copy of what the command works on for each point, breaks 
 """
 import collections
 import functools
+import hashlib
+import itertools
 import os
 import random
 import shlex
@@ -26,8 +28,12 @@ SIGNALS = (INT, TERM, HUP)
 # What the tracer says where it couldn't run a command.
 NOT_RUN = 125
 
-# A call that changes a file: its name, whether it needs room on the disk, and the path, or the number of the open file, that it changes.
-Change = collections.namedtuple("Change", "name needs_room what")
+# A command that takes so many seconds hangs; on a machine that is busy a good one takes a minute.
+HANGS = 600
+
+# A call that changes a file: its name, whether it needs room on the disk, and the path, or the number of the open file, that it changes;
+# and whether the system refused it where nothing was broken, so that it changed nothing.
+Change = collections.namedtuple("Change", "name needs_room what is_refused")
 
 
 @functools.cache
@@ -53,12 +59,13 @@ def broken(kind, number, command, given=b"", **options):
     it. The options are those of subprocess.run, as cwd and env."""
     with tempfile.NamedTemporaryFile(dir=starts.room().name) as notes:
         words = [tracer(), kind, str(number), notes.name] + command
-        done = subprocess.run(words, input=given, stdout=subprocess.PIPE, stderr=subprocess.PIPE, timeout=starts.PATIENCE, check=False,
-                              **options)
-        lines = notes.read().decode(errors="surrogateescape").splitlines()
+        done = subprocess.run(words, input=given, stdout=subprocess.PIPE, stderr=subprocess.PIPE, timeout=HANGS, check=False, **options)
+        lines = [line.split(" ", 2) for line in notes.read().decode(errors="surrogateescape").splitlines()]
     if done.returncode == NOT_RUN:
         raise OSError("the tracer: %s" % done.stderr.decode(errors="replace"))
-    return done, [Change(name, room == "room", what) for name, room, what in (line.split(" ", 2) for line in lines)]
+    refused = {int(at) for name, at, _ in lines if name == "refused"}
+    tried = [line for line in lines if line[0] != "refused"]
+    return done, [Change(name, room == "room", what, at in refused) for at, (name, room, what) in enumerate(tried, 1)]
 
 
 def changes(command, given=b"", **options):
@@ -68,8 +75,19 @@ def changes(command, given=b"", **options):
 
 def points(made, kinds=(KILL, FULL)):
     """The points at which a command that makes these changes can be broken, pairs of a kind and a number: a disk is full where a change
-    needs room."""
-    return [(kind, number) for kind in kinds for number, change in enumerate(made, 1) if change.needs_room or kind != FULL]
+    needs room. A call that the system refuses in any case is none: all is then as after the call before it."""
+    return [(kind, number) for kind in kinds for number, change in enumerate(made, 1)
+            if not change.is_refused and (change.needs_room or kind != FULL)]
+
+
+def situations(made):
+    """The numbers of these changes, but of those by which one file is written bit by bit only the first and the last: between them is
+    nothing but a file that isn't whole."""
+    numbers = []
+    runs = itertools.groupby(enumerate(made, 1), key=lambda one: one[1][:3] if one[1].name == "write" else one[0])
+    for run in (list(run) for _, run in runs):
+        numbers += {run[0][0]: None, run[-1][0]: None}
+    return numbers
 
 
 def drawn(all_points, seed, count):
@@ -95,6 +113,16 @@ def tree(folder):
                     content = file.read()
             found[os.path.relpath(path, os.fsencode(folder))] = stat.filemode(mode), content
     return found
+
+
+def state(folder):
+    """A digest of all that decides what a command makes of a folder: its tree, and which names are one file. Times aren't part of it."""
+    digest = hashlib.sha256()
+    first = {}
+    for name, what in sorted(tree(folder).items()):
+        file = os.lstat(os.path.join(os.fsencode(folder), name)).st_ino
+        digest.update(repr((name, what, first.setdefault(file, name))).encode())
+    return digest.digest()
 
 
 def differences(wanted, found):

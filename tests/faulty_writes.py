@@ -69,7 +69,8 @@ def environment(room, job):
 
 def called(job, room):
     """How the call ends that nothing breaks."""
-    return subprocess.run(job.line(), cwd=room, env=environment(room, job), stdin=subprocess.DEVNULL, capture_output=True, timeout=60)
+    return subprocess.run(job.line(), cwd=room, env=environment(room, job), stdin=subprocess.DEVNULL, capture_output=True,
+                          timeout=fault_points.HANGS)
 
 
 def template(room, job):

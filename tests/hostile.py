@@ -1,7 +1,7 @@
 #!/usr/bin/env python3
 """Attacks what stands around the program: the script ./tso, installing and removing, the stamp, and the making of a release.
 
-    tests/hostile.py PROGRAM [--of FOLDER] [--part WORD] [--seed S] [--points N | --whole]
+    tests/hostile.py PROGRAM [--of FOLDER] [--part WORD] [--seed S] [--points N | --whole | --every]
 
 It works on small checkouts with the scripts of this one, or of the checkout FOLDER. Each row does one thing to a checkout or to a folder in
 which something is installed, and looks that the answer is that of the program, or that the call is refused and nothing was changed.
@@ -9,8 +9,9 @@ which something is installed, and looks that the answer is that of the program, 
 Then the fault loops: each command that writes is broken at a call that changes a file. All its processes are killed after it, the disk is full
 from it on, it fails alone, or a signal comes. What isn't the command's own must be as before; where it wasn't killed, all is as before or
 as after, or it says what is left; and a second call ends as if there had been no fault. Of each loop N points (3) are drawn by a seed
-S (1), or --whole has all of them, some 13,000. Without a C compiler, or where no process may be traced, the loops are left out, and a line says
-so. The last line is 'N passed, M failed'.
+S (1); --whole has those that differ in more than how much of a file is written, some 4,500 (fault_loops.Loop.situations), and --every has
+all, some 11,000. Without a C compiler, or where no process may be traced, the loops are left out, and a line says so. The last line is
+'N passed, M failed'.
 """
 import os
 import sys
@@ -31,10 +32,17 @@ def judge_rows(tally, rows, part):
     tally.add("hostile", zip((name for name, _, _ in chosen), faults))
 
 
-def judge_loops(tally, source, part, seed, points):
-    """Judges the fault loops of this checkout's scripts, and says how many points each has."""
-    for loop in fault_loops.loops(source, part):
-        chosen = fault_points.drawn(loop.points(), seed, points) if points else loop.points()
+def chosen_points(loop, asked):
+    """The points of a loop at which it is broken."""
+    if asked.every or asked.whole:
+        return loop.points() if asked.every else loop.situations()
+    return fault_points.drawn(loop.points(), asked.seed, asked.points)
+
+
+def judge_loops(tally, asked):
+    """Judges the fault loops of a checkout's scripts, and says how many points each has."""
+    for loop in fault_loops.loops(asked.of, asked.part):
+        chosen = chosen_points(loop, asked)
         tally.add(loop.name, [("the whole", loop.faults)])
         names = ["%s at change %d" % point for point in chosen]
         tally.add(loop.name, zip(names, judging.in_threads(lambda point: judging.faults_told(lambda: loop.judge(point)), chosen)))
@@ -48,6 +56,7 @@ def main():
     words.add_argument("--seed", type=int, default=1)
     words.add_argument("--points", type=int, default=3)
     words.add_argument("--whole", action="store_true")
+    words.add_argument("--every", action="store_true")
     asked = words.parse_args()
     tally = judging.Tally(shown=100)
     with tempfile.TemporaryDirectory() as room:
@@ -58,7 +67,7 @@ def main():
         print("not tried: the fault loops, which trace what they break")
     else:
         tally.shown = 5
-        judge_loops(tally, asked.of, asked.part, asked.seed, 0 if asked.whole else asked.points)
+        judge_loops(tally, asked)
     return tally.end()
 
 

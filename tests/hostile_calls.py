@@ -8,10 +8,13 @@ import sys
 import tempfile
 import time
 
+import fault_points
 import judging
+import tool_runs
 
-# A call that takes longer, or needs more memory, has failed. The machine may be busy: what is quick is held by the processor's time.
-SECONDS, BYTES = 60, 3 << 30
+# A call that takes longer hangs: a machine that is busy isn't a fault, and what has to be quick is held by the processor's time. One that
+# needs more memory has failed.
+SECONDS, BYTES = fault_points.HANGS, 3 << 30
 
 DIFFERS, COULD_NOT, INTERRUPTED = 1, 2, 130
 
@@ -77,6 +80,16 @@ class Calls:
             status = "none within %d seconds" % seconds
         return subprocess.CompletedProcess(line, status, output.decode("latin-1"), errors.decode("latin-1"))
 
+    def quick(self, tool, *words, limits=()):
+        """The same in this process's own time, by a fork of it, where the tools are those that it has loaded; a start costs more than most
+        calls."""
+        def limit():
+            for kind, most in limits:
+                resource.setrlimit(kind, (most, most))
+        if self.tools != tool_runs.TOOLS:
+            return self.call(tool, *words, limits=limits)
+        return tool_runs.forked(os.path.join(self.tools, tool), words, cwd=self.room, prepare=limit)
+
     def begun(self, tool, *words, **environment):
         """A tool that runs, and heeds interrupts."""
         return subprocess.Popen(self.words(tool, *words), stdin=subprocess.DEVNULL, stdout=subprocess.PIPE, stderr=subprocess.PIPE,
@@ -112,17 +125,24 @@ def processes_with(word):
     return found
 
 
-def a_moment():
-    """How many seconds it takes here and now to begin and end something small."""
-    began = time.monotonic()
-    subprocess.run([sys.executable, "-S", "-c", "import argparse, subprocess"], check=True)
-    return time.monotonic() - began
+def children_in_its_session(process):
+    """The processes that this one has forked, and that have no session of their own, as a keeper and a program that was asked have."""
+    found = []
+    for name in filter(str.isdigit, os.listdir("/proc")):
+        try:
+            with open("/proc/%s/stat" % name, "rb") as file:
+                parent = int(file.read().rpartition(b")")[2].split()[1])
+            if parent == process and os.getsid(int(name)) == os.getsid(process):
+                found.append(int(name))
+        except OSError:
+            pass
+    return found
 
 
 def a_start():
-    """How many seconds of the processor's time such a beginning and end takes."""
+    """How many seconds of the processor's time it takes here and now to begin and end something small."""
     before = os.times()
-    a_moment()
+    subprocess.run([sys.executable, "-S", "-c", "import argparse, subprocess"], check=True)
     return os.times().children_user - before.children_user
 
 

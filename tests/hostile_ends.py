@@ -6,41 +6,32 @@ import subprocess
 import time
 
 import hostile_files
-from hostile_calls import INTERRUPTED, ONE, SB, a_moment, processes_with, waited_for
+from hostile_calls import COULD_NOT, INTERRUPTED, ONE, SB, SECONDS, children_in_its_session, processes_with, waited_for
 
-# What a program does that doesn't end: it starts one that doesn't, and waits.
-FOR_EVER = "touch '%s'; sleep 300 & wait"
+# What a program does that doesn't end: it starts one that doesn't, and waits. So a tool that waits for it never ends.
+FOR_EVER = "touch '%s'; sleep infinity & wait"
 
-# A test that theory takes long for: 40,320 orders of the stores, and two loads of each.
-MANY_ORDERS = "X86 Orders\n{ }\n P0 | P1 ;\n%s MOV EAX,[x] | MOV EAX,[x] ;\nexists (x=9)\n" % "".join(
-    " MOV [x],$%d | MOV [x],$%d ;\n" % (value, value + 4) for value in (1, 2, 3, 4))
-
-# Seconds in which a tool ends; on a busy machine so many times as long as something small takes.
-SOON, MOMENTS = 1.0, 20
-
-# Seconds in which what was started has to be gone.
-GONE = 20
+# A test that theory takes days for: each load reads one of two words, and no choice of these is so.
+MANY_SOURCES = "X86 Sources\n{ }\n P0 | P1 ;\n MOV [x],$1 | MOV EAX,[x] ;\n%sexists (x=9)\n" % (31 * " | MOV EAX,[x] ;\n")
 
 SIGNALS = (signal.SIGINT, signal.SIGTERM, signal.SIGHUP, signal.SIGKILL)
 STATUSES = {signal.SIGINT: (INTERRUPTED,), signal.SIGTERM: (143,), signal.SIGHUP: (129,), signal.SIGKILL: (-9,)}
 
 
-def ended(calls, running, number):
-    """What is wrong with how a tool ends by this signal: it is to end soon, in one line, and to leave nothing."""
-    soon, began = max(SOON, MOMENTS * a_moment()), time.monotonic()
-    os.kill(running.pid, number)
+def ended(calls, running, number, send=os.kill):
+    """What is wrong with how a tool ends by this signal, which is sent to it alone, or to all of its processes: it is to end, though what it
+    has started never does, in one line, and to leave nothing."""
+    send(running.pid, number)
     try:
-        _, errors = running.communicate(timeout=GONE)
+        _, errors = running.communicate(timeout=SECONDS)
     except subprocess.TimeoutExpired:
         running.kill()
         return "doesn't end"
-    took, errors = time.monotonic() - began, errors.decode()
-    if not waited_for(lambda: not processes_with(calls.room), GONE):
+    errors = errors.decode()
+    if not waited_for(lambda: not processes_with(calls.room)):
         return "left running: %d processes" % len(processes_with(calls.room))
-    if not waited_for(lambda: not os.listdir(calls.path("tmp")), GONE):
+    if not waited_for(lambda: not os.listdir(calls.path("tmp"))):
         return "left in the folder for the moment: %s" % os.listdir(calls.path("tmp"))
-    if took > soon:
-        return "took %.1f s" % took
     if running.returncode not in STATUSES[number] or "Traceback" in errors:
         return "status %d, %r" % (running.returncode, errors[-300:])
     return None
@@ -71,15 +62,32 @@ def fences_end(number):
     return judge
 
 
-def theory_ends(number):
+def asks_theory(calls):
+    """A campaign whose theory takes long, once two processes work on that."""
+    calls.write("sources.litmus", MANY_SOURCES)
+    words = ["--theory", "--processes", "2", "--results", calls.path("results"), "sources.litmus"]
+    running = calls.begun("campaign", "outcomes", calls.program, *words)
+    waited_for(lambda: len(children_in_its_session(running.pid)) == 2)
+    return running
+
+
+def theory_ends(number, send=os.kill):
     """A campaign whose theory takes long."""
     def judge(calls):
-        calls.write("orders.litmus", MANY_ORDERS)
-        running = calls.begun("campaign", "outcomes", calls.program, "--theory", "--results", calls.path("results"), "orders.litmus")
-        waited_for(lambda: os.path.exists(calls.path("results")) and os.path.getsize(calls.path("results")))
-        time.sleep(0.3)
-        return ended(calls, running, number)
+        return ended(calls, asks_theory(calls), number, send)
     return judge
+
+
+def theory_without_one(calls):
+    """One of the processes of a campaign's theory is killed: the campaign says so, and ends."""
+    running = asks_theory(calls)
+    os.kill(children_in_its_session(running.pid)[0], signal.SIGKILL)
+    _, errors = running.communicate(timeout=SECONDS)
+    told = errors.decode().replace("\r", "\n").split("\n")[-2]
+    if not waited_for(lambda: not processes_with(calls.room)):
+        return "left running: %d processes" % len(processes_with(calls.room))
+    due = COULD_NOT, "campaign: a process that worked for this one was killed"
+    return None if (running.returncode, told) == due else "status %d, %r" % (running.returncode, errors)
 
 
 def compiler_ends(number):
@@ -97,7 +105,7 @@ def runs_end(number):
     """Tests on the processor that take long."""
     def judge(calls):
         calls.write("SB.litmus", SB)
-        running = calls.begun("hardware", "--program", calls.program, "--runs", str(10 ** 9), "--seconds", "300", "SB.litmus")
+        running = calls.begun("hardware", "--program", calls.program, "--runs", str(10 ** 9), "--seconds", "1000000", "SB.litmus")
 
         def runs():
             rooms = [os.path.join(calls.path("tmp"), name) for name in os.listdir(calls.path("tmp"))]
@@ -122,10 +130,10 @@ def picture_ends(number):
 
 def limited_call(calls):
     """A program that takes longer than a task may ends with all that it has started, and the campaign goes on."""
-    program = calls.stand_in("program", 'case "$*" in --program|--version) exit 2;; esac\nsleep 300 & wait')
+    program = calls.stand_in("program", 'case "$*" in --program|--version) exit 2;; esac\nsleep infinity & wait')
     test = calls.write("SB.litmus", SB)
     done = calls.call("campaign", "outcomes", program, "--limit", "3", "--results", calls.path("results"), test)
-    if not waited_for(lambda: not processes_with(calls.room), GONE):
+    if not waited_for(lambda: not processes_with(calls.room)):
         return "left running: %d processes" % len(processes_with(calls.room))
     return None if done.stdout.startswith("FAULT   SB") else hostile_files.described(done)
 
@@ -147,6 +155,8 @@ ROWS = [("a campaign of %s that is ended by %s" % (command, name_of(number)), ca
         for command in ("outcomes", "sweep", "why", "counts") for number in SIGNALS]
 ROWS += [("fences that are ended by " + name_of(number), fences_end(number)) for number in SIGNALS]
 ROWS += [("theory of a campaign that is ended by " + name_of(number), theory_ends(number)) for number in SIGNALS]
+ROWS += [("theory of a campaign all of which gets " + name_of(number), theory_ends(number, os.killpg)) for number in SIGNALS[:3]]
+ROWS += [("theory of a campaign one of whose processes is killed", theory_without_one)]
 ROWS += [("a picture that is ended by " + name_of(number), picture_ends(number)) for number in SIGNALS]
 ROWS += [("a task that takes too long", limited_call)]
 if shutil.which(os.environ.get("CC") or "cc"):

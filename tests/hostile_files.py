@@ -100,15 +100,17 @@ def import_over_input(calls):
     return None if done.returncode == 0 and b"MOV [x],$1" in calls.read("work/x.litmus") else described(done)
 
 
-def cycles_over_others(calls):
-    """Tests of cycles take no other file's place, and none is written beside it."""
-    before = work(calls, {"SB.litmus": MINE})
-    words = ["--length", "4", "--no-verdict", "-o", calls.path("work")]
-    wrong = unchanged(calls, calls.call("cycles", *words), "cycles", before, "--force")
-    done = calls.call("cycles", "--force", *words)
-    again = calls.call("cycles", *words)
-    same = done.returncode == again.returncode == 0 and len(os.listdir(calls.path("work"))) == 22
-    return wrong or (None if same else described(done) + described(again))
+def cycles_over_others(words, name, count):
+    """Tests of cycles take no other file's place, and none is written beside it. With --force so many files are there."""
+    def judge(calls):
+        before = work(calls, {name: MINE})
+        line = [*words, "-o", calls.path("work")]
+        wrong = unchanged(calls, calls.call("cycles", *line), "cycles", before, "--force")
+        done = calls.call("cycles", "--force", *line)
+        again = calls.call("cycles", *line)
+        same = done.returncode == again.returncode == 0 and len(os.listdir(calls.path("work"))) == count
+        return wrong or (None if same else described(done) + described(again))
+    return judge
 
 
 def program_over_test(calls):
@@ -173,7 +175,7 @@ def torn_results(calls):
 
 def two_at_once(calls):
     """A second campaign with the same file of results is refused."""
-    slow = calls.stand_in("slow", 'case "$*" in --program|--version) exit 2;; esac\ntouch begun; sleep 300')
+    slow = calls.stand_in("slow", 'case "$*" in --program|--version) exit 2;; esac\ntouch begun; sleep infinity')
     test = calls.write("work/SB.litmus", SB)
     first = calls.begun("campaign", "outcomes", slow, "--results", calls.path("results"), test)
     waited_for(lambda: os.path.exists(calls.path("begun")))
@@ -216,7 +218,8 @@ ROWS = [
     ("a log over another file", no_page("--log")),
     ("a table over another file", no_page("--csv")),
     ("a test imported over itself", import_over_input),
-    ("tests of cycles over another file", cycles_over_others),
+    ("tests of cycles over another file", cycles_over_others(["--length", "4", "--no-verdict"], "SB.litmus", 22)),
+    ("C11 tests of cycles over another file", cycles_over_others(["--length", "2", "--c11"], "LB+rlx+rlx.c", 79)),
     ("the program of a test over the test", program_over_test),
     ("results on a full device", results_on("/dev/full")),
     ("results on a device of zeros", results_on("/dev/zero")),

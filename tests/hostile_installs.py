@@ -217,7 +217,7 @@ def several_at_once(folder):
     words = ["co/tso", "--install", folder.prefix]
     calls = [subprocess.Popen(words, cwd=folder.path, stdin=subprocess.DEVNULL, stdout=subprocess.PIPE, stderr=subprocess.PIPE)
              for _ in range(AT_ONCE)]
-    answers = [(call.communicate(timeout=120)[1], call.returncode) for call in calls]
+    answers = [(call.communicate(timeout=fault_points.HANGS)[1], call.returncode) for call in calls]
     found = ["status %d: %r" % (status, told) for told, status in answers
              if status != 0 and (status != NO_ANSWER or b"another --install or --uninstall" not in told)]
     found += [] if any(status == 0 for _, status in answers) else ["none is done"]

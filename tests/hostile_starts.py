@@ -5,13 +5,10 @@ import shutil
 import subprocess
 import time
 
+import fault_points
 import judging
 import small_checkout
 from small_checkout import saying, sums, write
-
-# A call takes much less; one that waits for a pipe without an end takes for ever.
-PATIENCE = 120
-PATIENCE_WITH_A_PIPE = 15
 
 NO_ANSWER = 70
 
@@ -25,11 +22,11 @@ class Place:
         self.program = program
         self.checkout = small_checkout.make(os.path.join(path, "co"), source)
 
-    def call(self, command, environment={}, patience=PATIENCE):
+    def call(self, command, environment={}):
         """The answer of a command, by its words or a line for sh, in the folder."""
         shell = isinstance(command, str)
         return subprocess.run(command, shell=shell, cwd=self.path, env=dict(os.environ, **environment), stdin=subprocess.DEVNULL,
-                              stdout=subprocess.PIPE, stderr=subprocess.PIPE, timeout=patience, check=False)
+                              stdout=subprocess.PIPE, stderr=subprocess.PIPE, timeout=fault_points.HANGS, check=False)
 
     def forget(self):
         shutil.rmtree(os.path.join(self.checkout, "out"), ignore_errors=True)
@@ -201,7 +198,7 @@ def pipe_at(place, name, status, output, told=b""):
         os.remove(path)
     os.mkfifo(path)
     try:
-        return faults(place.call(["co/tso", "run"], patience=PATIENCE_WITH_A_PIPE), status, output, told)
+        return faults(place.call(["co/tso", "run"]), status, output, told)
     except subprocess.TimeoutExpired:
         return ["it hangs"]
 

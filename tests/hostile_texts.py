@@ -84,11 +84,11 @@ def slow_text(text):
             # on a busy machine the same takes twice as long at times
             for _ in range(3):
                 before = os.times()
-                done = calls.call(tool, path, limits=[(resource.RLIMIT_CPU, MOST_SECONDS)])
+                done = calls.quick(tool, path, limits=[(resource.RLIMIT_CPU, MOST_SECONDS)])
                 took = os.times().children_user - before.children_user
                 if took <= SECONDS or took > MOST_SECONDS / 2:
                     break
-            if took > max(SECONDS, STARTS * a_start()) or done.returncode not in (0, COULD_NOT) or "Traceback" in done.stderr:
+            if took > SECONDS and took > STARTS * a_start() or done.returncode not in (0, COULD_NOT) or "Traceback" in done.stderr:
                 return "%s: %.1f s, %s" % (tool, took, described(done))
         return None
     return judge
@@ -165,7 +165,7 @@ def names_in_reports(calls):
     pictures = {}
     for name in ["t", *NAMES]:
         order = calls.write("run.json", json.dumps({"test": name, "order": ["P0:0 W x=1", "P1:0 R x=1"]}))
-        done = calls.call("graph", order)
+        done = calls.quick("graph", order)
         quotations = re.findall(r'"((?:[^"\\]|\\.)*)"', done.stdout)
         if re.sub(r"\\(.)", r"\1", quotations[0]) != name:
             return "%s: %s" % (name, described(done))
@@ -223,7 +223,7 @@ PICTURES = ["[]", "{}", "7", "null", '"x"', '{"test": 7, "order": []}', '{"test"
 
 def other_json(calls):
     for text in PICTURES:
-        wrong = refused(calls.call("graph", calls.write("json", text)), "graph")
+        wrong = refused(calls.quick("graph", calls.write("json", text)), "graph")
         if wrong:
             return "%s: %s" % (text[:60], wrong)
     return None
@@ -309,7 +309,7 @@ def statuses(calls):
             ("hardware", ["--program", calls.program, bad], COULD_NOT),
             ("import", [good], 0), ("import", [good, bad], COULD_NOT), ("import", ["nowhere"], COULD_NOT),
             ("theory", [good], 0), ("theory", [good, bad], COULD_NOT), ("theory", ["nowhere"], COULD_NOT)):
-        done = calls.call(tool, *words)
+        done = calls.quick(tool, *words)
         if done.returncode != status or "Traceback" in done.stderr:
             return "%s %s: %s, and not %d" % (tool, words, described(done), status)
     return None
@@ -335,7 +335,7 @@ def cures(calls):
         text = SB.replace("MOV [x],$1", cell, 1)
         said = subprocess.run([calls.program, "run"], input=text.encode(), capture_output=True).stderr.decode()
         cure = re.sub(r"^hint: line \d+: ", "", said.strip())
-        done = calls.call("import", calls.write("t.litmus", text))
+        done = calls.quick("import", calls.write("t.litmus", text))
         if not cure or "%s: %s" % (cell, cure) not in done.stderr.replace(" (import --leave-out does)", ""):
             return "%s: %s, and the program: %s" % (cell, described(done), said)
     text = SB.replace("MOV [x],$1", "SFENCE", 1).replace("{ }", "{ x=-1; }")

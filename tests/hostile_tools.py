@@ -10,6 +10,7 @@
 - Faults (faulty_writes.py): each call of a tool that writes is killed after a system call that changes a file, or has no more room from
   one on. What isn't the tool's own is as before, and a second call ends as if there had been no fault. Of these points some are drawn, by
   the seed (1); with --whole each is tried, and those of campaign and of runs on the processor then alone.
+- Options (hostile_options.py): each without a value, and with some that it can't mean; files that can't be read.
 - Made texts for the importer (made_imports.py), a few hundred; that script makes as many as it's told to.
 
 Each row has a folder of its own. --tools has the tools of another checkout attacked. The last line is 'N passed, M failed'.
@@ -23,6 +24,7 @@ import faulty_writes
 import hostile_calls
 import hostile_ends
 import hostile_files
+import hostile_options
 import hostile_texts
 import judging
 import made_imports
@@ -61,6 +63,7 @@ def main():
     tally = judging.Tally(shown=200)
     tally.add("hostile tools", judging.in_processes(judged, rows, at_once=1))
     if os.path.realpath(asked.tools) == os.path.realpath(tool_runs.TOOLS):
+        tally.add("options", hostile_options.judged(asked.program, asked.part))
         tally.add("faults", faulty_writes.judged(asked.program, asked.part, None if asked.whole else asked.seed))
         tally.add("made texts", made_imports.judged(MADE, asked.seed) if asked.part in "made texts" else [])
     return tally.end()

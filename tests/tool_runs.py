@@ -54,13 +54,15 @@ def tool(name, *words, **how):
     return subprocess.run([sys.executable, "-S", path, *words], capture_output=True, text=True, **how)
 
 
-def forked(path, words, cwd=None, input=None):
-    """The same by a fork of this process."""
-    with tempfile.TemporaryFile("w+") as given, tempfile.TemporaryFile("w+") as output, tempfile.TemporaryFile("w+") as errors:
+def forked(path, words, cwd=None, input=None, prepare=lambda: None):
+    """The same by a fork of this process, which prepares itself so."""
+    given, output, errors = (tempfile.TemporaryFile("w+", errors="backslashreplace") for _ in range(3))
+    with given, output, errors:
         given.write(input or "")
         given.seek(0)
         child = os.fork()
         if child == 0:
+            prepare()
             os._exit(carried_out(path, words, (given, output, errors), cwd))
         _, status = os.waitpid(child, 0)
         texts = []

@@ -180,7 +180,8 @@ class Cluster:
             cloudpickle.register_pickle_by_value(module)
         try:
             self.client = self.distributed.Client(address, timeout=10, set_as_default=False)
-        except (OSError, ValueError) as fault:
+        except (OSError, ValueError, TypeError) as fault:
+            # a TypeError is what it says of TLS without a certificate
             raise NoCluster("no scheduler answers at %s: %s" % (address, " ".join(str(fault).split()))) from None
         self.check_versions()
         self.function, self.done, self.given = function_for(digest), queue.SimpleQueue(), {}

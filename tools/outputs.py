@@ -18,7 +18,7 @@ def content(path):
         found = os.stat(path)
     except FileNotFoundError:
         return None
-    if stat.S_ISDIR(found.st_mode) or stat.S_ISBLK(found.st_mode):
+    if stat.S_ISDIR(found.st_mode) or stat.S_ISBLK(found.st_mode) or stat.S_ISSOCK(found.st_mode):
         raise Occupied("%s is no file" % path)
     if not stat.S_ISREG(found.st_mode):
         return None

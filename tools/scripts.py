@@ -1,7 +1,9 @@
 """The scripts of this folder as modules, and how those that people call begin and end."""
+import argparse
 import importlib.machinery
 import importlib.util
 import os
+import re
 import signal
 import sys
 import traceback
@@ -25,6 +27,30 @@ def script(name):
         sys.modules[name] = module
         loader.exec_module(module)
     return sys.modules[name]
+
+
+# ---- what is asked
+
+# Seconds of a limit, at most: what waits for more has no end.
+MOST_SECONDS = 10_000_000
+
+
+def seconds(word):
+    """So many seconds, as a word of a command line says."""
+    try:
+        found = float(word)
+    except ValueError:
+        found = 0.0
+    if not 0 < found <= MOST_SECONDS:
+        raise argparse.ArgumentTypeError("%r is no number of seconds over 0, and up to %d" % (word, MOST_SECONDS))
+    return found
+
+
+def refuse_dashes(words):
+    """Refuses two dashes as the value of an option: argparse takes them away, and leaves a list."""
+    for word in words:
+        if re.fullmatch(r"(--[\w-]+=|-\w)--", word):
+            raise OSError("%s has no value" % word)
 
 
 # ---- what is told
@@ -133,6 +159,7 @@ def tell(name, why):
 
 def status_of(main):
     """The status with which `main` ends, once standard output has all that it printed."""
+    refuse_dashes(sys.argv[1:])
     try:
         status = main(sys.argv[1:])
     except SystemExit as end:

@@ -8,6 +8,7 @@ import answers
 import comments
 import faults
 import importer
+import inputs
 import litmus
 
 # What begins a comment, or is a test's first line.
@@ -88,9 +89,9 @@ def files_in(word):
 
 def words_of_list(path):
     """The words of a list, a line each. Its paths begin where it stands."""
-    with open(path, encoding="utf-8") as file:
-        lines = [line.strip() for line in file if line.strip() and not line.startswith("#")]
-    if not lines:
+    lines = inputs.text(path, "utf-8", "surrogateescape").split("\n")
+    lines = [line.strip() for line in lines if line.strip() and not line.startswith("#")]
+    if not lines or "\0" in "".join(lines):
         raise NoTests("@%s names no file" % path)
     folder = os.path.dirname(path)
     for line in lines:

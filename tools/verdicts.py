@@ -4,6 +4,7 @@ import re
 import signal
 
 import answers
+import inputs
 import litmus
 import registers
 import tasks
@@ -23,16 +24,15 @@ def read_expected(path):
     """Verdicts by the tests' names: of lines `NAME: ..: VERDICT`, as `tools/cycles --list` prints, or `VERDICT NAME`, as tools/theory.
     What theory refuses has none."""
     found = {}
-    with open(path, encoding="latin-1") as file:
-        for line in filter(str.strip, file):
-            listed = re.fullmatch(r"([^:]*):.*: *(allowed|forbidden)\s*", line)
-            said = re.fullmatch(r"(allowed|forbidden)\s+(.*?)\s*", line)
-            if not listed and not said and line.startswith("refused "):
-                continue
-            if not listed and not said:
-                raise ValueError("%s has a line without a verdict: %s" % (path, line.rstrip()))
-            name, verdict = listed.groups() if listed else said.groups()[::-1]
-            found[name] = verdict
+    for line in filter(str.strip, inputs.text(path).split("\n")):
+        listed = re.fullmatch(r"([^:]*):.*: *(allowed|forbidden)\s*", line)
+        said = re.fullmatch(r"(allowed|forbidden)\s+(.*?)\s*", line)
+        if not listed and not said and line.startswith("refused "):
+            continue
+        if not listed and not said:
+            raise ValueError("%s has a line without a verdict: %s" % (path, line.rstrip()))
+        name, verdict = listed.groups() if listed else said.groups()[::-1]
+        found[name] = verdict
     return found
 
 

@@ -5,6 +5,8 @@ import shutil
 import subprocess
 import tempfile
 
+import inputs
+
 from .refusals import NotJudged
 
 # The line table that pyelftools reads of both gcc and clang.
@@ -28,8 +30,7 @@ def source_of(text, name):
 
 def object_in(path):
     """The bytes of an object file; of assembly those that the assembler makes of it."""
-    with open(path, "rb") as file:
-        content = file.read()
+    content = inputs.content(path)
     if content.startswith(b"\x7fELF"):
         return content
     return _made(["gcc"], ("-c", "-x", "assembler", "-o"), os.path.basename(path), content.decode("utf-8", "replace"))
