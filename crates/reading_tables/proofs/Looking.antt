@@ -5,8 +5,8 @@ use Rattle.std.specs.Global.{Global}
 use Rattle.refutation_laws.specs.Known.{same_event}
 use Rattle.possible_reads.specs.Expressions.{expression_among, expression_of}
 use Rattle.possible_reads.specs.Possible as spec
-use Rattle.reading_tables.specs.Told.{expression_of as expression_in, written_of, known_of}
-use Rattle.reading_tables.specs.Tables.{AreValues}
+use Rattle.reading_tables.specs.inner.Told.{expression_of as expression_in, written_of, known_of}
+use Rattle.reading_tables.specs.inner.Tables.{AreValues}
 use Rattle.reading_tables.specs.declared.expressions.Written.{Written}
 
 value-at : (g : Written → spec.Values) (ws : List Written) (vs : List (Option (Vec ℕ Global))) (z : spec.Values) (i : ℕ)

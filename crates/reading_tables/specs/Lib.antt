@@ -1,5 +1,5 @@
 pub mod Told
-pub mod Tables
+pub mod inner
 pub use Rattle.possible_reads.specs.Expressions
 pub use Rattle.possible_reads.specs.Facts
 pub use Rattle.possible_reads.specs.Possible

@@ -5,8 +5,9 @@ ghost use Rattle.tso_terms.specs.ProgramOrder as program_order;
 ghost use Rattle.refutation_laws.specs.Known.{same_event as is_same_event};
 ghost use Rattle.possible_reads.specs.Expressions as expressions;
 ghost use Rattle.possible_reads.specs.Possible as spec;
-ghost use Rattle.reading_tables.specs.Told.{expression_of, written_of, facts_of, known_of};
-ghost use Rattle.reading_tables.specs.Tables.{IsTold, readings_of};
+ghost use Rattle.reading_tables.specs.Told.{facts_of};
+ghost use Rattle.reading_tables.specs.inner.Told.{expression_of, written_of, known_of};
+ghost use Rattle.reading_tables.specs.inner.Tables.{IsTold, readings_of};
 ghost use Rattle.std.specs.Prelude.{map};
 
 use crate::expressions::{Held, Value, Written};

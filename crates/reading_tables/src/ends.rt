@@ -2,8 +2,9 @@
 ghost use Rattle.std.specs.Prelude.{◌≡◌, ◌<◌, IfOk, length, map, filter};
 ghost use Rattle.possible_reads.specs.Expressions as expressions;
 ghost use Rattle.possible_reads.specs.Possible as spec;
-ghost use Rattle.reading_tables.specs.Told.{facts_of, known_of, told_of};
-ghost use Rattle.reading_tables.specs.Tables.{IsProblem, IsTold, readings_of};
+ghost use Rattle.reading_tables.specs.Told.{facts_of};
+ghost use Rattle.reading_tables.specs.inner.Told.{known_of, told_of};
+ghost use Rattle.reading_tables.specs.inner.Tables.{IsProblem, IsTold, readings_of};
 
 use crate::counting::{counted, is_counter, is_written};
 use crate::expressions::held_in;

@@ -4,7 +4,7 @@ ghost use Rattle.tso_terms.specs.Registers.{index_of};
 ghost use Rattle.tso_terms.specs.Thread.{entry};
 ghost use Rattle.tso_terms.specs.declared.instruction.Instr.{Instr};
 ghost use Rattle.possible_reads.specs.Expressions as spec;
-ghost use Rattle.reading_tables.specs.Told.{held_of, expression_of, written_of, AreExpressions};
+ghost use Rattle.reading_tables.specs.inner.Told.{held_of, expression_of, written_of, AreExpressions};
 
 use std::alloc::Global;
 use tso_terms::{Action, Core, Entry, Instr, Kind, Loc, NoMemory, Operand, Reg, Test, Update};

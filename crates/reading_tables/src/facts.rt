@@ -2,7 +2,8 @@
 ghost use Rattle.std.specs.Prelude.{◌≡◌};
 ghost use Rattle.std.specs.List.{list_any, list_all};
 ghost use Rattle.possible_reads.specs.Possible as spec;
-ghost use Rattle.reading_tables.specs.Told.{fact_of, facts_of, told_of};
+ghost use Rattle.reading_tables.specs.Told.{fact_of, facts_of};
+ghost use Rattle.reading_tables.specs.inner.Told.{told_of};
 
 use refutations::events::same_event;
 use tso_terms::{Entry, Prop};

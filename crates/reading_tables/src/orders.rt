@@ -2,8 +2,9 @@
 ghost use Rattle.std.specs.Prelude.{◌≡◌, IfOk};
 ghost use Rattle.std.specs.List.{list_any};
 ghost use Rattle.possible_reads.specs.Possible as spec;
-ghost use Rattle.reading_tables.specs.Told.{facts_of, known_of};
-ghost use Rattle.reading_tables.specs.Tables.{IsTold, readings_of};
+ghost use Rattle.reading_tables.specs.Told.{facts_of};
+ghost use Rattle.reading_tables.specs.inner.Told.{known_of};
+ghost use Rattle.reading_tables.specs.inner.Tables.{IsTold, readings_of};
 
 use crate::facts::{Fact, last_fits, may_be_left, told_before};
 use crate::tables::{Told, values_written};

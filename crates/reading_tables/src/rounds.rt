@@ -3,8 +3,9 @@ ghost use Rattle.std.specs.Prelude.{◌≡◌, [], IfOk, true, map, filter};
 ghost use Rattle.tso_terms.specs.ProgramOrder as program_order;
 ghost use Rattle.refutation_laws.specs.Known.{events_of};
 ghost use Rattle.possible_reads.specs.Possible as spec;
-ghost use Rattle.reading_tables.specs.Told.{held_of, expression_of, facts_of, known_of};
-ghost use Rattle.reading_tables.specs.Tables.{IsProblem, IsTold, AreValues, reading_of, readings_of};
+ghost use Rattle.reading_tables.specs.Told.{facts_of};
+ghost use Rattle.reading_tables.specs.inner.Told.{held_of, expression_of, known_of};
+ghost use Rattle.reading_tables.specs.inner.Tables.{IsProblem, IsTold, AreValues, reading_of, readings_of};
 
 use crate::counting::counted_values;
 use crate::expressions::{Held, Value, Written};

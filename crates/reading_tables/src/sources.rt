@@ -5,8 +5,9 @@ ghost use Rattle.tso_terms.specs.ProgramOrder as program_order;
 ghost use Rattle.refutation_laws.specs.Known.{events_of};
 ghost use Rattle.refutation_laws.specs.Refutations as refutations;
 ghost use Rattle.possible_reads.specs.Possible as spec;
-ghost use Rattle.reading_tables.specs.Told.{facts_of, known_of};
-ghost use Rattle.reading_tables.specs.Tables.{IsTold, reading_of, readings_of};
+ghost use Rattle.reading_tables.specs.Told.{facts_of};
+ghost use Rattle.reading_tables.specs.inner.Told.{known_of};
+ghost use Rattle.reading_tables.specs.inner.Tables.{IsTold, reading_of, readings_of};
 
 use crate::facts::{Fact, may_return, same_source, source_fits};
 use crate::tables::{Reading, Told, are_one, reading_for, values_written};

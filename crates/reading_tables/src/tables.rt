@@ -4,8 +4,9 @@ ghost use Rattle.std.specs.List.{list_all};
 ghost use Rattle.tso_terms.specs.Litmus.{Litmus};
 ghost use Rattle.refutation_laws.specs.Refutations.{sources_of};
 ghost use Rattle.possible_reads.specs.Possible as spec;
-ghost use Rattle.reading_tables.specs.Told.{facts_of, known_of};
-ghost use Rattle.reading_tables.specs.Tables.{IsProblem, IsTold, AreValues, readings_of, sources_or, values_or_any};
+ghost use Rattle.reading_tables.specs.Told.{facts_of};
+ghost use Rattle.reading_tables.specs.inner.Told.{known_of};
+ghost use Rattle.reading_tables.specs.inner.Tables.{IsProblem, IsTold, AreValues, readings_of, sources_or, values_or_any};
 
 use crate::expressions::{Expressions, Written, make_expressions};
 use crate::facts::{Fact, same_source};

@@ -2,7 +2,7 @@
 ghost use Rattle.std.specs.Prelude.{◌≡◌, [], ◌∷◌, IfOk, Some, map};
 ghost use Rattle.tso_terms.specs.Thread.{sum_of};
 ghost use Rattle.possible_reads.specs.Possible as spec;
-ghost use Rattle.reading_tables.specs.Told.{known_of};
+ghost use Rattle.reading_tables.specs.inner.Told.{known_of};
 
 use std::alloc::Global;
 use tso_terms::{NoMemory, Update};

@@ -4,8 +4,9 @@ pub use Rattle.refutation_laws.specs.declared.model.Relation.{Relation}
 pub use Rattle.refutation_laws.specs.declared.model.Model.{Model}
 pub use Rattle.short_refutations.specs.Edges.{Knowledge, overwrites, relates, is_edge}
 pub use Rattle.short_refutations.specs.Shown.{first_that_relates}
-pub use Rattle.reading_tables.specs.Told.{facts_of, fact_of, known_of}
-pub use Rattle.reading_tables.specs.Tables.{readings_of, IsTold}
+pub use Rattle.reading_tables.specs.Told.{facts_of, fact_of}
+pub use Rattle.reading_tables.specs.inner.Told.{known_of}
+pub use Rattle.reading_tables.specs.inner.Tables.{readings_of, IsTold}
 pub use Rattle.refutation_checker.specs.inner.Branches.{knowledge_of}
 pub use Rattle.short_refutations.specs.Refutations.{is_impossible, is_known, allows}
 pub use Rattle.possible_reads.specs.Possible.{can_be_last, same_source}

@@ -3,8 +3,9 @@ ghost use Rattle.std.specs.Prelude.{◌≡◌, ◌∷◌, ◌++◌, IfOk, Some, 
 ghost use Rattle.possible_reads.specs.Facts as given;
 ghost use Rattle.tso_terms.specs.Condition.{claim_of};
 ghost use Rattle.possible_reads.specs.Possible.{last_writes};
-ghost use Rattle.reading_tables.specs.Told.{fact_of, facts_of, held_of, known_of};
-ghost use Rattle.reading_tables.specs.Tables.{IsProblem, IsTold, readings_of};
+ghost use Rattle.reading_tables.specs.Told.{fact_of, facts_of};
+ghost use Rattle.reading_tables.specs.inner.Told.{held_of, known_of};
+ghost use Rattle.reading_tables.specs.inner.Tables.{IsProblem, IsTold, readings_of};
 ghost use Rattle.short_refutations.specs.Refutations as spec;
 ghost use Rattle.refutation_checker.specs.inner.Branches.{IsCase, knowledge_of};
 ghost use Rattle.refutation_checker.specs.Trees.{node_of};

@@ -4,7 +4,7 @@ ghost use Rattle.tso_terms.specs.Condition.{TruthClaim, claim_of};
 ghost use Rattle.refutation_laws.specs.Refutations.{asked_claim};
 ghost use Rattle.possible_reads.specs.Facts.{given_by};
 ghost use Rattle.reading_tables.specs.Told.{facts_of};
-ghost use Rattle.reading_tables.specs.Tables.{IsProblem};
+ghost use Rattle.reading_tables.specs.inner.Tables.{IsProblem};
 ghost use Rattle.short_refutations.specs.Refutations as spec;
 ghost use Rattle.refutation_checker.specs.Trees.{lemma_of, node_of};
 ghost use Rattle.refutation_checker.specs.inner.Stack.{branches_of};

@@ -3,7 +3,7 @@ ghost use Rattle.std.specs.Prelude.{◌≡◌, IfOk, false, map, slice_get, true
 ghost use Rattle.std.specs.List.{list_all, list_any};
 ghost use Rattle.tso_terms.specs.Condition.{claim_of};
 ghost use Rattle.reading_tables.specs.Told.{fact_of, facts_of};
-ghost use Rattle.reading_tables.specs.Tables.{IsTold, readings_of};
+ghost use Rattle.reading_tables.specs.inner.Tables.{IsTold, readings_of};
 ghost use Rattle.possible_reads.specs.Possible.{last_writes};
 ghost use Rattle.refutation_laws.specs.Known as known;
 ghost use Rattle.short_refutations.specs.Refutations as spec;

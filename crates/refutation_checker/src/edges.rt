@@ -7,7 +7,7 @@ ghost use Rattle.refutation_laws.specs.declared.model.Relation.TheVariants.{Mfen
 ghost use Rattle.refutations.specs.inner.Trees.{relations_of};
 ghost use Rattle.short_refutations.specs.Edges as spec;
 ghost use Rattle.short_refutations.specs.Shown as shown;
-ghost use Rattle.reading_tables.specs.Tables.{IsTold};
+ghost use Rattle.reading_tables.specs.inner.Tables.{IsTold};
 ghost use Rattle.refutation_checker.specs.inner.Branches.{knowledge_of};
 
 use reading_tables::orders::comes_before;

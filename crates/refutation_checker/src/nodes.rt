@@ -3,7 +3,7 @@ ghost use Rattle.std.specs.Prelude.{◌≡◌, IfOk, map, slice_get};
 ghost use Rattle.std.specs.List.{list_all};
 ghost use Rattle.possible_reads.specs.Possible.{values_read};
 ghost use Rattle.reading_tables.specs.Told.{fact_of, facts_of};
-ghost use Rattle.reading_tables.specs.Tables.{IsTold, readings_of};
+ghost use Rattle.reading_tables.specs.inner.Tables.{IsTold, readings_of};
 ghost use Rattle.short_refutations.specs.Refutations as spec;
 ghost use Rattle.refutation_checker.specs.Trees.{lemma_of, node_of};
 ghost use Rattle.refutation_checker.specs.inner.Branches.{IsCase, knowledge_of};

@@ -4,8 +4,8 @@ ghost use Rattle.std.specs.List.{list_any};
 ghost use Rattle.refutation_laws.specs.Refutations.{sources_of};
 ghost use Rattle.possible_reads.specs.Expressions as expressions;
 ghost use Rattle.possible_reads.specs.Possible as possible;
-ghost use Rattle.reading_tables.specs.Told.{held_of, known_of};
-ghost use Rattle.reading_tables.specs.Tables.{IsProblem, IsTold, readings_of};
+ghost use Rattle.reading_tables.specs.inner.Told.{held_of, known_of};
+ghost use Rattle.reading_tables.specs.inner.Tables.{IsProblem, IsTold, readings_of};
 ghost use Rattle.refutation_checker.specs.inner.Branches.{IsCase};
 
 use reading_tables::expressions::{Held, held_in};

@@ -1,7 +1,7 @@
 -- What the definitions know of a branch that the code holds.
 use Rattle.std.specs.Prelude.{◌≡◌}
 use Rattle.reading_tables.specs.Told.{facts_of}
-use Rattle.reading_tables.specs.Tables.{IsProblem, IsTold, readings_of}
+use Rattle.reading_tables.specs.inner.Tables.{IsProblem, IsTold, readings_of}
 use Rattle.reading_tables.specs.declared.tables.Told.{Told}
 use Rattle.reading_tables.specs.declared.tables.Problem.{Problem}
 use Rattle.short_refutations.specs.Edges.{Knowledge}

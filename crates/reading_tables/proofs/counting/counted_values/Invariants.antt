@@ -2,8 +2,8 @@ use Rattle.reading_tables.proofs.Vocabulary.{◌≡◌, drop, filter, slice_inde
 use Rattle.possible_reads.specs.Possible.{added_up, store_part}
 use Rattle.reading_tables.specs.Told.{facts_of}
 use Rattle.tso_terms.specs.ProgramOrder.{writes_to}
-use Rattle.reading_tables.specs.Told.{known_of}
-use Rattle.reading_tables.specs.Tables.{readings_of}
+use Rattle.reading_tables.specs.inner.Told.{known_of}
+use Rattle.reading_tables.specs.inner.Tables.{readings_of}
 use Rattle.reading_tables.proofs.counting.counted_values.Given as goal
 
 abbrev pub invariant-loop-w : goal.invariant-loop-w

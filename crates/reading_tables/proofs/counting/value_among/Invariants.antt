@@ -1,6 +1,6 @@
 use Rattle.reading_tables.proofs.Vocabulary.{◌≡◌, drop, map}
 use Rattle.possible_reads.specs.Expressions.{expression_among}
-use Rattle.reading_tables.specs.Told.{written_of}
+use Rattle.reading_tables.specs.inner.Told.{written_of}
 use Rattle.reading_tables.proofs.counting.value_among.Given as goal
 
 abbrev pub invariant-loop-x : goal.invariant-loop-x

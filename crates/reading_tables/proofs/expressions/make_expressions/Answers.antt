@@ -1,6 +1,6 @@
 use Rattle.std.proofs.Common.{rules}
 use Rattle.reading_tables.proofs.Vocabulary.{map}
-use Rattle.reading_tables.specs.Told.{held_of, written_of}
+use Rattle.reading_tables.specs.inner.Told.{held_of, written_of}
 use Rattle.reading_tables.proofs.Walking.{core-more}
 use Rattle.reading_tables.proofs.expressions.make_expressions.Goals as goal
 

@@ -1,6 +1,6 @@
 use Rattle.reading_tables.proofs.Vocabulary.{ℕ, ◌≡◌, ◌<◌, ◌++◌, [], length, drop, slice_index_or, map}
 use Rattle.possible_reads.specs.Expressions.{written_from, registers_at_end, first_registers}
-use Rattle.reading_tables.specs.Told.{held_of, written_of}
+use Rattle.reading_tables.specs.inner.Told.{held_of, written_of}
 use Rattle.reading_tables.proofs.expressions.make_expressions.Given as goal
 
 abbrev pub invariant-loop-number : goal.invariant-loop-number

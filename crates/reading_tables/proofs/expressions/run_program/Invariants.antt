@@ -1,6 +1,6 @@
 use Rattle.reading_tables.proofs.Vocabulary.{◌≡◌, ◌++◌, drop, map}
 use Rattle.possible_reads.specs.Expressions.{written_in, registers_at_end}
-use Rattle.reading_tables.specs.Told.{held_of, written_of}
+use Rattle.reading_tables.specs.inner.Told.{held_of, written_of}
 use Rattle.reading_tables.proofs.expressions.run_program.Given as goal
 
 -- what is done and what is left are the whole

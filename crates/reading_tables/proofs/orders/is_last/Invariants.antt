@@ -1,7 +1,7 @@
 use Rattle.reading_tables.proofs.Vocabulary.{◌≡◌, drop, list_all, filter}
 use Rattle.possible_reads.specs.Possible.{can_be_last}
 use Rattle.reading_tables.specs.Told.{facts_of}
-use Rattle.reading_tables.specs.Tables.{readings_of}
+use Rattle.reading_tables.specs.inner.Tables.{readings_of}
 use Rattle.refutation_laws.specs.Known.{same_event}
 use Rattle.reading_tables.proofs.orders.is_last.Given as goal
 

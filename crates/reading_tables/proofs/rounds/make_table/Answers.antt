@@ -1,7 +1,7 @@
 use Rattle.std.proofs.Common.{rules}
 use Rattle.reading_tables.proofs.Vocabulary.{◌<◌, ◌∙◌, sym, ap, length}
 use Rattle.reading_tables.specs.Told.{facts_of}
-use Rattle.reading_tables.specs.Tables.{readings_of}
+use Rattle.reading_tables.specs.inner.Tables.{readings_of}
 use Rattle.reading_tables.proofs.Settled.{settled-at}
 use Rattle.reading_tables.proofs.rounds.make_table.Goals as goal
 

@@ -1,7 +1,7 @@
 use Rattle.reading_tables.proofs.Vocabulary.{◌≡◌}
 use Rattle.possible_reads.specs.Possible.{readings_after}
 use Rattle.reading_tables.specs.Told.{facts_of}
-use Rattle.reading_tables.specs.Tables.{readings_of, AreValues}
+use Rattle.reading_tables.specs.inner.Tables.{readings_of, AreValues}
 use Rattle.reading_tables.proofs.rounds.make_table.Given as goal
 
 abbrev pub invariant-loop-round : goal.invariant-loop-round

@@ -1,7 +1,7 @@
 use Rattle.reading_tables.proofs.Vocabulary.{◌≡◌, drop, filter, ◌++◌, map}
 use Rattle.possible_reads.specs.Possible.{reading_after}
 use Rattle.reading_tables.specs.Told.{facts_of}
-use Rattle.reading_tables.specs.Tables.{readings_of}
+use Rattle.reading_tables.specs.inner.Tables.{readings_of}
 use Rattle.tso_terms.specs.ProgramOrder.{is_read}
 use Rattle.reading_tables.proofs.rounds.next_readings.Given as goal
 

@@ -1,7 +1,7 @@
 use Rattle.reading_tables.proofs.Vocabulary.{◌≡◌, drop, map, ◌≤◌, length}
 use Rattle.possible_reads.specs.Possible.{any_of, values_from}
-use Rattle.reading_tables.specs.Tables.{readings_of}
-use Rattle.reading_tables.specs.Told.{known_of}
+use Rattle.reading_tables.specs.inner.Tables.{readings_of}
+use Rattle.reading_tables.specs.inner.Told.{known_of}
 use Rattle.reading_tables.proofs.rounds.values_from_any.Given as goal
 
 abbrev pub invariant-loop-left : goal.invariant-loop-left

@@ -1,7 +1,7 @@
 use Rattle.reading_tables.proofs.Vocabulary.{◌≡◌, drop, ◌++◌, map}
 use Rattle.possible_reads.specs.Possible.{values_of, values_read}
-use Rattle.reading_tables.specs.Tables.{readings_of}
-use Rattle.reading_tables.specs.Told.{known_of, expression_of}
+use Rattle.reading_tables.specs.inner.Tables.{readings_of}
+use Rattle.reading_tables.specs.inner.Told.{known_of, expression_of}
 use Rattle.reading_tables.specs.declared.expressions.Written.{Written}
 use Rattle.reading_tables.proofs.rounds.write_values.Given as goal
 

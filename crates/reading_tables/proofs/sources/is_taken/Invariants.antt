@@ -1,6 +1,6 @@
 use Rattle.reading_tables.proofs.Vocabulary.{◌≡◌, drop, list_any}
 use Rattle.possible_reads.specs.Possible.{takes}
-use Rattle.reading_tables.specs.Tables.{readings_of}
+use Rattle.reading_tables.specs.inner.Tables.{readings_of}
 use Rattle.reading_tables.proofs.sources.is_taken.Given as goal
 
 abbrev pub invariant-loop-x : goal.invariant-loop-x

@@ -1,7 +1,7 @@
 use Rattle.reading_tables.proofs.Vocabulary.{◌≡◌, drop, ◌++◌, filter}
 use Rattle.possible_reads.specs.Possible.{can_read_from}
 use Rattle.reading_tables.specs.Told.{facts_of}
-use Rattle.reading_tables.specs.Tables.{readings_of}
+use Rattle.reading_tables.specs.inner.Tables.{readings_of}
 use Rattle.reading_tables.proofs.sources.kept_sources.Given as goal
 
 abbrev pub invariant-loop-s : goal.invariant-loop-s

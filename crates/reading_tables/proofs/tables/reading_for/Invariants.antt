@@ -1,6 +1,6 @@
 use Rattle.reading_tables.proofs.Vocabulary.{◌≡◌, drop, Litmus}
 use Rattle.possible_reads.specs.Possible.{sources_read, values_read}
-use Rattle.reading_tables.specs.Tables.{readings_of}
+use Rattle.reading_tables.specs.inner.Tables.{readings_of}
 use Rattle.reading_tables.proofs.tables.reading_for.Given as goal
 
 abbrev pub invariant-loop-x : goal.invariant-loop-x

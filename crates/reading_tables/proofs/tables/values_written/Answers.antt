@@ -1,7 +1,7 @@
 use Rattle.reading_tables.proofs.Vocabulary.{◌≡◌, ◌∙◌, sym, subst, slice_index_or}
 use Rattle.possible_reads.specs.Possible as spec
-use Rattle.reading_tables.specs.Told.{known_of}
-use Rattle.reading_tables.specs.Tables.{readings_of}
+use Rattle.reading_tables.specs.inner.Told.{known_of}
+use Rattle.reading_tables.specs.inner.Tables.{readings_of}
 use Rattle.reading_tables.proofs.Looking.{found}
 use Rattle.reading_tables.proofs.tables.values_written.Goals as goal
 

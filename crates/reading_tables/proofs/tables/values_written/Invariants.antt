@@ -1,6 +1,6 @@
 use Rattle.reading_tables.proofs.Vocabulary.{◌≡◌, drop, map}
 use Rattle.possible_reads.specs.Expressions.{expression_among, expression_of}
-use Rattle.reading_tables.specs.Told.{written_of}
+use Rattle.reading_tables.specs.inner.Told.{written_of}
 use Rattle.reading_tables.proofs.tables.values_written.Given as goal
 
 abbrev pub invariant-loop-x : goal.invariant-loop-x

@@ -1,6 +1,6 @@
 use Rattle.reading_tables.proofs.Vocabulary.{◌≡◌, ◌≤◌, Some, drop, length}
 use Rattle.possible_reads.specs.Possible.{sums_of}
-use Rattle.reading_tables.specs.Told.{known_of}
+use Rattle.reading_tables.specs.inner.Told.{known_of}
 use Rattle.reading_tables.proofs.values.all_sums.Given as goal
 
 abbrev pub invariant-loop-left : goal.invariant-loop-left

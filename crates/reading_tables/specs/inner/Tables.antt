@@ -5,13 +5,13 @@ use Rattle.std.specs.Global.{Global}
 use Rattle.tso_terms.specs.Litmus.{Litmus}
 use Rattle.basic_laws.specs.Types.{Entry}
 use Rattle.refutation_laws.specs.Known.{events_of}
-use Rattle.possible_reads.specs.Expressions as expressions
-use Rattle.possible_reads.specs.Possible as spec
-use Rattle.reading_tables.specs.Told.{expression_of, written_of, known_of, AreExpressions}
+use Rattle.reading_tables.specs.inner.Told.{expression_of, written_of, known_of, AreExpressions}
 use Rattle.reading_tables.specs.declared.expressions.Written.{Written}
 use Rattle.reading_tables.specs.declared.tables.Problem.{Problem}
 use Rattle.reading_tables.specs.declared.tables.Reading.{Reading}
 use Rattle.reading_tables.specs.declared.tables.Told.{Told}
+use Rattle.possible_reads.specs.Expressions as expressions
+use Rattle.possible_reads.specs.Possible as spec
 
 pub record IsProblem (t : Litmus) (p : Problem) : Type 0 where
   pub test : p.test.now ≡ t

@@ -1,0 +1,3 @@
+-- Words of contracts inside the project.
+pub mod Tables
+pub mod Told
