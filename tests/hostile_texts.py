@@ -88,7 +88,7 @@ def slow_text(text):
                 took = os.times().children_user - before.children_user
                 if took <= SECONDS or took > MOST_SECONDS / 2:
                     break
-            if took > SECONDS and took > STARTS * a_start() or done.returncode not in (0, COULD_NOT) or "Traceback" in done.stderr:
+            if took > max(SECONDS, STARTS * a_start()) or done.returncode not in (0, COULD_NOT) or "Traceback" in done.stderr:
                 return "%s: %.1f s, %s" % (tool, took, described(done))
         return None
     return judge
@@ -165,7 +165,7 @@ def names_in_reports(calls):
     pictures = {}
     for name in ["t", *NAMES]:
         order = calls.write("run.json", json.dumps({"test": name, "order": ["P0:0 W x=1", "P1:0 R x=1"]}))
-        done = calls.quick("graph", order)
+        done = calls.call("graph", order)
         quotations = re.findall(r'"((?:[^"\\]|\\.)*)"', done.stdout)
         if re.sub(r"\\(.)", r"\1", quotations[0]) != name:
             return "%s: %s" % (name, described(done))
@@ -309,7 +309,7 @@ def statuses(calls):
             ("hardware", ["--program", calls.program, bad], COULD_NOT),
             ("import", [good], 0), ("import", [good, bad], COULD_NOT), ("import", ["nowhere"], COULD_NOT),
             ("theory", [good], 0), ("theory", [good, bad], COULD_NOT), ("theory", ["nowhere"], COULD_NOT)):
-        done = calls.quick(tool, *words)
+        done = calls.call(tool, *words)
         if done.returncode != status or "Traceback" in done.stderr:
             return "%s %s: %s, and not %d" % (tool, words, described(done), status)
     return None
@@ -335,7 +335,7 @@ def cures(calls):
         text = SB.replace("MOV [x],$1", cell, 1)
         said = subprocess.run([calls.program, "run"], input=text.encode(), capture_output=True).stderr.decode()
         cure = re.sub(r"^hint: line \d+: ", "", said.strip())
-        done = calls.quick("import", calls.write("t.litmus", text))
+        done = calls.call("import", calls.write("t.litmus", text))
         if not cure or "%s: %s" % (cell, cure) not in done.stderr.replace(" (import --leave-out does)", ""):
             return "%s: %s, and the program: %s" % (cell, described(done), said)
     text = SB.replace("MOV [x],$1", "SFENCE", 1).replace("{ }", "{ x=-1; }")

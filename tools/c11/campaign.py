@@ -60,7 +60,7 @@ def words_of(given):
     parser.add_argument("--unroll", type=int, default=1)
     parser.add_argument("--program")
     parser.add_argument("--processes", type=int, default=len(os.sched_getaffinity(0)))
-    parser.add_argument("--limit", type=float, default=600)
+    parser.add_argument("--limit", type=scripts.seconds, default=600)
     parser.add_argument("--json", action="store_true")
     parser.add_argument("--log", metavar="FILE")
     parser.add_argument("--page", metavar="FILE")

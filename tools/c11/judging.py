@@ -4,7 +4,9 @@ import dataclasses
 import os
 import tempfile
 
+import inputs
 import keeper
+import outputs
 import sources
 
 from . import compiling, reasons, tests, verdicts
@@ -42,8 +44,7 @@ def files_in(word):
 def tests_in(words):
     """What these words name: each a path and its test; of a text that is no test the path and the refusal."""
     for path in [path for word in words for path in files_in(word)]:
-        with open(path, encoding="utf-8", errors="replace") as file:
-            text = file.read()
+        text = inputs.text(path, "utf-8", "replace")
         try:
             yield path, tests.read_test(path, text)
         except NotJudged as fault:
@@ -73,14 +74,17 @@ def not_judged(name, compiler, fault):
     return verdicts.Verdict(name, compiler, verdicts.NOT_JUDGED, told=str(fault), is_exact=False)
 
 
+# How a test begins that was kept.
+KEPT = b"X86 path\n{ "
+
+
 def _keep(folder, name, compiled):
-    """Writes the tests of a program into files."""
+    """Writes the tests of a program into files, in the place of those that were kept before alone."""
     if folder is None:
         return
-    os.makedirs(folder, exist_ok=True)
-    for number, case in enumerate(compiled.splitting.cases):
-        with open(os.path.join(folder, "%s-%d.litmus" % (name.replace("/", "_").replace(" ", "_"), number)), "w", encoding="ascii") as file:
-            file.write(case.text)
+    stem = os.path.join(folder, name.replace("/", "_").replace(" ", "_"))
+    texts = {"%s-%d.litmus" % (stem, number): case.text.encode("ascii") for number, case in enumerate(compiled.splitting.cases)}
+    outputs.write_all(texts, is_own=lambda found: found.startswith(KEPT))
 
 
 def log_of(name, states):
