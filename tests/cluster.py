@@ -1,6 +1,6 @@
 #!/usr/bin/env python3
 """Holds campaigns on a cluster of Dask's four workers against one process: a worker is ended, one paused, one ended with its nanny, the
-campaign stopped; no worker is there, and the scheduler ends.
+campaign stopped; no worker is there, and the scheduler ends. Then campaigns of compiled code (tests/compiled_cluster.py).
 
     tests/cluster.py PROGRAM [--cycles N] [--seed S]
 

@@ -8,6 +8,7 @@ import sys
 import tempfile
 import time
 
+import compiled_cluster
 from hostile_calls import processes_with, waited_for
 from scripts import COULD_NOT
 from tool_runs import GALLERY, TESTS, TOOLS, described, heed_interrupts, sorted_lines, stand_in, test_file, tool, write
@@ -35,7 +36,8 @@ def dask_python():
 
 
 class LocalCluster:
-    """A scheduler and some workers, each of which a process of its own, its nanny, begins anew where it ends."""
+    """A scheduler and some workers, each of which a process of its own, its nanny, begins anew where it ends. Further words of `begin` are
+    of the environment."""
 
     def __init__(self, python, how_many):
         self.python = python
@@ -44,9 +46,10 @@ class LocalCluster:
         self.nannies = [self.begin("nanny", self.address) for _ in range(how_many)]
         self.workers = [int(nanny.stdout.readline()) for nanny in self.nannies]
 
-    def begin(self, *words):
+    def begin(self, *words, **more):
         # two deaths make a task suspect, so that this is soon tried
         environment = dict(os.environ, DASK_DISTRIBUTED__SCHEDULER__ALLOWED_FAILURES="1")
+        environment.update(more)
         return subprocess.Popen([self.python, os.path.join(TESTS, "local_cluster.py"), *words], stdin=subprocess.DEVNULL,
                                 stdout=subprocess.PIPE, stderr=subprocess.DEVNULL, text=True, env=environment)
 
@@ -230,5 +233,6 @@ def judge(program, tally, how_many=CYCLES, seed=SEED):
                 part(cluster, words, whole, tally, room)
                 took.append(time.monotonic() - begun)
             judge_killer(cluster, program, tally, room)
+        compiled_cluster.judge(python, program, tally, room)
     print("%d cycles of six edges: by one process %d s, by a cluster of which workers were ended and paused %d s, "
           "and stopped and gone on with %d s" % (how_many, *took))

@@ -106,17 +106,21 @@ class Placer:
 
     def setup(self, worker):
         """Called by Dask in each worker."""
-        here, library = "%d.%d" % sys.version_info[:2], os.confstr("CS_GNU_LIBC_VERSION") or "no glibc"
-        if here != self.wanted:
-            raise RuntimeError("a worker has Python %s, not %s" % (here, self.wanted))
-        if not library.startswith("glibc ") or tuple(map(int, library[6:].split("."))) < (2, 34):
-            raise RuntimeError("a worker has %s, older than glibc 2.34" % library)
+        self.check()
         path = place_of(worker, self.digest)
         if shutil.which("setpriv"):
             self.put(path + ".program", self.program)
             self.put(path, self.bound)
         else:
             self.put(path, self.program)
+
+    def check(self):
+        """Refuses a worker on which the program or what is sent to it can't run."""
+        here, library = "%d.%d" % sys.version_info[:2], os.confstr("CS_GNU_LIBC_VERSION") or "no glibc"
+        if here != self.wanted:
+            raise RuntimeError("a worker has Python %s, not %s" % (here, self.wanted))
+        if not library.startswith("glibc ") or tuple(map(int, library[6:].split("."))) < (2, 34):
+            raise RuntimeError("a worker has %s, older than glibc 2.34" % library)
 
     def put(self, path, content):
         """Writes a program for a worker, whole, by its name."""
@@ -127,11 +131,25 @@ class Placer:
 
 
 def function_for(digest):
-    """What a worker is to call. It is no name of a module, and gets plain data: only so Dask sends it by value."""
+    """What a worker is to call, with the plain data of a task. It is no name of a module: only so Dask sends it by value."""
     def at_worker(command, text, words, limit, seeds, show):
         import distributed
         return tasks.Task(digest, command, text, words, limit, seeds, show).carry_out(place_of(distributed.get_worker(), digest))
     return at_worker
+
+
+class Work:
+    """What a cluster is to do: `modules`, which travel by value; `function`, which a worker calls with the plain data of a task; and
+    `placer`, of which one, made of `placed`, puts what the tasks need in each worker's folder."""
+
+    def __init__(self, modules, function, placer, *placed):
+        self.modules, self.function, self.placer, self.placed = modules, function, placer, placed
+
+
+def asking(program, digest):
+    """The work of asking the program with this path and digest."""
+    with open(program, "rb") as file:
+        return Work([answers, tasks, tso, sys.modules[__name__]], function_for(digest), Placer, file.read(), digest)
 
 
 class Workers:
@@ -157,26 +175,23 @@ class Workers:
 
 
 class Given:
-    """A task that is given out: since when, how often, how often it failed, and its futures."""
+    """A task that is given out: since when, how often, how often it failed, its futures, and the workers that may have it, None for all.
+    The task has a `key`, a `limit` in seconds, its `plain` data for a worker, and a `fault` by a reason."""
 
     def __init__(self, task):
-        self.task, self.since, self.times, self.failed, self.futures = task, 0.0, 0, 0, []
-
-    def fault(self, why):
-        """The result of a task that failed for good."""
-        return {"fault": why, "task": self.task.key, "test": answers.name_of(self.task.text), "options": " ".join(self.task.words)}
+        self.task, self.since, self.times, self.failed, self.futures, self.workers = task, 0.0, 0, 0, [], None
 
 
 class Cluster:
-    """A cluster of Dask's. Program and functions travel by value, so workers need nothing of this project. What people are to know, it
-    tells `say`."""
+    """A cluster of Dask's, for some work. Programs and functions travel by value, so workers need nothing of this project. What people
+    are to know, it tells `say`."""
 
-    def __init__(self, address, program, digest, say):
+    def __init__(self, address, work, say):
         self.distributed, cloudpickle = dask()
         self.address, self.say = address, say
         # what Dask says of connections that end is told in one line here
         logging.disable(logging.CRITICAL)
-        for module in (answers, tasks, tso, sys.modules[__name__]):
+        for module in work.modules:
             cloudpickle.register_pickle_by_value(module)
         try:
             self.client = self.distributed.Client(address, timeout=10, set_as_default=False)
@@ -184,15 +199,14 @@ class Cluster:
             # a TypeError is what it says of TLS without a certificate
             raise NoCluster("no scheduler answers at %s: %s" % (address, " ".join(str(fault).split()))) from None
         self.check_versions()
-        self.function, self.done, self.given = function_for(digest), queue.SimpleQueue(), {}
+        self.function, self.done, self.given = work.function, queue.SimpleQueue(), {}
         self.waiting, self.suspects, self.alone = Waiting(()), collections.deque(), False
-        self.place(program, digest)
+        self.lacking, self.has_answered = set(), False
+        self.place(work)
 
-    def place(self, program, digest):
-        """Has the program put in each worker's folder."""
-        kind = type("Placer", (Placer, self.distributed.WorkerPlugin), {})
-        with open(program, "rb") as file:
-            placer = kind(file.read(), digest)
+    def place(self, work):
+        """Has what the tasks need put in each worker's folder."""
+        placer = type("Placer", (work.placer, self.distributed.WorkerPlugin), {})(*work.placed)
         # newer versions of Dask have it under this name
         register = getattr(self.client, "register_plugin", None) or self.client.register_worker_plugin
         try:
@@ -210,8 +224,14 @@ class Cluster:
                 if one["packages"][name] != own[name]:
                     raise NoCluster("%s has %s %s, and here is %s" % (where, name, one["packages"][name], own[name]))
 
+    def able(self):
+        """The threads of each worker that lacks nothing; of all where each lacks something, and none has answered that doesn't: such a one
+        comes again."""
+        threads = self.client.nthreads()
+        return {worker: count for worker, count in threads.items() if worker not in self.lacking} or ({} if self.has_answered else threads)
+
     def threads(self):
-        return sum(self.client.nthreads().values())
+        return sum(self.able().values())
 
     def holders(self, one):
         """The workers that have this task, or its result."""
@@ -222,15 +242,13 @@ class Cluster:
         return found.union(*self.client.who_has(one.futures).values())
 
     def give(self, one):
-        """Gives a task out, under a new key each time, and not to a worker that holds it already."""
+        """Gives a task out, under a new key each time, and not to a worker that holds it already, or lacks what it needs."""
         holders = self.holders(one)
-        others = [worker for worker in self.client.nthreads() if worker not in holders] if holders else None
+        one.workers = [worker for worker in self.able() if worker not in holders] or None if holders or self.lacking else None
         one.times += 1
         one.since = time.monotonic()
         key = "%s-%d" % (one.task.key, one.times)
-        task = one.task
-        future = self.client.submit(self.function, task.command, task.text, task.words, task.limit, task.seeds, task.show, key=key, pure=False,
-                                    workers=others or None)
+        future = self.client.submit(self.function, *one.task.plain(), key=key, pure=False, workers=one.workers)
         one.futures.append(future)
         self.given[one.task.key] = one
         future.add_done_callback(lambda ended: self.done.put((one.task.key, ended)))
@@ -263,9 +281,10 @@ class Cluster:
 
     def give_again(self):
         """Gives out once more each task that is past its time: a paused worker may have it, or one that hangs. No more than one other is
-        before a task at its worker, so it has ended in twice its limit or never."""
+        before a task at its worker, so it has ended in twice its limit or never. So it goes with a task none of whose workers is left."""
+        there = self.client.nthreads().keys()
         for one in list(self.given.values()):
-            if time.monotonic() - one.since > 2 * one.task.limit + 2:
+            if time.monotonic() - one.since > 2 * one.task.limit + 2 or one.workers and there.isdisjoint(one.workers):
                 self.give(one)
 
     def give_more(self, threads):
@@ -280,16 +299,27 @@ class Cluster:
         """The result that a task came back with; None where it is to be tried once more."""
         if isinstance(fault, self.distributed.KilledWorker):
             if self.alone:
-                return one.fault("it ended its workers")
+                return one.task.fault("it ended its workers")
             self.suspects.append(one)
             return None
         if result is not None and "fault" not in result:
+            self.has_answered = True
             return result
+        if result is not None and "lacks" in result and self.is_left_out(result.pop("lacks"), result["fault"]):
+            self.waiting.tasks.append(one)
+            return None
         one.failed += 1
         if one.failed < TRIES:
             self.waiting.tasks.append(one)
             return None
-        return result or one.fault("%s: %s" % (type(fault).__name__, fault))
+        return result or one.task.fault("%s: %s" % (type(fault).__name__, fault))
+
+    def is_left_out(self, worker, why):
+        """Leaves out a worker that lacks what the tasks need, and says so once; False where no other one is there or comes again."""
+        if worker not in self.lacking:
+            self.lacking.add(worker)
+            self.say("%s at %s: it gets no more tasks while others are there" % (why, worker))
+        return self.has_answered or not self.lacking.issuperset(self.client.nthreads())
 
     def run(self, coming):
         """The results of these tasks, which may still be made, as they come."""

@@ -26,6 +26,14 @@ class Task:
         found = {"outcomes": self.outcomes, "sweep": self.sweep, "why": self.why, "counts": self.counts}[self.command](program)
         return dict(found, task=self.key, test=answers.name_of(self.text), options=" ".join(self.words))
 
+    def plain(self):
+        """What a worker of a cluster is told of it."""
+        return self.command, self.text, self.words, self.limit, self.seeds, self.show
+
+    def fault(self, why):
+        """Its result where it failed for good."""
+        return {"fault": why, "task": self.key, "test": answers.name_of(self.text), "options": " ".join(self.words)}
+
     def outcomes(self, program):
         return answers.outcomes(program, self.text, self.words + self.show, self.limit)
 

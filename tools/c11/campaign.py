@@ -9,6 +9,7 @@
     --program FILE            whose `outcomes` is asked (the one beside this tool, or tso on the path); a first word that is a program too
     --processes N             at once (as many as there are processors)
     --limit S                 seconds that a test and compiler may take (600)
+    --scheduler ADDRESS       a cluster of Dask's judges what compilers of this machine make, in place of processes of this machine
     --json                    a JSON line a row in place of the table
     --log FILE                writes a log of all states too, in herd's form; of one compiler alone
     --page FILE               writes a page for a browser too: totals, findings first, a test with its states at a click
@@ -18,7 +19,8 @@ TEST is what tools/compiled reads: a file of C or in herd's form, a folder, or @
 DIFFERS (a state isn't allowed by C11), FAULT (too slow, or the tool failed), REFUSED (a text that is no test), OPEN (something isn't read).
 Then come those that say little (unjudged: a bounded answer, a race, undefined behaviour), and the others (same). The status is 0 where these
 two are all, 1 where one DIFFERS, and 2 where another one wants to be looked at. A verdict is made anew where the test, the program, a
-compiler's version or this tool has changed. docs/COMPILED.md has more.
+compiler's version or this tool has changed. On a cluster the workers need Debian's packages python3-capstone and python3-pyelftools.
+docs/COMPILED.md has more.
 """
 import argparse
 import glob
@@ -31,6 +33,7 @@ import subprocess
 import sys
 import time
 
+import engines
 import outputs
 import pages
 import reports
@@ -39,14 +42,12 @@ import scripts
 import tso
 import verdicts as table
 
-from . import judging, verdicts
+from . import apart, clustered, judging, verdicts
 from .asking import Asker
 from .refusals import NotJudged
 
 RANKS = {verdicts.NOT_ALLOWED: table.DIFFERS, verdicts.NOT_JUDGED: table.OPEN, verdicts.RACE: table.UNJUDGED,
          verdicts.UNDEFINED: table.UNJUDGED, verdicts.BOUNDED: table.UNJUDGED, verdicts.OK: table.SAME}
-# A call of tso takes no longer than so many seconds.
-LONGEST_CALL = 60
 
 
 def words_of(given):
@@ -61,6 +62,7 @@ def words_of(given):
     parser.add_argument("--program")
     parser.add_argument("--processes", type=int, default=len(os.sched_getaffinity(0)))
     parser.add_argument("--limit", type=scripts.seconds, default=600)
+    parser.add_argument("--scheduler", metavar="ADDRESS")
     parser.add_argument("--json", action="store_true")
     parser.add_argument("--log", metavar="FILE")
     parser.add_argument("--page", metavar="FILE")
@@ -92,6 +94,10 @@ class Task:
     def __init__(self, stamp, test, compiler):
         self.test, self.compiler = test, compiler
         self.key = hashlib.sha256(json.dumps([stamp, compiler, test.name, test.text]).encode()).hexdigest()[:32]
+
+    def members(self):
+        """What names it in its result."""
+        return {"task": self.key, "test": self.test.name, "options": self.compiler}
 
 
 def stamp_of(asked, digest):
@@ -152,24 +158,27 @@ def carry_out(work):
     """The verdicts on one test by some compilers; each takes at most so many seconds."""
     asked, tasks = work
     if asked.program not in ASKERS:
-        ASKERS[asked.program] = Asker(asked.program, 1, min(asked.limit, LONGEST_CALL))
+        ASKERS[asked.program] = Asker(asked.program, 1, min(asked.limit, apart.LONGEST_CALL))
     source = verdicts.SourceJudge(tasks[0].test, asked.model)
-    return [dict(_within(asked, source, task), task=task.key, test=task.test.name, options=task.compiler) for task in tasks]
+    return [dict(_within(asked, source, task), **task.members()) for task in tasks]
+
+
+class TooSlow(Exception):
+    """A test and compiler take longer than they may; no fault of the system's that a compiler's call could meet."""
 
 
 def _within(asked, source, task):
     def stop(*_):
-        raise TimeoutError
+        raise TooSlow
 
     signal.signal(signal.SIGALRM, stop)
     try:
         signal.setitimer(signal.ITIMER_REAL, asked.limit)
-        found = judging.judged(source, task.compiler, asked, ASKERS[asked.program])
-        return {name: value for name, value in vars(found).items() if name not in ("test", "compiler") and value is not None}
-    except TimeoutError:
-        return {"fault": "it took over %g seconds" % asked.limit}
+        return apart.members_of(judging.judged(source, task.compiler, asked, ASKERS[asked.program]))
+    except TooSlow:
+        return clustered.too_slow(asked.limit)
     except Exception as fault:
-        return {"fault": "%s: %s" % (type(fault).__name__, fault)}
+        return apart.fault_of(fault)
     finally:
         signal.setitimer(signal.ITIMER_REAL, 0)
 
@@ -180,18 +189,33 @@ class Progress:
     def __init__(self, known):
         self._known, self._ended, self._since, self._is_shown = known, 0, time.monotonic(), sys.__stderr__ and sys.__stderr__.isatty()
 
-    def more(self, count):
-        self._ended += count
+    def one_more(self):
+        self._ended += 1
         if self._is_shown:
             sys.__stderr__.write("\r%d of %d programs, %d s " % (self._ended, self._known, time.monotonic() - self._since))
             sys.__stderr__.flush()
+
+    def say(self, words):
+        """Says something, on a line of its own."""
+        self.end()
+        print("campaign: " + words, file=sys.stderr, flush=True)
 
     def end(self):
         if self._is_shown and self._ended:
             sys.__stderr__.write("\n")
 
 
-def run(asked, tasks, kept, pool_of):
+def by_processes(asked, work, pool_of):
+    """The results of these tasks, lists of those of one test, by processes of this machine, as they come."""
+    pool = pool_of(min(asked.processes, len(work)))
+    try:
+        for found in pool.imap_unordered(carry_out, [(asked, some) for some in work]):
+            yield from found
+    finally:
+        pool.terminate()
+
+
+def run(asked, digest, tasks, kept, pool_of):
     """Has the tasks carried out that have no result, those of one test together, and keeps what they answer as it comes."""
     work = {}
     for task in tasks:
@@ -199,15 +223,15 @@ def run(asked, tasks, kept, pool_of):
             work.setdefault(task.test, []).append(task)
     if not work:
         return
-    progress, pool = Progress(sum(map(len, work.values()))), pool_of(min(asked.processes, len(work)))
+    progress, work = Progress(sum(map(len, work.values()))), list(work.values())
+    coming = clustered.results(asked, digest, work, progress.say) if asked.scheduler else by_processes(asked, work, pool_of)
     try:
-        for found in pool.imap_unordered(carry_out, [(asked, some) for some in work.values()]):
-            for one in found:
-                kept.add(one)
-            progress.more(len(found))
+        for one in coming:
+            kept.add(one)
+            progress.one_more()
     finally:
         progress.end()
-        pool.terminate()
+        coming.close()
 
 
 # ---- the table
@@ -285,11 +309,12 @@ def main(given, pool_of):
     tests = list(dict.fromkeys(test for _, test in found if not isinstance(test, NotJudged)))
     check(asked, tests)
     with open(asked.program, "rb") as file:
-        stamp = stamp_of(asked, hashlib.sha256(file.read()).hexdigest())
+        digest = hashlib.sha256(file.read()).hexdigest()
+    stamp = stamp_of(asked, digest)
     tasks = [Task(stamp, test, compiler) for test in tests for compiler in asked.cc]
     kept = Kept(asked.results) if asked.results else Unkept()
     with judging.room():
-        run(asked, tasks, kept, pool_of)
+        run(asked, digest, tasks, kept, pool_of)
     rows = [row_of(task, kept.found[task.key], asked) for task in tasks]
     rows += [Row(path, [], table.REFUSED, {"told": str(fault), "why": [str(fault)]}) for path, fault in found if isinstance(fault, NotJudged)]
     rows.sort(key=Row.order)

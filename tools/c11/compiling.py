@@ -2,10 +2,10 @@
 import os
 import shlex
 import shutil
-import subprocess
 import tempfile
 
 import inputs
+import tso.processes
 
 from .refusals import NotJudged
 
@@ -15,17 +15,18 @@ SOURCE = ("-std=c11", "-w", "-O0", "-gline-tables-only", "-S", "-emit-llvm", "-o
 CLANGS = ("clang", *("clang-%d" % number for number in range(20, 10, -1)))
 
 
-def object_of(compiler, text, name):
-    """The bytes of the object that a compiler, given as words, makes of this text."""
-    return _made(shlex.split(compiler), OBJECT, name + ".c", text)
+def object_of(compiler, text, name, limit=None):
+    """The bytes of the object that a compiler, given as words, makes of this text; subprocess.TimeoutExpired where it doesn't in so many
+    seconds."""
+    return _made(shlex.split(compiler), OBJECT, name + ".c", text, limit)
 
 
-def source_of(text, name):
-    """What clang says of a text in C."""
+def source_of(text, name, limit=None):
+    """What clang says of a text in C, in so many seconds."""
     clang = next(filter(None, map(shutil.which, CLANGS)), None)
     if clang is None:
         raise NotJudged("clang isn't there, which reads the source (Debian's package clang)")
-    return _made([clang], SOURCE, name + ".c", text).decode("utf-8", "replace")
+    return _made([clang], SOURCE, name + ".c", text, limit).decode("utf-8", "replace")
 
 
 def object_in(path):
@@ -36,18 +37,18 @@ def object_in(path):
     return _made(["gcc"], ("-c", "-x", "assembler", "-o"), os.path.basename(path), content.decode("utf-8", "replace"))
 
 
-def _made(compiler, words, name, text):
+def _made(compiler, words, name, text, limit=None):
     with tempfile.TemporaryDirectory() as folder:
         source, made = os.path.join(folder, name.replace("/", "_")), os.path.join(folder, "made")
         with open(source, "w", encoding="utf-8") as file:
             file.write(text)
         try:
-            done = subprocess.run([*compiler, *words, made, source], stdout=subprocess.DEVNULL, stderr=subprocess.PIPE,
-                                  encoding="utf-8", errors="replace", check=False)
+            done = tso.processes.answered([*compiler, *words, made, source], limit=limit)
         except OSError as fault:
             raise NotJudged("%s can't be run: %s" % (compiler[0], fault.strerror)) from None
         if done.returncode or not os.path.exists(made):
-            said = next((line for line in done.stderr.split("\n") if "error" in line.lower()), done.stderr.strip().split("\n")[0])
+            errors = done.stderr.decode("utf-8", "replace")
+            said = next((line for line in errors.split("\n") if "error" in line.lower()), errors.strip().split("\n")[0])
             raise NotJudged("%s refuses it: %s" % (compiler[0], said.replace(folder + "/", "")))
         with open(made, "rb") as file:
             return file.read()

@@ -56,6 +56,14 @@ def judged(source, compiler, asked, asker):
     try:
         content = compiling.object_in(asked.code) if asked.code else compiling.object_of(compiler, source.test.text, source.test.name)
         source.read()
+    except NotJudged as fault:
+        return not_judged(source.test.name, compiler, fault)
+    return of_object(source, compiler, content, asked, asker)
+
+
+def of_object(source, compiler, content, asked, asker):
+    """The verdict on these bytes of an object, which a compiler made of a test whose source has been read."""
+    try:
         found, parts = verdicts.judge(source, compiler, Image(content), asked.unroll, asker)
         if parts is not None:
             compiled, cells, states, extra, shown = parts

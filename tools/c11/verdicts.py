@@ -60,15 +60,19 @@ class SourceJudge:
             self._known[key] = self._allowed(rounds, cells)
         return self._known[key]
 
-    def read(self):
-        """Has clang read the source."""
+    def read(self, limit=None):
+        """Has clang read the source, in so many seconds."""
         if self._text is None:
-            self._text = compiling.source_of(self.test.text, self.test.name)
+            self._text = compiling.source_of(self.test.text, self.test.name, limit)
+
+    def text(self):
+        """What clang says of the source."""
+        self.read()
+        return self._text
 
     def by_model(self, model):
         """The same source by another model."""
-        self.read()
-        return SourceJudge(self.test, model, self._text)
+        return SourceJudge(self.test, model, self.text())
 
     def executions(self, rounds, model):
         """The source, and its executions by a model."""

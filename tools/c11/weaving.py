@@ -14,18 +14,18 @@ MOST_STATES = 40000
 
 
 def choices(growth):
-    """The choices of a path for each core that some walk makes, as tuples of paths; and whether a walk comes to a path that was cut. None
-    where there are too many walks."""
+    """The choices of a path for each core that some walk makes, as tuples of paths, in an order that is always the same; and whether a walk
+    comes to a path that was cut. None where there are too many walks."""
     # The places that no path writes with a plain store.
     locked = sorted(growth.locked - growth.stored)
     start = (tuple(growth.roots), tuple(growth.machine.initial_word(place) for place in locked))
     numbers = {place: number for number, place in enumerate(locked)}
-    seen, waiting, found = {start}, [start], set()
+    seen, waiting, found = {start}, [start], {}
     is_cut = any(node.kind == CUT for node in start[0])
     while waiting:
         nodes, words = waiting.pop()
         if all(node.path is not None for node in nodes):
-            found.add(tuple(node.path for node in nodes))
+            found[tuple(node.path for node in nodes)] = None
             continue
         for core, node in enumerate(nodes):
             if node.place is None:
@@ -41,7 +41,7 @@ def choices(growth):
                     waiting.append(state)
         if len(seen) > MOST_STATES:
             return None
-    return found, is_cut
+    return list(found), is_cut
 
 
 def _values(nodes, core, words, numbers):
