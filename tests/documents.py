@@ -17,7 +17,9 @@ counted), the links of all documents and the files that they name, the names of 
 beside its axiom's name), the page of what is proved (short cells; each definition with its file where it first has its name), the names
 of definitions, the lists of files that a further protocol or command touches (docs/HACKING.md), and the tables of docs/REFERENCE.md
 (commands, options, statuses) and of docs/INPUT.md (limits), against the program, its help, the manual page and the limits as plain
-numbers (tests/document_tables.py). The last line is 'N passed, M failed'.
+numbers (tests/document_tables.py). The table of what C++'s orders become is held against the compilers that are there
+(tests/document_mapping.py), and each picture of docs/pictures/ is made anew (tests/document_pictures.py). The last line is 'N passed, M
+failed'.
 """
 import difflib
 import functools
@@ -29,6 +31,8 @@ import sys
 import tempfile
 
 sys.dont_write_bytecode = True
+import document_mapping
+import document_pictures
 import document_sentences
 import document_tables
 import judging
@@ -334,6 +338,8 @@ def rows_of(program):
     for path in document_sentences.pages():
         yield "length of sentences in " + short(path), lambda path=path: document_sentences.faults_of_length(path)
     yield from document_tables.rows_of(program)
+    yield from document_mapping.rows_of(program)
+    yield from document_pictures.rows_of(program)
     yield "names of refusals", faults_of_names
     yield "scripts of tests/", faults_of_scripts
     yield "files of crates in docs/HACKING.md", faults_of_crates_files
