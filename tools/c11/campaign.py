@@ -136,19 +136,6 @@ class Kept(results.Results):
         return task.key in self.found
 
 
-class Unkept:
-    """Verdicts that are kept nowhere."""
-
-    def __init__(self):
-        self.found = {}
-
-    def has(self, task):
-        return task.key in self.found
-
-    def add(self, one):
-        self.found[one["task"]] = one
-
-
 # ---- the work, in processes of a pool
 
 ASKERS = {}
@@ -312,7 +299,7 @@ def main(given, pool_of):
         digest = hashlib.sha256(file.read()).hexdigest()
     stamp = stamp_of(asked, digest)
     tasks = [Task(stamp, test, compiler) for test in tests for compiler in asked.cc]
-    kept = Kept(asked.results) if asked.results else Unkept()
+    kept = Kept(asked.results) if asked.results else results.Unkept()
     with judging.room():
         run(asked, digest, tasks, kept, pool_of)
     rows = [row_of(task, kept.found[task.key], asked) for task in tasks]
