@@ -5,13 +5,14 @@ _tso_options() {
     run) echo --protocol --depth --sets --ways --words --bus --json --help ;;
     trace) echo --protocol --depth --sets --ways --words --bus --json --help ;;
     sweep) echo --protocol --depth --sets --ways --words --bus --from --seeds --length --help ;;
+    counts) echo --protocol --depth --sets --ways --words --bus --from --seeds --length --given --json --help ;;
     outcomes) echo --depth --states --show --assert --json --help ;;
     why) echo --model --cases --assert --json --help ;;
     check) echo --help ;;
     witness) echo --depth --help ;;
     tables) echo --protocol --help ;;
-    help) echo run trace sweep outcomes why check witness tables help ;;
-    *) echo run trace sweep outcomes why check witness tables help --help --version ;;
+    help) echo run trace sweep counts outcomes why check witness tables help ;;
+    *) echo run trace sweep counts outcomes why check witness tables help --help --version ;;
   esac
 }
 

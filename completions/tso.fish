@@ -5,6 +5,7 @@ complete -c tso -f -n __fish_use_subcommand -l version
 complete -c tso -f -n __fish_use_subcommand -a run
 complete -c tso -f -n __fish_use_subcommand -a trace
 complete -c tso -f -n __fish_use_subcommand -a sweep
+complete -c tso -f -n __fish_use_subcommand -a counts
 complete -c tso -f -n __fish_use_subcommand -a outcomes
 complete -c tso -f -n __fish_use_subcommand -a why
 complete -c tso -f -n __fish_use_subcommand -a check
@@ -20,7 +21,7 @@ complete -c tso -f -n "contains -- --install (commandline -opc)" -l verbose
 complete -c tso -f -n "contains -- --install (commandline -opc)" -a "(__fish_complete_directories)"
 complete -c tso -f -n "contains -- --uninstall (commandline -opc)" -a "(__fish_complete_directories)"
 
-complete -c tso -f -n "__fish_seen_subcommand_from help" -a "run trace sweep outcomes why check witness tables help"
+complete -c tso -f -n "__fish_seen_subcommand_from help" -a "run trace sweep counts outcomes why check witness tables help"
 
 complete -c tso -f -n "__fish_seen_subcommand_from run" -l protocol -x -a "msi mesi moesi mosi"
 complete -c tso -f -n "__fish_seen_subcommand_from run" -l depth -x
@@ -50,6 +51,19 @@ complete -c tso -f -n "__fish_seen_subcommand_from sweep" -l from -x
 complete -c tso -f -n "__fish_seen_subcommand_from sweep" -l seeds -x
 complete -c tso -f -n "__fish_seen_subcommand_from sweep" -l length -x
 complete -c tso -f -n "__fish_seen_subcommand_from sweep" -l help
+
+complete -c tso -f -n "__fish_seen_subcommand_from counts" -l protocol -x -a "msi mesi moesi mosi"
+complete -c tso -f -n "__fish_seen_subcommand_from counts" -l depth -x
+complete -c tso -f -n "__fish_seen_subcommand_from counts" -l sets -x
+complete -c tso -f -n "__fish_seen_subcommand_from counts" -l ways -x
+complete -c tso -f -n "__fish_seen_subcommand_from counts" -l words -x -a "1 2 4"
+complete -c tso -f -n "__fish_seen_subcommand_from counts" -l bus -x -a "atomic split"
+complete -c tso -f -n "__fish_seen_subcommand_from counts" -l from -x
+complete -c tso -f -n "__fish_seen_subcommand_from counts" -l seeds -x
+complete -c tso -f -n "__fish_seen_subcommand_from counts" -l length -x
+complete -c tso -f -n "__fish_seen_subcommand_from counts" -l given
+complete -c tso -f -n "__fish_seen_subcommand_from counts" -l json
+complete -c tso -f -n "__fish_seen_subcommand_from counts" -l help
 
 complete -c tso -f -n "__fish_seen_subcommand_from outcomes" -l depth -x
 complete -c tso -f -n "__fish_seen_subcommand_from outcomes" -l states -x

@@ -7,8 +7,8 @@
     tests/believed.py --misplaced          what stands in the wrong folder, a line for each two files: FROM TO NAME..
     tests/believed.py --arrange            moves these definitions by tests/move_definitions.py
 
-PROMISE is run (on the atomic bus, plain), run-whole (the split bus and JSON too), trace and trace-whole (likewise), sweep, outcomes, why (both
-plain), check, witness, headline, axioms, state (the axioms, final state and verdict), answers, reach, page, models, branches, refutations or laws
+PROMISE is run (on the atomic bus, plain), run-whole (the split bus and JSON too), trace and trace-whole (likewise), sweep, counts, outcomes,
+why (all three plain), check, witness, headline, axioms, state (the axioms, final state and verdict), answers, reach, page, models, branches, refutations or laws
 (what the contracts name of all functions that PAGES name and that are no methods; what a contract cites through
 another name of a whole file, as `spec.reading_of`, is the code's own way said as a definition, and a word of the inside). A line counts
 where it is neither blank, a comment nor an import. tests/declared.py lists the types of the code that the headline names.
@@ -37,7 +37,8 @@ BOUND = (
 IMPORT = re.compile(r"^(pub )?use Rattle\.([\w.]+?)(?:\.\{(.*)\})?(?: as (\S+))?$")
 
 # What each command and each promise beside it rests on. Of a definition that goes by commands, only the command's own case counts.
-CASES = {"run": "Run", "trace": "Trace", "sweep": "Sweep", "outcomes": "Outcomes", "why": "Why", "check": "Check", "witness": "Witness", "tables": "Tables"}
+CASES = {"run": "Run", "trace": "Trace", "sweep": "Sweep", "counts": "Counts", "outcomes": "Outcomes", "why": "Why", "check": "Check",
+         "witness": "Witness", "tables": "Tables"}
 
 
 class Definition:
@@ -187,6 +188,7 @@ PROMISES = {
     "trace": ([TOP_LEVEL], "Trace", (SPLIT, *TRACED_AS_JSON)),
     "trace-whole": ([TOP_LEVEL], "Trace", ()),
     "sweep": ([TOP_LEVEL], "Sweep", (SPLIT,)),
+    "counts": ([TOP_LEVEL], "Counts", (("counts_report.specs.Json", "json_counts"),)),
     "outcomes": ([TOP_LEVEL], "Outcomes", FOUND_AS_JSON),
     "why": ([TOP_LEVEL], "Why", REASONS_AS_JSON),
     "check": ([TOP_LEVEL], "Check", ()),
@@ -260,7 +262,7 @@ FREE_FUNCTION = re.compile(r"^pub (?:extern \"C\" )?fn (\w+)(?:[^{;]|; \d+\])*?\
 
 
 # The pages whose names are promises.
-PAGES = ("README.md", "docs/REFERENCE.md", "docs/PROVED.md")
+PAGES = ("README.md", "docs/REFERENCE.md", "docs/PROVED.md", "docs/READING.md")
 
 
 def named_functions():
@@ -296,11 +298,11 @@ def topic(module):
         return "grammar and refusals of tests"
     if crate in ("scheduler", "witnesses", "order_builder", "commit_order") or module == "tso_terms.specs.Decimals":
         return "choices and orders as texts"
-    if crate in ("snoop_bus", "cache_set", "multiprocessor", "machine_core", "protocol_tables"):
+    if crate in ("snoop_bus", "cache_set", "multiprocessor", "machine_core", "protocol_tables", "cache_counts"):
         return "caches"
     if crate in ("tso_cli", "machine_runs", "simulator", "sweep_runs", "sweeper", "counted_io", "tso_io", "command_line", "page_exports"):
         return "commands"
-    if crate in ("tso_report", "search_report"):
+    if crate in ("tso_report", "search_report", "counts_report"):
         return "printed text"
     return "tests, machine, axioms"
 
@@ -345,7 +347,7 @@ TOPICS = ("tests, machine, axioms", "caches", "choices and orders as texts", "co
 PROMISED = {
     "run": "`run` on the atomic bus, plain", "run-whole": "`run`, on the split bus and as JSON too", "trace": "`trace` on the atomic bus, plain",
     "trace-whole": "`trace`, on the split bus and as JSON too",
-    "sweep": "`sweep` on the atomic bus", "outcomes": "`outcomes`, plain", "why": "`why`, plain",
+    "sweep": "`sweep` on the atomic bus", "counts": "`counts`, plain", "outcomes": "`outcomes`, plain", "why": "`why`, plain",
     "check": "`check`", "witness": "`witness`", "headline": "the headline, all commands", "axioms": "`IsTsoExecution`",
     "state": "axioms, final state and verdict", "answers": "the answers' laws, `exact` among them", "reach": "what runs reach",
     "page": "the page's answers", "models": "the published models", "branches": "threads that branch", "refutations": "refutations",

@@ -51,6 +51,8 @@ JOBS = [
     ("check", judging.OWN_STORE_FIRST + DIVIDER + b"Order\nEndorder 0\n", INVALID),
     ("witness", judging.OWN_STORE_FIRST + DIVIDER + judging.OWN_STORE_FIRST_ORDER, ENDED),
     ("sweep --seeds 3 --length 2000", judging.STORE_BUFFERING, ENDED),
+    ("counts --seeds 3 --length 2000", judging.STORE_BUFFERING, ENDED),
+    ("counts --seeds 3 --length 6 --json", judging.STORE_BUFFERING, UNFINISHED),
     ("outcomes", judging.OWN_STORE_FIRST, ENDED),
     ("outcomes --json", judging.OWN_STORE_FIRST, ENDED),
     ("outcomes --show all", judging.OWN_STORE_FIRST, ENDED),

@@ -203,13 +203,15 @@ SHAPES = {"1x1x1": ["--sets", "1", "--ways", "1", "--words", "1"], "2x2x4": ["--
 
 
 def counted(program, name, options, seeds):
-    """What caches do in the runs of these seeds: for each core, by count, the sum, the least and the greatest."""
+    """What caches do in the runs of these seeds, each asked for by itself, the counts of a report by `run`: for each core, by count, the sum,
+    the least and the greatest."""
     found = []
     for seed in seeds:
         with open(test_file(name), encoding="ascii") as file:
             given = file.read().split("\n====")[0] + "\n====\nseed %d 1000\n" % seed
-        done = subprocess.run([program, "run", "--json", *options], input=given, capture_output=True, text=True)
-        found.append(json.loads(done.stdout)["cache"])
+        run, alone = (json.loads(subprocess.run([program, *words, "--json", *options], input=given, capture_output=True, text=True).stdout)
+                      for words in (["run"], ["counts", "--given"]))
+        found.append([{**{name: one["sum"] for name, one in core.items()}, **cache} for core, cache in zip(alone["cores"], run["cache"])])
     return {(core, count): [pick([run[core][count] for run in found]) for pick in (sum, min, max)]
             for core in range(len(found[0])) for count in found[0][core]}
 

@@ -169,20 +169,44 @@ def leave_out_line(text):
     del text.lines[text.at]
 
 
+def leave_out_above(text, number):
+    del text.lines[:int(number) - 1]
+
+
 def leave_out_second_test(text):
     del text.lines[text.at:]
 
 
 # ---- the changes of cells
 
-def turn_round(text, cell):
-    """Puts a cell's destination first, as `MOV EAX,[y]` has it, and writes its operands so."""
+def write_cell(text, cell, told, has_end=None):
+    """Writes what is told in the place of a cell, and of a second one below it; with the registers that are told to be put for others.
+    Where the cell has an end of its own, it is left out."""
     cell = cell[:-2] if cell.endswith("..") else cell
-    at = text.line.index(cell)
-    end = at + re.match(r"[^|;]*", text.line[at:]).end()
-    name, first, second, rest = re.fullmatch(r"((?:lock\s+)?\w+)\s+([^,]*?)\s*,\s*(\S+)(.*)", text.line[at:end], re.I | re.S).groups()
-    first, second = (re.sub(r"\((\w+)\)", r"[\1]", operand.replace("%", "")) for operand in (first, second))
-    text.line = text.line[:at] + "%s %s,%s%s" % (name, second, first, rest) + text.line[end:]
+    if has_end:
+        text.line = re.sub(r";(?=\s*\|)", "", text.line, count=1)
+    core = next(core for core, one in enumerate(text.line.split("|")) if one.strip(" ;").startswith(cell))
+    first, second, rest = re.fullmatch(r"(.*?)(?:, and in the next cell (.*?))?((?:, (?:with|which|where) |; ).*)?", told).groups()
+    free = text.free_register(core) if rest and rest.startswith(", with a free register for EAX") else "EAX"
+    text.put(core, *(one.replace("EAX", free) for one in (first, second) if one))
+    foreign = re.match(r"; for (\w+) take one of EAX, .*", rest or "")
+    if foreign:
+        text.rename(core, foreign[1])
+
+
+def leave_out_word(text, word):
+    text.replace(word, "")
+
+
+def load_compared(text, name, place):
+    core = text.core_of(name)
+    text.put(core, "MOV %s,[%s]" % (text.free_register(core), place))
+
+
+def exchange_compared(text, name):
+    """The test in which a compare with an exchange writes."""
+    core = text.core_of(name)
+    text.put(core, re.sub(r"(?i)(?:lock\s+)?cmpxchg\w*", "XCHG", text.cell(core)))
 
 
 def leave_out_cell(text, name):
@@ -194,19 +218,6 @@ def leave_out_jump(text, name):
     core = text.core_of(name)
     label = re.match(r"\w+\s*:(.*)", text.cell(core))
     text.put(core, label[1].strip() if label else "")
-
-
-def leave_out_pointer(text):
-    text.line = re.sub(r"(?i)\bdword(\s+ptr)?\s*", "", text.line, count=1)
-
-
-def add_by_xadd(text, name):
-    """An addition that is locked, with its number in a register."""
-    core = text.core_of(name)
-    place, number = re.search(r"(\[\w+\])(?:\s*,\s*\$?(\d+))?", text.cell(core)).groups()
-    number, register = int(number or 1), text.free_register(core)
-    number = WORD - number if name.upper() in ("SUB", "DEC") else number
-    text.put(core, "MOV %s,$%d" % (register, number), "LOCK XADD %s,%s" % (place, register))
 
 
 def load_and_store(text, name):
@@ -226,26 +237,8 @@ def go_through_register(text):
     text.put(core, "MOV %s,%s" % (register, source), "MOV %s,%s" % (to, register))
 
 
-def turn_bare(text, cell):
-    """Puts a cell's destination first, and its location, which has no sign, into brackets."""
-    name, first, second = re.fullmatch(r"((?:lock\s+)?\w+)\s+([^,]*?)\s*,\s*(.*)", cell, re.I).groups()
-    first, second = (operand[1:] if operand.startswith("%") else re.sub(r"^([A-Za-z_]\w*)$", r"[\1]", operand) for operand in (first, second))
-    text.line = text.line.replace(cell, "%s %s,%s" % (name, second, first), 1)
-
-
 def leave_out_dollar(text, register):
     text.line = text.line.replace("$" + register, register, 1)
-
-
-def load_what_has_dollar(text, name):
-    """A load of a location in the place of `$x`, and where it was to be stored a store after it."""
-    core = next(core for core, cell in enumerate(text.line.split("|")) if "$" + name in cell)
-    to = re.match(r"(?i)\s*mov\s*(\[\w+\]|\w+)", text.cell(core))[1]
-    if to.startswith("["):
-        register = text.free_register(core)
-        text.put(core, "MOV %s,[%s]" % (register, name), "MOV %s,%s" % (to, register))
-    else:
-        text.put(core, "MOV %s,[%s]" % (to, name))
 
 
 def exchange_by_moves(text):
@@ -255,19 +248,8 @@ def exchange_by_moves(text):
     text.put(core, "MOV %s,%s" % (free, one), "MOV %s,%s" % (one, other), "MOV %s,%s" % (other, free))
 
 
-def store_or_load(text, name, form):
-    """The store or the load that a function of C's stands for."""
-    core = text.core_of(name)
-    place = re.search(r"[(&*]\s*([a-z]\w*)", text.cell(core))[1]
-    text.put(core, "MOV [%s],$1" % place if form == "store" else "MOV %s,[%s]" % (text.free_register(core), place))
-
-
 def put_into_brackets(text, sign, name):
     text.line = text.line.replace(sign + name, "[%s]" % name, 1)
-
-
-def square(text, name):
-    text.line = text.line.replace("(%s)" % name, "[%s]" % name, 1)
 
 
 # ---- the changes of rows
@@ -336,16 +318,24 @@ CURES = [
     (r"(\w+) is (?:another processor|a language): write its programs as X86 instructions, below a line X86 NAME; .*", write_header),
     (r"C is a language: the tool compiled reads such a test; tso reads programs of X86 instructions, below a line X86 NAME",
      lambda text: write_header(text, "C")),
+    (r"(\w+) is another processor, and the cells below are X86's: write X86 in its place", write_header),
     (r"(\w+): write X86, in capitals", write_header),
-    (r"'(.*)' is AT&T's order, source first; here the destination stands first, as in MOV EAX,\[y\]: .*", turn_round),
-    (r"'(.*)' is AT&T's order, source first; here the destination stands first, and a location in \[ \]: .*", turn_bare),
+    (r"the test begins on line (\d+), with X86: leave out what stands above it, .*", leave_out_above),
+    (r"'(.*)'(?: is AT&T's order, source first; here the destination stands first(?:, and words have 32 bits)?)?: "
+     r"(?:no register can hold an address: |if it is one step, |registers and locations have 32 bits: |"
+     r"(?:no register can hold an address|\$ stands before numbers alone); for the location's word )?write "
+     r"((?:MOV|XCHG|LOCK|MFENCE)\b(?!.* address is in [a-z]).*?)(; leave out the ; behind it, which ends a row)?", write_cell),
+    (r"(\w+) stands behind the instruction: leave it out; .*", leave_out_word),
+    (r"(not) begins no condition: write (~exists) in its place", Text.replace),
+    (r"(\w+) isn't read: a program has no (?:compares|jumps): leave .*", leave_out_jump),
+    (r"(\w+) isn't read: a program has no compares: load the location here, as MOV EAX,\[(\w+)\], .*", load_compared),
+    (r"(\w+) isn't read: write two tests: one where it writes, as XCHG \[x\],EBX, .*", exchange_compared),
+    (r"(CALL) isn't read: write the instructions of what it calls in its place", leave_out_cell),
+    (r"(\w+) isn't read: nothing is computed in registers: leave it out, and where its result is used write .*", leave_out_cell),
     (r"a register is written without %: EAX", leave_out_percent),
-    (r"\((\w+)\): a location stands in square brackets: write \[\w+\]", square),
     (r"(&)(\w+): a location is written \[x\] in an instruction: .*", put_into_brackets),
     (r"\$ stands before (\w+): it stands before numbers alone, and a register is written without it", leave_out_dollar),
-    (r"\$ stands before (\w+): it stands before numbers alone; a location is written \[x\]: load it by .*", load_what_has_dollar),
     (r"an exchange of two registers takes three MOVs, .*", exchange_by_moves),
-    (r"(\w+) isn't read: a (store|load) is MOV .*", store_or_load),
     (r"(\w+) begins with a digit, as a number: a name begins with a letter or _, .*", name_by_letter),
     (r"(\w+): a location begins with a number, as x=1: .*", write_number),
     (r"\S+ an atom compares a place with one number: that two places are equal is written .*", write_equal),
@@ -356,15 +346,13 @@ CURES = [
     (r"this row has (\d+) cells?, and the test has (\d+) cores?: write a cell for each core, .*", add_cells),
     (r"(\w+): write (\w+), for words of 32 bits", Text.replace),
     (r"(\w+) is none of EAX, EBX, ECX, EDX, ESI, EDI\b.*", rename_register),
-    (r"(\w+) is a part of a register: if the whole register will do, write EAX, .*", rename_register),
+    (r"(\w+) has 64 bits, and registers have 32 here: .*", rename_register),
+    (r"(\w+) is a part of \w+: if the whole register will do, write (\w+)", Text.replace),
     (r"(0[xX]\w+): numbers are decimal", write_decimal),
     (r"(\w+) is a type, and items have no types here: leave it out; if the item has no value, leave out the whole item, .*", leave_out_type),
-    (r"(\w+) isn't read after LOCK: in a cell before it, put .* here write LOCK XADD \[x\],EAX", add_by_xadd),
     (r"(\w+) isn't read: without LOCK .* Write a load, as MOV EAX,\[x\], and a store of the result, .*", load_and_store),
-    (r"(\w+) isn't read: a program has no branches, jumps or compares; .*", leave_out_jump),
     (r"(\w+): is a label, and a program has no jumps: leave it out", leave_out_jump),
     (r"(\w+) isn't read: it changes .*, so leave it out", leave_out_cell),
-    (r"\w+: leave DWORD PTR out, words have 32 bits", leave_out_pointer),
     (r"MOV has the forms .*; from \[y\] to \[x\] go through a register: .*", go_through_register),
     (r"(P\w+): a core is its number alone here, as in 0:EAX", number_core),
     (r"(\w+) names no location, and no register can hold an address here: .*", name_location),
@@ -373,7 +361,9 @@ CURES = [
     (r"a comment is written \(\* \.\. \*\)", write_comment),
     (r"the dividing line between a test and its choices is ==== alone", write_divider),
     (r"a second test begins here: an input has only one, .*", leave_out_second_test),
+    (r"a second header stands here: .*", leave_out_line),
     (r"(\w+) is no instruction: write (\w+)", Text.replace),
+    (r"(\w+) is an edge, and no instruction: write (MFENCE)", Text.replace),
     (r"(\w+) begins no condition: write (~exists|exists|forall)\b.*", Text.replace),
     (r"(for all) is one word here: write (forall)", Text.replace),
     (r"no ([)}]) closes the [({] of line (\d+)", close),

@@ -6,8 +6,8 @@
 Each beginning of a generated test, of a list of choices and of a report is read, with the answer that it must get. In a
 small test, its choices and an order each byte is replaced by each of the 256 in turn: the answer must be of a form that
 the program has, with a name of a refusal and a place that the text has. And the greatest inputs, with their answers,
-under a small stack and within a bound of processor time. All of it also on the split bus, without store buffers, traced
-and searched, where a byte is replaced by one of each kind that a text tells apart. A further program has one in four of the
+under a small stack and within a bound of processor time. All of it also on the split bus, without store buffers, traced,
+counted and searched, where a byte is replaced by one of each kind that a text tells apart. A further program has one in four of the
 damaged texts, in turn, and all else. The last line is 'N passed, M failed'.
 """
 import collections
@@ -26,7 +26,8 @@ from reference import hints, printing, reading, reasons
 # So many texts a process takes at once.
 AT_ONCE = 64
 
-RUNS = ["run", "run --bus split", "run --depth 0", "trace --bus split"]
+COUNTS = "counts --given"
+RUNS = ["run", "run --bus split", "run --depth 0", "trace --bus split", COUNTS]
 SEARCHES = ["outcomes", "outcomes --show all", "why"]
 JUDGES = ["check", "witness"]
 
@@ -124,8 +125,11 @@ def has_form(command, given, done, show):
         test, rest = parts_of(given)
         if command in SEARCHES:
             return is_test_refusal(output, test)
-        is_refusal_of_rest = is_choice_refusal if command in ("run", "trace") else is_order_refusal
+        is_refusal_of_rest = is_choice_refusal if command in ("run", "trace", "counts") else is_order_refusal
         return is_test_refusal(output, test) or is_refusal_of_rest(output, rest)
+    if command == "counts":
+        counted = rb"Runs ended=1 unfinished=0\n(?:Counts P\d(?: \w+=\d+/\d+/\d+){12}\n)+" if status == ENDED else rb"Runs ended=0 unfinished=1\n"
+        return status in (ENDED, UNFINISHED) and re.fullmatch(rb"Test .+\nMachine .+\n" + counted, output)
     if command in ("run", "trace"):
         output = report_in(command, output)
         return output is not None and (
@@ -316,7 +320,7 @@ def judge_limits(program, tally):
     greatest = [("all limits at once", greatest_test(lambda row, core: row + core)),
                 ("all limits at once, with locked instructions alone", greatest_test(lambda row, core: 3 + row % 2)),
                 ("all limits at once, with stores alone", greatest_test(lambda row, core: row % 2))]
-    for line in RUNS:
+    for line in RUNS[:RUNS.index(COUNTS)]:
         line = line if "--depth" in line else line + " --depth 32"
         texts += tally.add(line, [(name, faults_at_all_limits(limits, name, line, test)) for name, test in greatest])
     print("the slowest of the greatest texts took %.2f seconds: %s" % limits.slowest)

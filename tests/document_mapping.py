@@ -2,7 +2,7 @@
 
 Each row has an operation, its orders, and what gcc and clang may make of it. Each operation is compiled with each of its orders, with its
 result used and not used. The instructions of the machine code that touch memory or order it are then one of the row's alternatives. The
-page's command that judges such code by tools/compiled runs too, where its packages are there.
+page's command that judges such code by tools/compiled runs too, where its packages are there, and so do those of docs/OWN_CODE.md.
 """
 import os
 import re
@@ -14,6 +14,7 @@ from judging import EXAMPLES, TOP, content
 
 PAGE = os.path.join(TOP, "docs", "FAQ.md")
 HEADING = "## What do the orders of C++ become?"
+OWN_CODE = os.path.join(TOP, "docs", "OWN_CODE.md")
 SECONDS = 120
 
 ORDERS = ("relaxed", "acquire", "release", "acq_rel", "seq_cst")
@@ -118,6 +119,16 @@ def faults_of_verdicts(program):
     return faults if lines and done.returncode == 0 else faults + ["status %d: %s" % (done.returncode, done.stderr.strip()[:200])]
 
 
+def faults_of_own_code(program):
+    """The first commands of docs/OWN_CODE.md print what the page shows after them."""
+    commands, shown = re.search(r"^```sh\n(.*?)^```$.*?^```text\n(.*?)^```$", content(OWN_CODE), re.MULTILINE | re.DOTALL).groups()
+    tool = "/usr/bin/python3 '%s' --program '%s'" % (os.path.join(TOP, "tools", "compiled"), program)
+    with tempfile.TemporaryDirectory() as folder:
+        done = subprocess.run(["bash", "-c", re.sub(r"^tools/compiled", lambda found: tool, commands, flags=re.MULTILINE)], cwd=folder,
+                              stdout=subprocess.PIPE, stderr=subprocess.STDOUT, text=True, timeout=SECONDS)
+    return [] if done.stdout.strip() == shown.strip() else ["it prints " + done.stdout.strip()]
+
+
 def rows_of(program):
     """The rows for tests/documents.py. What isn't there is said, and left out."""
     known = set(RESULTS) | set(EFFECTS)
@@ -130,5 +141,6 @@ def rows_of(program):
             print("left out, what %s makes of the orders of C++: it isn't there" % compiler)
     if has_packages():
         yield "what tools/compiled says of the orders of C++", lambda: faults_of_verdicts(program)
+        yield "what tools/compiled says of code of one's own", lambda: faults_of_own_code(program)
     else:
         print("left out, tools/compiled on the orders of C++: it needs python3-capstone, python3-pyelftools, gcc and clang")

@@ -73,6 +73,8 @@ def told(name):
 PICTURES = {
     "store-buffering": lambda program, words: drawn_runs.buffers(
         json_of(program, ["trace"], content(EXAMPLES, "store-buffering.litmus")), words),
+    "outcomes": lambda program, words: drawn_runs.outcomes(
+        *(json_of(program, ["outcomes", "--depth", depth], content(EXAMPLES, "store-buffering.litmus")) for depth in ("32", "0")), words),
     "message-passing": lambda program, words: drawn_runs.cycle(reason_of(program, "MP"), words),
     "iriw": lambda program, words: drawn_runs.cycle(reason_of(program, "IRIW"), words),
     "reason": lambda program, words: drawn_runs.reason(reason_of(program, "MP"), words),

@@ -13,13 +13,14 @@ PROGRAM there. The blocks of a document run one after the other in one new folde
 Blocks fenced as `sh` aren't run: they prove, test, or need a fresh checkout, a browser or a pager (`./test`, `./tso --prove`).
 
 Then come the sentences of README.md and the pages of docs/, none of more than 40 words (tests/document_sentences.py says how they are
-counted), the links of all documents and the files that they name, the names of refusals among the messages, the letters of breaches (each
-beside its axiom's name), the page of what is proved (short cells; each definition with its file where it first has its name), the names
-of definitions, the lists of files that a further protocol or command touches (docs/HACKING.md), and the tables of docs/REFERENCE.md
-(commands, options, statuses) and of docs/INPUT.md (limits), against the program, its help, the manual page and the limits as plain
-numbers (tests/document_tables.py). The table of what C++'s orders become is held against the compilers that are there
-(tests/document_mapping.py), and each picture of docs/pictures/ is made anew (tests/document_pictures.py). The last line is 'N passed, M
-failed'.
+counted), the words of README.md (1,200 at most), the links of all documents and the files that they name, the names of refusals among
+the messages, the letters of breaches (each beside its axiom's name), the page of what is proved (short cells), the guided reading (each
+definition with its file where it first has its name), the names of definitions, what each crate rests on (docs/ARCHITECTURE.md), the list of
+all pages (docs/README.md), the lists of files that a further protocol or command touches (docs/HACKING.md), and the tables of
+docs/REFERENCE.md (commands, options, statuses) and of docs/INPUT.md (limits), against the program, its help, the manual page and the limits
+as plain numbers (tests/document_tables.py). The table of what C++'s orders become, and the commands on code of one's own, are held against
+the compilers that are there (tests/document_mapping.py), and each picture of docs/pictures/ is made anew (tests/document_pictures.py). The
+last line is 'N passed, M failed'.
 """
 import difflib
 import functools
@@ -195,6 +196,37 @@ def faults_of_scripts():
     return ["%s is listed and isn't there, or is there and isn't listed" % name for name in sorted(listed ^ there)]
 
 
+def below(crate, uses):
+    """The crates of the project on which a crate rests, by what each uses."""
+    found, open_ = set(), [crate]
+    while open_:
+        new = [name for name in uses[open_.pop()] if name in uses and name not in found]
+        found.update(new)
+        open_ += new
+    return found
+
+
+def faults_of_crates():
+    """docs/ARCHITECTURE.md has a row for each crate. The crates that the row names, and what these rest on, are those of crates.txt."""
+    uses = {name: used.split() for name, _, used in (line.partition(":") for line in content(os.path.join(TOP, "crates.txt")).splitlines())}
+    text = content(os.path.join(TOP, "docs", "ARCHITECTURE.md"))
+    rows = dict(re.findall(r"^\| `(\w+)` \| .* \|(.*)\|$", text[text.index("## Crates"):text.index("## Four walks")], re.MULTILINE))
+    faults = ["%s has a row and is no crate, or is one and has none" % name for name in sorted(set(rows) ^ set(uses))]
+    for crate in sorted(set(rows) & set(uses)):
+        named = set(re.findall(r"`(\w+)`", rows[crate]))
+        told = named.union(*(below(name, uses) for name in named & set(uses)))
+        faults += ["%s rests on %s: in one of the page and crates.txt" % (crate, name) for name in sorted(told ^ below(crate, uses))]
+    return faults
+
+
+def faults_of_pages():
+    """docs/README.md lists each other page of docs/."""
+    index = os.path.join(TOP, "docs", "README.md")
+    listed = set(re.findall(r"^\| \[`(\w+\.md)`\]\(\1\) \|", content(index), re.MULTILINE))
+    there = {os.path.basename(path) for path in glob.glob(os.path.join(TOP, "docs", "*.md")) if path != index}
+    return ["%s is listed and isn't there, or is there and isn't listed" % name for name in sorted(listed ^ there)]
+
+
 def faults_of_crates_files():
     """Tables of docs/HACKING.md name files of a crate by a folder in backquotes, with the names that stand in it after a colon."""
     faults = []
@@ -312,10 +344,18 @@ def definitions():
     return {name for path in files for name in begins.findall(content(path))}
 
 
+MOST_WORDS_OF_README = 1200
+
+
+def faults_of_readme():
+    """README.md stays one page."""
+    words = len(content(README).split())
+    return ["%d words, and not %d at most" % (words, MOST_WORDS_OF_README)] if words > MOST_WORDS_OF_README else []
+
+
 def faults_of_reading():
     """The guided reading names the file of a definition where it first has its name; a block goes with the words after it."""
-    text = content(os.path.join(TOP, "docs", "PROVED.md"))
-    text = text[text.index("## A guided reading"):text.index("## The claims")]
+    text = content(os.path.join(TOP, "docs", "READING.md"))
     faults, known, names = [], set(), definitions()
     for passage in re.split(r"\n\s*\n|\n(?=\|)|\n(?=- )", re.sub(r"(```\n)\n(?=[A-Z])", r"\1", text)):
         used = re.findall(r"`([A-Za-z_]\w*)(?: [^`]*)?`", passage)
@@ -342,6 +382,8 @@ def rows_of(program):
     yield from document_pictures.rows_of(program)
     yield "names of refusals", faults_of_names
     yield "scripts of tests/", faults_of_scripts
+    yield "crates of docs/ARCHITECTURE.md", faults_of_crates
+    yield "pages of docs/README.md", faults_of_pages
     yield "files of crates in docs/HACKING.md", faults_of_crates_files
     yield "files that a further protocol touches", lambda: faults_of_list("A further protocol", lists_the_protocols)
     yield "files that a further command touches", lambda: faults_of_list("A further command or option", lists_the_commands)
@@ -349,6 +391,7 @@ def rows_of(program):
     yield "types that the headline rests on", faults_of_declared
     yield "what has to be believed", faults_of_believed
     yield "cells of docs/PROVED.md", faults_of_cells
+    yield "words of README.md", faults_of_readme
     yield "names in the guided reading", faults_of_reading
 
 

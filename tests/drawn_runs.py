@@ -1,4 +1,4 @@
-"""Pictures of what the program answers, for tests/document_pictures.py: runs, cycles and a reason."""
+"""Pictures of what the program answers, for tests/document_pictures.py: runs, final states, cycles and a reason."""
 import drawn
 
 CORES = 2
@@ -30,6 +30,24 @@ def buffers(trace, told):
                 sheet.arrow((middle, y + 108), (middle, y + 134), "rf")
         words = "   ".join("%s=%d" % pair for pair in step["after"]["seen"].items())
         sheet.boxed(x + wide / 2, y + 149, "memory  " + words, wide=wide - 40, high=28)
+    return sheet.svg()
+
+
+def outcomes(answer, unbuffered, told):
+    """The final states that a test can end in, each with its choices; those that it can end in without store buffers are framed."""
+    known = [state["values"] for state in unbuffered["states"]]
+    states = sorted(answer["states"], key=lambda state: state["values"] in known)
+    wide, high, alone = 190, 118, len(states) - len(known)
+    sheet = drawn.Sheet(len(states) * wide + 40, high + 20, told)
+    sheet.text(20, 22, "only with store buffers", at="start", kind="small")
+    sheet.box(14 + alone * wide, 8, len(known) * wide + 18, high + 4, "part")
+    sheet.text(28 + alone * wide, 22, "also without them", at="start", kind="small")
+    for at, state in enumerate(states):
+        is_known = state["values"] in known
+        text = "\n".join("%s=%s" % value for value in state["values"].items())
+        x = 14 + (at + 0.5) * wide + (8 if is_known else 0)
+        sheet.boxed(x, 62, text, "box" if is_known else "lit", wide=wide - 24, high=48)
+        sheet.text(x, 104, state["choices"], size=11, kind="small")
     return sheet.svg()
 
 

@@ -18,11 +18,13 @@ against them are
   choices for that run's order at that depth, and at one less it says which depth is needed;
 - of a forbidden one: its choices end without the outcome; the order has it, by its own read values, and `check` names
   the stated breach;
-- `sweep` over 1,000 seeds: how many meet the outcome; none of a forbidden one.
+- `sweep` over 1,000 seeds: how many meet the outcome; none of a forbidden one;
+- `counts` over the same seeds: all of them end; each miss and each upgrade is one request, and each miss is supplied once.
 
 The last line is 'N passed, M failed'.
 """
 import functools
+import json
 import os
 import re
 import sys
@@ -50,7 +52,7 @@ FAMILIES = {
     "Causality between three cores": "What one core has seen and passed on, and what a third core may still miss. Where some "
     "core of the chain stores and then loads, with neither fence nor locked instruction, the outcome is allowed; else it is "
     "forbidden.",
-    "Four cores and one order of stores": "All stores stand in one order, the same for every other core; the core that stores may read its own store early.",
+    "Four cores and one order of stores": "All stores have one order, the same for every other core; the core that stores may read its own store early.",
     "Coherence of one location": "Whatever the cores do, each location alone behaves as under sequential consistency.",
     "A core reads its own store early": "A load is given the newest store of its own core's buffer, before memory has it.",
     "Locked instructions are one step": "Nothing comes between the load part and the store part.",
@@ -63,7 +65,7 @@ HEAD = """# Gallery
 Litmus tests of the literature and of the processor manuals, and what becomes of each under total store order (TSO) and under sequential
 consistency (SC). `tests/gallery.py --write PROGRAM` makes this page of the files of `gallery/`: don't change it by hand.
 
-Each question is of one outcome, which is the test's condition. A fence is MFENCE, a locked exchange XCHG, a locked addition LOCK XADD.
+Each question asks about one outcome, which is the test's condition. A fence is MFENCE, a locked exchange XCHG, a locked addition LOCK XADD.
 
 **Allowed** means that some run ends in the outcome. `NAME.litmus` has choices that show it, with buffers of the smallest
 depth that the outcome needs. (An outcome that SC allows needs no buffer: its depth is given as 1.)
@@ -71,7 +73,8 @@ depth that the outcome needs. (An outcome that SC allows needs no buffer: its de
     ./tso run --depth 1 < examples/gallery/SB.litmus
 
 Its **picture** is this run, drawn by `view/index.html`: which stores waited, what passed them, and where each value came from.
-After the `#` of its address stands what `./tso run --depth 1 --json` prints.
+After the `#` its address has what `./tso run --depth 1 --json` prints. [Pictures of three tests](../docs/PICTURES.md) show where no script
+runs, as on a code host.
 
 **Forbidden** means that no run ends in it: `./tso outcomes` prints `Never` of it, which is a proof. `NAME.order` is an order that would
 show it, and `check` names [the first axiom that this order breaks](../docs/MESSAGES.md#breaches). That refuses this order alone.
@@ -91,7 +94,7 @@ The **verdicts** are those of `outcomes`, for SC with `--depth 0`: `Verdict Ok` 
 
     ./tso outcomes < examples/gallery/MP.litmus
 
-`tests/gallery.py PROGRAM` holds each row against `outcomes` and `why`, the program's runs, and a plain search of all runs.
+`tests/gallery.py PROGRAM` checks each row against `outcomes` and `why`, the program's runs, and a plain search of all runs.
 """
 
 CYCLES = """## The cycles of those that are forbidden
@@ -106,24 +109,24 @@ SOURCES = """## Sources
 - x86-TSO, Primer: the sources of [the definitions](../docs/DEFINITIONS.md). Herding cats: a source of
   [the models](../docs/MODELS.md).
 - x86-TSO report: Owens, Sarkar, Sewell: A Better x86 Memory Model: x86-TSO (extended version). University of Cambridge,
-  technical report 745, 2009. Its names iwp2.1 to iwp2.8 stand for the sections of Intel's white paper on memory ordering
-  of 2007.
+  technical report 745, 2009. Its names iwp2.1 to iwp2.8 are the sections of Intel's white paper on memory ordering of
+  2007.
 - Intel: Intel 64 and IA-32 Architectures Software Developer's Manual, volume 3A, memory ordering, examples 8-1 to 8-10. Later
   editions count the chapter as the ninth.
 - AMD: AMD64 Architecture Programmer's Manual, volume 2, multiprocessor memory access ordering. The examples have no numbers
   there; amd1 to amd10 are the x86-TSO report's names.
 - Power tutorial: Maranget, Sarkar, Sewell: A Tutorial Introduction to the ARM and POWER Relaxed Memory Models, 2012.
-- diy: the names that the tool diy of Alglave and Maranget gives. `+po`, `+mfence` say what stands between the two
+- diy: the names that the tool diy of Alglave and Maranget gives. `+po`, `+mfence` say what comes between the two
   instructions of each core in turn, and `+mfences` that a fence does on each. `rfi` says that a core reads its own store.
 - Lamport 1974: A New Solution of Dijkstra's Concurrent Programming Problem. Lamport 1987: A Fast Mutual Exclusion Algorithm.
-- Dijkstra 1965: Cooperating Sequential Processes, where Dekker's algorithm stands. Peterson 1981: Myths about the Mutual
+- Dijkstra 1965: Cooperating Sequential Processes, which has Dekker's algorithm. Peterson 1981: Myths about the Mutual
   Exclusion Problem. Szymanski 1988: A Simple Solution to Lamport's Concurrent Programming Problem with Linear Wait.
 - Chase and Lev 2005: Dynamic Circular Work-Stealing Deque. The thief's compare-and-swap is an exchange here, of a run in which
   it succeeds.
 - Morrison and Afek 2014: Fence-Free Work Stealing on Bounded TSO Processors.
 - A variant is this gallery's own: the named test with something put in or exchanged.
 
-A name that stands in brackets after its source is the source's. Those from diy are less sure: they were made by the rule above, and not
+A name in brackets after its source is the source's. Those from diy are less sure: they were made by the rule above, and not
 looked up in a list of diy's. Algorithms have no names as litmus tests: `Dekker`, `Szymanski`, `ChaseLev`, `Peterson`, `Bakery` and
 `FastMutex` are names of this gallery.
 """
@@ -205,7 +208,7 @@ def picture_of(program, piece):
 def cycles_of(program, piece):
     """The lines of a forbidden test's reason that say more than values do, those of the global relation first."""
     status, text = answer(program, ["why"], piece.text)
-    found = [line for word in ("Cycle", "Between", "Uniproc") for line in re.findall(r"^ *(%s .*)$" % word, text, re.MULTILINE)]
+    found = [line for word in ("Cycle", "Between", "Uniproc", "No") for line in re.findall(r"^(?:.*: | *)(%s .*)$" % word, text, re.MULTILINE)]
     return found if status == ENDED and "\nNever tso " in text else []
 
 
@@ -220,7 +223,7 @@ def page_of(program, all_pieces):
     unseen = ", ".join(piece.link for piece in allowed if piece.seen == 0)
     counts = len(all_pieces), len(allowed), len(all_pieces) - len(allowed)
     contents = ", ".join("[%s](#%s)" % (family, family.lower().replace(" ", "-")) for family in FAMILIES)
-    parts = [HEAD.replace("UNSEEN", unseen), "%d tests: TSO allows the outcome of %d and forbids that of %d.\n" % counts, contents + ".\n"]
+    parts = [HEAD.replace("UNSEEN", unseen), "%d tests: TSO allows the outcome of %d, and forbids it in %d.\n" % counts, contents + ".\n"]
     for family, about in FAMILIES.items():
         rows = [row_of(piece) for piece in all_pieces if piece.facts["Family"] == family]
         parts += ["## " + family + "\n", about + "\n", table(TITLES, rows)]
@@ -360,6 +363,16 @@ def faults_of_sweep(program, piece):
     return differs("status of sweep", status, ENDED) + differs("sweep's last line", report.splitlines()[-1:], [observation])
 
 
+def faults_of_counts(program, piece):
+    status, report = answer(program, ["counts", "--seeds", str(SEEDS), "--json"], piece.text)
+    found = json.loads(report) if report.startswith("{") else {"cores": None, "runs": {}}
+    faults = differs("status of counts", status, ENDED) + differs("runs of counts that ended", found["runs"].get("ended"), SEEDS)
+    for core in found["cores"] or []:
+        misses, upgrades, *moved = (core[name]["sum"] for name in ("misses", "upgrades", "get_s", "get_m", "from_caches", "from_memory"))
+        faults += differs("requests", sum(moved[:2]), misses + upgrades) + differs("supplied lines", sum(moved[2:]), misses)
+    return faults
+
+
 def faults_of_why(program, piece):
     """Of x86-TSO and of sequential consistency: an execution where it is allowed, else a reason, which has a cycle."""
     words = [(model, verdict, answer(program, ["why", "--model", model], piece.text)[1].splitlines()[1:2])
@@ -380,6 +393,7 @@ def rows_of(piece):
     else:
         yield "order", lambda program: faults_of_order(program, piece)
     yield "sweep", lambda program: faults_of_sweep(program, piece)
+    yield "counts", lambda program: faults_of_counts(program, piece)
 
 
 def check(words):

@@ -6,6 +6,7 @@ import shutil
 import subprocess
 import tempfile
 
+import why_forms
 from reference import candidates, orders, reading
 from scripts import COULD_NOT, script
 from tool_runs import GALLERY, described, gallery, tool
@@ -79,7 +80,13 @@ def fault_of_reason(graph, program, text):
         run = answer(program, ["run", "--json", "--depth", "32"], text.partition("====")[0] + "====\n" + value["choices"])
         order = [orders.entry_of(line.encode(), test) for line in run["order"]]
         return faults_of_candidate(graph.picture_of(value, 1).text(), candidates.candidate_of(test, order))
-    leaves = [step for step in value["steps"] if step["step"] in ("cycle", "uniproc", "between")]
+    return fault_of_leaves(graph, value)
+
+
+def fault_of_leaves(graph, value):
+    """Each picture of a reason has the events and edges of its cycle, bold and no others."""
+    closings = [step.get("closing") or step for step in value["steps"]]
+    leaves = [step for step in closings if step["step"] in ("cycle", "uniproc", "between")]
     for number, step in enumerate(leaves, 1):
         picture = graph.picture_of(value, number).text()
         bold = {found[:3] for found in EDGE.findall(picture) if found[3]}
@@ -91,6 +98,13 @@ def fault_of_reason(graph, program, text):
         if bold != due:
             return "bold edges %s, and not %s" % (sorted(bold), sorted(due))
     return None
+
+
+def fault_of_answers(graph):
+    """Facts on the way to a leaf are edges of its picture, where they are of its events; an answer that stands beside others is none."""
+    found = [sorted(edge[:3] for edge in EDGE.findall(graph.picture_of(why_forms.SHORT, leaf).text()) if not edge[3]) for leaf in (1, 2)]
+    due = [[], [("P1_3_W", "P0_0_W", "co")]]
+    return None if found == due else "edges of answers %s, and not %s" % (found, due)
 
 
 def judge_ends(tally):
@@ -128,5 +142,8 @@ def judge(program, tally):
     for name, text in gallery():
         for what, fault in (("run", fault_of_run), ("reason", fault_of_reason)):
             tally.add("the picture of the %s of %s" % (what, name), fault(graph, program, text))
+    for form in (why_forms.NEVER, why_forms.SHORT):
+        tally.add("the pictures of a reason that is made", fault_of_leaves(graph, form))
+    tally.add("the answers of a reason that is made", fault_of_answers(graph))
     judge_ends(tally)
     judge_svg(program, tally)

@@ -326,7 +326,8 @@ def gallery_at_depths(calls):
 
 # Cells that the program refuses, with what import says where it takes another form of the name.
 CELLS = ("SFENCE", "LFENCE", "NOP", "PAUSE", "CMP EAX,$1", "JMP L", "INC [x]", "ADD [x],$1", "XOR EAX,EAX", "LOCK INC [x]",
-         "LOCK ADD [x],$1", "LOCK DEC [x]", "LOCK SUB [x],$1", "LOCK CMPXCHG [x],EAX", "LOCK BTS [x],$1")
+         "LOCK ADD [x],$1", "LOCK DEC [x]", "LOCK SUB [x],$1", "LOCK CMPXCHG [x],EAX", "LOCK BTS [x],$1", "ADD EAX,$1", "XOR EAX,EBX",
+         "NEG ECX")
 
 
 def cures(calls):
@@ -334,7 +335,7 @@ def cures(calls):
     for cell in CELLS:
         text = SB.replace("MOV [x],$1", cell, 1)
         said = subprocess.run([calls.program, "run"], input=text.encode(), capture_output=True).stderr.decode()
-        cure = re.sub(r"^hint: line \d+: ", "", said.strip())
+        cure = re.sub(r"^hint: line \d+: (?:'%s': )?" % re.escape(cell), "", said.strip())
         done = calls.call("import", calls.write("t.litmus", text))
         if not cure or "%s: %s" % (cell, cure) not in done.stderr.replace(" (import --leave-out does)", ""):
             return "%s: %s, and the program: %s" % (cell, described(done), said)

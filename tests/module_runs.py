@@ -53,6 +53,8 @@ def judge_json(program, tally):
                 ("outcomes, all", tso.outcomes(text, show="all", program=program), ["outcomes", "--show", "all"], alone),
                 ("outcomes, none asked", tso.outcomes(bare, show="registers", program=program), ["outcomes", "--show", "registers"], bare),
                 ("run", tso.run(text, CHOICES, bus="split", depth=2, program=program), ["run", "--bus", "split", "--depth", "2"], asked),
+                ("counts", tso.counts(text, seeds=3, bus="split", program=program), ["counts", "--seeds", "3", "--bus", "split"], alone),
+                ("counts of given choices", tso.counts(text, CHOICES, words=2, program=program), ["counts", "--given", "--words", "2"], asked),
                 ("trace", tso.trace(litmus.read_test(text), CHOICES, program=program), ["trace"], asked)):
             said = json.loads(printed(program, words + ["--json"], given))
             tally.add("tso.%s of %s" % (function, name), None if fits(plain(answer), said) else "%s is not %s" % (answer, said))
@@ -121,7 +123,7 @@ def judge_faults(program, tally, room):
 def judge_reasons(program, tally, room):
     """Answers of why are the objects of their JSON; a program without the command has none."""
     program = why_forms.program(room, program)
-    for given, kind in ((why_forms.NEVER, tso.Never), (why_forms.ALLOWED, tso.Allowed)):
+    for given, kind in ((why_forms.NEVER, tso.Never), (why_forms.SHORT, tso.Never), (why_forms.ALLOWED, tso.Allowed)):
         answer = tso.why("X86 %s\n" % given["test"], model="tso", program=program)
         said = {name: value for name, value in given.items() if name != "answer"}
         tally.add("tso.why of " + given["test"], None if type(answer) is kind and fits(plain(answer), said) else str(answer))

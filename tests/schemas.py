@@ -24,8 +24,8 @@ import judging
 import rows
 
 # The commands that print JSON, each with its schema; and the command lines that the examples and the gallery are asked with.
-COMMANDS = ("run", "trace", "outcomes", "why")
-LINES = COMMANDS + ("outcomes --show all",)
+COMMANDS = ("run", "trace", "counts", "outcomes", "why")
+LINES = COMMANDS + ("outcomes --show all", "counts --given", "counts --seeds 2 --length 8 --bus split")
 
 # So many places of an answer are spoiled at most. A place is spoiled so often, and then one in so many times.
 MOST_PLACES = 150

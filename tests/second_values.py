@@ -1,5 +1,6 @@
 """What the second program (tests/reference) makes of definitions: for each of them a function of the values of tests/worked_terms.py."""
-from reference import axioms, candidates, choices, conditions, lexing, litmus, machine, reading, refutations, witness
+from reference import (axioms, candidates, choices, conditions, lexing, litmus, machine, possible, reading, refutations, short_refutations,
+                       witness)
 from reference.orders import Entry
 from worked_terms import NONE, TRUE, Made, Record, curried, truth
 
@@ -282,6 +283,83 @@ def refutes(model, t, claim, nodes):
     return truth(not left)
 
 
+# ---- short refutations
+
+def optional_event(made):
+    return None if made == NONE else candidates.bare(entry_of(made[1]))
+
+
+def fact_of(made):
+    name, *given = made
+    if name == "Before":
+        return possible.Before(*map(entry_of, given))
+    if name == "Holds":
+        return possible.Holds(possible.paired(proposition_of(given[0])), given[1] == TRUE)
+    if name == "From":
+        return possible.From(entry_of(given[0]), optional_event(given[1]), given[2] == TRUE)
+    return getattr(possible, name)(entry_of(given[0]), *given[1:-1], given[-1] == TRUE)
+
+
+# The closings, by their nodes.
+CLOSING_NODES = {"OnLocation": "uniproc", "Globally": "cycle", "Between": "between", "ByLemma": "lemma"}
+
+
+def answers_at(judging, board, name, given):
+    """The answers to a question, each as its facts; none of a closing. Raises `Wrong` where the node may not stand here."""
+    if name == "Asks":
+        return [[fact_of(given[0])], [possible.opposite(fact_of(given[0]))]]
+    if name == "HasCase":
+        return judging.programs.cases_of(*board.facts[given[0]])
+    questions = {"ReadsFrom": (short_refutations.sources_of, entry_of), "ReadsValue": (short_refutations.values_of, entry_of),
+                 "ComesLast": (short_refutations.lasts_of, int), "IsReadBy": (short_refutations.readers_of, int, optional_event)}
+    if name in questions:
+        asked, *readers = questions[name]
+        return asked(board, *(read(one) for read, one in zip(readers, given)))
+    words = {"OnLocation": lambda: map(entry_of, given[0]), "Globally": lambda: map(entry_of, given[0]), "Between": lambda: map(entry_of, given),
+             "ByLemma": lambda: [given[0] + 1]}
+    is_so = judging.first_false(board) is not None if name == "FalseClaim" else judging.is_so(board, CLOSING_NODES[name], *words[name]())
+    if not is_so:
+        raise refutations.Wrong("a closing that isn't so")
+    return []
+
+
+def close(judging, board, nodes):
+    """Whether these nodes are a tree for the branch, and no more."""
+    boards = [board]
+    for name, *given in nodes:
+        if not boards:
+            return False
+        board = boards.pop(0)
+        boards = [judging.programs.board(tuple(answer) + board.facts) for answer in answers_at(judging, board, name, given)] + boards
+    return not boards
+
+
+def refutes_shortly(model, t, claim, lemmas, nodes):
+    test = test_of(t)
+    test.quantifier, test.proposition = "exists", proposition_of(claim)
+    judging = short_refutations.Judge(test, MODELS[model[0]])
+    try:
+        for lemma in lemmas:
+            facts = list(map(fact_of, lemma["facts"]))
+            if not close(judging, judging.board(facts), lemma["tree"]):
+                return truth(False)
+            judging.lemmas.append(short_refutations.Lemma(facts, None, None))
+        return truth(close(judging, judging.board(), nodes))
+    except (refutations.Wrong, IndexError):
+        return truth(False)
+
+
+def optional(value):
+    return NONE if value is None else Made(("Some", value))
+
+
+def readings(t, facts):
+    """What the facts leave possible for each read, as rounds tell it."""
+    rows = possible.Programs(test_of(t)).board(tuple(map(fact_of, facts))).rows
+    return tuple(Record(read=entry_value(read), sources=tuple(optional(source and entry_value(source)) for source in sources),
+                        values=optional(None if values is None else tuple(values))) for read, (sources, values) in rows.items())
+
+
 VOICES = {
     ("worked_examples.specs.RefusedTexts", "told"): told,
     ("litmus_reader.specs.Spelling", "SpellsTest"): curried(2, spells_test),
@@ -298,6 +376,8 @@ VOICES = {
     ("tso_laws.specs.Along", "choices_along"): curried(2, lambda t, order: tuple(
         map(choice_value, witness.choices_along(test_of(t), list(map(entry_of, order)))))),
     ("refutation_laws.specs.Refutations", "refutes"): curried(4, refutes),
+    ("short_refutations.specs.Refutations", "refutes"): curried(5, refutes_shortly),
+    ("possible_reads.specs.Possible", "readings"): curried(2, readings),
     ("relational_model.specs.Model", "IsAllowed"): curried(2, lambda t, c: not faults(candidates.TSO, t, c)),
     ("relational_model.specs.Model", "IsForbidden"): curried(2, is_forbidden),
     ("relational_model.specs.Model", "IsForbiddenByUniproc"): curried(2, lambda t, c: faults(candidates.TSO, t, c) == [UNIPROC_ALONE]),

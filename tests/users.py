@@ -5,8 +5,8 @@
     tests/users.py --list            each of them with what takes it up
     tests/users.py --renew TREE..    writes tests/data/silent_users.list anew, from what checks left in these trees
 
-What is looked at are the fields of the records that a promise of README.md, docs/REFERENCE.md or docs/PROVED.md reaches
-(tests/believed.py), and the clauses of the public functions that these pages name, with a name or without. Such a thing is taken up
+What is looked at are the fields of the records that a promise of README.md, docs/REFERENCE.md, docs/PROVED.md or docs/READING.md
+reaches (tests/believed.py), and the clauses of the public functions that these pages name, with a name or without. Such a thing is taken up
 
 - by a proof, a lemma or a definition that says `x.field`, `c.call.ensures.clause`, or `c.call.ensures` of a clause without a name
   (tests/proof_texts.py, by the texts alone);
@@ -31,7 +31,7 @@ from judging import TOP
 
 SILENT = os.path.join(TOP, "tests", "data", "silent_users.list")
 # Users are themselves the worked examples, and the functions of `promises` that are no laws, with the definitions that they alone use.
-USERS_THEMSELVES = re.compile(r"worked_examples/|promises/(?:src/(?!laws_of_)|specs/(?:Locked|Searched|Sources|inner))")
+USERS_THEMSELVES = re.compile(r"worked_examples/|promises/(?:src/(?!laws_of_)|specs/(?:Counted|Locked|Searched|Sources|inner))")
 
 # Nothing in Rattle calls the page's exports: the edits of tests/data/edits/page_exports, which the prover has to refuse, hold them.
 HELD_BY_EDITS = "page_exports"

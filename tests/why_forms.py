@@ -29,6 +29,20 @@ NEVER = {
         step("false", 1, places={"1:EBX": [1]}),
         step("endcases", 0)]}
 
+# A refutation by facts: what is given, a lemma, cases that their lines close, and one that has a part.
+SHORT = {
+    "answer": "never", "asked": ASKED, "leaves": 4, "model": "tso", "test": "passed", "verdict": "No", "steps": [
+        dict(step="given", facts=["P1:0 R y not 0", "P2:0 R z=1", "P2:1 R x=0"]),
+        dict(step="never", lemma=1, facts=["P0:0 W x=1 before P1:3 W x=2", "P2:1 R x=0"]),
+        step("leaf", 1, closing=dict(step="none", question="source", of="P2:1 R x=0")),
+        step("case", 0, question="", answers=[["P0:0 W x=1 before P1:3 W x=2"]], closing=dict(step="cycle", cycle=edges(
+            "P0:0 W x=1", "po", "P0:1 W y=1", "rf", "P1:0 R y=1", "po", "P1:1 W z=1", "rf", "P2:0 R z=1", "po", "P2:1 R x=0", "fr"))),
+        step("so", 0, question="", answers=[["P1:3 W x=2 before P0:0 W x=1"]], closing=None),
+        step("case", 0, question="reader", answers=[["P0:3 LR x=0 from initial"], ["P1:2 LR x=0 from initial"]],
+             closing=dict(step="false", places={"0:EAX": [0], "x": [1, 2]})),
+        step("so", 0, question="reader", answers=[["P2:2 LR x=0 from initial"]], closing=dict(
+            step="between", read="P2:2 LR x=0", between="P0:0 W x=1", write="P2:2 LW x=1"))]}
+
 ALLOWED = {
     "answer": "allowed", "asked": ASKED, "choices": "0s 0s 1s 1s 0d 1d", "coherence": {"x": ["P0:0 W x=1"], "y": ["P1:0 W y=1"]},
     "model": "tso", "sources": [{"read": "P0:1 R y=0", "write": "initial"}, {"read": "P1:1 R x=0", "write": "initial"}], "test": "SB",
@@ -41,7 +55,7 @@ def program(room, other):
     """A program that has these answers to why, by the tests' names, with `why` among the commands of its help, and answers else as the
     other one does."""
     path, cases = os.path.join(room, "with-why"), ""
-    for answer, status in ((NEVER, 0), (ALLOWED, 0), (UNFINISHED, 3)):
+    for answer, status in ((NEVER, 0), (SHORT, 0), (ALLOWED, 0), (UNFINISHED, 3)):
         told = write(os.path.join(room, answer["test"] + ".why"), json.dumps(answer) + "\n")
         cases += '  "X86 %s"*) cat %s; exit %d ;;\n' % (answer["test"], told, status)
     write(path, """#!/bin/sh

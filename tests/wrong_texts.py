@@ -221,6 +221,38 @@ def calls_function(parts):
                           "atomic_store_explicit(&x, 1, memory_order_relaxed)", "smp_store_release(x, 1)", "__atomic_load_n(&y, 5)")
 
 
+def stands_in_intel_syntax(parts):
+    return parts.put_cell("mov dword ptr [rip + x], 1", "mov DWORD PTR y[rip], 2", "mov eax, dword [rel y]", "mov dword ptr ds:[x], ecx",
+                          "mov x, 1", "mov ebx, z", "xchg dword ptr [x], eax", "XACQUIRE LOCK XCHG [y],ECX", "mov [x], 'B'", "mov [z], 10h")
+
+
+def stands_in_c(parts):
+    return parts.put_cell("x = 1", "*y = 2", "int r0 = y", "r1 = *x", "z = x", "x++", "y += 2", "x.store(1, Ordering::Relaxed)",
+                          "let r0 = y.load(Ordering::Acquire)", "atomic_fetch_add(&x, 1)", "y.exchange(1)", "smp_mb()", "spin_unlock(&z)",
+                          "atomic_store(&x, 1)", "asm volatile(\"mfence\" ::: \"memory\")")
+
+
+def ends_cell_as_in_c(parts):
+    """A statement of C stands in a cell with its end."""
+    parts.cores = 2
+    parts.rows = [[parts.cell(), parts.cell()]]
+    statement = parts.chance.choice(("x = 1", "smp_mb()", "WRITE_ONCE(y, 2)", "r0 = READ_ONCE(x)", "int r1 = z",
+                                     "std::atomic_thread_fence(std::memory_order_seq_cst)"))
+    parts.rows[0][0] = statement + ";"
+    return parts.text()
+
+
+def has_word_behind(parts):
+    row = parts.chance.choice(parts.rows)
+    core = parts.chance.randrange(parts.cores)
+    row[core] = parts.chance.choice(("MOV [x],$1", "MOV EAX,[y]", "XCHG [z],EBX")) + " " + parts.chance.choice(("PodWR", "Fre", "rel"))
+    return parts.text()
+
+
+def has_lines_above(parts):
+    return parts.chance.choice(("$ cat sb.litmus\n", "Here is the test:\n\n", "#include <stdio.h>\n", "section .text\n")) + parts.text()
+
+
 def begins_name_with_digit(parts):
     name = "%d%s" % (parts.chance.randrange(10), parts.chance.choice("abyz"))
     return parts.chance.choice((
@@ -255,7 +287,7 @@ def has_other_cells(parts):
 
 def asks_otherwise(parts):
     """The condition begins with another word."""
-    word = parts.chance.choice(("exits", "exsits", "never", "always", "assert", "for all", "allowed", "forbidden"))
+    word = parts.chance.choice(("exits", "exsits", "never", "always", "assert", "for all", "allowed", "forbidden", "cases", "not"))
     return re.sub(r"\bexists\b", word, parts.text())
 
 
@@ -301,7 +333,8 @@ def writes_choices_otherwise(parts):
 SLIPS = (adds_after_lock, computes, jumps, names_label, says_size, does_nothing, says_pointer, moves_between_locations, names_core,
          is_not_ascii, begins_comment, divides_otherwise, has_two_tests, has_other_register, has_other_register_in_cell, has_other_header,
          has_address, has_source_first, has_round_brackets, has_bare_location, takes_address, has_dollar, exchanges_registers,
-         calls_function, begins_name_with_digit, has_no_value, compares_places, has_values, has_other_cells, asks_otherwise, leaves_open,
+         calls_function, stands_in_intel_syntax, stands_in_c, ends_cell_as_in_c, has_word_behind, has_lines_above,
+         begins_name_with_digit, has_no_value, compares_places, has_values, has_other_cells, asks_otherwise, leaves_open,
          splits_otherwise, ends_no_row, has_signed_number, stands_in_markdown, writes_choices_otherwise)
 
 

@@ -1,14 +1,7 @@
 """What a test's text says of itself, and what the program `tso` answers to it."""
 import re
-import time
 
 import tso
-
-# What a core's cache counts in a run, in the order of the report.
-COUNTS = ("hits", "misses", "upgrades", "forwards", "write_backs", "flushes")
-
-# Choices of a run whose length nobody names.
-LENGTH = 1000
 
 
 def name_of(text):
@@ -79,35 +72,13 @@ def observed(found):
 
 def counts(program, text, options, first, seeds, limit):
     """What the caches did in the runs of these seeds that ended: `cores`, for each core by the count's name the `sum`, the `least` and the
-    `greatest`, None where no run ended; how many `ended` and how many were `unfinished`; or `fault`. Of the options `--length` is how many
-    choices a seed makes."""
-    options, until = list(options), time.monotonic() + limit
-    at = options.index("--length") if "--length" in options else None
-    length = options[at + 1] if at is not None else str(LENGTH)
-    if at is not None:
-        del options[at:at + 2]
-    found = {"cores": None, "ended": 0, "unfinished": 0}
-    for seed in range(first, first + seeds):
-        try:
-            left = until - time.monotonic()
-            if left <= 0:
-                raise tso.TookTooLong(limit)
-            run = tso.run(text, "seed %d %s" % (seed, length), program=program, further=options, limit=left)
-        except tso.Unfinished:
-            found["unfinished"] += 1
-            continue
-        except tso.TookTooLong:
-            return {"fault": str(tso.TookTooLong(limit))}
-        except tso.NoAnswer as fault:
-            return {"fault": str(fault)}
-        found["ended"] += 1
-        found["cores"] = counts_of_cores(found["cores"], [count_of(cache) for cache in run.cache])
-    return found
-
-
-def count_of(cache):
-    """What a cache did in one run, as counts over runs."""
-    return {name: dict.fromkeys(("sum", "least", "greatest"), getattr(cache, name)) for name in COUNTS}
+    `greatest`, None where no run ended; how many `ended` and how many were `unfinished`; or `fault`."""
+    try:
+        found = tso.counts(text, from_=first, seeds=seeds, program=program, further=options, limit=limit)
+    except tso.NoAnswer as fault:
+        return {"fault": str(fault)}
+    cores = found.cores and [{name: dict(vars(spread)) for name, spread in vars(core).items()} for core in found.cores]
+    return {"cores": cores, "ended": found.runs.ended, "unfinished": found.runs.unfinished}
 
 
 def counts_of_cores(first, second):

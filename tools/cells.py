@@ -42,7 +42,7 @@ def cell_in(text):
     lock, mnemonic, rest = bool(word.group(1)), word.group(2).lower(), word.group(3)
     form = re.fullmatch(r"(mov|xchg|xadd)([lqwb]?)|mfence", mnemonic)
     if not form or lock and mnemonic == "mfence":
-        told = remedies.remedy(mnemonic, lock) or "MOV, MFENCE, XCHG and LOCK XADD alone are read"
+        told = remedies.remedy(text, mnemonic, lock) or "MOV, MFENCE, XCHG and LOCK XADD alone are read"
         raise Fault("%s: %s" % (text, told), "the instruction %s" % mnemonic.upper())
     if mnemonic == "mfence":
         if rest:

@@ -5,7 +5,7 @@ import json
 
 import answers
 
-# Seeds of one call of `tso sweep`, at most.
+# Seeds of one call of `tso sweep` and of `tso counts`, at most.
 MOST_SEEDS = 1000
 
 

@@ -29,43 +29,96 @@ function verdictWords(verdict) {
 const sourceText = source => (source === 'initial' ? 'the initial value' : `what ${source} writes`);
 const eitherOf = words => (words.length < 2 ? words.join('') : `${words.slice(0, -1).join(', ')} or ${words.at(-1)}`);
 
-/** What a step of a reason says. */
-const STEP_SENTENCES = {
-  case: step => (step.read ? `If ${step.read} reads ${eitherOf(step.from.map(sourceText))}` : `If ${step.first} reaches memory before ${step.second}`),
-  so: step => (step.read ? `So ${step.read} reads ${eitherOf(step.from.map(sourceText))}.` : `So ${step.first} reaches memory before ${step.second}.`),
+/** What closes a case says. */
+const CLOSING_SENTENCES = {
   cycle: ({ cycle }) => `It can't be: ${cycle[0].from} would be before itself.`,
   uniproc: ({ cycle }) => `It can't be: among the accesses to one location, ${cycle[0].from} would be before itself.`,
   between: ({ between, read }) => `It can't be: ${between} would come between the two parts of the locked instruction ${read.split(' ')[0]}.`,
-  false: ({ places }) => `Then ${listed(Object.entries(places).map(([place, words]) => `${placeName(place)} ends as ${eitherOf(words.map(String))}`))}, which isn't what is asked for.`,
-  endcases: () => 'No other case is left.',
+  false: ({ places }) => `Then ${Object.keys(places).length === 0 ? 'whatever is left' : listed(Object.entries(places).map(([place, words]) => `${placeName(place)} ends as ${words.length === 0 ? 'nothing' : eitherOf(words.map(String))}`))}, which isn't what is asked for.`,
+  none: step => (Object.hasOwn(NO_ANSWERS, step.question) ? `It can't be: ${NO_ANSWERS[step.question](step.of)}.` : plainStep(step)),
+  lemma: ({ lemma }) => `It can't be, by lemma ${lemma}.`,
 };
+
+/** What is left of a question that has no answer. */
+const NO_ANSWERS = {
+  source: read => `nothing is left that ${read} can read`,
+  value: read => `no value is left that ${read} can return`,
+  reader: word => `no locked instruction can read ${word.endsWith(' initial') ? `the initial value of ${word.split(' ')[0]}` : `what ${word} writes, and it isn't the last write`}`,
+  last: location => `no write to ${location} can be the last one`,
+};
+
+/** What a step of a reason says. */
+const STEP_SENTENCES = {
+  case: step => (step.answers ? `If ${answersWords(step.answers)}${step.closing ? `: ${lowered(closingSentence(step.closing))}` : ''}` : step.read ? `If ${step.read} reads ${eitherOf(step.from.map(sourceText))}` : `If ${step.first} reaches memory before ${step.second}`),
+  so: step => (step.answers ? `So ${answersWords(step.answers)}${step.closing ? `: ${lowered(closingSentence(step.closing))}` : '.'}` : step.read ? `So ${step.read} reads ${eitherOf(step.from.map(sourceText))}.` : `So ${step.first} reaches memory before ${step.second}.`),
+  endcases: () => 'No other case is left.',
+  given: ({ facts }) => `What is asked for gives that ${listed(facts.map(factWords))}.`,
+  never: ({ lemma, facts }) => `Lemma ${lemma}: it can't be that ${listed(facts.map(factWords))}.`,
+  leaf: ({ closing }) => closingSentence(closing),
+  ...CLOSING_SENTENCES,
+};
+
+const EVENT_FORM = 'P\\d:\\d+ (?:LR|LW|R|W) \\w+(?:=\\d+)?';
+const factForm = form => new RegExp(`^${form.replaceAll('EVENT', EVENT_FORM)}$`);
+
+/** What a fact says, by its form; any other one is a proposition. */
+const FACTS = [
+  [factForm('(EVENT) (not )?from (initial|EVENT)'), (read, not, source) => `${read} ${not ? 'doesn\'t read' : 'reads'} ${sourceText(source)}`],
+  [factForm('(EVENT) before (EVENT)'), (first, second) => `${first} reaches memory before ${second}`],
+  [factForm('(EVENT) (not )?last'), (write, not) => `${write} is ${not ? 'not ' : ''}the last write to its location`],
+  [factForm('(P\\d:\\d+ L?R \\w+)(=| not )(\\d+)'), (read, sign, word) => `${read} ${sign === '=' ? 'returns' : 'doesn\'t return'} ${word}`],
+  [factForm('(\\d:\\w+|\\w+)(=| not )(\\d+)'), (place, sign, word) => `${placeName(place)} ${sign === '=' ? 'ends' : 'doesn\'t end'} as ${word}`],
+];
+
+/** A fact in words. */
+function factWords(text) {
+  for (const [form, words] of FACTS) {
+    const found = form.exec(text);
+    if (found) return words(...found.slice(1));
+  }
+  return `${text} is true`;
+}
+
+/** Answers to a question in words: one of these, each all of its facts. */
+function answersWords(answers) {
+  const words = answers.map(facts => listed(facts.map(factWords)));
+  return answers.some(facts => facts.length > 1) ? words.join('; or ') : eitherOf(words);
+}
+
+const lowered = sentence => sentence[0].toLowerCase() + sentence.slice(1);
 
 const placeName = place => place.replace(/^(\d):(\w+)$/, 'P$1\'s $2');
 
 /** A step that the page doesn't know, as a module that is newer may tell it: its name and what it holds. */
 const plainStep = ({ step: name, depth, ...held }) => `${name}: ${Object.values(held).map(value => (typeof value === 'string' ? value : JSON.stringify(value))).join(' ')}`;
-const stepSentence = step => (Object.hasOwn(STEP_SENTENCES, step.step) ? STEP_SENTENCES[step.step](step) : plainStep(step));
+const sentenceBy = (sentences, step) => (Object.hasOwn(sentences, step.step) ? sentences[step.step](step) : plainStep(step));
+const stepSentence = step => sentenceBy(STEP_SENTENCES, step);
+const closingSentence = closing => sentenceBy(CLOSING_SENTENCES, closing);
 
-/** The steps as a tree: a case has in `parts` all that is told of it. */
+/** What closes the case of a step, if it does: it stands in the step, or is the step. */
+const closingOf = step => step.closing ?? step;
+const hasPart = step => step.step === 'never' || (step.step === 'case' && !step.closing);
+
+/** The steps as a tree: a lemma, and a case that its own line doesn't close, have in `parts` all that is told of them. */
 function treeOf(steps) {
   const roots = [], open = [roots]; // `open[depth]` takes what comes at this depth
   for (const step of steps) {
-    const node = step.step === 'case' ? { step, parts: [] } : { step };
-    open.length = step.depth + 1;
-    open[step.depth].push(node);
+    const node = hasPart(step) ? { step, parts: [] } : { step }, depth = step.depth ?? 0;
+    open.length = depth + 1;
+    open[depth].push(node);
     if (node.parts) open.push(node.parts);
   }
   return roots;
 }
 
 /** The cycles of a reason, each with the number of its step. */
-const cyclesOf = steps => steps.map(({ cycle }, at) => ({ cycle, at })).filter(({ cycle }) => cycle !== undefined);
+const cyclesOf = steps => steps.map((step, at) => ({ cycle: closingOf(step).cycle, at })).filter(({ cycle }) => cycle !== undefined);
 
 /** A tree as nested lists, of which each case folds. A cycle has a button that draws it. */
 function treeList(nodes, steps, isOpen) {
   return html('ul', { class: 'cases' }, ...nodes.map(({ step, parts }) => {
     if (parts) return html('li', {}, html('details', isOpen ? { open: '' } : {}, html('summary', {}, stepSentence(step)), treeList(parts, steps, isOpen)));
-    const draw = step.cycle ? [' ', html('button', { type: 'button', 'data-cycle': steps.indexOf(step), 'aria-pressed': 'false' }, 'Draw it')] : [];
+    const draw = closingOf(step).cycle ? [' ', html('button', { type: 'button', 'data-cycle': steps.indexOf(step), 'aria-pressed': 'false' }, 'Draw it')] : [];
     return html('li', { class: `step-${step.step}` }, stepSentence(step), ...draw);
   }));
 }

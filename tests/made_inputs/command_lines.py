@@ -13,6 +13,7 @@ BAD_LINES = [line.split() for line in """
     run --help
     trace --help
     sweep --help
+    counts --help
     check --help
     witness --help
     outcomes --help
@@ -61,6 +62,19 @@ BAD_LINES = [line.split() for line in """
     sweep --seeds 1001
     sweep --length 100001
     sweep --json
+    counts --given --seeds 5
+    counts --from 1 --given
+    counts --json --length=5 --given
+    counts --given=true
+    counts --given --given
+    counts --words 3
+    counts --given --words=3
+    counts --seeds 0
+    counts --length 100001
+    counts --show all
+    counts --assert
+    run --given
+    sweep --given
     run --seeds 5
     trace --seeds 5
     run --from 1
@@ -148,12 +162,27 @@ def trace_as_json(draw, **fixed):
     return ["trace"] + joined(draw, machine_options(draw, **fixed) + [["--json"]])
 
 
-def sweep(draw, first, seeds, length, **fixed):
+def sweep(draw, *plan, **fixed):
+    return ["sweep"] + joined(draw, machine_options(draw, **fixed) + plan_options(draw, *plan))
+
+
+def counts(draw, *plan, **fixed):
+    return ["counts"] + joined(draw, machine_options(draw, **fixed) + plan_options(draw, *plan) + sometimes(draw, "--json"))
+
+
+def counts_of_given(draw, **fixed):
+    """What caches do in the one run whose choices stand in the input."""
+    return ["counts"] + joined(draw, machine_options(draw, **fixed) + [["--given"]] + sometimes(draw, "--json"))
+
+
+def plan_options(draw, first, seeds, length):
     """A plan's three numbers are None where nothing is said of them."""
-    options = machine_options(draw, **fixed)
     plan = (("from", first), ("seeds", seeds), ("length", length))
-    options += [option(draw, name, value) for name, value in plan if value is not None]
-    return ["sweep"] + joined(draw, options)
+    return [option(draw, name, value) for name, value in plan if value is not None]
+
+
+def sometimes(draw, word):
+    return [[word]] if draw.random() < 0.5 else []
 
 
 def outcomes(draw, depth=None, states=None):
@@ -193,4 +222,4 @@ def tables(draw, turn):
 def any_with_a_test(draw, searched=False):
     """A command that reads a test, with some of its options; `outcomes` and `why` too where that is asked for."""
     searches = [outcomes(draw, 32), why(draw)] if searched else []
-    return draw.choice([run(draw), ["check"], judge(draw, 4), sweep(draw, 0, 3, 50)] + searches)
+    return draw.choice([run(draw), ["check"], judge(draw, 4), sweep(draw, 0, 3, 50), counts(draw, 0, 3, 50)] + searches)

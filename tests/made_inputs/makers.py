@@ -207,7 +207,8 @@ class Maker:
 
     def faulty_choices(self):
         text, test = self.test(size=self.draw.choice(SMALL))
-        return self.run_of(text, test, lambda draw, test: choice_texts.faulty_choices(draw, test, self.turn))
+        words, given = self.run_of(text, test, lambda draw, test: choice_texts.faulty_choices(draw, test, self.turn))
+        return words if self.turn % 5 else command_lines.counts_of_given(self.draw), given
 
     def a_faulty_order(self):
         text, test = self.test(size=(2, 3, 2), names=PLAIN_NAMES[:2])
@@ -271,7 +272,7 @@ class Maker:
             return ["check"], text
         return self.judged(text, test, order_texts.mutated(self.draw, test, self.order_of(test), self.turn))
 
-    # Sweeps, lines and the rest.
+    # Sweeps, counts, lines and the rest.
 
     def a_sweep(self):
         """A test whose cores race, as a rule, under seeds enough to show it; and plans at their limits."""
@@ -281,6 +282,18 @@ class Maker:
         text, test = self.test(size=self.draw.choice(RACING), kinds=kinds, names=names, full=full, cores=self.cores(), asked=0.7)
         first, seeds, length = self.plan(80 if test is None else 8 * test.cores() * choice_texts.work_of(test))
         words = command_lines.sweep(self.draw, first, seeds, length, depth=self.turn % 33 if self.turn % 2 else None)
+        return words, text if self.draw.random() < 0.7 else self.joined(text, "x y z\n====\n")
+
+    def a_count(self):
+        """A test whose cores race for few lines, under seeds; or, every fourth time, under choices that are given."""
+        kinds = self.draw.choice(("store load", "store load exchange add", "load load store", "load add")).split()
+        text, test = self.test(size=self.draw.choice(RACING + SPLIT), kinds=kinds, full=self.draw.random() < 0.8, cores=self.cores())
+        depth = self.turn % 33 if self.turn % 2 else None
+        if self.turn % 4 == 3:
+            words = command_lines.counts_of_given(self.draw, depth=depth)
+            return words, text if test is None else self.joined(text, choice_texts.choices(self.draw, test))
+        plan = self.plan(80 if test is None else 8 * test.cores() * choice_texts.work_of(test))
+        words = command_lines.counts(self.draw, *plan, depth=depth)
         return words, text if self.draw.random() < 0.7 else self.joined(text, "x y z\n====\n")
 
     def plan(self, length):
@@ -320,8 +333,8 @@ class Maker:
 # Of so many inputs in a row, how many there are of each kind.
 SHARES = (
     (Maker.a_run, 12), (Maker.a_crowded_run, 7), (Maker.a_shallow_run, 5), (Maker.a_split_run, 9), (Maker.a_great_run, 1),
-    (Maker.a_split_trace, 1), (Maker.a_long_trace, 1), (Maker.a_search, 10), (Maker.a_shallow_search, 8), (Maker.a_reason, 10),
+    (Maker.a_split_trace, 1), (Maker.a_long_trace, 1), (Maker.a_search, 10), (Maker.a_shallow_search, 8), (Maker.a_reason, 12),
     (Maker.a_faulty_test, 36), (Maker.faulty_choices, 6), (Maker.a_faulty_order, 5),
     (Maker.an_order, 4), (Maker.a_deep_order, 3), (Maker.a_deepest_order, 2), (Maker.a_broken_order, 9),
-    (Maker.a_sweep, 6), (Maker.a_bad_line, 5), (Maker.tables, 1), (Maker.a_divided_input, 2),
+    (Maker.a_sweep, 6), (Maker.a_count, 6), (Maker.a_bad_line, 6), (Maker.tables, 1), (Maker.a_divided_input, 2),
 )

@@ -1,5 +1,5 @@
 """What has to come up among inputs, by kind and name, so that an answer that is alike says something of it."""
-from reference import commands, litmus, tracing
+from reference import commands, litmus, printing, tracing
 
 FAULTS_OF_TESTS = {
     "TooLarge": ("the text", "the test's name", "a ninth core", "a 17th location in the initial state",
@@ -37,12 +37,12 @@ CHANGES = ("I>S", "I>E", "I>M", "S>M", "O>M", "E>M", "M>S", "M>O", "E>S", "M>I",
 
 LINES = ("no command", "--help", "--version", "help of a command", "unknown command", "option before the command", "stray word",
          "option of another command", "unknown option", "option twice", "option without its value", "flag with a value",
-         "value that is no number", "lines of three words") + tuple(
+         "value that is no number", "choices that are given, and seeds", "lines of three words") + tuple(
              "value out of range: " + name for name in
              ("protocol", "depth", "sets", "ways", "words", "bus", "from", "seeds", "length", "states", "show", "model", "cases"))
 
 # A refusal is told by every command that reads an input, and each has its own further statuses.
-STATUSES = {"run": (0, 1, 3), "trace": (0, 1, 3), "sweep": (0, 1, 3), "outcomes": (0, 1, 3, 4), "why": (0, 1, 3, 4),
+STATUSES = {"run": (0, 1, 3), "trace": (0, 1, 3), "sweep": (0, 1, 3), "counts": (0, 1, 3), "outcomes": (0, 1, 3, 4), "why": (0, 1, 3, 4),
             "check": (0, 1, 4), "witness": (0, 1, 4)}
 
 # Commands beside whose answer with status 0 a hint may stand.
@@ -114,6 +114,10 @@ def names():
         "hint beside status 0": ["never seen", "none"] + ["%s, of %s" % (kind, command) for kind in KEPT for command in KEPT[kind]],
         "stall": ("Done", "Full", "Fence", "Lock", "Empty", "Bus"),
         "access": ("hits", "misses", "upgrades", "forwards", "write_backs", "flushes"),
+        "moved": printing.TRAFFIC,
+        "runs of counts": ("of seeds", "given"),
+        "runs that are counted": ("all end", "some end", "none ends"),
+        "form of counts": FORMS,
         "found": ("M hits by a load", "O hits by a load", "E hits by a load", "S hits by a load", "M hits by a write",
                   "E hits by a write", "O upgrades by a write", "S upgrades by a write"),
         "snooped": ["%s by %s" % (state, request) for state in "MOES" for request in ("GetS", "GetM")],

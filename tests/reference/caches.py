@@ -47,6 +47,10 @@ PROTOCOLS = {"msi": Protocol("msi", S, _CLEANING), "mesi": Protocol("mesi", E, _
 HIT, UPGRADE, MISS = "hits", "upgrades", "misses"
 FORWARD, WRITE_BACK, FLUSH = "forwards", "write_backs", "flushes"
 
+# What a core's requests move, by the request, and beside it.
+REQUESTED = {"GetS": "get_s", "GetM": "get_m"}
+INVALIDATION, FROM_CACHE, FROM_MEMORY, TO_MEMORY = "invalidations", "from_caches", "from_memory", "to_memory"
+
 
 @dataclasses.dataclass
 class Copy:
@@ -85,11 +89,17 @@ class Caches:
         padded = first_words + [0] * (-len(first_words) % words)
         self.memory = [padded[at:at + words] for at in range(0, len(padded), words)]
         self.counts = [dict.fromkeys((HIT, MISS, UPGRADE, FORWARD, WRITE_BACK, FLUSH), 0) for _ in range(cores)]
+        self.traffic = [dict.fromkeys((*REQUESTED.values(), INVALIDATION, FROM_CACHE, FROM_MEMORY, TO_MEMORY), 0) for _ in range(cores)]
         self.noted = Noted()
 
     def count(self, core, name):
         self.counts[core][name] += 1
         seen.note("access", name)
+
+    def move(self, core, name):
+        """Counts what was moved for a core."""
+        self.traffic[core][name] += 1
+        seen.note("moved", name)
 
     def set_of(self, core, line):
         return self.sets[core][line % self.set_count]
@@ -111,10 +121,12 @@ class Caches:
             self.noted.source = "cache"
             return Awaited(HIT)
         self.noted.request = "GetM" if write else "GetS", line
+        self.move(core, REQUESTED[self.noted.request[0]])
         words, shared = self.snoop(core, line, write)
         if own is not None:
             self.noted.source = "cache"
             return Awaited(UPGRADE)
+        self.move(core, FROM_MEMORY if self.noted.source == "memory" else FROM_CACHE)
         return Awaited(MISS, words, M if write else self.protocol.filled(shared))
 
     def snoop(self, core, line, write):
@@ -135,10 +147,12 @@ class Caches:
             if snoop.to_memory:
                 self.memory[line] = list(copy.words)
                 self.count(other, FLUSH)
+                self.move(core, TO_MEMORY)
                 self.noted.flushed = other
             seen.note("snooped", "%s by %s" % (copy.state, "GetM" if write else "GetS"))
             copy.state = snoop.next
             if copy.state == I:
+                self.move(core, INVALIDATION)
                 copies.remove(copy)
         if words is None:
             words, self.noted.source = list(self.memory[line]), "memory"
@@ -171,6 +185,7 @@ class Caches:
             if victim.state in DIRTY:
                 self.memory[victim.line] = victim.words
                 self.count(core, WRITE_BACK)
+                self.move(core, TO_MEMORY)
                 self.noted.written_back = victim.line
 
     def access(self, core, location, write):

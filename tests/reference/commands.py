@@ -4,7 +4,7 @@ import re
 import typing
 
 from . import axioms, candidates, conditions, hints, litmus, machine, outcomes, printing, reasons, seen, tracing, witness
-from .choices import printed_choices, read_choices
+from .choices import choices_of_seed, printed_choices, read_choices
 from .machine import Configuration
 from .orders import read_order
 from .reading import Refused, read_test
@@ -21,16 +21,18 @@ REASON_OPTIONS = {"model": (candidates.TSO, candidates.SC), "cases": range(1, 1_
 
 # Options without a value.
 ANSWER_FORMS = {"json": None, "assert": None}
+COUNT_FORMS = {"given": None, "json": None}
 
 # The options of each command, and their values, None of those without.
 OPTIONS = {
     "run": dict(MACHINE_OPTIONS, json=None), "trace": dict(MACHINE_OPTIONS, json=None), "sweep": dict(MACHINE_OPTIONS, **SWEEP_OPTIONS),
+    "counts": dict(MACHINE_OPTIONS, **SWEEP_OPTIONS, **COUNT_FORMS),
     "outcomes": dict(SEARCH_OPTIONS, **ANSWER_FORMS), "why": dict(REASON_OPTIONS, **ANSWER_FORMS), "check": {},
     "witness": {"depth": range(1, 33)}, "tables": {"protocol": MACHINE_OPTIONS["protocol"]},
 }
 DEFAULTS = {"protocol": "msi", "depth": 4, "sets": 1, "ways": 2, "words": 1, "bus": machine.ATOMIC, "json": False,
             "from": 0, "seeds": 10, "length": 1000, "states": 1_000_000, "model": candidates.TSO, "cases": 100_000,
-            "show": printing.CONDITION, "assert": False}
+            "show": printing.CONDITION, "assert": False, "given": False}
 OWN_DEFAULTS = {"outcomes": {"depth": 32}}
 
 # Options with so many values that their ends alone are told apart.
@@ -76,6 +78,8 @@ def settings_of(words):
             raise BadLine("option twice")
         given.add(name)
         settings[name] = value
+    if settings["given"] and given.intersection(SWEEP_OPTIONS):
+        raise BadLine("choices that are given, and seeds")
     if settings["words"] not in WORDS:
         hint = b"hint: --words is 1, 2 or 4\n" if spells_three(words) else b""
         raise BadLine("lines of three words", b"fault range\n" + hint)
@@ -183,6 +187,9 @@ def answer_to_input(command, settings, given, told):
     if command == "sweep":
         output, ended = printing.sweep(test, configuration, settings["from"], settings["seeds"], settings["length"])
         return test, ENDED if ended else UNFINISHED, output
+    if command == "counts":
+        output, ended = counted(test, configuration, settings, second)
+        return test, ENDED if ended else UNFINISHED, output
     choices = read_choices(second, test.cores())
     if command == "trace":
         return (test,) + traced(test, configuration, choices, settings["json"])
@@ -198,6 +205,19 @@ def searched(test, command, settings, told):
     if command == "outcomes":
         return outcomes.answer(test, settings["depth"], settings["states"], settings["show"], settings["json"], told)
     return reasons.answer(test, settings["model"], settings["cases"], settings["json"], told)
+
+
+def counted(test, configuration, settings, second):
+    """What `counts` prints of the runs of its seeds, or of the run whose choices are given, and whether all ended."""
+    if settings["given"]:
+        seen.note("runs of counts", "given")
+        runs, plan = [machine.run(test, configuration, read_choices(second, test.cores()))], {}
+    else:
+        seen.note("runs of counts", "of seeds")
+        plan = {name: settings[name] for name in SWEEP_OPTIONS}
+        runs = [machine.run(test, configuration, choices_of_seed(seed, plan["length"], test.cores()))
+                for seed in range(plan["from"], plan["from"] + plan["seeds"])]
+    return printing.counts(test, configuration, runs, plan, settings["json"])
 
 
 def traced(test, configuration, choices, with_json):

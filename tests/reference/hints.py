@@ -4,7 +4,7 @@ import re
 
 from . import litmus, printing, seen
 
-UNUSED = "hint: line %d: the condition names %s, which no program uses and no initial state sets: it stays 0\n"
+UNUSED = "hint: line %d: the condition names %s, which no program uses and no initial state sets: it stays 0; write a name that a program has\n"
 KEPT_REGISTER = "hint: line %d: the condition names %d:%s, which no instruction of core %d writes: it stays %d\n"
 KEPT_LOCATION = "hint: line %d: the condition names %s, which no instruction writes: it stays %d\n"
 LEFT_OUT = "hint: line %d: locations lists %s, which the states leave out: --show %s shows it\n"

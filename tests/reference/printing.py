@@ -1,4 +1,5 @@
-"""Reports, plain and as JSON, sweeps and tables: docs/DEFINITIONS.md, 'What is printed of runs', and docs/SCRIPTS.md, 'JSON'."""
+"""Reports, plain and as JSON, sweeps, what caches did in many runs, and tables: docs/DEFINITIONS.md, 'What is printed of runs', and
+docs/SCRIPTS.md, 'JSON'."""
 import collections
 import json
 
@@ -8,6 +9,7 @@ from .choices import choices_of_seed
 from .orders import printed_order
 
 COUNTS = ("hits", "misses", "upgrades", "forwards", "write_backs", "flushes")
+TRAFFIC = ("get_s", "get_m", "invalidations", "from_caches", "from_memory", "to_memory")
 
 
 def named(pairs):
@@ -63,12 +65,9 @@ def report_json(test, configuration, run, unused, more={}):
     """The same content as `report` has, and further members."""
     registers, words = run.state()
     truth = machine.holds(test, (registers, words))
-    shown = configuration._asdict()
-    if configuration.bus != machine.SPLIT:
-        del shown["bus"]
     return as_json(dict(more, **{
         "test": test.name,
-        "machine": shown,
+        "machine": machine_json(configuration),
         "order": [entry.text(test) for entry in run.machine.put_together()],
         "registers": [dict(zip(litmus.REGISTERS, values)) for values in registers],
         "memory": dict(zip(test.locations, words)),
@@ -108,6 +107,37 @@ def registers_written(test):
     """The registers that an instruction of their core writes, as pairs of core and register."""
     return {(core, done.register) for core, program in enumerate(test.programs) for done in program
             if done.kind in litmus.REGISTER_WRITERS}
+
+
+def machine_json(configuration):
+    shown = configuration._asdict()
+    if configuration.bus != machine.SPLIT:
+        del shown["bus"]
+    return shown
+
+
+def counts(test, configuration, runs, plan, with_json):
+    """What the caches did in these runs, and whether all ended. `plan` has the members `from`, `seeds` and `length`, or is empty."""
+    ended = [run for run in runs if run.machine is not None]
+    told = dict(plan, ended=len(ended), unfinished=len(runs) - len(ended))
+    seen.note("runs that are counted", "all end" if len(ended) == len(runs) else "some end" if ended else "none ends")
+    cores = [core_counts([run.machine.caches for run in ended], core) for core in range(test.cores())] if ended else None
+    seen.note("form of counts", "JSON" if with_json else "text")
+    if with_json:
+        text = as_json({"cores": cores, "machine": machine_json(configuration), "runs": told, "test": test.name})
+    else:
+        lines = ["Runs" + named(told.items())]
+        lines += ["Counts P%d%s" % (core, "".join(" %s=%d/%d/%d" % (name, one["sum"], one["least"], one["greatest"])
+                                                  for name, one in own.items())) for core, own in enumerate(cores or [])]
+        text = head(test, configuration) + "".join(line + "\n" for line in lines)
+    return text, len(ended) == len(runs)
+
+
+def core_counts(caches, core):
+    """Each number of a core over runs that ended, by its name."""
+    found = [{**one.counts[core], **one.traffic[core]} for one in caches]
+    return {name: {"sum": sum(one[name] for one in found), "least": min(one[name] for one in found), "greatest": max(one[name] for one in found)}
+            for name in COUNTS + TRAFFIC}
 
 
 def sweep(test, configuration, first, seeds, length):

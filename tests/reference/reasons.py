@@ -17,6 +17,7 @@ from .outcomes import PLAIN_CHOICES, form_of
 from .reading import Refused
 from .refutations import (Between, Cycle, FalseClaim, First, Known, Reads, Wrong, asked_of, events_of, judge, judge_as_read, most_cases,
                           steps_of)
+from .short_reasons import HOP, differences, head_of
 
 # What is printed where the answer that is told is wrong.
 NO_REASON = "a reason\n"
@@ -24,7 +25,6 @@ NO_REASON = "a reason\n"
 LEAF_STEPS = ("cycle", "uniproc", "between", "false")
 
 EVENT = r"P[0-7]:[0-9]+ (?:F|(?:LR|LW|R|W) [A-Za-z_][A-Za-z0-9_]*(?:=[0-9]+)?)"
-HOP = re.compile(r" ([a-z]+) (%s)" % EVENT)
 PLACE = re.compile(r" (?:[0-7]:[A-Z]+|[A-Za-z_][A-Za-z0-9_]*)=[0-9|]*")
 
 
@@ -243,19 +243,6 @@ class Tree:
 
 # ---- judging a reason
 
-def verdict_of(test, allowed):
-    """herd's word; None without a condition."""
-    if test.proposition is None:
-        return None
-    return "Ok" if allowed == (test.quantifier == "exists") else "No"
-
-
-def head_of(test, model, allowed):
-    asked = None if test.proposition is None else {"kind": test.quantifier, "truth": test.quantifier != "forall"}
-    return {"test": test.name, "model": model, "asked": asked, "verdict": verdict_of(test, allowed),
-            "answer": "allowed" if allowed else "never"}
-
-
 def reason_of(test, model, value):
     """The reason that is right, and is the one that is told up to what may differ; raises `Wrong` where that isn't right."""
     if value.get("answer") == "never":
@@ -321,12 +308,6 @@ def faults_of_both(test, model, text, as_json):
         return [str(wrong)]
     pairs = (text_of(due, test), text), (printing.as_json(due), as_json)
     return [fault for printed, got in pairs if printed != got for fault in differences(printed, got)]
-
-
-def differences(due, text):
-    """Where a text first differs from the one that is due."""
-    pairs = zip(re.split(r"\n|(?<=[}\]]),", due) + [None], re.split(r"\n|(?<=[}\]]),", text) + [None])
-    return ["%r, and not %r" % (got, wanted) for wanted, got in pairs if wanted != got][:1]
 
 
 # ---- the second program's answer

@@ -3,6 +3,7 @@
 Where the page's module doesn't answer `why`, the program's own answers stand in for it."""
 import json
 import os
+import re
 import subprocess
 import xml.etree.ElementTree
 
@@ -71,16 +72,28 @@ ENDS = """(edges => edges.map(({ from, to }, at) => {
 
 
 def wanted_tree(steps, depth=0):
-    """The steps as the page has to nest them: of each the kind, and of a case what is told of it. Takes the steps that it nests."""
+    """The steps as the page has to nest them: of each the kind, and of a lemma and of a case that isn't closed in its line what is told of it.
+    Takes the steps that it nests."""
     found = []
-    while steps and steps[0]["depth"] == depth:
+    while steps and steps[0].get("depth", 0) == depth:
         step = steps.pop(0)
-        found.append([step, wanted_tree(steps, depth + 1)] if step["step"] == "case" else step)
+        has_part = step["step"] == "never" or step["step"] == "case" and not step.get("closing")
+        found.append([step, wanted_tree(steps, depth + 1)] if has_part else step)
     return found
+
+
+def closing_of(step):
+    """What closes the case of a step, if it does: it stands in the step, or is the step."""
+    return step.get("closing") or step
 
 
 def words_of(step):
     """Words that a step's sentence must have."""
+    if "facts" in step or "answers" in step or "closing" in step:
+        facts = step.get("facts", []) + [fact for answer in step.get("answers", []) for fact in answer]
+        return [re.match(r"P\d:\d+ \w+ \w+|", fact)[0] for fact in facts] + (words_of(step["closing"]) if step.get("closing") else [])
+    if step["step"] in ("none", "lemma"):
+        return [step["of"].split(" initial")[0]] if step["step"] == "none" else ["lemma %d" % step["lemma"]]
     if step["step"] in ("case", "so"):
         sources = [each for each in step.get("from", []) if each != "initial"]
         return [step.get("read") or step["first"], *sources, *([step["second"]] if "second" in step else []), *(["initial value"] if "initial" in step.get("from", []) else [])]
@@ -123,7 +136,7 @@ def never_row(bench, folder, name, model):
     faults = faults_of_tree(bench.value(TREE), wanted_tree(list(told["steps"])), name)
     said = bench.text(".reason > p")
     faults += [] if "There is none" in said and ("Verdict %s: " % told["verdict"] in said) else ["it says " + said]
-    for at, step in enumerate(told["steps"]):
+    for at, step in enumerate(map(closing_of, told["steps"])):
         if "cycle" in step:
             bench.value("document.querySelector('[data-cycle=\"%d\"]').click()" % at)
             faults += faults_of_cycle(bench, step["cycle"])

@@ -22,8 +22,9 @@ import sys
 
 from . import processes
 from .faults import BadWords, Failed, NoAnswer, NoProgram, Refused, TookTooLong, Unfinished
-from .records import (Allowed, Asked, Cache, Check, Choices, Condition, Copy, Core, Edge, Holder, Machine, Met, Moment, Never, Observation,
-                      Outcomes, Reason, Run, Source, State, Step, Sweep, Trace, Traced, Witness, made)
+from .records import (Allowed, Asked, Cache, Check, Choices, Closing, Condition, Copy, Core, Counted, Counts, Edge, Holder, Machine, Met,
+                      Moment, Never, Observation, Outcomes, Reason, Run, Runs, Source, Spread, State, Step, Sweep, Trace, Traced, Witness,
+                      made)
 
 # Statuses of the program.
 ANSWERED, REFUSED, BAD_WORDS, UNFINISHED, NOT_VALID = 0, 1, 2, 3, 4
@@ -192,6 +193,13 @@ def sweep(test, **options):
     seen = [line.split()[-3:] for line in lines if line.startswith("Observation ")]
     observation = Observation(seen[0][0], int(seen[0][1]), int(seen[0][2])) if seen else None
     return Sweep(lines[0][len("Test "):], states, ended, unfinished, observation)
+
+
+def counts(test, choices=None, **options):
+    """What the caches did in the runs of many seeds: `seeds=1000`; the first is `from_`. With choices, a text, in the run under these."""
+    if choices is not None:
+        options["further"] = [*options.get("further", ()), "--given"]
+    return answer("counts", text_of(test, choices), options, Counts)
 
 
 def why(test, **options):

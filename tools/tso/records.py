@@ -187,6 +187,55 @@ class Sweep:
 
 
 @dataclasses.dataclass(frozen=True)
+class Spread:
+    """A number over the runs that ended: its sum, the least and the greatest."""
+
+    sum: int
+    least: int
+    greatest: int
+
+
+@dataclasses.dataclass(frozen=True)
+class Counted:
+    """What a core's cache did over the runs that ended: what its accesses were, its requests on the bus, the copies of other cores that
+    they turned to I, and the lines that were supplied to it and written to memory for it."""
+
+    hits: Spread
+    misses: Spread
+    upgrades: Spread
+    forwards: Spread
+    write_backs: Spread
+    flushes: Spread
+    get_s: Spread
+    get_m: Spread
+    invalidations: Spread
+    from_caches: Spread
+    from_memory: Spread
+    to_memory: Spread
+
+
+@dataclasses.dataclass(frozen=True)
+class Runs:
+    """How many runs ended and how many didn't; of many seeds how many there are, the first, and how many choices each makes."""
+
+    ended: int
+    unfinished: int
+    seeds: typing.Optional[int] = None
+    from_: typing.Optional[int] = None
+    length: typing.Optional[int] = None
+
+
+@dataclasses.dataclass(frozen=True)
+class Counts:
+    """What the caches did in runs, for each core; None where no run ended."""
+
+    test: str
+    machine: Machine
+    runs: Runs
+    cores: typing.Optional[list[Counted]]
+
+
+@dataclasses.dataclass(frozen=True)
 class Check:
     """Whether an order is an execution; else `breach`, the words of the first breach: a letter and what it names."""
 
@@ -244,12 +293,35 @@ class Edge:
 
 
 @dataclasses.dataclass(frozen=True)
-class Reason:
-    """A step of a proof: a case or what is so (of a read, `from_` which writes; or of two writes, which is `first`); a leaf (cycle, uniproc,
-    between or false); or endcases. What a step hasn't is None."""
+class Closing:
+    """Why a case can't be: a cycle (cycle or uniproc), between, false, a question without an answer (none, with what it asks `of`), or a
+    lemma. What a closing hasn't is None."""
 
     step: str
-    depth: int
+    cycle: typing.Optional[list[Edge]] = None
+    read: typing.Optional[str] = None
+    between: typing.Optional[str] = None
+    write: typing.Optional[str] = None
+    places: typing.Optional[dict[Place, list[Word]]] = None
+    question: typing.Optional[str] = None
+    of: typing.Optional[str] = None
+    lemma: typing.Optional[int] = None
+
+
+@dataclasses.dataclass(frozen=True)
+class Reason:
+    """A step of a proof: what is given, or what a lemma says is never all so (never), by `facts`; a case or what is so by its `answers`, each
+    with its facts, with its `closing` where that stands in the step; a leaf; or endcases. Of older programs a case or what is so names the
+    read and `from_` which writes, or two writes of which one is `first`, and the step that follows has what closes it (cycle, uniproc,
+    between or false). What a step hasn't is None."""
+
+    step: str
+    depth: typing.Optional[int] = None
+    facts: typing.Optional[list[str]] = None
+    lemma: typing.Optional[int] = None
+    question: typing.Optional[str] = None
+    answers: typing.Optional[list[list[str]]] = None
+    closing: typing.Optional[Closing] = None
     read: typing.Optional[str] = None
     from_: typing.Optional[list[str]] = None
     first: typing.Optional[str] = None

@@ -1,12 +1,12 @@
 -- The settings that a command may be run with: whatever the words were, what comes of them is within these limits.
-use Rattle.std.specs.Prelude.{ℕ, ◌≤◌}
+use Rattle.std.specs.Prelude.{ℕ, ◌≤◌, IfSome}
 use Rattle.tso_terms.specs.Limits.{least_depth, most_depth}
 use Rattle.multiprocessor.specs.Configuration.{IsConfigurationWithinLimits}
 use Rattle.scheduler.specs.Plan.{IsPlanWithinLimits}
 use Rattle.command_line.specs.Search.{IsSearchWithinLimits}
 use Rattle.command_line.specs.Explanation.{IsExplanationWithinLimits}
 use Rattle.command_line.specs.declared.settings.Settings.{Settings}
-use Rattle.command_line.specs.declared.settings.Settings.TheVariants.{Run, Trace, Sweep, Outcomes, Why, Check, Witness, Tables}
+use Rattle.command_line.specs.declared.settings.Settings.TheVariants.{Run, Trace, Sweep, Counts, Outcomes, Why, Check, Witness, Tables}
 
 -- the depth at which a witness is asked for
 abbrev pub IsDepth : ℕ → Type 0
@@ -18,6 +18,7 @@ abbrev pub IsWithinLimits : Settings → Type 0
 IsWithinLimits (Run protocol config json) = IsConfigurationWithinLimits config
 IsWithinLimits (Trace protocol config json) = IsConfigurationWithinLimits config
 IsWithinLimits (Sweep protocol config plan) = IsConfigurationWithinLimits config × IsPlanWithinLimits plan
+IsWithinLimits (Counts protocol config plan json) = IsConfigurationWithinLimits config × IfSome plan IsPlanWithinLimits
 IsWithinLimits (Outcomes search json assert) = IsSearchWithinLimits search
 IsWithinLimits (Why plan json assert) = IsExplanationWithinLimits plan
 IsWithinLimits Check = Unit {0}
@@ -29,6 +30,7 @@ abbrev pub HasDepth : Settings → Type 0
 HasDepth (Run protocol config json) = Unit {0}
 HasDepth (Trace protocol config json) = Unit {0}
 HasDepth (Sweep protocol config plan) = Unit {0}
+HasDepth (Counts protocol config plan json) = Unit {0}
 HasDepth (Outcomes search json assert) = Unit {0}
 HasDepth (Why plan json assert) = Unit {0}
 HasDepth Check = Unit {0}

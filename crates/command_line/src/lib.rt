@@ -3,14 +3,12 @@
 #![tactic(auto)]
 
 pub mod explanation;
-mod help;
 mod options;
 pub mod search;
 pub mod settings;
-pub mod table;
 
+pub use command_table::{DeclaredOption, SUBCOMMANDS, Subcommand, Value};
 pub use explanation::ReasonPlan;
 pub use search::SearchPlan;
 pub use settings::{LineFault, Settings, settings_of};
-pub use table::{DeclaredOption, SUBCOMMANDS, Subcommand, Value};
 pub use tso_report::Show;

@@ -1,9 +1,8 @@
 //! The commands and their options, for the library that reads command lines; it prints help and refusals by them.
 
-use crate::help;
-use crate::table::{DeclaredOption, SUBCOMMANDS, Subcommand, Value};
 use clap::builder::ValueParser;
 use clap::{Arg, ArgAction, Command};
+use command_table::{DeclaredOption, SUBCOMMANDS, Subcommand, Value, help};
 use std::alloc::{AllocError, Global};
 
 /// The program for a command line of these words, whose first is its name. Where the second names a command, that command
@@ -39,24 +38,28 @@ fn command_of<'a>(alloc: Global, subcommand: Subcommand) -> Result<Command<'a>, 
         .iter()
         .chain(subcommand.further_options())
     {
-        command = command.arg(option_of(alloc, option))?;
+        command = command.arg(option_of(alloc, option)?)?;
     }
     Ok(command)
 }
 
-fn option_of<'a>(alloc: Global, declared: &'static DeclaredOption) -> Arg<'a> {
+fn option_of<'a>(alloc: Global, declared: &'static DeclaredOption) -> Result<Arg<'a>, AllocError> {
     let option = Arg::new(alloc, declared.name)
         .long(declared.name)
         .help(declared.help);
     match declared.value {
-        Value::Flag => option.action(ArgAction::SetTrue),
-        Value::Number(least, most, default) => option
-            .value_name("N")
-            .value_parser(ValueParser::Signed(least, most))
-            .default_value(default),
-        Value::Named(value, names, default) => option
-            .value_name(value)
-            .value_parser(ValueParser::Names(names))
-            .default_value(default),
+        Value::Flag(others) => option.action(ArgAction::SetTrue).conflicts_with_all(others),
+        Value::Number(least, most, default) => Ok(
+            option
+                .value_name("N")
+                .value_parser(ValueParser::Signed(least, most))
+                .default_value(default),
+        ),
+        Value::Named(value, names, default) => Ok(
+            option
+                .value_name(value)
+                .value_parser(ValueParser::Names(names))
+                .default_value(default),
+        ),
     }
 }

@@ -7,8 +7,8 @@ ghost use Rattle.command_line.specs.Limits.{IsWithinLimits, HasDepth};
 use crate::explanation::ReasonPlan;
 use crate::options::command_line;
 use crate::search::SearchPlan;
-use crate::table::Subcommand;
 use clap::ArgMatches;
+use command_table::Subcommand;
 use machine_core::{Bus, Config, Shape};
 use protocol_tables::ProtocolKind;
 use refutation_laws::Model;
@@ -41,6 +41,14 @@ pub enum Settings {
         protocol: ProtocolKind,
         config: Config,
         plan: SweepPlan,
+    },
+    /// Run a test under the choices of each seed of a plan, or where there is none under choices that are given, on such a
+    /// machine, and tell what the caches did, as JSON if that is asked for.
+    Counts {
+        protocol: ProtocolKind,
+        config: Config,
+        plan: Option<SweepPlan>,
+        json: bool,
     },
     /// Find all final states of a test, with choices that lead to each, and tell them, as JSON if that
     /// is asked for. Whether the status is to say that the test's condition isn't as it claims.
@@ -81,6 +89,21 @@ impl Settings {
             Settings::Sweep { config, plan, .. } => {
                 let _depth = config.depth();
                 let _seeds = plan.seeds();
+            }
+            Settings::Counts {
+                config,
+                plan: Some(plan),
+                ..
+            } => {
+                let _depth = config.depth();
+                let _seeds = plan.seeds();
+            }
+            Settings::Counts {
+                config,
+                plan: None,
+                ..
+            } => {
+                let _depth = config.depth();
             }
             Settings::Outcomes { search, .. } => {
                 let _depth = search.depth();
@@ -136,6 +159,7 @@ fn settings_named(name: &str, matches: &ArgMatches<'_>) -> Option<Settings>
         Some(Subcommand::Run) => run_settings(matches, false),
         Some(Subcommand::Trace) => run_settings(matches, true),
         Some(Subcommand::Sweep) => sweep_settings(matches),
+        Some(Subcommand::Counts) => counts_settings(matches),
         Some(Subcommand::Outcomes) => outcomes_settings(matches),
         Some(Subcommand::Why) => why_settings(matches),
         Some(Subcommand::Check) => Some(Settings::Check),
@@ -176,20 +200,53 @@ fn run_settings(matches: &ArgMatches<'_>, is_traced: bool) -> Option<Settings>
 fn sweep_settings(matches: &ArgMatches<'_>) -> Option<Settings>
     ensures { IfSome result HasDepth }
 {
-    let (Some(protocol), Some(config), Some(from), Some(seeds), Some(length)) = (
+    let (Some(protocol), Some(config), Some(plan)) = (
         protocol_in(matches),
         config_in(matches),
-        matches.get_one::<u32>("from"),
-        matches.get_one::<u32>("seeds"),
-        matches.get_one::<u32>("length"),
+        plan_in(matches),
     ) else {
         return None;
     };
     Some(Settings::Sweep {
         protocol,
         config,
-        plan: SweepPlan::new(from, seeds, length)?,
+        plan,
     })
+}
+
+fn counts_settings(matches: &ArgMatches<'_>) -> Option<Settings>
+    ensures { IfSome result HasDepth }
+{
+    let (Some(protocol), Some(config), Some(plan)) = (
+        protocol_in(matches),
+        config_in(matches),
+        plan_in(matches),
+    ) else {
+        return None;
+    };
+    let plan = if matches.get_flag("given") {
+        None
+    } else {
+        Some(plan)
+    };
+    let json = matches.get_flag("json");
+    Some(Settings::Counts {
+        protocol,
+        config,
+        plan,
+        json,
+    })
+}
+
+fn plan_in(matches: &ArgMatches<'_>) -> Option<SweepPlan> {
+    let (Some(from), Some(seeds), Some(length)) = (
+        matches.get_one::<u32>("from"),
+        matches.get_one::<u32>("seeds"),
+        matches.get_one::<u32>("length"),
+    ) else {
+        return None;
+    };
+    SweepPlan::new(from, seeds, length)
 }
 
 fn outcomes_settings(matches: &ArgMatches<'_>) -> Option<Settings>

@@ -8,73 +8,38 @@ use crate::tables::{Alike, is_exactly_one_of, is_one_of, said_of, said_of_front}
 use tso_terms::names::is_location_name;
 
 /// Types of variables, and what stands with them.
-const TYPES: [&str; 14] = [
-    "int",
-    "char",
-    "short",
-    "long",
-    "unsigned",
-    "signed",
-    "volatile",
-    "const",
-    "struct",
-    "static",
-    "auto",
-    "bool",
-    "atomic_int",
-    "_Atomic",
-];
+const TYPES: &str =
+    "int char short long unsigned signed volatile const struct static auto bool atomic_int \
+     _Atomic";
 
 /// By how its name begins, a function of C's that accesses a location.
-static CALLS: [Alike; 4] = [
+static CALLS: [Alike; 6] = [
+    Alike("atomic_store_explicit", STORE),
     Alike(
-        &[
-            "atomic_store",
-            "__atomic_store",
-            "WRITE_ONCE",
-            "smp_store",
-            "store_release",
-            "std::atomic",
-        ],
-        STORE,
+        "atomic_store __atomic_store smp_store_mb",
+        "{} isn't read: a store is MOV [x],$1; where it is sequentially consistent, MFENCE stands in the next cell",
     ),
+    Alike("WRITE_ONCE smp_store store_release", STORE),
     Alike(
-        &[
-            "atomic_load",
-            "__atomic_load",
-            "READ_ONCE",
-            "smp_load",
-            "load_acquire",
-        ],
+        "atomic_load __atomic_load READ_ONCE smp_load load_acquire",
         LOAD,
     ),
     Alike(
-        &[
-            "atomic_exchange",
-            "__atomic_exchange",
-            "__sync_lock_test_and_set",
-            "atomic_xchg",
-        ],
+        "atomic_exchange __atomic_exchange __sync_lock_test_and_set atomic_xchg",
         EXCHANGE,
     ),
     Alike(
-        &[
-            "atomic_fetch_add",
-            "__atomic_fetch_add",
-            "__sync_fetch_and_add",
-            "atomic_add",
-            "atomic_inc",
-        ],
+        "atomic_fetch_add __atomic_fetch_add __sync_fetch_and_add atomic_add atomic_inc",
         ADDITION,
     ),
 ];
 
 /// The methods of an atomic variable in C++.
 static METHODS: [Alike; 4] = [
-    Alike(&["store"], STORE),
-    Alike(&["load"], LOAD),
-    Alike(&["exchange"], EXCHANGE),
-    Alike(&["fetch_add"], ADDITION),
+    Alike("store", STORE),
+    Alike("load", LOAD),
+    Alike("exchange", EXCHANGE),
+    Alike("fetch_add", ADDITION),
 ];
 
 const ADDRESS_OF: &str =
@@ -82,12 +47,12 @@ const ADDRESS_OF: &str =
 
 /// Whether a word is a type of C's, or stands with one.
 pub fn is_type(word: &[u8]) -> bool {
-    is_one_of(&TYPES, word) || (word.ends_with(b"_t") && is_location_name(word))
+    is_one_of(TYPES, word) || (word.ends_with(b"_t") && is_location_name(word))
 }
 
 /// Whether a function of C's by this name accesses a location.
 pub fn is_call(name: &[u8]) -> bool {
-    said_of_front(&CALLS, name).is_some()
+    said_of_front(&CALLS, name).is_some() || name.starts_with(b"std")
 }
 
 /// What is said of a word with which an access or a fence begins in another language, if it is one.
@@ -103,8 +68,20 @@ pub fn said_of_function(name: &[u8]) -> Option<&'static str> {
 /// Says of a method, at the point before its name. Whether one stands there.
 pub fn says_method(line: &mut Line, place: &Place<'_>) -> bool {
     let name = token(after_first(place.rest));
-    let Some(said) = said_of(&METHODS, name) else {
-        return false;
+    let after = last_bytes(
+        place.rest,
+        place
+            .rest
+            .len()
+            .saturating_sub(1)
+            .saturating_sub(name.len()),
+    );
+    let said = match said_of(&METHODS, name) {
+        Some(said) => said,
+        None if after.trim_ascii_start().starts_with(b"(") => {
+            "{} isn't read: a cell is a store MOV [x],$1, a load MOV EAX,[x], a fence MFENCE, XCHG [x],EAX or LOCK XADD [x],EAX"
+        }
+        None => return false,
     };
     line.say_of(said, name);
     true
@@ -130,7 +107,7 @@ pub fn says_address_of(line: &mut Line, place: &Place<'_>) -> bool {
 
 /// Whether an operand may stand after a word or a sign.
 fn may_begin_operand(last: &[u8]) -> bool {
-    is_exactly_one_of(&["(", ",", "=", "[", "|", ";"], last) || said_of(&FORMS, last).is_some()
+    is_exactly_one_of("( , = [ | ;", last) || said_of(&FORMS, last).is_some()
 }
 
 /// All but the first byte.

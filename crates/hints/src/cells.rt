@@ -2,16 +2,18 @@
 
 use crate::brackets::{count, says_of_brackets};
 use crate::c_forms::{is_type, said_of_access};
-use crate::faults::{STORE_AND_LOAD, says_digit_first};
-use crate::instructions::{FORMS, LABEL, LOCKED, SIZED, UNLOCKED, WORDS};
+use crate::cycles::says_edge;
+use crate::faults::{COMMENT, NO_VALUE, STORE_AND_LOAD, says_digit_first};
+use crate::instructions::{FORMS, LABEL, LOCKED, SIZED, TWO_REGISTERS, UNLOCKED, WORDS};
+use crate::items::is_no_number;
 use crate::keywords::begins_instruction;
 use crate::line::Line;
-use crate::operands::{RELATIVE, says_of_order};
 use crate::place::Place;
+use crate::prefixes::said_of_prefix;
 use crate::quotes::{token, up_to, up_to_any};
-use crate::registers::said_of_register;
+use crate::registers::says_register;
 use crate::tables::{Alike, is_one_of, said_of, said_of_front};
-use litmus_tokens::{Lexeme, Symbol, Token, after_symbol, tokens_of};
+use litmus_tokens::{Lexeme, Symbol, Token, after_symbol, is_symbol, tokens_of};
 use std::alloc::Global;
 use tso_terms::names::is_location_name;
 use tso_terms::{NoMemory, Reg};
@@ -34,13 +36,16 @@ const NO_DOLLAR: &str =
     "$ stands before {}: it stands before numbers alone, and a register is written without it";
 
 const NO_NAME: &str =
-    "$ stands before {}: it stands before numbers alone; a location is written [x]: load it by MOV EAX,[x], and store that by MOV [y],EAX in the next cell";
+    "$ stands before {}: it stands before numbers alone, and a location's name in [ ], as [x]";
+
+const BRACES: &str =
+    "{}: { } can't stand in a row: leave both out, and write one instruction into each cell";
+
+const NO_MORE: &str =
+    "{} stands behind the instruction: leave it out; a comment is written (* .. *)";
 
 const DECLARATION: &str =
     "{} is a type: no register and no location is declared here, so leave the cell empty";
-
-const TWO_REGISTERS: &str =
-    "an exchange of two registers takes three MOVs, each in a cell of its own: MOV ECX,EAX  MOV EAX,EBX  MOV EBX,ECX, with a free register for ECX";
 
 const SUM_OF_REGISTERS: &str =
     "no sum of two registers is read: LOCK XADD adds a register to a location, as LOCK XADD [x],EAX";
@@ -58,6 +63,13 @@ pub fn bad_instruction(alloc: Global, line: &mut Line, rest: &[u8]) -> Result<()
             "no ; or | stands at the end of {}: cells are split by |, and a row ends with ;",
             up_to(cell, b'\n').trim_ascii_end(),
         );
+        return Ok(());
+    }
+    if says_edge(line, cell) {
+        return Ok(());
+    }
+    if let Some(said) = said_of_prefix(cell, rest) {
+        line.say(said);
         return Ok(());
     }
     let tokens = tokens_of(alloc, cell)?;
@@ -81,6 +93,9 @@ pub fn bad_instruction(alloc: Global, line: &mut Line, rest: &[u8]) -> Result<()
 /// assignment.
 fn said_of_cell(tokens: &[Token<'_>]) -> Option<&'static str> {
     let (name, after) = first_name(tokens);
+    if begins_with_brace(tokens) || (!name.is_empty() && begins_with_brace(after)) {
+        return Some(BRACES);
+    }
     if is_type(name) && !first_name(after).0.is_empty() {
         return Some(if count(Symbol::Equals, tokens) > 0 {
             STORE_AND_LOAD
@@ -107,6 +122,16 @@ fn said_of_cell(tokens: &[Token<'_>]) -> Option<&'static str> {
     }
 }
 
+/// Whether a brace stands first.
+fn begins_with_brace(tokens: &[Token<'_>]) -> bool {
+    match tokens.first() {
+        Some(first) => {
+            is_symbol(Symbol::OpenCurly, first) || is_symbol(Symbol::CloseCurly, first)
+        }
+        None => false,
+    }
+}
+
 /// The name that stands first, or no bytes, and what stands after it.
 fn first_name<'a, 'b>(tokens: &'b [Token<'a>]) -> (&'a [u8], &'b [Token<'a>]) {
     match tokens.split_first() {
@@ -126,9 +151,6 @@ fn says_of_instruction(
 ) -> bool {
     if let Some(said) = said_of_front(unread, name) {
         line.say_of(said, name);
-        return true;
-    }
-    if says_of_order(line, name, cell, operands) {
         return true;
     }
     if let Some(said) = said_of(&SIZED, name) {
@@ -153,7 +175,6 @@ fn says_of_operands(
     operands: &[Token<'_>],
 ) -> bool {
     says_of_digits(line, cell, operands)
-        || says_relative(line, cell, operands)
         || says_of_brackets(line, cell, operands)
         || says_of_words(line, operands)
         || says_of_pair(line, instruction, operands)
@@ -171,28 +192,20 @@ fn says_of_digits(line: &mut Line, cell: &[u8], operands: &[Token<'_>]) -> bool 
     false
 }
 
-/// Says of an address that is counted from the instruction pointer. Whether an operand names that.
-fn says_relative(line: &mut Line, cell: &[u8], operands: &[Token<'_>]) -> bool {
-    for token in operands {
-        if name_of(token).eq_ignore_ascii_case(b"RIP") {
-            line.say_of(RELATIVE, cell);
-            return true;
-        }
-    }
-    false
-}
-
 /// Says of the first name among operands that is neither a location in brackets nor a register. Whether there is one.
 fn says_of_words(line: &mut Line, operands: &[Token<'_>]) -> bool {
     let mut before = None;
+    let mut has_comma = false;
     for token in operands {
         let name = name_of(token);
-        if !name.is_empty()
-            && let Some(said) = misfit(before, name)
-        {
-            line.say_of(said, name);
+        if has_comma && is_symbol(Symbol::OpenRound, token) && ends_operand_before(before) {
+            line.say(COMMENT);
             return true;
         }
+        if !name.is_empty() && says_misfit(line, before, name, has_comma) {
+            return true;
+        }
+        has_comma = has_comma || is_symbol(Symbol::Comma, token);
         before = Some(token.lexeme);
     }
     false
@@ -204,12 +217,12 @@ fn says_of_pair(line: &mut Line, instruction: &[u8], operands: &[Token<'_>]) -> 
         count(Symbol::Comma, operands),
         count(Symbol::OpenSquare, operands),
     );
-    let is_sum = is_one_of(&["XADD"], instruction);
+    let is_sum = is_one_of("XADD", instruction);
     let sentence = if commas == 0 && locations > 0 && operands.len() > 3 {
         "no comma stands between the two operands, as in MOV [x],$1 and MOV EAX,[x]"
     } else if commas > 1 {
         "an instruction has two operands, as MOV [x],$1 and MOV EAX,[x]"
-    } else if !is_sum && !is_one_of(&["XCHG"], instruction) {
+    } else if !is_sum && !is_one_of("XCHG", instruction) {
         return false;
     } else if locations > 1 {
         TWO_LOCATIONS
@@ -232,22 +245,65 @@ fn are_registers(operands: &[Token<'_>]) -> bool {
     }
 }
 
-/// What is said of a name that is no operand, by what stands before it.
-fn misfit(before: Option<Lexeme<'_>>, name: &[u8]) -> Option<&'static str> {
-    let is_register = Reg::from_name(name).is_some();
-    match before {
-        Some(Lexeme::Symbol(Symbol::Dollar)) if is_register => Some(NO_DOLLAR),
-        Some(Lexeme::Symbol(Symbol::Dollar)) => Some(NO_NAME),
-        Some(Lexeme::Symbol(Symbol::OpenSquare)) if is_location_name(name) => None,
-        Some(Lexeme::Symbol(Symbol::OpenSquare)) => Some(NO_LOCATION),
-        _ if is_register => None,
-        _ if begins_instruction(name) => Some(NO_SECOND),
-        _ => Some(
-            said_of(&WORDS, name)
-                .or(said_of_register(name))
-                .unwrap_or(NO_REGISTER),
-        ),
+/// Says of a name that is no operand, by what stands before it, among it a comma or none. Whether it is none.
+fn says_misfit(line: &mut Line, before: Option<Lexeme<'_>>, name: &[u8], has_comma: bool) -> bool {
+    if fits(before, name) {
+        return false;
     }
+    match misfit(before, name, has_comma) {
+        Some(said) => line.say_of(said, name),
+        None if says_register(line, name) => {}
+        None => line.say_of(NO_REGISTER, name),
+    }
+    true
+}
+
+/// Whether a name is a register, or a location's in brackets.
+fn fits(before: Option<Lexeme<'_>>, name: &[u8]) -> bool {
+    match before {
+        Some(Lexeme::Symbol(Symbol::Dollar)) => false,
+        Some(Lexeme::Symbol(Symbol::OpenSquare)) => is_location_name(name),
+        _ => Reg::from_name(name).is_some(),
+    }
+}
+
+/// What is said of a name that doesn't fit, where more is known of it than that it is none of the registers.
+fn misfit(before: Option<Lexeme<'_>>, name: &[u8], has_comma: bool) -> Option<&'static str> {
+    match before {
+        Some(Lexeme::Symbol(Symbol::Dollar)) => Some(said_of_dollar(name)),
+        Some(Lexeme::Symbol(Symbol::OpenSquare)) => Some(NO_LOCATION),
+        _ if is_no_number(name) => Some(NO_VALUE),
+        _ if begins_instruction(name) => Some(NO_SECOND),
+        Some(before) if has_comma && ends_operand(before) => Some(NO_MORE),
+        _ => said_of(&WORDS, name),
+    }
+}
+
+/// What is said of a name behind `$`.
+fn said_of_dollar(name: &[u8]) -> &'static str {
+    if Reg::from_name(name).is_some() {
+        NO_DOLLAR
+    } else if is_no_number(name) {
+        NO_VALUE
+    } else {
+        NO_NAME
+    }
+}
+
+/// Whether an operand may end before a place, with a token that stands there or with none.
+fn ends_operand_before(before: Option<Lexeme<'_>>) -> bool {
+    match before {
+        Some(lexeme) => ends_operand(lexeme),
+        None => false,
+    }
+}
+
+/// Whether an operand may end with a token.
+fn ends_operand(lexeme: Lexeme<'_>) -> bool {
+    matches!(
+        lexeme,
+        Lexeme::Number(_) | Lexeme::Name(_) | Lexeme::Symbol(Symbol::CloseSquare)
+    )
 }
 
 /// The name that a token is, or no bytes.

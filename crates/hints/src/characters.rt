@@ -9,53 +9,45 @@ use crate::tables::{Alike, said_of_front};
 
 /// Characters of a test's signs, and what stands for them.
 static SIGNS: [Alike; 11] = [
-    Alike(&["\u{2227}", "\u{22c0}"], "write /\\"),
-    Alike(&["\u{2228}", "\u{22c1}"], "write \\/"),
-    Alike(&["\u{ac}"], "write ~"),
-    Alike(&["\u{2203}"], "write exists"),
-    Alike(&["\u{2204}"], "write ~exists"),
-    Alike(&["\u{2200}"], "write forall"),
-    Alike(&["\u{2260}"], "that 0:EAX isn't 1 is written ~(0:EAX=1)"),
+    Alike("\u{2227} \u{22c0}", "write /\\"),
+    Alike("\u{2228} \u{22c1}", "write \\/"),
+    Alike("\u{ac}", "write ~"),
+    Alike("\u{2203}", "write exists"),
+    Alike("\u{2204}", "write ~exists"),
+    Alike("\u{2200}", "write forall"),
+    Alike("\u{2260}", "that 0:EAX isn't 1 is written ~(0:EAX=1)"),
     Alike(
-        &[
-            "\u{2502}", "\u{a6}", "\u{2503}", "\u{2223}", "\u{ff5c}", "\u{2758}", "\u{2551}",
-        ],
+        "\u{2502} \u{a6} \u{2503} \u{2223} \u{2758} \u{2551}",
         "cells are split by the vertical bar |",
     ),
     Alike(
-        &["\u{2190}", "\u{2254}"],
+        "\u{2190} \u{2254}",
         "a store is MOV [x],$1, a load MOV EAX,[x]",
     ),
     Alike(
-        &[
-            "\u{201c}", "\u{201d}", "\u{201e}", "\u{ab}", "\u{bb}", "\u{2018}", "\u{2019}",
-        ],
+        "\u{201c} \u{201d} \u{201e} \u{ab} \u{bb} \u{2018} \u{2019}",
         "write \" here and at its other end",
     ),
     Alike(
-        &["\u{2212}", "\u{2010}", "\u{2011}", "\u{2013}", "\u{2014}"],
+        "\u{2212} \u{2010} \u{2011} \u{2013} \u{2014}",
         "a number has no sign: write -1 as 4294967295",
     ),
 ];
 
 /// Dashes, of which a line is meant as the dividing line.
 static DASHES: [Alike; 1] = [Alike(
-    &[
-        "\u{2013}", "\u{2014}", "\u{2015}", "\u{2500}", "\u{2550}", "\u{2501}",
-    ],
+    "\u{2013} \u{2014} \u{2015} \u{2500} \u{2550} \u{2501}",
     DIVIDER,
 )];
 
 /// Characters that look like a space or like nothing, and what stands for them, in any text.
 static BLANKS: [Alike; 2] = [
     Alike(
-        &[
-            "\u{a0}", "\u{2002}", "\u{2003}", "\u{2009}", "\u{202f}", "\u{3000}",
-        ],
+        "\u{a0} \u{2002} \u{2003} \u{2009} \u{202f} \u{3000}",
         "write a space",
     ),
     Alike(
-        &["\u{feff}", "\u{200b}", "\u{200c}", "\u{200d}", "\u{2060}"],
+        "\u{feff} \u{200b} \u{200c} \u{200d} \u{2060}",
         "leave it out, since it is invisible",
     ),
 ];
@@ -70,9 +62,31 @@ pub fn say_character(line: &mut Line, place: &Place<'_>, byte: u8) {
     let said = dashes.or(said_of_front(&SIGNS, place.rest)).unwrap_or(
         "leave it out, or write it in ASCII; it may stand only in a comment",
     );
-    if !says_foreign_at(line, place, said) {
+    if !says_wide(line, place) && !says_foreign_at(line, place, said) {
         line.say_number("the byte {} can't stand here", usize::from(byte));
     }
+}
+
+/// Says of a sign of ASCII in the width of Chinese and Japanese characters. Whether one stands there.
+fn says_wide(line: &mut Line, place: &Place<'_>) -> bool {
+    let Some(character) = character_at(place.rest) else {
+        return false;
+    };
+    let code_point = u32::from(character);
+    if !matches!(code_point, 0xff01..=0xff5e) {
+        return false;
+    }
+    // These characters stand in ASCII's order.
+    let sign = [(code_point.wrapping_sub(0xfee0) & 127) as u8];
+    line.say_with(
+        "{}, in column {}, is as wide as a Chinese character: write {}",
+        &[
+            Piece::Character(character),
+            Piece::Number(place.column()),
+            Piece::Shown(&sign),
+        ],
+    );
+    true
 }
 
 /// Says of the first character of a word or a line that isn't ASCII: what is blank is told as such, and of any other this is

@@ -78,7 +78,7 @@ fn begin_word<'a>(line: &mut Line, text: &'a [u8], number: usize) -> (&'a [u8], 
                 return (word, part);
             }
             part = match part {
-                Part::First if is_exactly_one_of(&["seed"], word) => Part::Seed,
+                Part::First if is_exactly_one_of("seed", word) => Part::Seed,
                 Part::Seed => Part::Count,
                 _ => Part::First,
             };
@@ -94,21 +94,21 @@ fn begin_word<'a>(line: &mut Line, text: &'a [u8], number: usize) -> (&'a [u8], 
 /// What is said of a word that is no choice, by how it begins.
 static BEGINNINGS: [Alike; 6] = [
     Alike(
-        &["#", "//", "(*", "/*", "--", ";"],
+        "# // (* /* -- ;",
         "{}: choices have no comments: leave it out",
     ),
-    Alike(&["```"], MARKDOWN),
-    Alike(&["X86"], ONE_TEST),
+    Alike("```", MARKDOWN),
+    Alike("X86", ONE_TEST),
     Alike(
-        &["="],
+        "=",
         "{}: an input has only one line ====, between the test and the choices",
     ),
     Alike(
-        &["exists", "forall", "~"],
+        "exists forall ~",
         "{} begins a condition, which stands before the line ====",
     ),
     Alike(
-        &["seed", "rand"],
+        "seed rand",
         "{}: write seed N M, as seed 1 1000, in small letters with spaces between",
     ),
 ];
@@ -116,25 +116,25 @@ static BEGINNINGS: [Alike; 6] = [
 /// What is said of a word that is no choice, by the whole of it.
 static WORDS: [Alike; 4] = [
     Alike(
-        &["seed"],
+        "seed",
         "write two numbers after seed, the seed and how many choices it makes, as in seed 1 1000",
     ),
     Alike(
-        &["By", "Choices", "choices:"],
+        "By Choices choices:",
         "{} is no choice: leave it out, and all but choices as 0s 1s 0d",
     ),
     Alike(
-        &["drain", "flush", "commit", "dequeue"],
+        "drain flush commit dequeue",
         "{} is no choice: that core 0 drains a store is 0d",
     ),
     Alike(
-        &["step", "execute", "exec", "issue", "s"],
+        "step execute exec issue s",
         "{} is no choice: that core 0 steps is 0s",
     ),
 ];
 
 fn bad_first(line: &mut Line, word: &[u8]) {
-    let is_seed = is_exactly_one_of(&["seed"], word);
+    let is_seed = is_exactly_one_of("seed", word);
     if is_all_digits(word) {
         // A letter belongs to the number.
         let core = if word.len() < 10 {
@@ -149,7 +149,7 @@ fn bad_first(line: &mut Line, word: &[u8]) {
     }
     let said = if begins_order(word) {
         Some("{} begins an order, which check and witness read: run reads choices")
-    } else if is_seed || !is_one_of(&["seed"], word) {
+    } else if is_seed || !is_one_of("seed", word) {
         said_of(&WORDS, word)
     } else {
         None

@@ -4,13 +4,17 @@
 use crate::body::{body_of, ending_of};
 use crate::divider::{Asked, says_missing_divider};
 use crate::faults::{
-    CONNECTIVES, IMPLICATION, LEAVE_OUT, NO_ARRAYS, NO_VALUE, says_digit_first, unfit,
+    COMMENT, CONNECTIVES, IMPLICATION, LEAVE_OUT, NO_ARRAYS, NO_VALUE, says_digit_first, unfit,
 };
 use crate::items::{is_no_number, says_foreign_register};
 use crate::keywords::begins_instruction;
 use crate::line::{Line, Piece};
 use crate::place::Place;
-use crate::quotes::{digits_at, first_bytes, is_all_digits, is_bare, is_choice, last_bytes, word};
+use crate::quotes::{
+    digits_and_letters, digits_at, first_bytes, is_all_digits, is_bare, is_choice, last_bytes,
+    up_to, word,
+};
+use crate::registers::is_register;
 use crate::signs::DIVIDER;
 use crate::tables::{Alike, is_exactly_one_of, is_one_of, said_of};
 use litmus_tokens::{Symbol, is_symbol, line_of, tokens_of};
@@ -33,12 +37,15 @@ const NO_EQUALS: &str = "{}: an atom has = between a place and one number, as 0:
 
 const REGISTER_ALONE: &str = "{}: a register is written after its core and a colon, as 0:EAX";
 
+const SECOND: &str =
+    "a second condition begins here: a test has one, so leave one of them out; parts of one are joined by /\\ and \\/";
+
 /// What is said of a word that compares.
 static COMPARISONS: [Alike; 3] = [
-    Alike(&["in"], VALUES),
-    Alike(&["is", "eq", "equals", "equal"], "{}: write =, as x=1"),
+    Alike("in", VALUES),
+    Alike("is eq equals equal", "{}: write =, as x=1"),
     Alike(
-        &["ne", "neq", "isnt"],
+        "ne neq isnt",
         "{}: that 0:EAX isn't 1 is written ~(0:EAX=1)",
     ),
 ];
@@ -46,32 +53,18 @@ static COMPARISONS: [Alike; 3] = [
 /// What is said of a token that stands after the end of a condition.
 static AFTER: [Alike; 5] = [
     Alike(
-        &["locations", "location"],
+        "locations location",
         "{} stands after the condition: write locations [ .. ] before it",
     ),
+    Alike("exists forall", SECOND),
+    Alike("not xor implies iff", JOIN),
     Alike(
-        &["exists", "forall"],
-        "a second condition begins here: a test has one, whose parts are joined by /\\ and \\/",
-    ),
-    Alike(&["not", "xor", "implies", "iff"], JOIN),
-    Alike(
-        &["filter", "when", "where", "with", "given"],
+        "filter when where with given",
         "{} isn't read: join what it asks to the condition by /\\, as exists ((A) /\\ (B))",
     ),
     Alike(
-        &[
-            "Order",
-            "Observation",
-            "State",
-            "Outcomes",
-            "Machine",
-            "Verdict",
-            "Test",
-            "Registers",
-            "Memory",
-            "Endorder",
-            "Sweep",
-        ],
+        "Order Observation State States Outcomes Machine Verdict Test Registers Memory Endorder Sweep \
+         Ok No Witnesses Positive Hash Time Generated Histogram Condition",
         "{} begins a line of a report, which is no part of a test: leave out from here on",
     ),
 ];
@@ -80,6 +73,9 @@ static AFTER: [Alike; 5] = [
 ///
 /// Errors: out of memory only.
 pub fn bad_condition(alloc: Global, line: &mut Line, place: &Place<'_>) -> Result<(), NoMemory> {
+    if says_joint(line, place) {
+        return Ok(());
+    }
     if place.rest.is_empty() || (place.is_first_on_line() && is_choice(word(place.rest))) {
         if let Some(number) = line_of_open_bracket(alloc, place)? {
             line.say_number("no ) closes the ( of line {}", number);
@@ -93,6 +89,33 @@ pub fn bad_condition(alloc: Global, line: &mut Line, place: &Place<'_>) -> Resul
         unfit(line, place, "the test ends within its condition", CONDITION);
     }
     Ok(())
+}
+
+/// Says of a joint of two atoms after which none stands. Whether one does.
+fn says_joint(line: &mut Line, place: &Place<'_>) -> bool {
+    let before = place.before.trim_ascii_end();
+    let is_joint = before.ends_with(b"/\\") || before.ends_with(b"\\/");
+    if is_joint && (place.rest.is_empty() || place.rest.starts_with(b")")) {
+        line.say_with(
+            "no atom stands after {}: write one, as x=1, or leave {} out",
+            &[Piece::Shown(last_bytes(before, 2)); 2],
+        );
+        return true;
+    }
+    let begins = before.ends_with(b"(") || is_one_of("exists forall", place.last_word);
+    let sentence = if place.rest.starts_with(b")") && before.ends_with(b"(") {
+        "no atom stands in ( ): write one, as x=1, or true"
+    } else if !place.rest.starts_with(b"/\\") && !place.rest.starts_with(b"\\/") {
+        return false;
+    } else if is_joint {
+        "{} stands beside another one: one of them joins two atoms"
+    } else if begins {
+        "{} stands before the first atom: leave it out"
+    } else {
+        return false;
+    };
+    line.say_of(sentence, place.token);
+    true
 }
 
 /// The line of the last `(` before a place that no `)` closes, if there is one.
@@ -129,8 +152,8 @@ fn says_foreign_form(line: &mut Line, place: &Place<'_>) -> bool {
         VALUES
     } else if goes_on_after_value(place) {
         EQUAL
-    } else if is_one_of(&["|", "and", "or"], token)
-        || (is_exactly_one_of(&["="], token) && is_exactly_one_of(&["="], place.last_word))
+    } else if is_one_of("| and or xor implies iff", token)
+        || (is_exactly_one_of("=", token) && is_exactly_one_of("=", place.last_word))
     {
         CONNECTIVES
     } else {
@@ -145,12 +168,12 @@ fn begins_further_value(place: &Place<'_>) -> bool {
     let (token, last) = (place.token, place.last_word);
     let next = place.after_token();
     let digits = digits_at(next);
-    if is_exactly_one_of(&["="], last) {
-        return is_exactly_one_of(&["{", "["], token) && !digits.is_empty();
+    if is_exactly_one_of("=", last) {
+        return is_exactly_one_of("{ [", token) && !digits.is_empty();
     }
     let after = last_bytes(next, next.len().saturating_sub(digits.len()));
     is_all_digits(last)
-        && is_one_of(&[",", "|", "or"], token)
+        && is_one_of(", | or", token)
         && !digits.is_empty()
         && !after.trim_ascii_start().starts_with(b":")
 }
@@ -159,7 +182,7 @@ fn begins_further_value(place: &Place<'_>) -> bool {
 fn goes_on_after_value(place: &Place<'_>) -> bool {
     let (before, last) = (place.before.trim_ascii_end(), place.last_word);
     let place_and_sign = first_bytes(before, before.len().saturating_sub(last.len()));
-    is_exactly_one_of(&[":", "="], place.token)
+    is_exactly_one_of(": =", place.token)
         && is_all_digits(last)
         && place_and_sign.trim_ascii_end().ends_with(b"=")
 }
@@ -169,34 +192,35 @@ fn says_misfit(line: &mut Line, place: &Place<'_>) -> bool {
     let (token, last) = (place.token, place.last_word);
     let (sentence, named) = match token.first() {
         Some(b',' | b';') => (JOIN, token),
-        Some(b':') if is_one_of(&["exists", "forall"], last) => (LEAVE_OUT, token),
+        Some(b':') if is_one_of("exists forall", last) => (LEAVE_OUT, token),
         Some(b':') if is_bare(last) => (NO_EQUALS, token),
         Some(b'=') if is_all_digits(last) => (
             "{}: an atom has its place first and its number last, as x=1",
             token,
         ),
-        Some(b'(') if is_exactly_one_of(&["="], last) => (
+        Some(b'(') if is_one_of("fault", last) => (
+            "{} isn't read: no access fails here; an atom is x=1 or 0:EAX=1",
+            last,
+        ),
+        Some(b'(') if is_exactly_one_of("=", last) => (
             "{}: a number stands without brackets, as x=1",
             token,
         ),
         Some(b'[') if is_location_name(last) => (NO_ARRAYS, token),
-        Some(b'[') if is_exactly_one_of(&["="], last) => (EQUAL, token),
-        Some(b'{' | b'[') if is_one_of(&["exists", "forall"], last) => {
+        Some(b'[') if is_exactly_one_of("=", last) => (EQUAL, token),
+        Some(b'{' | b'[') if is_one_of("exists forall", last) => {
             ("{}: only ( ) stand around parts of a condition", token)
         }
         Some(b'$') => ("{}: a number stands without $ in a condition", token),
-        Some(b'(') if is_exactly_one_of(&["~"], last) => (
-            "write ~exists in place of ~ alone",
-            token,
-        ),
+        Some(b'(') if is_exactly_one_of("~", last) => ("write ~exists in place of ~ alone", token),
         Some(b')' | b'/' | b'\\') => return says_valueless(line, last),
-        Some(b'[') if is_exactly_one_of(&[":"], last) => {
+        Some(b'[') if is_exactly_one_of(":", last) => {
             ("{}: a location stands without a core, as x=1", token)
         }
         Some(first) if first.is_ascii_alphabetic() || *first == b'_' => return says_misplaced_name(
             line, place,
         ),
-        Some(first) if first.is_ascii_digit() && is_exactly_one_of(&["["], last) => {
+        Some(first) if first.is_ascii_digit() && is_exactly_one_of("[", last) => {
             (
                 "[ stands before {}: only ( ) stand around parts of a condition",
                 token,
@@ -212,9 +236,11 @@ fn says_misfit(line: &mut Line, place: &Place<'_>) -> bool {
 
 /// Says of a name without a value before an end, or of a truth in capitals. Whether that is what stands there.
 fn says_valueless(line: &mut Line, last: &[u8]) -> bool {
-    let sentence = if is_one_of(&["true", "false"], last) {
+    let sentence = if is_one_of("true false", last) {
         "{}: true and false are written in small letters"
-    } else if is_bare(last) && !is_one_of(&["exists", "forall", "not"], last) {
+    } else if is_exactly_one_of("=", last) {
+        "no number stands after {}: an atom is x=1 or 0:EAX=1"
+    } else if is_bare(last) && !is_one_of("exists forall not", last) {
         "{} has no value: an atom is x=1 or 0:EAX=1"
     } else {
         return false;
@@ -230,13 +256,15 @@ fn says_misplaced_name(line: &mut Line, place: &Place<'_>) -> bool {
         && is_place(last)
     {
         said
-    } else if is_one_of(&["forall"], token) && is_exactly_one_of(&["~"], last) {
+    } else if is_one_of("forall", token) && is_exactly_one_of("~", last) {
         "~{} isn't read: write exists, and ~( ) around what follows"
-    } else if is_one_of(&["exists", "forall"], token) {
+    } else if is_one_of("exists forall", token) {
         "{} begins a second condition: a test has one, whose parts are joined by /\\ and \\/"
-    } else if is_exactly_one_of(&["="], last) {
+    } else if is_exactly_one_of("=", last) {
         if is_no_number(token) { NO_VALUE } else { EQUAL }
-    } else if Reg::from_name(token).is_some() || is_one_of(&["ESP", "EBP", "RAX", "RBX"], token) {
+    } else if is_all_digits(last) {
+        JOIN
+    } else if is_register(token) {
         REGISTER_ALONE
     } else {
         return false;
@@ -247,7 +275,7 @@ fn says_misplaced_name(line: &mut Line, place: &Place<'_>) -> bool {
 
 /// Whether a word may end a place in a condition: a location's name, a register's, or a bracket behind a name.
 fn is_place(word: &[u8]) -> bool {
-    is_location_name(word) || Reg::from_name(word).is_some() || is_exactly_one_of(&["]"], word)
+    is_location_name(word) || Reg::from_name(word).is_some() || is_exactly_one_of("]", word)
 }
 
 /// Of what stands after the end of a test.
@@ -262,6 +290,10 @@ pub fn trailing(line: &mut Line, asked: Asked, place: &Place<'_>) {
         line.say(DIVIDER);
     } else if let Some(said) = said_of(&AFTER, token) {
         line.say_of(said, token);
+    } else if first == b'~' && begins_condition(place.after_token()) {
+        line.say(SECOND);
+    } else if first == b';' {
+        line.say_of(said_of_end(place), token);
     } else if begins_instruction(token) {
         line.say_of("{} stands after the condition: rows stand before it", token);
     } else if matches!(first, b'(' | b',' | b'[' | b'~') || first.is_ascii_digit() {
@@ -273,10 +305,27 @@ pub fn trailing(line: &mut Line, asked: Asked, place: &Place<'_>) {
         );
     } else {
         let sentence = if is_own_line && is_bare(token) && !asked.is_divided {
-            "{} stands after the end of the test: leave it out, or put a line ==== before it if choices begin here"
+            "{} stands after the end of the test: leave out from here on, or put a line ==== above it if choices begin here"
         } else {
             "{} stands after the end of the test: leave it out"
         };
         line.say_of(sentence, token);
+    }
+}
+
+/// Whether a text begins with a word that begins a condition.
+fn begins_condition(text: &[u8]) -> bool {
+    is_one_of("exists forall", digits_and_letters(text))
+}
+
+/// What is said of `;` after a condition, by what stands behind it on its line.
+fn said_of_end(place: &Place<'_>) -> &'static str {
+    let after = up_to(place.after_token(), b'\n').trim_ascii();
+    if after.contains(&b'=') {
+        JOIN
+    } else if is_bare(digits_and_letters(after)) {
+        COMMENT
+    } else {
+        "{} stands after the end of the test: leave it out"
     }
 }

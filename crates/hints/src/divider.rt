@@ -35,5 +35,5 @@ pub fn says_missing_divider(line: &mut Line, asked: Asked, place: &Place<'_>) ->
 
 /// Whether an order, as `run` prints it, begins with this word.
 pub fn begins_order(word: &[u8]) -> bool {
-    is_exactly_one_of(&["Order", "Test"], word)
+    is_exactly_one_of("Order Test", word)
 }

@@ -4,12 +4,14 @@ use crate::body::body_of;
 use crate::cells::bad_instruction;
 use crate::conditions::{bad_condition, trailing};
 use crate::divider::Asked;
+use crate::forms::says_form;
+use crate::headers::no_header;
 use crate::hinting::NOTHING_KNOWN;
-use crate::items::bad_init;
+use crate::items::{bad_init, says_information};
 use crate::keywords::says_no_row;
 use crate::line::Line;
 use crate::numbers::bad_number;
-use crate::openings::{bad_token, no_header, unclosed};
+use crate::openings::{bad_token, unclosed};
 use crate::place::Place;
 use crate::quotes::{ends_with_name, is_all_digits, up_to};
 use crate::rows::{bad_columns, too_large, wrong_cells};
@@ -24,6 +26,9 @@ pub const COMMENT: &str = "a comment is written (* .. *)";
 /// What is said of a second test.
 pub const ONE_TEST: &str =
     "a second test begins here: an input has only one, so run tso once for each test; the tool campaign takes many";
+
+const ONE_HEADER: &str =
+    "a second header stands here: a test has one line X86 NAME: leave one of the two out";
 
 /// What is said of a sign or a word that other programs write in a condition.
 pub const CONNECTIVES: &str =
@@ -60,7 +65,7 @@ pub const NESTED: &str =
 
 /// What is said of an address.
 pub const ADDRESS: &str =
-    "{}: no register can hold an address here: write the location's name in the instruction, as [x]; the tool import turns such a test into this form";
+    "{}: no register can hold an address here: write the location's name in the instruction, as [x]; the tool import does so where no instruction changes the register";
 
 /// Says what is at fault at a place of a test, with the line.
 ///
@@ -78,11 +83,11 @@ pub fn say_fault(
         _ => place.line(),
     };
     line.say_number("line {}: ", number);
-    if is_no_part(line, place, why) {
+    if is_no_part(line, place, why) || says_form(line, place, why) {
         return Ok(());
     }
     match why {
-        Why::NoHeader => no_header(line, asked.reader, place),
+        Why::NoHeader => no_header(line, asked, place),
         Why::Unclosed => unclosed(line, asked, place),
         Why::BadToken => bad_token(line, place),
         Why::BadInit => bad_init(line, place),
@@ -95,7 +100,7 @@ pub fn say_fault(
             up_to(place.rest, b'='),
         ),
         Why::NoSuchCore => line.say_of(
-            "there is no core {}: the row P0 | P1 | .. names the cores",
+            "there is no core {}: cores count from 0, as the row P0 | P1 | .. names them",
             place.token,
         ),
         Why::TooLarge => return too_large(alloc, line, place),
@@ -116,10 +121,22 @@ fn is_no_part(line: &mut Line, place: &Place<'_>, why: Why) -> bool {
         return true;
     }
     if place.token.starts_with(b"X86") {
-        line.say(ONE_TEST);
+        line.say(said_of_header(place));
+        return true;
+    }
+    if matches!(why, Why::BadInit | Why::BadToken) && says_information(line, place) {
         return true;
     }
     matches!(why, Why::Unclosed | Why::WrongCells | Why::BadInstruction) && says_no_row(line, place)
+}
+
+/// What is said of a header that begins no text: it is a second one of this test, or another test's.
+fn said_of_header(place: &Place<'_>) -> &'static str {
+    if body_of(place.before).is_empty() {
+        ONE_HEADER
+    } else {
+        ONE_TEST
+    }
 }
 
 /// Of what doesn't fit in a part of a test, which has this form; `end` says that the test ends there.

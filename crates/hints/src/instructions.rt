@@ -4,7 +4,22 @@ use crate::tables::Alike;
 
 /// Of what isn't done one instruction after the other.
 pub const STRAIGHT: &str =
-    "{} isn't read: a program has no branches, jumps or compares; use XCHG to take a lock, and write out each try of a loop";
+    "{} isn't read: a program has no branches: leave it out, write the one way that is taken, and ask in the condition for the value that leads there, as 0:EAX=1";
+
+/// Of what is done again and again.
+pub const LOOP: &str =
+    "{} isn't read: a program has no loops: write what one round does, where it waits a load, as MOV EAX,[x], and ask in the condition for the value that ends it, as 0:EAX=1";
+
+/// Of an exchange of two registers.
+pub const TWO_REGISTERS: &str =
+    "an exchange of two registers takes three MOVs, each in a cell of its own: MOV ECX,EAX  MOV EAX,EBX  MOV EBX,ECX, with a free register for ECX; a fence is MFENCE";
+
+const JUMP: &str =
+    "{} isn't read: a program has no jumps: leave it out, write the one way that is taken, and ask in the condition for the values that lead there, as 0:EAX=1";
+
+/// Of a compare with an exchange.
+pub const COMPARE_AND_EXCHANGE: &str =
+    "{} isn't read: write two tests: one where it writes, as XCHG [x],EBX, and asks in the condition for the expected word in EBX; one where it fails, as LOCK XADD [x],EBX with 0 in EBX";
 
 /// Of a label.
 pub const LABEL: &str = "{}: is a label, and a program has no jumps: leave it out";
@@ -28,232 +43,181 @@ const FENCE: &str =
     "{} isn't read: the fence is MFENCE; leave out one that keeps only loads or only stores in order";
 
 /// Instructions and words of other processors and languages, by their whole names.
-pub static OTHERS: [Alike; 14] = [
+pub static OTHERS: [Alike; 23] = [
     Alike(
-        &[
-            "STORE", "ST", "STR", "STLR", "STW", "SW", "SD", "WRITE", "W", "PUT", "SET", "ASSIGN",
-            "let", "var",
-        ],
+        "STORE ST STR STLR STW SW SD WRITE W PUT SET ASSIGN let var",
         STORE,
     ),
+    Alike("LOAD LD LDR LDAR LWZ LW READ R GET FETCH", LOAD),
     Alike(
-        &[
-            "LOAD", "LD", "LDR", "LDAR", "LWZ", "LW", "READ", "R", "GET", "FETCH",
-        ],
-        LOAD,
-    ),
-    Alike(
-        &[
-            "FENCE",
-            "MF",
-            "MB",
-            "SYNC",
-            "DMB",
-            "DSB",
-            "ISB",
-            "BARRIER",
-            "MEMBAR",
-            "HWSYNC",
-            "LWSYNC",
-            "F",
-            "smp_mb",
-            "rmb",
-            "wmb",
-            "memory_barrier",
-            "thread_fence",
-            "atomic_thread_fence",
-            "__sync_synchronize",
-            "_mm_mfence",
-        ],
+        "FENCE MF MB SYNC DMB DSB ISB BARRIER MEMBAR HWSYNC LWSYNC F smp_mb rmb wmb \
+         memory_barrier thread_fence atomic_thread_fence __sync_synchronize _mm_mfence",
         FENCE,
     ),
+    Alike("TAS TSL SWAP SWP EXCHANGE EXCH RMW test_and_set", EXCHANGE),
     Alike(
-        &[
-            "CAS",
-            "TAS",
-            "TSL",
-            "SWAP",
-            "SWP",
-            "EXCHANGE",
-            "EXCH",
-            "RMW",
-            "test_and_set",
-        ],
-        EXCHANGE,
+        "MOVE MVO OMV MOC MOVV MOOV MO",
+        "{} is no instruction: write MOV",
     ),
     Alike(
-        &[
-            "FAA",
-            "FADD",
-            "LDADD",
-            "FETCH_ADD",
-            "fetch_and_add",
-            "INCREMENT",
-        ],
-        ADDITION,
+        "XHCG XCGH XCHNG XCHGE XCH XHG XCHAN XCHANGE",
+        "{} is no instruction: write XCHG",
     ),
     Alike(
-        &["LOCKXADD", "LOCK_XADD", "LOCKXCHG", "LOCK_XCHG"],
+        "MFENC MFENSE MFNECE MEFNCE MFECE MFNCE MFEENCE MFEMCE",
+        "{} is no instruction: write MFENCE",
+    ),
+    Alike("FAA FADD LDADD FETCH_ADD fetch_and_add INCREMENT", ADDITION),
+    Alike(
+        "LOCKXADD LOCK_XADD LOCKXCHG LOCK_XCHG",
         "{}: write a space after LOCK: LOCK XADD [x],EAX",
     ),
     Alike(
-        &[
-            "if", "while", "for", "do", "else", "goto", "until", "repeat", "switch", "break",
-            "spin", "wait", "endif", "then", "await", "BNE", "BEQ", "CBZ", "CBNZ", "B",
-        ],
+        "if else goto switch break continue endif then BNE BEQ CBZ CBNZ B",
         STRAIGHT,
     ),
+    Alike("while for do until repeat spin wait await", LOOP),
     Alike(
-        &["LEA"],
+        "LEA",
         "{} isn't read: no register can hold an address here: write the location's name in the instruction, as [x]",
     ),
     Alike(
-        &["PUSH", "POP"],
+        "PUSH POP",
         "{} isn't read: there is no stack: a store is MOV [x],EAX, a load MOV EAX,[x]",
     ),
     Alike(
-        &[
-            "MOVZX", "MOVSX", "MOVSXD", "MOVABS", "MOVD", "MOVAPS", "MOVUPS", "MOVDQA", "MOVDQU",
-            "MOVSS", "MOVSD", "MOVBE",
-        ],
+        "MOVZX MOVSX MOVSXD MOVABS",
         "{} isn't read: write MOV, which moves a word of 32 bits",
     ),
     Alike(
-        &[
-            "MOVNTI",
-            "MOVNTDQ",
-            "MOVNTQ",
-            "MOVNTPS",
-            "MOVNTPD",
-            "MASKMOVDQU",
-            "MOVDIRI",
-            "MOVDIR64B",
-        ],
+        "MOVD MOVAPS MOVUPS MOVDQA MOVDQU MOVSS MOVSD VMOVAPS VMOVUPS VMOVDQA VMOVDQU VMOVSS VMOVSD",
+        "{} isn't read: there are no vectors: for each word of 32 bits write a store MOV [x],EAX or a load MOV EAX,[x]",
+    ),
+    Alike(
+        "MOVNTI MOVNTDQ MOVNTQ MOVNTPS MOVNTPD MASKMOVDQU MOVDIRI MOVDIR64B",
         "{} isn't read: its store may pass other stores, and under TSO none does; a store in order is MOV [x],EAX",
     ),
     Alike(
-        &[
-            "MUL", "IMUL", "DIV", "IDIV", "SAL", "SAR", "ROL", "ROR", "ADC", "SBB", "BSWAP",
-        ],
+        "MUL IMUL DIV IDIV SAL SAR ROL ROR ADC SBB BSWAP",
         ARITHMETIC,
     ),
     Alike(
-        &["BT", "BTS", "BTR", "BTC"],
+        "XBEGIN XEND XABORT XTEST",
+        "{} isn't read: there are no transactions: what is done in one step is XCHG [x],EAX or LOCK XADD [x],EAX",
+    ),
+    Alike("CAS compare_and_swap", COMPARE_AND_EXCHANGE),
+    Alike(
+        "BT BTS BTR BTC",
         "{} isn't read: a lock is taken by XCHG [x],EAX, with 1 in EAX",
     ),
     Alike(
-        &[
-            "CPUID",
-            "RDTSC",
-            "RDTSCP",
-            "HLT",
-            "INT",
-            "XBEGIN",
-            "XEND",
-            "XABORT",
-            "SERIALIZE",
-            "WBINVD",
-            "INVD",
-            "CLI",
-            "STI",
-            "SYSCALL",
-            "REP",
-            "UD2",
-            "print",
-            "printf",
-            "skip",
-            "empty",
-            "nothing",
-            "none",
-            "return",
-        ],
+        "CPUID RDTSC RDTSCP HLT INT SERIALIZE WBINVD INVD CLI STI SYSCALL \
+         UD2 print printf",
         "{} isn't read: leave it out; if it stands for a fence, write MFENCE",
+    ),
+    Alike(
+        "CLTQ CDQE CQTO CQO CDQ CLTD CWDE CWTL",
+        "{} isn't read: registers have 32 bits here: leave it out",
+    ),
+    Alike(
+        "_ skip empty nothing none",
+        "{} is no instruction: an empty cell is left empty",
     ),
 ];
 
 /// By how its name begins, an instruction that isn't read without LOCK.
-pub static UNLOCKED: [Alike; 6] = [
-    Alike(&["MFENCE"], "{} stands alone in its cell"),
+pub static UNLOCKED: [Alike; 11] = [
+    Alike("MFENCE", "{} stands alone in its cell"),
     Alike(
-        &["SFENCE", "LFENCE"],
+        "SFENCE LFENCE",
         "{} isn't read: it changes nothing in the order of plain loads and stores, so leave it out",
     ),
     Alike(
-        &["XADD"],
+        "XADD",
         "{} isn't read without LOCK, which makes it one step: LOCK XADD [x],EAX",
     ),
     Alike(
-        &["NOP", "PAUSE", "CLFLUSH", "CLWB", "PREFETCH"],
+        "NOP PAUSE CLFLUSH CLWB PREFETCH",
         "{} isn't read: it changes no final state, so leave it out",
     ),
+    Alike("CMPXCHG", COMPARE_AND_EXCHANGE),
+    Alike("J LOOP", JUMP),
     Alike(
-        &["J", "CMP", "CMOV", "TEST", "LOOP", "CALL", "RET"],
-        STRAIGHT,
+        "CMOV",
+        "{} isn't read: write MOV in a test where it moves, and leave it out in one where it doesn't; the condition asks for the value that decides",
     ),
     Alike(
-        &[
-            "ADD", "INC", "SUB", "DEC", "AND", "OR", "XOR", "NOT", "NEG", "SHL", "SHR",
-        ],
-        ARITHMETIC,
+        "CMP TEST SETE SETNE SETZ SETNZ",
+        "{} isn't read: a program has no compares: leave it out, and ask for the value in the condition, as 0:EAX=1",
     ),
+    Alike(
+        "CALL",
+        "{} isn't read: write the instructions of what it calls in its place",
+    ),
+    Alike(
+        "RET LEAVE IRET",
+        "{} isn't read: leave it out: a program ends with its last instruction",
+    ),
+    Alike("ADD INC SUB DEC AND OR XOR NOT NEG SHL SHR", ARITHMETIC),
 ];
 
 /// By how its name begins, an instruction that isn't read after LOCK.
-pub static LOCKED: [Alike; 6] = [
+pub static LOCKED: [Alike; 7] = [
     Alike(
-        &["ADD", "INC"],
+        "ADD INC",
         "{} isn't read after LOCK: in a cell before it, put the number that it adds into a free register, as MOV EAX,$1; here write LOCK XADD [x],EAX",
     ),
     Alike(
-        &["SUB", "DEC"],
+        "SUB DEC",
         "{} isn't read after LOCK: in a cell before it, put 4294967296 minus its number into a free register, as MOV EAX,$4294967295; here write LOCK XADD [x],EAX",
     ),
-    Alike(&["CMP", "BT"], STRAIGHT),
+    Alike("CMP", COMPARE_AND_EXCHANGE),
     Alike(
-        &["OR", "AND", "XOR", "NOT", "NEG", "ORL", "ANDL"],
+        "BT",
+        "{} isn't read: a lock is taken by MOV EAX,$1, and in the next cell XCHG [x],EAX",
+    ),
+    Alike(
+        "OR AND XOR NOT NEG ORL ANDL",
         "{} isn't read after LOCK: for a fence write MFENCE; to write a location in one step XCHG [x],EAX",
     ),
     Alike(
-        &["MOV"],
+        "MOV",
         "{} can't be locked: LOCK may stand only before XCHG or XADD",
     ),
     Alike(
-        &["MFENCE", "SFENCE", "LFENCE"],
+        "MFENCE SFENCE LFENCE",
         "{} takes no LOCK: the fence is MFENCE alone in its cell",
     ),
 ];
 
 /// The name of an instruction with the size of its operands.
 pub static SIZED: [Alike; 5] = [
-    Alike(&["MOVL", "MOVQ"], "{}: write MOV, for words of 32 bits"),
-    Alike(&["XCHGL", "XCHGQ"], "{}: write XCHG, for words of 32 bits"),
-    Alike(&["XADDL"], "{}: write XADD, for words of 32 bits"),
+    Alike("MOVL MOVQ", "{}: write MOV, for words of 32 bits"),
+    Alike("XCHGL XCHGQ", "{}: write XCHG, for words of 32 bits"),
+    Alike("XADDL", "{}: write XADD, for words of 32 bits"),
     Alike(
-        &["XADDQ"],
+        "XADDQ",
         "{} isn't read: it adds 64 bits, and words have only 32 here",
     ),
     Alike(
-        &["MOVB", "MOVW", "XCHGB", "XCHGW", "XADDB", "XADDW"],
+        "MOVB MOVW XCHGB XCHGW XADDB XADDW",
         "{} isn't read: each access is to a whole word of 32 bits",
     ),
 ];
 
 /// Words about an operand: its size, its segment or its address.
 pub static WORDS: [Alike; 4] = [
+    Alike("DWORD PTR", "{}: leave DWORD PTR out, words have 32 bits"),
     Alike(
-        &["DWORD", "PTR"],
-        "{}: leave DWORD PTR out, words have 32 bits",
-    ),
-    Alike(
-        &["QWORD", "WORD", "BYTE"],
+        "QWORD WORD BYTE",
         "{} isn't read: each access is to a whole word of 32 bits",
     ),
     Alike(
-        &["CS", "DS", "ES", "FS", "GS", "SS"],
+        "CS DS ES FS GS SS",
         "{}: there are no segments: leave it out; a location is written [x]",
     ),
     Alike(
-        &["OFFSET", "REL", "ABS"],
+        "OFFSET REL ABS",
         "{}: no address is read: write the location's name alone, as [x]",
     ),
 ];
@@ -261,15 +225,15 @@ pub static WORDS: [Alike; 4] = [
 /// The forms of an instruction.
 pub static FORMS: [Alike; 3] = [
     Alike(
-        &["MOV"],
+        "MOV",
         "MOV has the forms MOV [x],$1  MOV [x],EAX  MOV EAX,[x]  MOV EAX,$1  MOV EAX,EBX; from [y] to [x] go through a register: MOV EAX,[y], and in the next cell MOV [x],EAX",
     ),
     Alike(
-        &["XCHG"],
+        "XCHG",
         "XCHG has the forms XCHG [x],EAX  XCHG EAX,[x]: put a number into a register in a cell before it, as MOV EAX,$1",
     ),
     Alike(
-        &["XADD"],
+        "XADD",
         "LOCK XADD has the form LOCK XADD [x],EAX, the location first: put a number into a register in a cell before it, as MOV EAX,$1",
     ),
 ];

@@ -6,14 +6,22 @@ use crate::line::{Line, Piece};
 use crate::place::Place;
 use crate::quotes::{
     after_byte, after_last, begins_with_letter, digits_and_letters, is_all_digits, is_bare,
-    up_to_any,
+    is_row_of_cores, up_to, up_to_any,
 };
-use crate::registers::{is_renamed, said_of_register, said_of_register_of_core};
+use crate::region::{Region, region_of};
+use crate::registers::{is_of_others, is_register, is_renamed, says_register_of_core};
+use crate::signs::is_core;
 use crate::tables::{is_exactly_one_of, is_one_of};
-use tso_terms::Reg;
 use tso_terms::names::{is_location_name, is_name};
 
+/// Keys of information as other programs write it above the initial state.
+const KEYS: &str =
+    "Cycle Generator Prefetch Com Orig Relax Safe Hash Align Unroll Timeout Variant Kind";
+
 const ITEM: &str = "{} doesn't fit: an item is x=1, [x]=1 or 0:EAX=1, and ; stands between items";
+
+const ADDRESS_ALONE: &str =
+    "{}: no register can hold an address here: leave the item out, and write the location's name in the instruction, as [x]";
 
 const LOCATION: &str =
     "{}: a location begins with a number, as x=1: it can hold no address, and not what another one has";
@@ -54,6 +62,23 @@ pub fn bad_init(line: &mut Line, place: &Place<'_>) {
     }
 }
 
+/// Says of a line of information that stands in the initial state. Whether a place stands in one.
+pub fn says_information(line: &mut Line, place: &Place<'_>) -> bool {
+    let row = place.whole_line();
+    let key = up_to(row, b'=').trim_ascii();
+    let is_inside = matches!(region_of(place), Region::Initial)
+        && !row.contains(&b';')
+        && key.len() < row.trim_ascii().len()
+        && is_exactly_one_of(KEYS, key);
+    if is_inside {
+        line.say_of(
+            "{}= begins a line of information: it stands above the {, or is left out",
+            key,
+        );
+    }
+    is_inside
+}
+
 /// Whether a token begins as names do.
 fn begins_name(token: &[u8]) -> bool {
     begins_with_letter(token) || token.starts_with(b"_")
@@ -63,36 +88,29 @@ fn begins_name(token: &[u8]) -> bool {
 fn lacks_value(place: &Place<'_>) -> bool {
     let last = place.last_word;
     (place.rest.starts_with(b";") || place.rest.starts_with(b"}"))
-        && (is_bare(last) || is_exactly_one_of(&["]"], last))
+        && (is_bare(last) || is_exactly_one_of("]", last))
 }
 
 /// Whether a place stands in the row of cores, which the end of the initial state has to stand before.
 fn is_in_row_of_cores(place: &Place<'_>) -> bool {
-    if place.rest.starts_with(b"|") {
-        return true;
-    }
-    match place
-        .whole_line()
-        .trim_ascii_start()
-        .strip_prefix(b"P0".as_slice())
-    {
-        Some(after) => {
-            let after = after.trim_ascii_start();
-            after.is_empty() || after.starts_with(b";") || after.starts_with(b"|")
-        }
-        None => false,
-    }
+    (place.rest.starts_with(b"|") && is_core(place.last_word))
+        || is_row_of_cores(place.whole_line())
 }
 
 /// What is said of a token that doesn't fit, and is no name.
 fn misfit(place: &Place<'_>) -> &'static str {
     let last = place.last_word;
-    let after_equals = is_exactly_one_of(&["="], last);
-    let after_name = is_location_name(last) || is_exactly_one_of(&["]"], last);
+    let after_equals = is_exactly_one_of("=", last);
+    let is_digit = is_all_digits(place.token);
+    let after_name = is_location_name(last) || is_exactly_one_of("]", last);
     match place.token.first() {
         Some(b'=') if after_equals => "{}: write one = between a name and its number, as x=1",
         Some(b':') if is_all_digits(last) => "{}: an item has one number behind =, as 0:EAX=1",
         Some(b':') if after_name => "{}: write = between a name and its number, as x=1",
+        Some(_) if is_digit && after_name => "{}: write = between a name and its number, as x=1",
+        Some(_) if is_digit && is_all_digits(last) => {
+            "no ; stands before {}: write ; between items, as x=1; 0:EAX=1"
+        }
         Some(b',') => "{}: write ; between items, as x=1; y=1",
         Some(b'$') => "{}: a number stands without $ in the initial state, as x=1",
         Some(b'[') if after_equals => ADDRESS,
@@ -106,13 +124,15 @@ fn misfit(place: &Place<'_>) -> &'static str {
 /// What is said of a name that doesn't fit.
 fn misplaced_name(place: &Place<'_>) -> &'static str {
     let (token, last) = (place.token, place.last_word);
-    let is_register = Reg::from_name(token).is_some() || said_of_register(token).is_some();
-    if is_exactly_one_of(&["="], last) {
+    let is_register = is_register(token);
+    if is_exactly_one_of("=", last) {
         if is_register || is_no_number(token) {
             NO_VALUE
         } else {
             said_of_address(place)
         }
+    } else if is_all_digits(last) {
+        "no ; stands before {}: write ; between items, as x=1; y=1"
     } else if is_register {
         "{}: a register is written after its core and a colon, as 0:EAX=1"
     } else if is_name(token) && !is_location_name(token) {
@@ -124,12 +144,12 @@ fn misplaced_name(place: &Place<'_>) -> &'static str {
 
 /// Whether a word stands for a value in other languages, and is no number.
 pub fn is_no_number(word: &[u8]) -> bool {
-    is_one_of(&["true", "false", "null", "nil", "none", "nullptr"], word)
+    is_one_of("true false null nil none nullptr", word)
 }
 
 /// What is said of an address as the value of the item in which a place stands: in other programs a register may hold one.
 fn said_of_address(place: &Place<'_>) -> &'static str {
-    if after_last(place.before, b"{;").contains(&b':') {
+    if is_of_register(place) {
         ADDRESS
     } else {
         LOCATION
@@ -151,20 +171,28 @@ pub fn bad_pointer(line: &mut Line, place: &Place<'_>) {
     };
     if named.is_empty() {
         line.say_of("{}: leave it out: an item is x=0", place.token);
+    } else if is_of_register(place) {
+        line.say_of(ADDRESS_ALONE, named);
     } else {
-        line.say_of(said_of_address(place), named);
+        line.say_of(LOCATION, named);
     }
+}
+
+/// Whether the item in which a place stands is of a register.
+fn is_of_register(place: &Place<'_>) -> bool {
+    after_last(place.before, b"{;").contains(&b':')
 }
 
 /// Says of a location's address in a register of another name. Whether one stands there.
 fn says_address_in_register(line: &mut Line, place: &Place<'_>) -> bool {
     let value = name_as_value(place);
-    let is_address = is_exactly_one_of(&[":"], place.last_word)
-        && is_renamed(place.token)
+    let is_known = is_renamed(place.token);
+    let is_address = is_exactly_one_of(":", place.last_word)
+        && (is_known || is_of_others(place.token))
         && is_location_name(value)
         && !is_no_number(value);
     if is_address {
-        line.say_of(ADDRESS, value);
+        line.say_of(if is_known { ADDRESS } else { ADDRESS_ALONE }, value);
     }
     is_address
 }
@@ -173,11 +201,13 @@ fn says_address_in_register(line: &mut Line, place: &Place<'_>) -> bool {
 /// stands there.
 pub fn says_foreign_register(line: &mut Line, place: &Place<'_>) -> bool {
     let last = place.last_word;
-    if is_exactly_one_of(&[":"], last) && begins_with_letter(place.rest) {
-        let sentence = said_of_register_of_core(place.token).unwrap_or(
-            "{} is none of EAX, EBX, ECX, EDX, ESI, EDI; a location stands without a core, as x=1",
-        );
-        line.say_of(sentence, place.token);
+    if is_exactly_one_of(":", last) && begins_with_letter(place.rest) {
+        if !says_register_of_core(line, place.token) {
+            line.say_of(
+                "{} is none of EAX, EBX, ECX, EDX, ESI, EDI; a location stands without a core, as x=1",
+                place.token,
+            );
+        }
         true
     } else if place.rest.starts_with(b":") && last.starts_with(b"P") {
         line.say_of("{}: a core is its number alone here, as in 0:EAX", last);

@@ -7,7 +7,7 @@ use crate::line::{Line, Piece};
 use crate::place::Place;
 use crate::quotes::{begins_with_letter, digits_and_letters};
 use crate::signs::is_core;
-use crate::tables::{Alike, is_one_of, said_of};
+use crate::tables::{Alike, is_exactly_one_of, is_one_of, said_of};
 
 const NEVER: &str =
     "{} begins no condition: write ~exists before what must never be, or exists before what may be";
@@ -20,117 +20,89 @@ const SOMETIMES: &str =
 /// Words that stand after the rows of a test as it isn't read.
 static KEYWORDS: [Alike; 10] = [
     Alike(
-        &[
-            "exist", "exists", "exits", "exit", "exsits", "exsists", "exisits", "exsist", "exixts",
-            "eixsts", "exitst", "existss",
-        ],
+        "exist exists exits exit exsits exsists exisits exsist exixts eixsts exitst existss",
         "{} is no instruction: write exists",
     ),
     Alike(
-        &["forall", "foral", "foralls", "for_all"],
+        "forall foral foralls for_all",
         "{} is no instruction: write forall",
     ),
     Alike(
-        &["location", "locations", "locs"],
+        "location locations locs",
         "{} is no instruction: write locations, and [ .. ] after it",
     ),
     Alike(
-        &[
-            "never",
-            "forbidden",
-            "notexists",
-            "not_exists",
-            "nexists",
-            "noexists",
-            "impossible",
-            "no",
-            "disallowed",
-            "prohibited",
-        ],
+        "never forbidden notexists not_exists nexists noexists impossible no disallowed \
+         prohibited",
         NEVER,
     ),
     Alike(
-        &[
-            "always",
-            "invariant",
-            "all",
-            "required",
-            "require",
-            "requires",
-            "must",
-            "ensure",
-            "ensures",
-        ],
+        "always invariant all required require requires must ensure ensures",
         ALWAYS,
     ),
     Alike(
-        &["assert", "assertion", "assume", "verify"],
+        "assert assertion assume verify",
         "{} begins no condition: write ~exists before what must never be, or forall before what must always be",
     ),
     Alike(
-        &[
-            "allowed",
-            "allow",
-            "sometimes",
-            "possible",
-            "maybe",
-            "may",
-            "can",
-            "condition",
-            "cond",
-            "expect",
-            "expected",
-            "observed",
-            "observe",
-            "result",
-            "results",
-            "outcome",
-            "there",
-            "check",
-            "query",
-            "E",
-        ],
+        "allowed allow sometimes possible maybe may can condition cond expect expected observed \
+         observe result results outcome there check query E",
         SOMETIMES,
     ),
     Alike(
-        &["filter", "when", "where", "given"],
+        "filter when where given",
         "{} isn't read: of {} A and exists B make exists ((A) /\\ (B)), and of {} A and forall B make forall (~(A) \\/ (B))",
     ),
     Alike(
-        &["final", "with"],
+        "final with",
         "{} isn't read: leave it out; a condition begins with exists, ~exists or forall",
     ),
     Alike(
-        &[
-            "Observation",
-            "State",
-            "States",
-            "Order",
-            "Machine",
-            "Outcomes",
-            "Verdict",
-            "Positive",
-            "Witnesses",
-            "Hash",
-            "Histogram",
-            "Ok",
-        ],
+        "Observation State States Order Machine Outcomes Verdict Positive Witnesses Hash \
+         Histogram Ok",
         "{} begins a line of a report, which is no part of a test: leave out from here on",
     ),
 ];
 
+/// Says of the row at a place that it is a condition in other words. Whether it is.
+pub fn says_condition(line: &mut Line, place: &Place<'_>) -> bool {
+    let token = place.token;
+    if begins_statement(place.after_token())
+        || is_exactly_one_of("exists forall locations", token)
+    {
+        return false;
+    }
+    if let Some(said) = said_of(&KEYWORDS, token) {
+        line.say_with(said, &[Piece::Named(token); 3]);
+        return true;
+    }
+    if is_exactly_one_of("not", token) && place.after_token().starts_with(b"(") {
+        line.say("not begins no condition: write ~exists in its place");
+        return true;
+    }
+    is_one_of("not for", token)
+        && says_of_two_words(line, token, digits_and_letters(place.after_token()))
+}
+
+/// Whether what stands after a word makes a cell or a statement of it, and no condition.
+fn begins_statement(after: &[u8]) -> bool {
+    match after.first() {
+        Some(first) => b"|=+-.".contains(first),
+        None => false,
+    }
+}
+
 /// Says of the row at a place that it is a condition in other words, or a comment. Whether that is known.
 pub fn says_no_row(line: &mut Line, place: &Place<'_>) -> bool {
     let (token, rest) = (place.token, place.after_token());
-    if let Some(said) = said_of(&KEYWORDS, token) {
-        line.say_with(said, &[Piece::Named(token); 3]);
-    } else if is_core(token) && !rest.starts_with(b":") {
+    if says_condition(line, place) {
+        return true;
+    }
+    if is_core(token) && !rest.starts_with(b":") {
         line.say_of(
             "{} begins no row: one row names all cores: P0 | P1 ;",
             token,
         );
-    } else if is_one_of(&["not", "for"], token) {
-        return says_of_two_words(line, token, digits_and_letters(rest));
     } else if follows_row(place) && begins_with_letter(token) && !is_instruction(token) {
         line.say(COMMENT);
     } else {
@@ -141,11 +113,11 @@ pub fn says_no_row(line: &mut Line, place: &Place<'_>) -> bool {
 
 /// Says of a quantifier that is written as two words. Whether these are such words.
 fn says_of_two_words(line: &mut Line, first: &[u8], second: &[u8]) -> bool {
-    let sentence = if is_one_of(&["for"], first) && is_one_of(&["all"], second) {
+    let sentence = if is_one_of("for", first) && is_one_of("all", second) {
         "for all is one word here: write forall"
-    } else if is_one_of(&["not"], first) && is_one_of(&["exists", "exist"], second) {
+    } else if is_one_of("not", first) && is_one_of("exists exist", second) {
         "not exists isn't read: write ~exists"
-    } else if is_one_of(&["not"], first) && is_one_of(&["forall"], second) {
+    } else if is_one_of("not", first) && is_one_of("forall", second) {
         "not forall isn't read: write exists, and ~( ) around what follows"
     } else {
         return false;
@@ -166,7 +138,7 @@ pub fn is_instruction(word: &[u8]) -> bool {
 
 /// Whether an instruction that is read begins with this word, perhaps with the size of its operands.
 pub fn begins_instruction(word: &[u8]) -> bool {
-    is_one_of(&["LOCK", "MFENCE"], word)
+    is_one_of("LOCK MFENCE", word)
         || said_of(&FORMS, word).is_some()
         || said_of(&SIZED, word).is_some()
 }

@@ -9,7 +9,7 @@ use crate::meant::{is_tool, meant_by};
 use crate::printing::printed;
 use crate::quotes::{after_byte, is_all_digits, is_choice, up_to};
 use crate::tables::is_exactly_one_of;
-use command_line::{SUBCOMMANDS, Subcommand, Value};
+use command_table::{SUBCOMMANDS, Subcommand, Value};
 use std::alloc::Global;
 use tso_terms::NoMemory;
 use tso_terms::names::continues_name;
@@ -49,7 +49,7 @@ fn say_line(line: &mut Line, words: &[&str]) {
 /// Of a word in the place of a command: it may be a file, an option, or a command in capitals.
 fn say_no_command(line: &mut Line, name: &str) {
     let word = name.as_bytes();
-    if is_exactly_one_of(&["help", "--help", "-h", "--version", "-V"], word) {
+    if is_exactly_one_of("help --help -h --version -V", word) {
         return;
     }
     for command in &SUBCOMMANDS {
@@ -60,7 +60,7 @@ fn say_no_command(line: &mut Line, name: &str) {
             );
         }
     }
-    let sentence = if is_exactly_one_of(&["version", "-v", "--Version"], word) {
+    let sentence = if is_exactly_one_of("version -v --Version", word) {
         "the version is printed by tso --version"
     } else if is_tool(word) {
         "{} is a tool, a program of its own: tso-{} where it is installed"
@@ -73,7 +73,7 @@ fn say_no_command(line: &mut Line, name: &str) {
             &file,
         );
     } else {
-        "the commands are run, trace, sweep, outcomes, why, check, witness and tables"
+        "the commands are run, trace, sweep, counts, outcomes, why, check, witness and tables"
     };
     line.say_with(sentence, &[Piece::Shown(word), Piece::Shown(word)]);
 }
@@ -102,6 +102,46 @@ fn say_words(line: &mut Line, command: Subcommand, words: &[&str]) {
         }
         before = word;
     }
+    say_excluded(line, command, words);
+}
+
+/// Of a flag and an option that can't stand beside it.
+fn say_excluded<'a>(line: &mut Line, command: Subcommand, words: &[&'a str]) {
+    for word in words {
+        let flag = word.as_bytes();
+        if let Some(declared) = command.option_named(flag)
+            && let Value::Flag(others) = declared.value
+            && let Some(other) = first_among(words, others)
+        {
+            return line.say_with(
+                "{} is one run, of the choices after a line ====, and {} is of many: leave out one of the two",
+                &[Piece::Shown(flag), Piece::Shown(other)],
+            );
+        }
+    }
+}
+
+/// The first of the words that is one of these options, without a value that stands in it.
+fn first_among<'a>(words: &[&'a str], names: &[&str]) -> Option<&'a [u8]> {
+    for word in words {
+        let option = up_to(word.as_bytes(), b'=');
+        if let Some(name) = option.strip_prefix(b"--".as_slice())
+            && is_among(names, name)
+        {
+            return Some(option);
+        }
+    }
+    None
+}
+
+/// Whether a name is one of these, to the letter.
+fn is_among(names: &[&str], name: &[u8]) -> bool {
+    for one in names {
+        if one.as_bytes() == name {
+            return true;
+        }
+    }
+    false
 }
 
 /// Of a value that isn't a number, where the option has one.
@@ -142,7 +182,7 @@ fn say_option<'a>(line: &mut Line, command: Subcommand, word: &'a str, next: &'a
     let bytes = word.as_bytes();
     let option = up_to(bytes, b'=');
     if let Some(declared) = command.option_named(option) {
-        if matches!(declared.value, Value::Flag) && bytes.contains(&b'=') {
+        if matches!(declared.value, Value::Flag(_)) && bytes.contains(&b'=') {
             line.say_with(
                 "{} takes no value: leave out what stands after it",
                 &[Piece::Shown(option)],
@@ -188,7 +228,7 @@ fn say_operand<'a>(line: &mut Line, command: Subcommand, before: &'a str, word: 
             "{} takes no value: leave out {}",
             &[Piece::Text(before), Piece::Shown(bytes)],
         );
-    } else if is_exactly_one_of(&["help"], bytes) {
+    } else if is_exactly_one_of("help", bytes) {
         line.say("write tso ");
         line.say(command.name());
         line.say(" --help");
@@ -283,7 +323,7 @@ fn takes_value(word: &[u8]) -> bool {
     }
     for command in &SUBCOMMANDS {
         if let Some(declared) = command.option_named(word) {
-            return !matches!(declared.value, Value::Flag);
+            return !matches!(declared.value, Value::Flag(_));
         }
     }
     true

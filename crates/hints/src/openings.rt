@@ -1,189 +1,32 @@
-//! What is said of a fault before the rows of a test: in its header line or before its initial state; and of what doesn't end.
+//! What is said of a fault before the initial state of a test; and of what doesn't end.
 
-use crate::c_forms::said_of_function;
-use crate::characters::says_foreign;
+use crate::c_forms::{said_of_access, said_of_function};
 use crate::divider::{Asked, says_missing_divider};
-use crate::faults::{COMMENT, MARKDOWN, NESTED};
+use crate::faults::NESTED;
+use crate::keywords::is_instruction;
 use crate::line::{Line, Piece};
 use crate::place::Place;
 use crate::quotes::{
-    begins_with_letter, ends_with_name, first_bytes, has, is_all_digits, is_bare, up_to, word,
+    after_byte, begins_with_letter, ends_with_name, has, is_all_digits, is_bare, up_to,
 };
-use crate::reader::Reader;
 use crate::signs::bad_byte;
-use crate::tables::{Alike, is_exactly_one_of, said_of, said_of_front};
+use crate::tables::{Alike, is_exactly_one_of, said_of_front};
 use tso_terms::limits::MAX_NAME;
 use tso_terms::names::continues_name;
 
-const SOURCE_IN_C: &str =
-    "this is C: tso reads tests of X86 instructions; the tool compiled reads C, with a function for each core: P0, P1 and so on";
-
-const ASSEMBLY: &str =
-    "this is an assembler's file: begin with a line X86 NAME, and write each core's instructions into a column below P0 | P1 ;";
-
-/// Words that begin a file of another kind.
-static HEADERS: [Alike; 7] = [
-    Alike(
-        &[
-            "X86", "i386", "i486", "i586", "i686", "80386", "8086", "IA32", "IA-32", "x86-32",
-            "x86_32",
-        ],
-        "{}: write X86, in capitals",
-    ),
-    Alike(
-        &[
-            "X86_64", "x86-64", "x8664", "AMD64", "x64", "EM64T", "Intel64",
-        ],
-        "{} tests aren't read: the tool import turns them into X86 tests; if you do so by hand, begin with X86 and a name, and use EAX, EBX, ECX, EDX, ESI, EDI",
-    ),
-    Alike(
-        &[
-            "AArch64",
-            "ARM",
-            "ARM64",
-            "ARMv8",
-            "ARMv7",
-            "PPC",
-            "PPC64",
-            "Power",
-            "PowerPC",
-            "MIPS",
-            "MIPS64",
-            "RISCV",
-            "RISC-V",
-            "RV64",
-            "S390",
-            "S390X",
-            "Alpha",
-            "SPARC",
-            "IA64",
-            "LOONGARCH",
-        ],
-        "{} is another processor: write its programs as X86 instructions, below a line X86 NAME; the tool import takes X86 and X86_64 tests alone",
-    ),
-    Alike(
-        &["C"],
-        "C is a language: the tool compiled reads such a test; tso reads programs of X86 instructions, below a line X86 NAME",
-    ),
-    Alike(
-        &[
-            "CPP", "C++", "C11", "LISA", "Bell", "LLVM", "JAVA", "ASL", "LK", "Rust",
-        ],
-        "{} is a language: write its programs as X86 instructions, below a line X86 NAME; the tool compiled reads C tests alone",
-    ),
-    // How files of other kinds begin.
-    Alike(
-        &[
-            "int",
-            "void",
-            "static",
-            "extern",
-            "typedef",
-            "struct",
-            "union",
-            "const",
-            "volatile",
-            "unsigned",
-            "long",
-            "char",
-            "bool",
-            "inline",
-            "using",
-            "namespace",
-            "template",
-            "atomic_int",
-            "atomic_bool",
-            "_Atomic",
-        ],
-        SOURCE_IN_C,
-    ),
-    Alike(
-        &[
-            "section", "segment", "global", "globl", "bits", "use32", "use64", "default", "org",
-        ],
-        ASSEMBLY,
-    ),
-];
-
-/// What begins a line that isn't a header.
-static NO_HEADERS: [Alike; 5] = [
-    Alike(&["```"], MARKDOWN),
-    Alike(
-        &[
-            "#include",
-            "#define",
-            "#pragma",
-            "#if",
-            "#undef",
-            "# include",
-            "std::",
-            "_Atomic(",
-        ],
-        SOURCE_IN_C,
-    ),
-    Alike(&["."], ASSEMBLY),
-    Alike(&["//", "/*", "#", "--", ";", "%"], COMMENT),
-    Alike(
-        &["{", "\"", "P0", "MOV"],
-        "no header: write a first line X86 NAME before it, as X86 SB",
-    ),
-];
-
 /// What has no end, by what it begins with.
 static OPENERS: [Alike; 4] = [
-    Alike(&["(*"], "no *) ends the comment that begins here"),
-    Alike(&["\""], "no \" ends the quotation that begins here"),
     Alike(
-        &["{"],
-        "no } closes the { that begins the initial state here",
+        "(*",
+        "no *) ends the comment that begins here: write one at its end",
     ),
-    Alike(&["["], "no ] closes the [ of locations"),
+    Alike(
+        "\"",
+        "no \" ends the quotation that begins here: write one at its end",
+    ),
+    Alike("{", "no } closes the { that begins the initial state here"),
+    Alike("[", "no ] closes the [ of locations"),
 ];
-
-/// Of a header line.
-pub fn no_header(line: &mut Line, asked: Reader, place: &Place<'_>) {
-    let rest = place.rest;
-    let header = up_to(rest, b'\n');
-    if rest.is_empty() {
-        line.say_with(
-            "no test: give one on standard input, as in: tso {} < FILE",
-            &[Piece::Text(asked.name())],
-        );
-    } else if rest.starts_with(b"\xff\xfe")
-        || rest.starts_with(b"\xfe\xff")
-        || first_bytes(rest, 4).contains(&0)
-    {
-        line.say(
-            "the file is in UTF-16: save it as UTF-8, or convert it: iconv -f UTF-16 -t UTF-8 FILE",
-        );
-    } else if rest.starts_with(b"\xef\xbb\xbf") {
-        line.say("a byte order mark stands before X86: save the file without it");
-    } else if header
-        .strip_suffix(b"\r")
-        .unwrap_or(header)
-        .contains(&b'\r')
-    {
-        line.say("the lines end in CR alone: convert them: tr '\\r' '\\n' < FILE");
-    } else if !says_foreign(line, header, "a test's name is in ASCII") {
-        let first = word(rest);
-        line.say_of(said_of_header(rest, first), first);
-    }
-}
-
-/// What is said of a header line in ASCII, by its first word.
-fn said_of_header(rest: &[u8], first: &[u8]) -> &'static str {
-    if is_exactly_one_of(&["X86"], first) {
-        return "write a space and the test's name after X86, in printable ASCII";
-    }
-    if let Some(said) = said_of(&HEADERS, first).or(said_of_front(&NO_HEADERS, rest)) {
-        return said;
-    }
-    if first_bytes(first, 3).eq_ignore_ascii_case(b"X86") {
-        "{}: write X86 alone, a space and the test's name"
-    } else {
-        "a test begins with X86, a space and its name, and not with {}: write a first line X86 NAME"
-    }
-}
 
 /// Of what doesn't end.
 pub fn unclosed(line: &mut Line, asked: Asked, place: &Place<'_>) {
@@ -196,14 +39,40 @@ pub fn unclosed(line: &mut Line, asked: Asked, place: &Place<'_>) {
         if !says_pointer(line, place) {
             line.say_of(said, token);
         }
+    } else if place.rest.starts_with(b"}") {
+        line.say("} closes nothing here: leave it out");
     } else if !says_missing_divider(line, asked, place) {
-        let sentence = if is_bare_condition(place) {
+        let is_other_word = begins_with_letter(token) && is_bare(token) && !is_known(token);
+        let sentence = if is_other_word && is_claim(place) {
+            "{} begins no condition: write exists, ~exists or forall in its place"
+        } else if is_bare_condition(place) {
             "a condition begins with exists, ~exists or forall: write one before {}"
+        } else if is_other_word && is_apart(place) {
+            "{} is no instruction, and begins no condition: leave it out, or write exists, ~exists or forall in its place"
         } else {
             "no ; ends the row that begins with {}: a row ends with ;"
         };
         line.say_of(sentence, token);
     }
+}
+
+/// Whether a claim about a state stands on the line of a place, behind its word: in brackets or after a colon.
+fn is_claim(place: &Place<'_>) -> bool {
+    let (line, after) = (place.whole_line(), place.after_token());
+    line.contains(&b'=')
+        && !line.contains(&b'|')
+        && (after.starts_with(b"(") || after.starts_with(b":"))
+}
+
+/// Whether the word at a place stands alone on its line, or on the last line with anything on it.
+fn is_apart(place: &Place<'_>) -> bool {
+    place.whole_line().trim_ascii() == place.token
+        || after_byte(place.rest, b'\n').trim_ascii().is_empty()
+}
+
+/// Whether a word begins an instruction, or an access in another language.
+fn is_known(word: &[u8]) -> bool {
+    is_instruction(word) || said_of_access(word).is_some()
 }
 
 /// Says of a location in C behind a bracket, as in `(*x)`, which begins a comment here; of the function that gets it, where one does.
@@ -244,13 +113,10 @@ fn is_bare_condition(place: &Place<'_>) -> bool {
 /// Of what begins no token, or stands where it can't before the initial state.
 pub fn bad_token(line: &mut Line, place: &Place<'_>) {
     let token = place.token;
-    if is_exactly_one_of(&["locations"], place.last_word) {
-        let sentence = if token.is_empty() {
-            "write [ .. ] after locations: the test ends here"
-        } else {
-            "write [ .. ] after locations, in front of {}"
-        };
-        return line.say_of(sentence, token);
+    if is_exactly_one_of("locations", place.last_word) {
+        return line.say(
+            "what locations lists stands in [ ]: write it as in locations [x; 0:EAX;], or leave the line out",
+        );
     }
     if token.len() > MAX_NAME && !token.starts_with(b"0") && is_bare(token) {
         return line.say_with(
@@ -277,7 +143,10 @@ pub fn bad_token(line: &mut Line, place: &Place<'_>) {
 
 /// What is said of a token that stands before the initial state.
 fn said_before_braces(place: &Place<'_>) -> &'static str {
-    if is_exactly_one_of(&["P0"], place.token) {
+    if up_to(place.text.trim_ascii_start(), b'\n').contains(&b'{') {
+        return "the { in the first line is a part of the test's name: begin a line with it";
+    }
+    if is_exactly_one_of("P0", place.token) {
         "{} stands before the initial state: write { } in a line above, also where all begins as 0"
     } else if place.rest.starts_with(b"(") || place.rest.starts_with(b"[") {
         "{} stands before the initial state, which is written in { }"

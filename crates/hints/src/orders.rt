@@ -130,10 +130,10 @@ fn said_of_entry(entry: &[u8]) -> &'static str {
 /// How lines begin that have no entry.
 static BEGINNINGS: [Alike; 2] = [
     Alike(
-        &["#", "//", "(*", "/*", ";", "--"],
+        "# // (* /* ; --",
         "{}: an order has no comments: leave this line out",
     ),
-    Alike(&["```"], MARKDOWN),
+    Alike("```", MARKDOWN),
 ];
 
 /// The core or the place of an entry that is over 255.

@@ -153,10 +153,24 @@ pub fn begins_with_letter(text: &[u8]) -> bool {
     }
 }
 
+/// Whether a line is a row of cores, or begins one.
+pub fn is_row_of_cores(line: &[u8]) -> bool {
+    match line.trim_ascii_start().strip_prefix(b"P0") {
+        Some(after) => {
+            let after = after.trim_ascii_start();
+            after.is_empty()
+                || after.starts_with(b";")
+                || after.starts_with(b"|")
+                || after.starts_with(b"P1")
+        }
+        None => false,
+    }
+}
+
 /// Whether a word is a choice of one core, or begins those of a seed.
 pub fn is_choice(word: &[u8]) -> bool {
     match word.split_last() {
-        Some((b's' | b'd', digits)) => is_all_digits(digits) || is_exactly_one_of(&["seed"], word),
+        Some((b's' | b'd', digits)) => is_all_digits(digits) || is_exactly_one_of("seed", word),
         _ => false,
     }
 }

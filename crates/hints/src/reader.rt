@@ -9,6 +9,8 @@ pub enum Reader {
     Trace,
     /// `sweep`, which reads the test alone.
     Sweep,
+    /// `counts`, which reads the test alone, or the choices after it that are given.
+    Counts,
     /// `outcomes`, which reads the test alone.
     Outcomes,
     /// `why`, which reads the test alone.
@@ -26,6 +28,7 @@ impl Reader {
             Reader::Run => "run",
             Reader::Trace => "trace",
             Reader::Sweep => "sweep",
+            Reader::Counts => "counts",
             Reader::Outcomes => "outcomes",
             Reader::Why => "why",
             Reader::Check => "check",

@@ -2,16 +2,20 @@
 
 use crate::body::body_of;
 use crate::c_forms::{is_call, is_type};
-use crate::faults::unfit;
-use crate::keywords::is_instruction;
+use crate::faults::{COMMENT, unfit};
+use crate::forms::says_cell;
+use crate::instructions::{LOOP, STRAIGHT};
+use crate::keywords::{begins_instruction, is_instruction};
 use crate::line::{Line, Piece};
 use crate::passed::{Limit, after_curly, limit_at};
 use crate::place::Place;
+use crate::prefixes::said_of_prefix;
 use crate::quotes::{
-    after_byte, begins_with_letter, digits_and_letters, has, last_word, up_to, up_to_any,
+    after_byte, after_last, begins_with_letter, digits_and_letters, first_word, has, is_all_digits,
+    last_bytes, last_word, up_to, up_to_any,
 };
 use crate::signs::is_core;
-use crate::tables::is_exactly_one_of;
+use crate::tables::{is_exactly_one_of, is_one_of};
 use litmus_reader::MAX_TEXT;
 use litmus_tokens::{Symbol, after_gap, is_symbol, tokens_of};
 use std::alloc::Global;
@@ -23,6 +27,9 @@ use tso_terms::limits::{
 const IN_C: &str =
     "{} begins a row as in C: a load is MOV EAX,[y], a store MOV [x],$1; a row has one such cell for each core, | between cells, and ; at its end";
 
+const CLAIMS: &str =
+    "a condition begins with exists, ~exists or forall, and /\\ or \\/ joins its parts, as in exists (0:EAX=0 /\\ 1:EAX=0)";
+
 /// The form of the row of cores.
 const ROW_OF_CORES: &str = ": the row of cores is P0 | P1 | .. in order, ended by ;";
 
@@ -33,12 +40,22 @@ pub fn bad_columns(line: &mut Line, place: &Place<'_>) {
         "no ; ends the row of cores in the line before {}: a row ends with ;"
     } else if is_core(token) && is_core(last) {
         "no | stands before {}: cells are split by the vertical bar"
-    } else if is_exactly_one_of(&["|"], token) && is_exactly_one_of(&["|"], last) {
+    } else if is_exactly_one_of("(", token) && is_core(last) {
+        "{} begins the arguments of a function in C: here the row of cores is P0 | P1 | .. ;, and each core has a column of instructions below it"
+    } else if is_exactly_one_of("|", token) && place.is_first_on_line() {
+        "{} stands only between cells: leave out the one that begins the row"
+    } else if is_exactly_one_of("|", last)
+        && (is_exactly_one_of(";", token) || place.is_first_on_line())
+    {
+        "| stands only between cells: leave out the one at the row's end, before {}"
+    } else if is_exactly_one_of("|", token) && is_exactly_one_of("|", last) {
         "{} stands twice: one splits two cells"
-    } else if is_exactly_one_of(&[",", "/"], token) {
+    } else if is_exactly_one_of("exists forall ~", token) && place.is_first_on_line() {
+        "{} begins the condition, which comes last: write it below the rows"
+    } else if is_exactly_one_of(", /", token) {
         "{}: cells are split by the vertical bar |"
-    } else if is_exactly_one_of(&[":"], token) {
-        "{}: leave it out: the row of cores is P0 | P1 | .. ;"
+    } else if is_exactly_one_of(":", token) {
+        "{}: leave it out: the row of cores is P0 | P1 | .. ;, and each row below it has one cell for each core, with its next instruction"
     } else {
         return unfit(line, place, "the test ends within a row", ROW_OF_CORES);
     };
@@ -50,8 +67,7 @@ pub fn bad_columns(line: &mut Line, place: &Place<'_>) {
 /// Errors: out of memory only.
 pub fn wrong_cells(alloc: Global, line: &mut Line, place: &Place<'_>) -> Result<(), NoMemory> {
     let row = up_to(place.rest, b';');
-    if is_in_c(place.token, up_to(row, b'\n')) {
-        line.say_of(IN_C, place.token);
+    if says_other_row(line, place, row) {
         return Ok(());
     }
     let cells = bars_in(row).saturating_add(1);
@@ -63,13 +79,129 @@ pub fn wrong_cells(alloc: Global, line: &mut Line, place: &Place<'_>) -> Result<
     Ok(())
 }
 
+/// Says of a row in a form of another language, or with a `;` too many. Whether it is one.
+fn says_other_row(line: &mut Line, place: &Place<'_>, row: &[u8]) -> bool {
+    let first = place.token;
+    if let Some(said) = said_of_prefix(row, place.rest) {
+        line.say(said);
+    } else if is_one_of("if else switch", first) {
+        line.say_of(STRAIGHT, first);
+    } else if is_one_of("while for do", first) {
+        line.say_of(LOOP, first);
+    } else if is_claim(place, row) {
+        line.say(CLAIMS);
+    } else if place.rest.starts_with(b";") && place.line_before().ends_with(b";") {
+        line.say(said_of_second_end(place));
+    } else if place.rest.starts_with(b"{") {
+        line.say(
+            "{ } can't stand in a row: leave both out, and write one instruction into each cell",
+        );
+    } else if is_core(first) && place.after_token().starts_with(b":") && !row.contains(&b'|') {
+        line.say_of(
+            "{} names one core: a row has a cell for each core, in the order P0 | P1, with | between them",
+            first,
+        );
+    } else if !row.contains(&b'|') && has_comma_between(row) {
+        line.say("a comma stands between two instructions: cells are split by the vertical bar |");
+    } else if !row.contains(&b'|') && has_second_instruction(row) {
+        line.say(
+            "no | stands before the second instruction of this row: cells are split by the vertical bar",
+        );
+    } else if ends_within_operands(place) {
+        line.say("; ends a row: a comma stands between two operands, as in MOV [x],$1");
+    } else if let Some(cell) = cell_with_end(place, row) {
+        if is_type(first_word(cell)) && !cell.contains(&b'=') {
+            line.say_of(
+                "{}: nothing is declared here: leave it out, with the ; behind it",
+                cell,
+            );
+        } else if says_cell(line, cell) {
+            line.say("; leave out the ; behind it, which ends a row");
+        } else {
+            line.say_of(
+                "; stands behind {}: leave it out: it ends a row, and | splits cells",
+                cell,
+            );
+        }
+    } else if is_in_c(first, up_to(row, b'\n')) {
+        line.say_of(IN_C, first);
+    } else {
+        return false;
+    }
+    true
+}
+
+/// Whether a row claims something of a core's register, as conditions do.
+fn is_claim(place: &Place<'_>, row: &[u8]) -> bool {
+    is_all_digits(place.token)
+        && place.after_token().starts_with(b":")
+        && row.contains(&b'=')
+        && !row.contains(&b'|')
+}
+
+/// What is said of `;` behind the end of a row.
+fn said_of_second_end(place: &Place<'_>) -> &'static str {
+    let after = up_to(after_byte(place.rest, b';'), b'\n');
+    if begins_with_letter(after.trim_ascii_start()) {
+        COMMENT
+    } else {
+        "; stands twice: a row ends with one ;"
+    }
+}
+
+/// Whether what follows the end of a row on its line begins with an operand.
+fn ends_within_operands(place: &Place<'_>) -> bool {
+    let after = up_to(after_byte(place.rest, b';'), b'\n').trim_ascii_start();
+    match after.first() {
+        Some(first) => b"$[%".contains(first) || first.is_ascii_digit(),
+        None => false,
+    }
+}
+
+/// Whether a second instruction stands in a row behind the first.
+fn has_second_instruction(row: &[u8]) -> bool {
+    let mut is_at_start = false;
+    for at in 0..row.len() {
+        let name = digits_and_letters(&row[at..]);
+        if is_at_start
+            && begins_instruction(name)
+            && !last_word(&row[..at]).eq_ignore_ascii_case(b"LOCK")
+        {
+            return true;
+        }
+        is_at_start = name.is_empty();
+    }
+    false
+}
+
+/// Whether an instruction stands behind a comma.
+fn has_comma_between(row: &[u8]) -> bool {
+    for at in 0..row.len() {
+        let after = last_bytes(row, row.len() - at - 1).trim_ascii_start();
+        if row[at] == b',' && begins_instruction(digits_and_letters(after)) {
+            return true;
+        }
+    }
+    false
+}
+
+/// The last cell of a row where further cells stand behind the row's end on its line, as statements in C have `;` of their own.
+fn cell_with_end<'a>(place: &Place<'a>, row: &'a [u8]) -> Option<&'a [u8]> {
+    let after = up_to(after_byte(place.rest, b';'), b'\n').trim_ascii_start();
+    if after.starts_with(b"|") && !row.contains(&b'\n') {
+        Some(after_last(row, b"|").trim_ascii())
+    } else {
+        None
+    }
+}
+
 /// Whether a line that begins with this token is of C: it has an equals sign, or begins as a declaration or an access does.
 fn is_in_c(first: &[u8], line: &[u8]) -> bool {
     begins_with_letter(first)
         && (line.contains(&b'=')
             || is_type(first)
             || is_call(first)
-            || is_exactly_one_of(&["return"], first))
+            || is_exactly_one_of("return", first))
 }
 
 fn bars_in(row: &[u8]) -> usize {
@@ -102,9 +234,7 @@ fn cores_before(alloc: Global, place: &Place<'_>) -> Result<usize, NoMemory> {
 /// What is said of a row at the front of a text, which has too many cells or too few: how many there are, and how many cores.
 fn sentence_of_row(rest: &[u8], row: &[u8], are_too_many: bool) -> &'static str {
     let after = up_to(after_byte(rest, b';'), b'\n').trim_ascii_start();
-    if ends_with_lock(row) {
-        "LOCK and its instruction stand in one cell, without ;: LOCK XADD [x],EAX"
-    } else if row.trim_ascii().contains(&b'\n') {
+    if row.trim_ascii().contains(&b'\n') {
         "no ; ends this row at its line's end, so it has {} with those of the next line: a row ends with ;"
     } else if has(row, b"||") {
         "this row has {}, since || makes an empty one: cells are split by one |"
@@ -130,11 +260,6 @@ fn sentence_of_long_row(row: &[u8]) -> &'static str {
     }
 }
 
-/// Whether LOCK stands before the end of a row.
-pub fn ends_with_lock(row: &[u8]) -> bool {
-    last_word(row).eq_ignore_ascii_case(b"LOCK")
-}
-
 /// Of what passes a limit.
 ///
 /// Errors: out of memory only.
@@ -149,7 +274,7 @@ pub fn too_large(alloc: Global, line: &mut Line, place: &Place<'_>) -> Result<()
     } else if matches!(after_gap(place.text), Ok(rest) if rest.len() == place.rest.len()) {
         // Nothing stands before it but white space and comments.
         line.say_number("the test's name has more than {} bytes", MAX_TEST_NAME);
-    } else if is_exactly_one_of(&["(", "~", "not"], token) {
+    } else if is_exactly_one_of("( ~ not", token) {
         line.say_of_number(
             "{} is one too many: at most {} brackets and negations may be open at once",
             token,

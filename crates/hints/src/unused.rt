@@ -13,7 +13,7 @@ use tso_terms::{Action, Core, Loc, Test};
 
 /// Of a location that nothing but the condition names.
 pub const UNUSED: &str =
-    "line {}: the condition names {}, which no program uses and no initial state sets: it stays 0";
+    "line {}: the condition names {}, which no program uses and no initial state sets: it stays 0; write a name that a program has";
 
 /// Says a sentence of a name, which is so many bytes of an input, after so many others, with its line.
 pub fn say_named(line: &mut Line, sentence: &str, input: &[u8], first: usize, length: usize) {

@@ -62,11 +62,12 @@ IsMachineOf a kind config =
     (kind_number kind ≡ a.protocol) × (config.depth ≡ a.depth) × (bus_number config.bus ≡ a.bus)
     × (config.shape ≡ geometry a.sets a.ways a.words)
 
--- the settings of the command that the numbers ask for: these are one at most
+-- the settings of the command that the numbers ask for: these are one at most, and never those of `counts`
 abbrev pub Asks : Numbers → Settings → Type 0
 Asks a (settings.Run kind config json) = (a.command ≡ 0) × IsMachineOf a kind config × (json ≡ a.json)
 Asks a (settings.Sweep kind config plan) =
     (a.command ≡ 1) × IsMachineOf a kind config × (plan ≡ record { from = a.from; seeds = a.seeds; length = a.length })
+Asks a (settings.Counts kind config plan json) = ⊥
 Asks a settings.Check = a.command ≡ 2
 Asks a (settings.Witness depth) = (a.command ≡ 3) × (depth ≡ a.depth)
 Asks a (settings.Tables kind) = (a.command ≡ 4) × (kind_number kind ≡ a.protocol)

@@ -64,3 +64,4 @@ pub mod AsRead
 pub mod FalseValues
 pub mod PrintedTrees
 pub mod SourcesTold
+mod StepsCounted

@@ -8,6 +8,7 @@ pub mod Observed
 pub mod Verdicts
 pub mod Traces
 pub mod TracedMachines
+pub mod CountedSteps
 pub mod Reasons
 pub mod ReadBack
 pub mod Sources

@@ -1,6 +1,6 @@
 //! What the headline leaves open of two texts, field by field.
 
-ghost use Rattle.std.specs.Prelude.{◌++◌, ◌<◌, ◌^◌, ◌≡◌, ◌≤◌, ◌⊎◌, Bool, List, Some, false, length, map, true, ℕ};
+ghost use Rattle.std.specs.Prelude.{◌++◌, ◌<◌, ◌^◌, ◌≡◌, ◌≤◌, ◌⊎◌, Bool, List, Option, Some, false, length, map, true, ℕ};
 ghost use Rattle.command_line.specs.Limits.{IsWithinLimits};
 ghost use Rattle.scheduler.specs.Plan.{Plan};
 ghost use Rattle.command_line.specs.Search.{Search};
@@ -111,7 +111,7 @@ pub fn two_texts_reach_one_order()
         → LeadTo said.t depth said.others said.order }
 {}
 
-/// The headline leaves such texts, and one text of `sweep` and `check`.
+/// The headline leaves such texts, and one text of `sweep`, `counts` and `check`.
 pub fn headlines_leave_one_text_of_each_command()
     ensures runs { (kind : ProtocolKind) (c : Configuration) (json : Bool) (input out other : List ℕ)
         → InputHeadline (Settings.Run kind c json) input out → InputHeadline (Settings.Run kind c json) input other
@@ -121,6 +121,9 @@ pub fn headlines_leave_one_text_of_each_command()
         → AreOneTrace kind c json out other }
     ensures sweeps { (kind : ProtocolKind) (c : Configuration) (plan : Plan) (input out other : List ℕ)
         → InputHeadline (Settings.Sweep kind c plan) input out → InputHeadline (Settings.Sweep kind c plan) input other
+        → out ≡ other }
+    ensures counts { (kind : ProtocolKind) (c : Configuration) (plan : Option Plan) (json : Bool) (input out other : List ℕ)
+        → InputHeadline (Settings.Counts kind c plan json) input out → InputHeadline (Settings.Counts kind c plan json) input other
         → out ≡ other }
     ensures checks { (input out other : List ℕ) → InputHeadline Settings.Check input out
         → InputHeadline Settings.Check input other → out ≡ other }
@@ -141,6 +144,9 @@ pub fn each_command_gives_one_answer()
     ensures sweeps { (kind : ProtocolKind) (config : Configuration) (plan : Plan) (input out other : List ℕ) (status again : Status)
         → IsAnswer (Settings.Sweep kind config plan) (Some input) out status
         → IsAnswer (Settings.Sweep kind config plan) (Some input) other again → (out ≡ other) × (status ≡ again) }
+    ensures counts { (kind : ProtocolKind) (config : Configuration) (plan : Option Plan) (json : Bool) (input out other : List ℕ) (status again : Status)
+        → IsAnswer (Settings.Counts kind config plan json) (Some input) out status
+        → IsAnswer (Settings.Counts kind config plan json) (Some input) other again → (out ≡ other) × (status ≡ again) }
     ensures checks { (input out other : List ℕ) (status again : Status) → IsAnswer Settings.Check (Some input) out status
         → IsAnswer Settings.Check (Some input) other again → (out ≡ other) × (status ≡ again) }
     ensures witnesses { (depth : ℕ) (input out other : List ℕ) (status again : Status)

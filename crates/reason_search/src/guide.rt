@@ -32,6 +32,17 @@ pub struct Guide {
 /// refused, the search ends, and `proposed_order` tells it. Where all is closed, the tree is the smallest of those that are found in a few tries, each at no more cases than the first
 /// one took.
 pub fn make_guide(alloc: Global, test: &Test, events: &[Entry], model: Model) -> Guide {
+    make_guide_within(alloc, test, events, model, MOST_CASES)
+}
+
+/// The same, for about so many cases.
+pub fn make_guide_within(
+    alloc: Global,
+    test: &Test,
+    events: &[Entry],
+    model: Model,
+    most: usize,
+) -> Guide {
     let problem = make_problem(alloc, test, events, model);
     let mut guide = Guide {
         hunt: make_hunt(alloc, &problem),
@@ -45,10 +56,10 @@ pub fn make_guide(alloc: Global, test: &Test, events: &[Entry], model: Model) ->
     }
     let hunt = &mut guide.hunt;
     let mut found = Find::Paused;
-    let mut step = 400usize;
+    let mut step = most.min(400);
     for _round in 0..u64::MAX {
         found = hunt_for(&guide.problem, hunt, step, false);
-        if !matches!(found, Find::Paused) | (hunt.cases > MOST_CASES) | is_refused(hunt) {
+        if !matches!(found, Find::Paused) | (hunt.cases > most) | is_refused(hunt) {
             break;
         }
         step = step.wrapping_add(step / 4);
@@ -75,6 +86,11 @@ pub fn make_guide(alloc: Global, test: &Test, events: &[Entry], model: Model) ->
         found = hunt_for(&guide.problem, hunt, effort, true);
     }
     guide
+}
+
+/// Whether a tree is proposed.
+pub fn has_tree(guide: &Guide) -> bool {
+    guide.open.len() > 0
 }
 
 /// The order that is proposed, if one is.

@@ -26,4 +26,4 @@ pub mod rows;
 pub mod values;
 pub mod weights;
 
-pub use guide::{Guide, forget, make_guide, propose, proposed_order};
+pub use guide::{Guide, forget, has_tree, make_guide, make_guide_within, propose, proposed_order};

@@ -22,7 +22,7 @@ use tso_terms::{NoMemory, Prop, Quantifier, Test};
 /// Whether a node may stand in the branch of these facts, below these lemmas. If it may, its branches are added.
 ///
 /// Errors: out of memory only.
-fn go_on<'t>(
+pub fn go_on<'t>(
     alloc: Global,
     problem: &Problem<'t>,
     model: Model,
@@ -122,7 +122,7 @@ pub fn hold<'t>(
 /// condition a proposition that is always true.
 ///
 /// Errors: out of memory only.
-fn asked_facts<'t>(
+pub fn asked_facts<'t>(
     alloc: Global,
     problem: &Problem<'t>,
     always: &'t Prop,

@@ -21,6 +21,7 @@ use protocol_tables::{Protocol, Request, State};
 use tso_terms::Core;
 
 /// A cache, whose copy of the line is in this state, sees another core's request for the line.
+#[inline(always)]
 fn snoop_one<P: Protocol>(
     cache: &mut Cache,
     protocol: &P,
@@ -45,6 +46,7 @@ fn snoop_one<P: Protocol>(
 impl Hierarchy {
     /// Every cache but the core's own sees its request for a line. Their copies of it are in these states, core
     /// by core.
+    #[inline(always)]
     pub fn snoop_others<P: Protocol>(
         &mut self,
         protocol: &P,

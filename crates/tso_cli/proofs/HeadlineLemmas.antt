@@ -11,6 +11,7 @@ use Rattle.tso_cli.proofs.OneAnswer.{short_rest}
 use Rattle.tso_cli.proofs.OutcomesLemmas.{Searches, outcomes-mean}
 use Rattle.tso_cli.proofs.WhyLemmas.{Refuting, reasons-mean}
 use Rattle.tso_cli.proofs.SweepLemmas.{sweep-means}
+use Rattle.tso_cli.proofs.CountsLemmas.{counts-mean}
 use Rattle.tso_cli.proofs.WitnessLemmas.{Reaching, witness-means}
 use Rattle.tso_cli.proofs.TraceLengths.{never-both}
 
@@ -199,6 +200,8 @@ answer-means (settings.Trace kind c json) t text out status texts runs reaching 
 answer-means (settings.Sweep kind c plan) t text out status texts runs reaching searches refuting within test short is =
     sweeps-by-bus t kind c plan out
     (sweep-means t kind c plan out status (λ choices. runs.executions (table_of kind) c t choices test) (λ choices none. runs.unbuffered (table_of kind) c t choices none test) (runs.atomic (table_of kind) c t) is)
+answer-means (settings.Counts kind c plan json) t text out status texts runs reaching searches refuting within test short is =
+    counts-mean t kind c plan json text out status (texts.decided (length t.programs) text test.some_core) (λ choices. runs.executions (table_of kind) c t choices test) is
 answer-means (settings.Outcomes search json assert) t text out status texts runs reaching searches refuting within test short is =
     outcomes-mean t search json assert out status reaching searches test is
 answer-means (settings.Why plan json assert) t text out status texts runs reaching searches refuting within test short is =

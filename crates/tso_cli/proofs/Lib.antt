@@ -10,6 +10,7 @@ pub mod FoundOutcomes
 pub mod Sighted
 pub mod SweptText
 pub mod SweepLemmas
+mod CountsLemmas
 pub mod OneAnswer
 pub mod WitnessLemmas
 pub mod OutcomesLemmas

@@ -6,6 +6,7 @@ use Rattle.tso_cli.specs.Trace.{refused}
 use Rattle.tso_cli.specs.Witness.{invalid, refused, judged}
 use Rattle.command_line.specs.declared.settings.Settings.TheVariants as settings
 use Rattle.tso_cli.proofs.CheckLemmas.{IsReal, IsOne}
+use Rattle.tso_cli.proofs.CountsLemmas.{one-counts-answer}
 use Rattle.tso_cli.proofs.DividingLemmas.{rest_within}
 use Rattle.tso_cli.proofs.TraceLengths.{one-word, never-both}
 
@@ -78,6 +79,7 @@ one_answer_to : (s : Settings) (t : Litmus) (text out other : List ℕ) (status 
 one_answer_to (settings.Run kind c json) t text out other status again law one test short is too = one_run_answer t kind c json text out other status again (law.decided (length t.programs) text test.some_core) is too
 one_answer_to (settings.Trace kind c json) t text out other status again law one test short is too = one_trace_answer t kind c json text out other status again test.some_core (law.decided (length t.programs) text test.some_core) is too
 one_answer_to (settings.Sweep kind c plan) t text out other status again law one test short is too = (is.text ∙ sym too.text, is.status_is ∙ sym too.status_is)
+one_answer_to (settings.Counts kind c plan json) t text out other status again law one test short is too = one-counts-answer t kind c plan json text out other status again (law.decided (length t.programs) text test.some_core) is too
 one_answer_to (settings.Outcomes search json assert) t text out other status again law one test short is too = absurd one
 one_answer_to (settings.Why plan json assert) t text out other status again law one test short is too = absurd one
 one_answer_to settings.Check t text out other status again law one test short is too = one_check_answer t text out other status again law test short is too

@@ -5,6 +5,7 @@ use Rattle.scheduler.specs.declared.fault.ChoiceFault.{ChoiceFault}
 use Rattle.tso_cli.specs.SplitRun.{split_run}
 use Rattle.tso_cli.specs.Judgement.{reached}
 use Rattle.command_line.specs.declared.settings.Settings.TheVariants as settings
+use Rattle.tso_cli.proofs.CountsLemmas.{one-counts-text}
 use Rattle.tso_cli.proofs.OneAnswer.{short_rest}
 use Rattle.tso_cli.proofs.SameStates.{one-list}
 use Rattle.tso_cli.proofs.TraceLengths.{too-long-or-not, one-word}
@@ -286,6 +287,12 @@ pub sweeps-one : (kind : ProtocolKind) (c : Configuration) (plan : Plan) (input 
     → InputHeadline (settings.Sweep kind c plan) input out → InputHeadline (settings.Sweep kind c plan) input other → out ≡ other
 sweeps-one kind c plan input out other law decided =
     input-one (settings.Sweep kind c plan) (λ a b. a ≡ b) input out other law decided (λ a b same. same) (λ t test short. one-sweep-on-either t kind c plan out other)
+
+pub counts-one : (kind : ProtocolKind) (c : Configuration) (plan : Option Plan) (json : Bool) (input out other : List ℕ) → AreReadOneWay → AreDecided
+    → InputHeadline (settings.Counts kind c plan json) input out → InputHeadline (settings.Counts kind c plan json) input other → out ≡ other
+counts-one kind c plan json input out other law decided =
+    input-one (settings.Counts kind c plan json) (λ a b. a ≡ b) input out other law decided (λ a b same. same)
+    (λ t test short. one-counts-text t kind c plan json (parts_of input).rest out other (law.decided (length t.programs) (parts_of input).rest test.some_core))
 
 pub checks-one : (input out other : List ℕ) → AreReadOneWay → AreDecided → InputHeadline settings.Check input out → InputHeadline settings.Check input other → out ≡ other
 checks-one input out other law decided =

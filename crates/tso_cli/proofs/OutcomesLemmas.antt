@@ -1,5 +1,5 @@
 -- What the answer of a search means.
-use Rattle.tso_cli.proofs.Vocabulary.{◌≡◌, ◌∙◌, ◌≤◌, ℕ, zero, suc, Bool, List, [], map, length, All, Contains, refl, ap, subst, arith, append-nil, All-weaker, All-contains, most_depth, Litmus, IsTest, IsTsoExecution, final_words, final_registers, Entry, SpellsChoices, printed_choices, Named, names_shown, values_at, Outcome, shown_values, Search, AreAllOutcomes, AreSomeOutcomes, IsOutcomesAnswer, found, HeadlineOfOutcomes, all, Status}
+use Rattle.tso_cli.proofs.Vocabulary.{◌≡◌, ◌∙◌, ◌≤◌, ℕ, zero, suc, Bool, List, [], map, length, All, Contains, refl, ap, subst, arith, append-nil, All-weaker, All-contains, most_depth, Litmus, IsTest, IsTsoExecution, final_words, final_registers, Entry, SpellsChoices, printed_choices, Named, names_shown, values_at, Outcome, shown_values, Search, AreAllOutcomes, IsOutcomesAnswer, found, HeadlineOfOutcomes, all, Status}
 use Rattle.tso_laws.specs.Outcomes.{IsEnd, IsSequentiallyConsistent, EndsAreWhatTsoAllows, ChoicesToAnEndAreCounted}
 use Rattle.tso_cli.specs.Outcomes.{too_many}
 use Rattle.tso_cli.specs.OutcomesHeadline.{shown_after, AreExactly, AreSomeOf, too_many}

@@ -6,6 +6,7 @@ use Rattle.litmus_reader.specs.Spelling.{SpellsTest, IsRefused as IsRefusedTest}
 use Rattle.tso_cli.specs.Why.{IsWhyAnswer}
 use Rattle.tso_cli.specs.Witness.{IsWitnessAnswer}
 use Rattle.tso_cli.specs.CommandAnswers.{IsCheckAnswer, IsRunAnswer}
+use Rattle.tso_cli.specs.Counts.{IsCountsAnswer}
 use Rattle.tso_cli.specs.Dividing.{parts_of}
 use Rattle.tso_cli.specs.Lines.{input_refusal, test_refusal}
 use Rattle.tso_cli.specs.Outcomes.{IsOutcomesAnswer}
@@ -20,12 +21,13 @@ pub record IsTableAnswer (kind : ProtocolKind) (out : List ℕ) (status : Status
   pub text : out ≡ printed_table (protocol_name kind) (table_of kind)
   pub status_is : status ≡ Good
 
--- the answer of a command to a test and the second part of its input; a sweep and both searches look at the test alone, and
--- `tables` at neither
+-- the answer of a command to a test and the second part of its input; a sweep, a count over seeds and both searches look at the test
+-- alone, and `tables` at neither
 abbrev pub IsAnswerTo : Settings → Litmus → List ℕ → List ℕ → Status → Type 0
 IsAnswerTo (settings.Run kind config json) t text out status = IsRunAnswer t kind config json text out status
 IsAnswerTo (settings.Trace kind config json) t text out status = IsTraceAnswer t kind config json text out status
 IsAnswerTo (settings.Sweep kind config plan) t text out status = IsSweepAnswer t kind config plan out status
+IsAnswerTo (settings.Counts kind config plan json) t text out status = IsCountsAnswer t kind config plan json text out status
 IsAnswerTo (settings.Outcomes search json assert) t text out status = IsOutcomesAnswer t search json assert out status
 IsAnswerTo (settings.Why plan json assert) t text out status = IsWhyAnswer t plan json assert out status
 IsAnswerTo settings.Check t text out status = IsCheckAnswer t text out status

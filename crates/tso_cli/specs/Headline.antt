@@ -6,6 +6,7 @@ use Rattle.command_line.specs.declared.settings.Settings.TheVariants as settings
 use Rattle.tso_cli.specs.RunHeadline.{HeadlineOfRuns}
 use Rattle.tso_cli.specs.TraceHeadline.{HeadlineOfTraces}
 use Rattle.tso_cli.specs.SweepHeadline.{HeadlineOfSweeps}
+use Rattle.tso_cli.specs.CountsHeadline.{HeadlineOfCounts}
 use Rattle.tso_cli.specs.OutcomesHeadline.{HeadlineOfOutcomes}
 use Rattle.tso_cli.specs.WhyHeadline.{HeadlineOfReasons}
 use Rattle.tso_cli.specs.Judgement.{JudgesEachOrder, WitnessesEachOrder}
@@ -21,6 +22,7 @@ abbrev pub HeadlineOf : Settings → Litmus → List ℕ → List ℕ → Type 0
 HeadlineOf (settings.Run kind config json) t text out = HeadlineOfRuns t kind config json text out
 HeadlineOf (settings.Trace kind config json) t text out = HeadlineOfTraces t kind config json text out
 HeadlineOf (settings.Sweep kind config plan) t text out = HeadlineOfSweeps t kind config plan out
+HeadlineOf (settings.Counts kind config plan json) t text out = HeadlineOfCounts t kind config plan json text out
 HeadlineOf (settings.Outcomes search json assert) t text out = HeadlineOfOutcomes t search json out
 HeadlineOf (settings.Why plan json assert) t text out = HeadlineOfReasons t plan json out
 HeadlineOf settings.Check t text out = JudgesEachOrder t text out

@@ -15,6 +15,7 @@ abbrev pub may_mislead : Settings → Bool
 may_mislead (settings.Run kind config json) = not json
 may_mislead (settings.Trace kind config json) = not json
 may_mislead (settings.Sweep kind config plan) = true
+may_mislead (settings.Counts kind config plan json) = false
 may_mislead (settings.Outcomes search json assert) = not json
 may_mislead (settings.Why plan json assert) = not json
 may_mislead settings.Check = false

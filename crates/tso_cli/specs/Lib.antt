@@ -5,6 +5,7 @@ pub mod CheckLines
 pub mod Dividing
 pub mod Trace
 pub mod Sweep
+pub mod Counts
 pub mod Verdicts
 pub mod Outcomes
 pub mod Why
@@ -18,6 +19,7 @@ pub mod SplitRun
 pub mod RunHeadline
 pub mod TraceHeadline
 pub mod SweepHeadline
+pub mod CountsHeadline
 pub mod OutcomesHeadline
 pub mod WhyHeadline
 pub mod Judgement

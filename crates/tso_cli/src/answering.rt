@@ -9,6 +9,7 @@ ghost use Rattle.command_line.specs.Limits.{HasDepth};
 use crate::answer::{Answer, Status, refused_input, refused_test};
 use crate::answers::answers_meet_the_headline;
 use crate::checking::check_answer;
+use crate::counting::counts_answer;
 use crate::dividing::parts_of;
 use crate::explaining::why_answer;
 use crate::hinting::may_mislead;
@@ -59,6 +60,7 @@ pub fn answer_watched<S: Watcher>(
         Settings::Run { .. }
         | Settings::Trace { .. }
         | Settings::Sweep { .. }
+        | Settings::Counts { .. }
         | Settings::Outcomes { .. }
         | Settings::Why { .. }
         | Settings::Check
@@ -162,6 +164,12 @@ fn answer_of<S: Watcher>(
             config,
             plan,
         } => sweep_answer(alloc, test, *protocol, *config, *plan),
+        Settings::Counts {
+            protocol,
+            config,
+            plan,
+            json,
+        } => counts_answer(alloc, test, *protocol, *config, *plan, *json, text),
         Settings::Outcomes {
             search,
             json,
@@ -192,6 +200,7 @@ fn asked(settings: &Settings) -> Reader {
         Settings::Run { .. } | Settings::Tables(_) => Reader::Run,
         Settings::Trace { .. } => Reader::Trace,
         Settings::Sweep { .. } => Reader::Sweep,
+        Settings::Counts { .. } => Reader::Counts,
         Settings::Outcomes { .. } => Reader::Outcomes,
         Settings::Why { .. } => Reader::Why,
         Settings::Check => Reader::Check,

@@ -102,6 +102,7 @@ fn most_read(settings: &Settings) -> usize
         Settings::Run { .. }
         | Settings::Trace { .. }
         | Settings::Sweep { .. }
+        | Settings::Counts { .. }
         | Settings::Outcomes { .. }
         | Settings::Why { .. }
         | Settings::Check

@@ -1,6 +1,6 @@
 //! What the headline decides by itself. Each law is the contract of a function that does nothing: who calls it knows it.
 
-ghost use Rattle.std.specs.Prelude.{◌≡◌, ℕ, Bool, List};
+ghost use Rattle.std.specs.Prelude.{◌≡◌, ℕ, Bool, List, Option};
 ghost use Rattle.protocol_tables.specs.declared.kind.ProtocolKind.{ProtocolKind};
 ghost use Rattle.multiprocessor.specs.Configuration.{Configuration};
 ghost use Rattle.command_line.specs.Explanation.{Explanation};
@@ -19,7 +19,7 @@ use litmus_reader::test_texts::texts_are_decided;
 use order_builder::order_texts::order_is_spelled_once;
 use search_report::alike_outcomes::outcomes_of_the_same_values_are_alike;
 
-/// The headline leaves one text for each input of `check` and of `sweep`, of `run` and `trace` where no run
+/// The headline leaves one text for each input of `check`, of `sweep` and of `counts`, of `run` and `trace` where no run
 /// ends, and of `witness` where it finds no choices. Of a run that ended it leaves open how many choices were used,
 /// stalled and left over, and the counts of the caches, and nothing else; of choices that lead to an
 /// order, which they are. Of `outcomes` it leaves open which choices lead to each state, and, where the machine can reach more
@@ -34,6 +34,8 @@ pub fn headlines_leave_one_text()
         → AreOneTrace kind c json out other }
     ensures sweeps { (kind : ProtocolKind) (c : Configuration) (plan : Plan) (input out other : List ℕ)
         → InputHeadline (Settings.Sweep kind c plan) input out → InputHeadline (Settings.Sweep kind c plan) input other → out ≡ other }
+    ensures counts { (kind : ProtocolKind) (c : Configuration) (plan : Option Plan) (json : Bool) (input out other : List ℕ)
+        → InputHeadline (Settings.Counts kind c plan json) input out → InputHeadline (Settings.Counts kind c plan json) input other → out ≡ other }
     ensures checks { (input out other : List ℕ)
         → InputHeadline Settings.Check input out → InputHeadline Settings.Check input other → out ≡ other }
     ensures witnesses { (depth : ℕ) (input out other : List ℕ)

@@ -51,6 +51,7 @@ pub(crate) fn may_mislead(settings: &Settings) -> bool
         | Settings::Trace { json, .. }
         | Settings::Outcomes { json, .. } => !*json,
         Settings::Sweep { .. } => true,
+        Settings::Counts { .. } => false,
         Settings::Why { json, .. } => !*json,
         Settings::Check | Settings::Witness { .. } | Settings::Tables(_) => false,
     }
@@ -82,6 +83,7 @@ fn is_searched(settings: &Settings) -> bool
         Settings::Run { .. }
         | Settings::Trace { .. }
         | Settings::Sweep { .. }
+        | Settings::Counts { .. }
         | Settings::Why { .. }
         | Settings::Check
         | Settings::Witness { .. }

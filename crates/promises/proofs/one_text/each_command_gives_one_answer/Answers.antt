@@ -10,6 +10,9 @@ returns-clause-traces c = λ kind config json input out other status again one t
 pub returns-clause-sweeps : goal.returns-clause-sweeps
 returns-clause-sweeps c = λ kind config plan input out other status again one two. c.inputs_have_one_answer.ensures.commands (settings.Sweep kind config plan) input out other status again tt one two
 
+pub returns-clause-counts : goal.returns-clause-counts
+returns-clause-counts c = λ kind config plan json input out other status again one two. c.inputs_have_one_answer.ensures.commands (settings.Counts kind config plan json) input out other status again tt one two
+
 pub returns-clause-checks : goal.returns-clause-checks
 returns-clause-checks c = λ input out other status again one two. c.inputs_have_one_answer.ensures.commands settings.Check input out other status again tt one two
 

@@ -1,4 +1,4 @@
-use Rattle.tso_cli.proofs.OneTextLemmas.{AreDecided, runs-one, traces-one, sweeps-one, checks-one, witnesses-one}
+use Rattle.tso_cli.proofs.OneTextLemmas.{AreDecided, runs-one, traces-one, sweeps-one, counts-one, checks-one, witnesses-one}
 use Rattle.tso_cli.proofs.OneSearchLemmas.{searches-one}
 use Rattle.tso_cli.proofs.OneReasonLemmas.{reasons-one}
 use Rattle.tso_cli.proofs.headline_laws.headlines_leave_one_text.Goals as goal
@@ -15,6 +15,7 @@ returns c =
       runs = λ kind config json input out other. runs-one kind config json input out other law decided;
       traces = λ kind config json input out other. traces-one kind config json input out other law decided;
       sweeps = λ kind config plan input out other. sweeps-one kind config plan input out other law decided;
+      counts = λ kind config plan json input out other. counts-one kind config plan json input out other law decided;
       witnesses = λ depth input out other. witnesses-one depth input out other law decided;
       checks = λ input out other. checks-one input out other law decided;
       outcomes = λ search json again assert asserted input out other.

@@ -1,4 +1,4 @@
-use Rattle.tso_cli.proofs.Vocabulary.{string_bytes, subst, sym, AreReached, names_shown, PrintsMet}
+use Rattle.tso_cli.proofs.Vocabulary.{string_bytes, subst, names_shown, PrintsMet}
 use Rattle.tso_cli.proofs.FoundOutcomes.{search-meets}
 use Rattle.tso_cli.proofs.outcomes.unfinished_answer.Goals as goal
 

@@ -3,14 +3,15 @@
 /// Of `tso`.
 pub const TSO: &str = "\
 tso reads all of standard input, and then writes the answer to standard output. An input begins with\n\
-a test. For run and trace, a line ==== and choices follow the test; for check and witness, a line ====\n\
-and an order, as run prints it. sweep, outcomes and why read the test alone, and tables reads nothing.\n\
+a test. For run, trace and counts --given, a line ==== and choices follow the test; for check and\n\
+witness, a line ==== and an order, as run prints it. sweep, counts, outcomes and why read the test\n\
+alone, and tables reads nothing.\n\
 \n\
 Exit status:\n\
 \x20 0  the test ended, the order is valid, choices that reach it were found, or the answer is printed\n\
 \x20 1  a text was refused: standard output names the line or word, standard error has a hint\n\
 \x20 2  the command line was refused, or it asked for help or the version\n\
-\x20 3  the choices ended before the test did (in a sweep: the choices of one seed or more); or outcomes\n\
+\x20 3  the choices ended before the test did (in a sweep or counts: those of one seed or more); or outcomes\n\
 \x20    needs more states than --states allows, or why needs more cases than --cases allows\n\
 \x20 4  the order isn't valid, or needs deeper buffers than --depth; with --assert the verdict is No\n\
 \x20 5  memory was refused, or standard input or output failed\n\
@@ -77,6 +78,25 @@ end, 5 memory, input or output failed.\n\
 \n\
 Example:\n\
 \x20 tso sweep --seeds 100 --depth 1 < FILE";
+
+/// Of `tso counts`.
+pub const COUNTS: &str = "\
+Standard input is a test. Run number i, from 0 on, makes the choices seed FROM+i LENGTH; with --given\n\
+there is one run, of the choices that follow the test after a line ====, as for run. counts prints how\n\
+many runs ended, and a line for each core, if one did. Each number there is its sum over the runs that\n\
+ended, the least and the greatest (SUM/LEAST/GREATEST):\n\
+\x20 hits .. flushes   as a Cache line of run has them\n\
+\x20 get_s, get_m      the core's requests on the bus, to read a line and to write one\n\
+\x20 invalidations     copies of other cores that these requests turned to I\n\
+\x20 from_caches       lines that another core's cache supplied to it; from_memory, that memory did\n\
+\x20 to_memory         lines written to memory for it: its own dirty ones that gave way, and copies of\n\
+\x20                   other cores that its GetS sent there\n\
+\n\
+Exit status: 0 all runs ended, 1 a text was refused, 2 the command line was refused, 3 a run didn't end,\n\
+5 memory, input or output failed.\n\
+\n\
+Example:\n\
+\x20 tso counts --seeds 100 --protocol mesi < FILE";
 
 /// Of `tso outcomes`.
 pub const OUTCOMES: &str = "\

@@ -8,6 +8,7 @@ pub enum Subcommand {
     Run,
     Trace,
     Sweep,
+    Counts,
     Outcomes,
     Why,
     Check,
@@ -16,10 +17,11 @@ pub enum Subcommand {
 }
 
 /// The commands, in the order of the help.
-pub static SUBCOMMANDS: [Subcommand; 8] = [
+pub static SUBCOMMANDS: [Subcommand; 9] = [
     Subcommand::Run,
     Subcommand::Trace,
     Subcommand::Sweep,
+    Subcommand::Counts,
     Subcommand::Outcomes,
     Subcommand::Why,
     Subcommand::Check,
@@ -47,8 +49,8 @@ struct DeclaredCommand {
 /// What value an option has.
 #[derive(Clone, Copy)]
 pub enum Value {
-    /// None: the option is a flag.
-    Flag,
+    /// None: the option is a flag. These options can't stand beside it.
+    Flag(&'static [&'static str]),
     /// A number between these two, or one of them; and the one that holds where the option isn't given.
     Number(i64, i64, &'static str),
     /// What help calls it; one of these names; and the one that holds where the option isn't given.
@@ -86,7 +88,7 @@ impl Subcommand {
         self.declared().options
     }
 
-    /// The options after these: of a sweep its seeds, of others the form of their answer.
+    /// The options after these: of a sweep and of counts their seeds, of others the form of their answer.
     pub fn further_options(self) -> &'static [DeclaredOption] {
         self.declared().further_options
     }
@@ -109,6 +111,7 @@ impl Subcommand {
             Subcommand::Run => &RUN,
             Subcommand::Trace => &TRACE,
             Subcommand::Sweep => &SWEEP,
+            Subcommand::Counts => &COUNTS,
             Subcommand::Outcomes => &OUTCOMES,
             Subcommand::Why => &WHY,
             Subcommand::Check => &CHECK,
@@ -164,23 +167,41 @@ const MACHINE: &[DeclaredOption] = &[
     },
 ];
 
+/// The first seed of many runs.
+const FROM: DeclaredOption = DeclaredOption {
+    name: "from",
+    help: "The first seed, 0 to 4294967295",
+    value: Value::Number(0, 4294967295, "0"),
+};
+
+/// How many seeds many runs have.
+const SEEDS: DeclaredOption = DeclaredOption {
+    name: "seeds",
+    help: "How many seeds, each for a run, 1 to 1000",
+    value: Value::Number(1, 1000, "10"),
+};
+
+/// How many choices each seed of many runs makes.
+const LENGTH: DeclaredOption = DeclaredOption {
+    name: "length",
+    help: "How many choices each seed makes, 0 to 100000",
+    value: Value::Number(0, 100000, "1000"),
+};
+
 /// The options that say which seeds are swept.
-const PLAN: &[DeclaredOption] = &[
+const PLAN: &[DeclaredOption] = &[FROM, SEEDS, LENGTH];
+
+/// The options that say which runs are counted, and the form of the answer.
+const COUNTED: &[DeclaredOption] = &[
+    FROM,
+    SEEDS,
+    LENGTH,
     DeclaredOption {
-        name: "from",
-        help: "The first seed, 0 to 4294967295",
-        value: Value::Number(0, 4294967295, "0"),
+        name: "given",
+        help: "Count the one run of the choices after ====, in place of seeds",
+        value: Value::Flag(&["from", "seeds", "length"]),
     },
-    DeclaredOption {
-        name: "seeds",
-        help: "How many seeds, each for a run, 1 to 1000",
-        value: Value::Number(1, 1000, "10"),
-    },
-    DeclaredOption {
-        name: "length",
-        help: "How many choices each seed makes, 0 to 100000",
-        value: Value::Number(0, 100000, "1000"),
-    },
+    JSON,
 ];
 
 /// The options that say what is searched for.
@@ -234,7 +255,7 @@ const PROTOCOL: &[DeclaredOption] = &[DeclaredOption {
 const JSON: DeclaredOption = DeclaredOption {
     name: "json",
     help: "Print the report as one line of JSON",
-    value: Value::Flag,
+    value: Value::Flag(&[]),
 };
 
 /// The options of a command whose answer has no verdict.
@@ -246,7 +267,7 @@ const VERDICT: &[DeclaredOption] = &[
     DeclaredOption {
         name: "assert",
         help: "End with status 4 if the verdict is No",
-        value: Value::Flag,
+        value: Value::Flag(&[]),
     },
 ];
 
@@ -272,6 +293,14 @@ static SWEEP: DeclaredCommand = DeclaredCommand {
     help: help::SWEEP,
     options: MACHINE,
     further_options: PLAN,
+};
+
+static COUNTS: DeclaredCommand = DeclaredCommand {
+    name: "counts",
+    about: "Runs a test under the choices of many seeds, and counts what the caches did",
+    help: help::COUNTS,
+    options: MACHINE,
+    further_options: COUNTED,
 };
 
 static OUTCOMES: DeclaredCommand = DeclaredCommand {

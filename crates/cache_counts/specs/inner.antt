@@ -1,0 +1,3 @@
+-- Words of contracts inside the project.
+pub mod Bounds
+pub mod Runs

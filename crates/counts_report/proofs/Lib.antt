@@ -1,0 +1,4 @@
+pub mod Lines
+pub mod Values
+pub mod NoFloats
+pub mod NoNumbers

@@ -1,0 +1,181 @@
+//! What is said of an instruction in an assembler's language, in AT&T's syntax or in Intel's: the cells that do the same here. It is said
+//! only where all of the instruction is known; a guess could turn a load into a store.
+
+use crate::assembled::{Instruction, Pair, instruction_in, pair_in};
+use crate::line::{Line, Piece};
+use crate::mnemonics::{Kind, kind_of};
+use crate::moves::{
+    COMPUTED, STACK, say_cell, says_address, says_change, says_locked, says_locked_fence, says_move,
+};
+use crate::operand::{Operand, operand_in};
+use crate::quotes::{digits_and_letters, up_to};
+use crate::registers::is_stack_pointer;
+use crate::tables::is_one_of;
+use crate::target::{Target, say_target};
+use tso_terms::names::continues_name;
+
+const STRINGS: &str =
+    "{}: an instruction on strings takes its addresses from registers: write a store MOV [x],EAX for each location that it writes, a load for each that it reads";
+
+const NOTHING: &str = "{} isn't read: it changes no final state, so leave it out";
+
+const COMPARES_LOCATION: &str =
+    "{} isn't read: a program has no compares: load the location here, as MOV EAX,[{}], and ask for its value in the condition, as 0:EAX=1";
+
+const COMPUTES: &str =
+    "{} isn't read: nothing is computed in registers: leave it out, and where its result is used write the number that is meant, as MOV [x],$2";
+
+const LOADS_AND_COMPUTES: &str =
+    "{} isn't read: nothing is computed in registers: write a load, as MOV EAX,[{}] with a free register for EAX, and where the result is used the number that is meant, as MOV [y],$2";
+
+const ADDRESS: &str =
+    "{}: in AT&T's syntax a number without $ is an address, and none is read: write $ before a value, and a location by its name, as [x]";
+
+const SEGMENT: &str =
+    "{}: there are no segments: write the location's name alone, as [x]; for what each core has of its own take a location for each core";
+
+/// Says of the instruction of a cell, if all of it is known, what does the same here. Whether it is known.
+pub fn says_instruction(line: &mut Line, cell: &[u8]) -> bool {
+    let instruction = instruction_in(cell);
+    let kind = kind_of(instruction.name);
+    if has_segment(instruction.operands) {
+        line.say_of(SEGMENT, instruction.cell);
+        return true;
+    }
+    match pair_in(&instruction) {
+        None => says_one(line, kind, &instruction),
+        Some(pair) => says_pair(line, kind, &pair),
+    }
+}
+
+/// Whether a segment that each core has of its own stands in operands.
+fn has_segment(operands: &[u8]) -> bool {
+    let mut is_at_start = true;
+    for at in 0..operands.len() {
+        if is_at_start && begins_with_segment(&operands[at..]) {
+            return true;
+        }
+        is_at_start = !continues_name(operands[at]);
+    }
+    false
+}
+
+/// Whether a text begins with such a segment.
+fn begins_with_segment(text: &[u8]) -> bool {
+    let name = digits_and_letters(text);
+    is_one_of("FS GS", name) && matches!(text.get(name.len()), Some(b':'))
+}
+
+/// Of an instruction with two operands. Whether it is known what does the same.
+fn says_pair(line: &mut Line, kind: Kind, pair: &Pair<'_>) -> bool {
+    match kind {
+        Kind::Other => false,
+        _ if pair.has_bare_number => {
+            line.say_of(ADDRESS, pair.cell);
+            true
+        }
+        Kind::Move => says_move(line, pair),
+        Kind::Exchange => says_locked(line, pair, false),
+        Kind::Add if pair.is_locked => says_locked(line, pair, true),
+        Kind::Increase if pair.is_locked => says_change(line, pair, false),
+        Kind::Decrease if pair.is_locked => says_change(line, pair, true),
+        Kind::Compute if pair.is_locked => says_locked_fence(line, pair),
+        Kind::Address => says_address(line, pair) || says_sum(line, pair),
+        Kind::Compare => says_compare(line, pair),
+        Kind::Compute | Kind::Decrease | Kind::Increase => says_computed(line, pair),
+        _ => false,
+    }
+}
+
+/// Of a compare with a location. Whether it is one.
+fn says_compare(line: &mut Line, pair: &Pair<'_>) -> bool {
+    match (pair.to, pair.from) {
+        (Operand::Word(loc) | Operand::Bare(loc), _) | (_, Operand::Word(loc)) => line.say_with(
+            COMPARES_LOCATION,
+            &[Piece::Named(pair.name), Piece::Shown(loc)],
+        ),
+        _ => return false,
+    }
+    true
+}
+
+/// Of arithmetic in a register, which may set it to 0 by itself. Whether its operands are known.
+fn says_computed(line: &mut Line, pair: &Pair<'_>) -> bool {
+    match (pair.to, pair.from) {
+        (Operand::Register(reg), Operand::Register(other)) if is_zero(pair.name, reg, other) => {
+            say_cell(line, pair, &[], Target::SetNumber(reg, 0));
+        }
+        (Operand::Register(reg), Operand::Number(_)) if is_stack_pointer(reg) => {
+            line.say_of(STACK, pair.cell);
+        }
+        (Operand::Register(_), Operand::Register(_) | Operand::Number(_)) => {
+            line.say_of(COMPUTES, pair.name);
+        }
+        (Operand::Register(_), Operand::Word(loc) | Operand::Bare(loc)) => line.say_with(
+            LOADS_AND_COMPUTES,
+            &[Piece::Named(pair.name), Piece::Shown(loc)],
+        ),
+        _ => return false,
+    }
+    true
+}
+
+/// Of an address that is put into a register as a sum. Whether it is one.
+fn says_sum(line: &mut Line, pair: &Pair<'_>) -> bool {
+    let is_sum = matches!(
+        (pair.to, pair.from),
+        (Operand::Register(_), Operand::Computed)
+    );
+    if is_sum {
+        line.say_of(COMPUTED, pair.cell);
+    }
+    is_sum
+}
+
+/// Whether an instruction of this name sets a register to 0.
+fn is_zero(name: &[u8], reg: &[u8], other: &[u8]) -> bool {
+    reg.eq_ignore_ascii_case(other) && is_one_of("XOR XORL XORQ SUB SUBL SUBQ", name)
+}
+
+/// Of an instruction with one operand or none. Whether it is known what does the same.
+fn says_one(line: &mut Line, kind: Kind, instruction: &Instruction<'_>) -> bool {
+    let (name, operand) = (instruction.name, operand_in(instruction.operands));
+    match (kind, operand) {
+        (Kind::Push, _) => line.say_of(STACK, instruction.cell),
+        (Kind::Strings, _) => line.say_of(STRINGS, instruction.cell),
+        (Kind::Nothing, _) if instruction.operands.is_empty() => line.say_of(NOTHING, name),
+        (Kind::Increase | Kind::Decrease | Kind::Compute, Operand::Register(_)) => {
+            line.say_of(COMPUTES, name);
+        }
+        (Kind::Compute, _) if begins_with_register(instruction.operands) => {
+            line.say_of(COMPUTES, name);
+        }
+        (_, Operand::Word(loc) | Operand::Bare(loc)) if instruction.is_locked => {
+            return says_step(line, instruction, loc);
+        }
+        _ if is_one_of("MFENCE", name) && instruction.operands.is_empty() => {
+            line.say_of("{}: write MFENCE", instruction.cell);
+        }
+        _ => return false,
+    }
+    true
+}
+
+/// Whether the first of several operands is a register.
+fn begins_with_register(operands: &[u8]) -> bool {
+    matches!(operand_in(up_to(operands, b',')), Operand::Register(_))
+}
+
+/// Of a locked addition of 1 to a location, or of a subtraction. Whether it is one.
+fn says_step(line: &mut Line, instruction: &Instruction<'_>, loc: &[u8]) -> bool {
+    let value = if is_one_of("INC INCL INCQ", instruction.name) {
+        1
+    } else if is_one_of("DEC DECL DECQ", instruction.name) {
+        u32::MAX
+    } else {
+        return false;
+    };
+    line.say_of("{}: write ", instruction.cell);
+    say_target(line, Target::AddNumber(loc, value));
+    true
+}

@@ -1,0 +1,209 @@
+//! What is said of an assignment in C, C++ or Rust that stands in a cell: the cells that do the same here.
+
+use crate::faults::NO_ARRAYS;
+use crate::line::{Line, Piece};
+use crate::numbers::number_in;
+use crate::quotes::{is_all_digits, up_to};
+use crate::statement::Statement;
+use crate::tables::is_one_of;
+use crate::target::{Target, say_copy, say_target};
+use tso_terms::Reg;
+use tso_terms::names::is_location_name;
+
+const ADDRESS: &str =
+    "{}: no register and no location can hold an address: leave the cell empty, and write [{}] in each instruction that uses it";
+
+const COMPUTED: &str =
+    "{}: nothing is computed here: write the number that it comes to, as MOV [x],$2, or MOV EAX,$2 for a register; one step that adds is LOCK XADD [x],EAX";
+
+/// The location that an argument or a side of an assignment names, perhaps through a pointer.
+pub fn location_in(text: &[u8]) -> Option<&[u8]> {
+    let mut rest = text.trim_ascii();
+    for _ in 0..2 {
+        rest = rest
+            .strip_prefix(b"*")
+            .or(rest.strip_prefix(b"&"))
+            .unwrap_or(rest);
+    }
+    let name = match rest {
+        [b'[', inside @ .., b']'] => inside.trim_ascii(),
+        _ => rest,
+    };
+    // What a local variable points to isn't known.
+    if is_location_name(name) && !is_local(name) {
+        Some(name)
+    } else {
+        None
+    }
+}
+
+/// Of an assignment without a call. Whether it is known what does the same.
+pub fn says_assignment(line: &mut Line, statement: &Statement<'_>) -> bool {
+    let (left, right) = (statement.left, statement.right);
+    if let Some(target) = change_in(left, right) {
+        line.say_of("{}: if it is one step, write ", statement.cell);
+        say_target(line, target);
+        return true;
+    }
+    if is_element(left) || is_element(right) {
+        line.say_of(NO_ARRAYS, statement.cell);
+        return true;
+    }
+    if let Some(name) = address_in(statement) {
+        line.say_with(ADDRESS, &[Piece::Named(statement.cell), Piece::Shown(name)]);
+        return true;
+    }
+    if says_event(line, statement) {
+        return true;
+    }
+    let to = if statement.is_declared && is_location_name(left) {
+        Side::Register(left)
+    } else {
+        place_in(left)
+    };
+    let target = match (to, place_in(right), number_in(value_in(right))) {
+        (Side::Word(place), _, Some(number)) => Target::StoreNumber(place, number),
+        (Side::Register(reg), _, Some(number)) => Target::SetNumber(reg, number),
+        (Side::Word(place), Side::Register(reg), _) => Target::StoreRegister(place, reg),
+        (Side::Register(reg), Side::Word(place), _) => Target::Load(reg, place),
+        (Side::Register(reg), Side::Register(other), _) => Target::SetRegister(reg, other),
+        (Side::Word(to), Side::Word(from), _) => {
+            line.say_of("{}: write ", statement.cell);
+            say_copy(line, to, from);
+            return true;
+        }
+        _ => return says_computed(line, statement),
+    };
+    line.say_of("{}: write ", statement.cell);
+    say_target(line, target);
+    true
+}
+
+/// Of an access as papers write it, as `Wx=1` or `Rx=0`. Whether it is one.
+fn says_event(line: &mut Line, statement: &Statement<'_>) -> bool {
+    let ([kind, name], Some(value)) = (statement.left, number_in(statement.right)) else {
+        return false;
+    };
+    let name = [*name];
+    if !name[0].is_ascii_lowercase() || !b"WR".contains(kind) {
+        return false;
+    }
+    line.say_of("{}: write ", statement.cell);
+    if *kind == b'W' {
+        say_target(line, Target::StoreNumber(&name, value));
+    } else {
+        say_target(line, Target::Load(b"EAX", &name));
+        line.say(", and ask for its value in the condition");
+    }
+    true
+}
+
+/// Whether a side of an assignment is an element of an array.
+fn is_element(side: &[u8]) -> bool {
+    side.ends_with(b"]") && is_location_name(up_to(side, b'['))
+}
+
+/// The location whose address a statement takes: by `&`, or by its name for a pointer that is declared.
+fn address_in<'a>(statement: &Statement<'a>) -> Option<&'a [u8]> {
+    let is_pointer = statement.is_declared && statement.left.starts_with(b"*");
+    match statement.right.strip_prefix(b"&") {
+        Some(name) if is_location_name(name) => Some(name),
+        None if is_pointer && is_location_name(statement.right) => Some(statement.right),
+        _ => None,
+    }
+}
+
+/// Of an assignment of what names, numbers and signs come to. Whether it is one.
+fn says_computed(line: &mut Line, statement: &Statement<'_>) -> bool {
+    let is_known = !matches!(place_in(statement.left), Side::Other) && is_sum(statement.right);
+    if is_known {
+        line.say_of(COMPUTED, statement.cell);
+    }
+    is_known
+}
+
+/// Whether an expression has names, numbers and signs that compute.
+fn is_sum(expression: &[u8]) -> bool {
+    let mut has_sign = false;
+    for byte in expression {
+        if b"+-*/%^&|<>~!".contains(byte) {
+            has_sign = true;
+        } else if !byte.is_ascii_alphanumeric() && !b"_ ()".contains(byte) {
+            return false;
+        }
+    }
+    has_sign
+}
+
+/// The addition that an assignment as `x += 1` is, by what stands before `=` and behind it.
+fn change_in<'a>(left: &'a [u8], right: &[u8]) -> Option<Target<'a>> {
+    let (place, is_less) = match left {
+        [place @ .., b'+'] => (place, false),
+        [place @ .., b'-'] => (place, true),
+        _ => return None,
+    };
+    let (Some(name), Some(number)) = (location_in(place), number_in(right)) else {
+        return None;
+    };
+    let number = if is_less {
+        0u32.wrapping_sub(number)
+    } else {
+        number
+    };
+    Some(Target::AddNumber(name, number))
+}
+
+/// A side of an assignment.
+#[derive(Clone, Copy)]
+enum Side<'a> {
+    Register(&'a [u8]),
+    Word(&'a [u8]),
+    Other,
+}
+
+/// What a side of an assignment is: names as `r0` are registers in tests in C.
+fn place_in(side: &[u8]) -> Side<'_> {
+    let name = side.strip_prefix(b"%").unwrap_or(side);
+    if Reg::from_name(name).is_some() || is_local(name) {
+        return Side::Register(name);
+    }
+    match location_in(side) {
+        Some(name) => Side::Word(name),
+        None => Side::Other,
+    }
+}
+
+/// Whether a name is one of those that tests in C have for registers: `r` or `reg` and digits, or `tmp`.
+fn is_local(name: &[u8]) -> bool {
+    let digits = name
+        .strip_prefix(b"reg")
+        .or(name.strip_prefix(b"r"))
+        .unwrap_or(name);
+    (digits.len() < name.len() && is_all_digits(digits))
+        || is_one_of("tmp temp ret res val old", name)
+}
+
+/// A value without the sign that stands before it in some languages.
+fn value_in(text: &[u8]) -> &[u8] {
+    text.strip_prefix(b"$")
+        .or(text.strip_prefix(b"#"))
+        .unwrap_or(text)
+}
+
+/// Of `x++` and of what is written like it. Whether a cell has that form.
+pub fn says_step(line: &mut Line, cell: &[u8]) -> bool {
+    let (place, is_less) = match cell {
+        [place @ .., b'+', b'+'] => (place, false),
+        [b'+', b'+', place @ ..] => (place, false),
+        [place @ .., b'-', b'-'] => (place, true),
+        [b'-', b'-', place @ ..] => (place, true),
+        _ => return false,
+    };
+    let Some(name) = location_in(place) else {
+        return false;
+    };
+    line.say_of("{}: if it is one step, write ", cell);
+    let number = if is_less { u32::MAX } else { 1 };
+    say_target(line, Target::AddNumber(name, number));
+    true
+}

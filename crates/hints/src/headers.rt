@@ -1,0 +1,207 @@
+//! What is said of a text whose first line is no header: of its encoding, of another processor or language that it names, and of what
+//! else it is.
+
+use crate::above::{begins_below, says_above};
+use crate::characters::says_foreign;
+use crate::divider::Asked;
+use crate::faults::MARKDOWN;
+use crate::kinds::{KERNEL, has_kernel_words, is_model, says_kind};
+use crate::line::{Line, Piece};
+use crate::mnemonics::is_narrow_name;
+use crate::place::Place;
+use crate::quotes::{digits_and_letters, first_bytes, has, is_row_of_cores, up_to, word};
+use crate::registers::NARROW;
+use crate::tables::{Alike, is_exactly_one_of, is_one_of, said_of};
+
+/// Processors of other kinds.
+const PROCESSORS: &str =
+    "AArch64 ARM ARM64 ARMv8 ARMv7 PPC PPC64 Power PowerPC MIPS MIPS64 RISCV RISC-V RV64 S390 S390X \
+     Alpha SPARC IA64 LOONGARCH BPF RISCV32 RISCV64 ARMv9 AArch32 Thumb";
+
+/// Processors and languages for which other tests are.
+static HEADERS: [Alike; 5] = [
+    Alike(
+        "X86 i386 i486 i586 i686 80386 8086 IA32 IA-32 x86-32 x86_32",
+        "{}: write X86, in capitals",
+    ),
+    Alike(
+        "X86_64 x86-64 x8664 AMD64 x64 EM64T Intel64",
+        "{}: by the name X86_64 the tool import makes an X86 test of it, or says what has no form here; by hand, begin with X86 and a name, and use EAX, EBX, ECX, EDX, ESI, EDI",
+    ),
+    Alike(
+        PROCESSORS,
+        "{} is another processor: write its programs as X86 instructions, below a line X86 NAME; the tool import takes X86 and X86_64 tests alone",
+    ),
+    Alike(
+        "C",
+        "C is a language: the tool compiled reads such a test; tso reads programs of X86 instructions, below a line X86 NAME",
+    ),
+    Alike(
+        "CPP C++ C11 LISA Bell LLVM JAVA ASL LK Rust",
+        "{} is a language: write its programs as X86 instructions, below a line X86 NAME; the tool compiled reads C tests alone",
+    ),
+];
+
+const OTHER_NAME: &str =
+    "{} is another processor, and the cells below are X86's: write X86 in its place";
+
+const WIDE: &str =
+    "X86_64 tests aren't read: the tool import makes X86 tests of them, or says what has no form here; if you do so by hand, begin with X86 and a name, and use EAX, EBX, ECX, EDX, ESI, EDI";
+
+const NARROW_IN_WIDE: &str =
+    "X86_64 isn't read, and {} has 8 or 16 bits, which the tool import refuses: begin with X86 and a name, and write whole words of 32 bits, as MOV [x],$1";
+
+const NO_HEADER: &str = "no header: write a first line X86 NAME before it, as X86 SB";
+
+const OTHER_HEADER: &str =
+    "{} begins no test: write X86, a space and the test's name in place of this line, as X86 SB";
+
+const NO_TEST: &str =
+    "no line begins a test, as X86 SB does: give tso the text of a test: a line X86 NAME, { }, a row P0 | P1 ; and rows of instructions, as MOV [x],$1 | MOV [y],$1 ;";
+
+/// Of a header line.
+pub fn no_header(line: &mut Line, asked: Asked, place: &Place<'_>) {
+    let rest = place.rest;
+    let header = up_to(rest, b'\n');
+    if rest.is_empty() {
+        no_text(line, asked, place.before);
+    } else if let Some(said) = said_of_encoding(rest) {
+        line.say(said);
+    } else if rest.starts_with(b"```") {
+        line.say(MARKDOWN);
+    } else if !says_other_kind(line, rest)
+        && !says_above(line, rest, place.line())
+        && !says_foreign_name(line, header)
+    {
+        no_test(line, rest, word(rest));
+    }
+}
+
+/// Says of a text that is no test what it is, where its first words may be taken for a header. Whether that is known.
+fn says_other_kind(line: &mut Line, text: &[u8]) -> bool {
+    let is_none = is_model(text) || (!text.contains(&b'{') && !has_row_of_cores(text));
+    is_none && !begins_below(text) && says_kind(line, text)
+}
+
+/// Of no text at all, or of comments alone.
+fn no_text(line: &mut Line, asked: Asked, comments: &[u8]) {
+    if !comments.trim_ascii().is_empty() {
+        line.say(
+            "all of this is a comment: a test has lines that stand in none, the first as X86 SB",
+        );
+    } else if asked.is_divided {
+        line.say("no test stands before the line ====: write one above it");
+    } else {
+        line.say_with(
+            "no test: give one on standard input, as in: tso {} < FILE",
+            &[Piece::Text(asked.reader.name())],
+        );
+    }
+}
+
+/// What is said of a text that isn't in UTF-8, or whose lines end otherwise.
+fn said_of_encoding(text: &[u8]) -> Option<&'static str> {
+    let header = up_to(text, b'\n');
+    if is_utf_16(text) {
+        Some(
+            "the file is in UTF-16: save it as UTF-8, or convert it: iconv -f UTF-16 -t UTF-8 FILE",
+        )
+    } else if text.starts_with(b"\xef\xbb\xbf") {
+        Some("a byte order mark stands before X86: save the file without it")
+    } else if header
+        .strip_suffix(b"\r")
+        .unwrap_or(header)
+        .contains(&b'\r')
+    {
+        Some("the lines end in CR alone: convert them: tr '\\r' '\\n' < FILE")
+    } else {
+        None
+    }
+}
+
+/// Whether a text is in UTF-16: by its byte order mark, or by a byte 0 at its beginning.
+fn is_utf_16(text: &[u8]) -> bool {
+    text.starts_with(b"\xff\xfe")
+        || text.starts_with(b"\xfe\xff")
+        || first_bytes(text, 4).contains(&0)
+}
+
+/// Says of a character that isn't ASCII in a header line. Whether one stands in such a line.
+fn says_foreign_name(line: &mut Line, header: &[u8]) -> bool {
+    for at in 0..header.len() {
+        if header[at..].starts_with(b"X86") {
+            return says_foreign(line, header, "a test's name is in ASCII");
+        }
+    }
+    false
+}
+
+/// Of a text that begins with this word and no header.
+fn no_test(line: &mut Line, text: &[u8], first: &[u8]) {
+    if is_exactly_one_of("X86", first) {
+        line.say("write a space and the test's name after X86, in printable ASCII");
+    } else if is_exactly_one_of("C", first) && has_kernel_words(text) {
+        line.say(KERNEL);
+    } else if is_exactly_one_of("X86_64", first) {
+        wide_test(line, text);
+    } else if is_one_of(PROCESSORS, first) && has(text, b"MOV [") {
+        line.say_of(OTHER_NAME, first);
+    } else if let Some(said) = said_of(&HEADERS, first) {
+        line.say_of(said, first);
+    } else if has_row_of_cores(text) {
+        line.say_of(said_before_test(text, first), first);
+    } else if !says_kind(line, text) {
+        line.say(NO_TEST);
+    }
+}
+
+/// Of a test of `X86_64`.
+fn wide_test(line: &mut Line, text: &[u8]) {
+    match narrow_in(text) {
+        Some(name) => line.say_of(NARROW_IN_WIDE, name),
+        None => line.say(WIDE),
+    }
+}
+
+/// The first word of a text that says a size of less than 32 bits: an instruction's or a register's name, or a type.
+fn narrow_in(text: &[u8]) -> Option<&[u8]> {
+    let mut is_at_start = true;
+    for at in 0..text.len() {
+        let name = digits_and_letters(&text[at..]);
+        if is_at_start && is_narrow(name) {
+            return Some(name);
+        }
+        is_at_start = name.is_empty();
+    }
+    None
+}
+
+fn is_narrow(name: &[u8]) -> bool {
+    is_narrow_name(name)
+        || is_one_of(NARROW, name)
+        || is_one_of("uint8_t int8_t uint16_t int16_t", name)
+}
+
+/// Whether a row of cores stands somewhere in a text, and so a test but for what should stand above it.
+fn has_row_of_cores(text: &[u8]) -> bool {
+    for row in text.split(|byte| *byte == b'\n') {
+        if is_row_of_cores(row) {
+            return true;
+        }
+    }
+    false
+}
+
+/// What is said of what stands at the beginning of a test in place of its header.
+fn said_before_test(text: &[u8], first: &[u8]) -> &'static str {
+    if first_bytes(first, 3).eq_ignore_ascii_case(b"X86") {
+        "{}: write X86 alone, a space and the test's name"
+    } else if text.starts_with(b"{")
+        || text.starts_with(b"\"")
+        || is_row_of_cores(up_to(text, b'\n'))
+    {
+        NO_HEADER
+    } else {
+        OTHER_HEADER
+    }
+}

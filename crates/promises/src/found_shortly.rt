@@ -1,0 +1,39 @@
+//! What a search for a short refutation answers, said again in plain terms.
+
+ghost use Rattle.std.specs.Prelude.{◌≡◌, ◌<◌, ℕ, true, false, Bool, List, [], ◌∷◌, Some, IfOk};
+ghost use Rattle.tso_terms.specs.Litmus.{Litmus};
+ghost use Rattle.possible_reads.specs.Facts.{Fact};
+ghost use Rattle.refutation_laws.specs.Refutations.{asked_claim};
+ghost use Rattle.refutation_laws.specs.declared.model.Model.{Model};
+ghost use Rattle.short_refutations.specs.Refutations.{Lemma, Node, refutes};
+ghost use Rattle.short_reasons.specs.Reasons.{ClosesMoreCases, cases_closed, given_at_first, still_open_after};
+
+use refutation_laws::Model;
+use short_reasons::{Reason, explain};
+use std::alloc::Global;
+use tso_terms::{NoMemory, Test};
+
+/// Where more cases had to be told apart than were allowed, there is part of a tree, each node of which may stand where it
+/// stands, that closes more cases than the limit.
+pub fn closed_cases_are_part_of_a_tree()
+    ensures { (model : Model) (t : Litmus) (limit : ℕ) → ClosesMoreCases model t limit
+        → (nodes : List Node) × (branches : List (List Fact)) × (still_open_after model t (given_at_first t ∷ []) nodes ≡ Some branches)
+        × (limit < cases_closed t (given_at_first t ∷ []) nodes) }
+{}
+
+/// Whether a search finds that what the test asks never is. Then lemmas and a tree refute it.
+pub fn never_is_said_of_what_is_refuted(
+    alloc: Global,
+    test: &Test,
+    model: Model,
+    limit: usize,
+) -> Result<bool, NoMemory>
+    ensures { IfOk result (λ b. b ≡ true
+        → (lemmas : List Lemma) × (tree : List Node) × (refutes model test.now (asked_claim test.now.condition) lemmas tree ≡ true)) }
+{
+    match explain(alloc, test, model, limit)? {
+        Reason::Never(_lemmas, _tree) => Ok(true),
+        Reason::Allowed(_execution) => Ok(false),
+        Reason::TooMany => Ok(false),
+    }
+}

@@ -1,0 +1,34 @@
+//! A search for a short refutation of what a test asks, or for an execution in which it is true: it proposes one, and what it proposes is
+//! judged elsewhere. So its contracts say nothing but that it is safe and ends.
+#![tactic(auto)]
+
+pub mod borrowing;
+pub mod candidates;
+pub mod closing;
+pub mod cores;
+pub mod counting;
+pub mod edges;
+pub mod facts;
+pub mod hunt;
+pub mod leaves;
+pub mod lemmas;
+pub mod lines;
+pub mod looking;
+pub mod ordering;
+pub mod parts;
+pub mod program;
+pub mod proposal;
+pub mod questions;
+pub mod replay;
+pub mod runs;
+pub mod searching;
+pub mod sets;
+pub mod setting;
+pub mod settle;
+pub mod state;
+pub mod told;
+pub mod trees;
+pub mod truths;
+
+pub use proposal::Proposal;
+pub use searching::{Proposed, propose_answer};

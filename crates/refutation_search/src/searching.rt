@@ -1,0 +1,198 @@
+//! The whole search: runs by chance for an execution; depth first for a refutation, again and again with what was learnt, and a few times
+//! more for a shorter one; and at last the search over sources and orders alone.
+
+use crate::borrowing::take_over;
+use crate::hunt::{Find, Hunt, hunt_for, make_hunt};
+use crate::ordering::make_order;
+use crate::proposal::{Proposal, propose};
+use crate::runs::find_run;
+use crate::setting::{Setting, make_setting};
+use reading_tables::tables::Problem;
+use reason_search::{has_tree, make_guide_within, proposed_order};
+use refutation_laws::Model;
+use std::alloc::Global;
+use tso_terms::{Execution, NoMemory};
+
+/// What a search proposes.
+#[derive(Drop)]
+pub enum Proposed<'t> {
+    Refutation(Proposal<'t>),
+    Execution(Execution),
+    Nothing,
+}
+
+/// How many cases a search looks at before it begins anew for the first time.
+const FIRST_CASES: usize = 1_000;
+
+/// How often a search looks for a shorter refutation.
+const MOST_TRIES: usize = 4;
+
+/// A refutation that has no more lines is short.
+const FEW_LINES: usize = 2;
+
+/// A refutation that has more lines may be longer than one over sources and orders alone.
+const MANY_LINES: usize = 40;
+
+/// How many steps runs by chance take for each case that may be looked at, and in all.
+const STEPS_FOR_CASE: usize = 20_000;
+
+const MOST_STEPS: usize = 2_000_000;
+
+/// How much work the search over sources and orders alone may be, where each case costs the square of the number of events; and how many
+/// cases it looks at only for a shorter refutation.
+const MOST_WORK: usize = 30_000_000;
+
+const FEW_CASES: usize = 4_000;
+
+/// Searches for so many cases, with pauses, after each of which it begins anew with what it learnt.
+fn hunt_again(setting: &Setting<'_>, hunt: &mut Hunt, limit: usize) -> Find {
+    let mut step = FIRST_CASES;
+    for _round in 0..u64::MAX {
+        let left = limit.saturating_sub(hunt.cases);
+        let found = hunt_for(setting, hunt, step.min(left));
+        let is_late = (hunt.cases >= limit) | (hunt.look.made > hunt.looks);
+        if !matches!(found, Find::Late) | is_late | hunt.is_refused() {
+            return found;
+        }
+        step = step.saturating_add(step / 2);
+    }
+    Find::Late
+}
+
+/// The order of an execution from the branch on which a search found no question left.
+fn open_order<'t>(setting: &Setting<'t>, hunt: &Hunt) -> Result<Proposed<'t>, NoMemory> {
+    match hunt.levels.get(hunt.frames.len()) {
+        Some(state) => Ok(Proposed::Execution(make_order(setting, state)?)),
+        None => Ok(Proposed::Nothing),
+    }
+}
+
+/// The refutation that this node is the first one of, if its tree can be printed.
+fn refutation<'t>(
+    alloc: Global,
+    setting: &Setting<'t>,
+    problem: &Problem<'t>,
+    hunt: &Hunt,
+    node: usize,
+) -> Result<Proposed<'t>, NoMemory> {
+    match propose(alloc, setting, problem, hunt, node)? {
+        Some(proposal) => Ok(Proposed::Refutation(proposal)),
+        None => Ok(Proposed::Nothing),
+    }
+}
+
+/// Searches with this twist: what it proposes, and how many cases it looked at.
+fn try_twist<'t>(
+    alloc: Global,
+    setting: &Setting<'t>,
+    problem: &Problem<'t>,
+    twist: usize,
+    limit: usize,
+) -> Result<(Proposed<'t>, usize), NoMemory> {
+    let mut hunt = make_hunt(alloc, setting, limit);
+    hunt.look.twist = twist;
+    let found = hunt_again(setting, &mut hunt, limit);
+    if hunt.is_refused() {
+        return Err(NoMemory);
+    }
+    let proposed = match found {
+        Find::Refuted(node) => refutation(alloc, setting, problem, &hunt, node)?,
+        Find::Open => open_order(setting, &hunt)?,
+        Find::Late => Proposed::Nothing,
+    };
+    Ok((proposed, hunt.cases))
+}
+
+/// What the search over sources and orders alone proposes.
+fn borrow<'t>(
+    alloc: Global,
+    setting: &Setting<'t>,
+    problem: &Problem<'t>,
+    model: Model,
+    limit: usize,
+) -> Result<Proposed<'t>, NoMemory> {
+    let size = setting.size.max(16);
+    let most = MOST_WORK / size.saturating_mul(size).max(1);
+    let mut guide = make_guide_within(alloc, problem.test, &problem.events, model, limit.min(most));
+    if let Some(execution) = proposed_order(alloc, &guide)? {
+        return Ok(Proposed::Execution(execution));
+    }
+    if !has_tree(&guide) {
+        return Ok(Proposed::Nothing);
+    }
+    let mut hunt = make_hunt(alloc, setting, 0);
+    let node = take_over(alloc, setting, &mut guide, &mut hunt.trees)?;
+    if hunt.is_refused() {
+        return Err(NoMemory);
+    }
+    refutation(alloc, setting, problem, &hunt, node)
+}
+
+/// The one that has fewer lines.
+fn shorter<'t>(best: Proposal<'t>, other: Proposed<'t>) -> Proposal<'t> {
+    match other {
+        Proposed::Refutation(other) => {
+            if other.lines < best.lines {
+                other
+            } else {
+                best
+            }
+        }
+        Proposed::Execution(_) | Proposed::Nothing => best,
+    }
+}
+
+/// Looks for a refutation that is shorter than this one, each time for no more cases than this one took.
+fn shorten<'t>(
+    alloc: Global,
+    setting: &Setting<'t>,
+    problem: &Problem<'t>,
+    model: Model,
+    first: Proposal<'t>,
+    cases: usize,
+    limit: usize,
+) -> Result<Proposal<'t>, NoMemory> {
+    let mut best = first;
+    for twist in 1..MOST_TRIES {
+        let is_over = cases.saturating_mul(twist) > limit;
+        if is_over | (best.lines <= FEW_LINES) {
+            break;
+        }
+        let (other, _) = try_twist(alloc, setting, problem, twist, cases)?;
+        best = shorter(best, other);
+    }
+    if best.lines > MANY_LINES {
+        let other = borrow(alloc, setting, problem, model, limit.min(FEW_CASES))?;
+        best = shorter(best, other);
+    }
+    Ok(best)
+}
+
+/// Searches for an execution in which what a test asks is true, or a short refutation of it, for so many cases: what it proposes, if it
+/// finds one. Once it has a refutation, it looks a few times more for a shorter one.
+///
+/// Errors: out of memory only.
+pub fn propose_answer<'t>(
+    alloc: Global,
+    problem: &Problem<'t>,
+    model: Model,
+    limit: usize,
+) -> Result<Proposed<'t>, NoMemory> {
+    let setting = make_setting(alloc, problem, model);
+    if setting.is_refused() {
+        return Err(NoMemory);
+    }
+    let steps = limit.saturating_mul(STEPS_FOR_CASE).min(MOST_STEPS);
+    if let Some(execution) = find_run(alloc, &setting, steps)? {
+        return Ok(Proposed::Execution(execution));
+    }
+    let (first, cases) = try_twist(alloc, &setting, problem, 0, limit)?;
+    match first {
+        Proposed::Refutation(found) => {
+            let best = shorten(alloc, &setting, problem, model, found, cases, limit)?;
+            Ok(Proposed::Refutation(best))
+        }
+        Proposed::Execution(execution) => Ok(Proposed::Execution(execution)),
+        Proposed::Nothing => borrow(alloc, &setting, problem, model, limit),
+    }
+}

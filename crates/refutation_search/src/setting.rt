@@ -1,0 +1,294 @@
+//! What a search works on, by number: the initial write of each location stands before the events.
+
+use crate::facts::{Fact, NO_FACT};
+use crate::parts::{NO_PART, Part, add_given, add_parts};
+use crate::program::add_program;
+use reading_tables::expressions::{Held, Value};
+use reading_tables::tables::Problem;
+use reason_search::lists::{List, NONE};
+use reason_search::rows::Rows;
+use refutation_laws::Model;
+use refutations::events::{is_read, is_write};
+use std::alloc::Global;
+use tso_terms::{Core, Entry, Kind, Loc, Quantifier, Reg};
+
+/// A number and what up to two reads return, added up. `NONE` is no read.
+#[derive(Clone, Copy)]
+pub struct Term {
+    pub number: u32,
+    pub first: usize,
+    pub second: usize,
+}
+
+/// The number 0.
+pub const ZERO: Term = Term {
+    number: 0,
+    first: NONE,
+    second: NONE,
+};
+
+/// An event.
+#[derive(Clone, Copy)]
+pub struct Event {
+    pub entry: Entry,
+    pub core: usize,
+    pub location: usize,
+    pub reads: bool,
+    /// Whether it is a write, and not an initial one.
+    pub writes: bool,
+    pub is_locked: bool,
+    pub is_fence: bool,
+}
+
+/// How many cores a test has at most.
+const MOST_CORES: usize = 8;
+
+/// What stands where there is no event.
+pub const NO_EVENT: Event = Event {
+    entry: Entry {
+        core: Core(255),
+        place: 0,
+        kind: Kind::F,
+        loc: Loc(0),
+        value: 0,
+    },
+    core: MOST_CORES,
+    location: NONE,
+    reads: false,
+    writes: false,
+    is_locked: false,
+    is_fence: false,
+};
+
+/// The locations to which locked instructions alone write.
+pub const LOCKED: usize = 0;
+/// The locations to which locked additions of numbers alone write.
+pub const COUNTERS: usize = 1;
+/// The locations that what is asked names.
+pub const NAMED: usize = 2;
+
+/// What a search works on.
+#[derive(Drop)]
+pub struct Setting<'t> {
+    pub alloc: Global,
+    pub is_sequential: bool,
+    /// How many events there are, with the initial writes.
+    pub size: usize,
+    /// How many locations there are: the initial write of each has its number.
+    pub locations: usize,
+    pub events: List<Event>,
+    /// What each event writes.
+    pub terms: List<Term>,
+    /// The writes to each location but the initial one, its reads, and its load parts of locked instructions.
+    pub writes_to: Rows,
+    pub readers_of: Rows,
+    pub load_parts_of: Rows,
+    /// The writes whose value hangs on a read.
+    pub users_of: Rows,
+    pub events_of: Rows,
+    /// Edges that the program alone tells: a row of each event for those on one location, then for the global ones.
+    pub program: Rows,
+    /// Sets of locations, a row for each of those that are named above.
+    pub sets: Rows,
+    /// The first event of each instruction of each core.
+    numbers: List<usize>,
+    pub parts: List<Part<'t>>,
+    pub given: List<Fact>,
+    /// Whether the first part is asked to be true.
+    pub asked: bool,
+}
+
+/// How many instructions a program has at most, and more.
+const PLACES: usize = 256;
+
+impl<'t> Setting<'t> {
+    /// The number of an event.
+    pub fn number_of(&self, e: &Entry) -> usize {
+        let place = usize::from(e.core.0)
+            .wrapping_mul(PLACES)
+            .wrapping_add(usize::from(e.place));
+        let first = self.numbers.at(place);
+        if matches!(e.kind, Kind::LW) {
+            first.wrapping_add(1)
+        } else {
+            first
+        }
+    }
+
+    fn term_of_held(&self, held: Held) -> Term {
+        match held {
+            Held::Number(number) => Term { number, ..ZERO },
+            Held::Returned(read) => Term {
+                first: self.number_of(&read),
+                ..ZERO
+            },
+        }
+    }
+
+    fn term_of(&self, value: Value) -> Term {
+        match value {
+            Value::Held(held) => self.term_of_held(held),
+            Value::Sum(read, held) => {
+                let other = self.term_of_held(held);
+                Term {
+                    number: other.number,
+                    first: self.number_of(&read),
+                    second: other.first,
+                }
+            }
+        }
+    }
+
+    /// What a register holds at the end.
+    pub fn register_left(&self, problem: &Problem<'_>, core: Core, reg: Reg) -> Term {
+        match problem.expressions.registers.get(usize::from(core.0)) {
+            Some(registers) => self.term_of_held(registers[reg.index()]),
+            None => ZERO,
+        }
+    }
+
+    /// Whether memory was refused.
+    pub fn is_refused(&self) -> bool {
+        self.events.is_refused
+            | self.terms.is_refused
+            | self.writes_to.words.is_refused
+            | self.readers_of.words.is_refused
+            | self.load_parts_of.words.is_refused
+            | self.users_of.words.is_refused
+            | self.events_of.words.is_refused
+            | self.program.words.is_refused
+            | self.sets.words.is_refused
+            | self.numbers.is_refused
+            | self.parts.is_refused
+            | self.given.is_refused
+    }
+}
+
+fn add_event(setting: &mut Setting<'_>, entry: &Entry) {
+    let a = setting.events.len();
+    let location = usize::from(entry.loc.0);
+    let event = Event {
+        entry: *entry,
+        core: usize::from(entry.core.0),
+        location,
+        reads: is_read(entry),
+        writes: is_write(entry),
+        is_locked: matches!(entry.kind, Kind::LR | Kind::LW),
+        is_fence: matches!(entry.kind, Kind::F),
+    };
+    setting.events.push(event);
+    setting.terms.push(ZERO);
+    setting.events_of.add(event.core, a);
+    if event.reads {
+        setting.readers_of.add(location, a);
+    }
+    if event.reads & event.is_locked {
+        setting.load_parts_of.add(location, a);
+    }
+    if event.writes {
+        setting.writes_to.add(location, a);
+    }
+    if !matches!(entry.kind, Kind::LW) {
+        let place = event
+            .core
+            .wrapping_mul(PLACES)
+            .wrapping_add(usize::from(entry.place));
+        setting.numbers.put(place, a);
+    }
+}
+
+/// Notes what each write writes.
+fn add_terms(setting: &mut Setting<'_>, problem: &Problem<'_>) {
+    for x in &problem.expressions.written {
+        let w = setting.number_of(&x.write);
+        let term = setting.term_of(x.value);
+        setting.terms.put(w, term);
+        setting.users_of.add(term.first, w);
+        setting.users_of.add(term.second, w);
+    }
+}
+
+/// Notes the locations to which locked instructions alone write, and the counters among them.
+fn add_sets(setting: &mut Setting<'_>) {
+    for x in 0..setting.locations {
+        let mut is_locked = setting.writes_to.next(x, 0) != NONE;
+        let mut is_counter = is_locked;
+        for w in setting.locations..setting.size {
+            if setting.writes_to.has(x, w) {
+                let term = setting.terms.at(w);
+                is_locked &= setting.events.at(w).is_locked;
+                is_counter &= (term.first == w.wrapping_sub(1)) & (term.second == NONE);
+            }
+        }
+        if is_locked {
+            setting.sets.add(LOCKED, x);
+        }
+        if is_locked & is_counter {
+            setting.sets.add(COUNTERS, x);
+        }
+    }
+}
+
+fn add_claim<'t>(setting: &mut Setting<'t>, problem: &Problem<'t>) {
+    let Some(cond) = problem.test.cond() else {
+        setting.parts.push(NO_PART);
+        setting.given.push(Fact::Holds(0, true));
+        return;
+    };
+    add_parts(setting, problem, &cond.prop);
+    let truth = !matches!(cond.quantifier, Quantifier::Forall);
+    let mut given = List::new(setting.alloc, 0, NO_FACT);
+    add_given(setting, &mut given, 0, truth);
+    setting.given = given;
+    setting.asked = truth;
+}
+
+/// Notes the initial writes.
+fn add_initial(setting: &mut Setting<'_>, problem: &Problem<'_>) {
+    let mut location = 0usize;
+    for word in problem.test.initial_words() {
+        setting.events.push(Event {
+            location,
+            ..NO_EVENT
+        });
+        setting.terms.push(Term {
+            number: *word,
+            ..ZERO
+        });
+        location = location.wrapping_add(1);
+    }
+}
+
+/// What a search for a refutation works on.
+pub fn make_setting<'t>(alloc: Global, problem: &Problem<'t>, model: Model) -> Setting<'t> {
+    let locations = usize::from(problem.test.locations());
+    let size = locations.wrapping_add(problem.events.len());
+    let mut setting = Setting {
+        alloc,
+        is_sequential: matches!(model, Model::Sequential),
+        size,
+        locations,
+        events: List::new(alloc, 0, NO_EVENT),
+        terms: List::new(alloc, 0, ZERO),
+        writes_to: Rows::new(alloc, locations, size),
+        readers_of: Rows::new(alloc, locations, size),
+        load_parts_of: Rows::new(alloc, locations, size),
+        users_of: Rows::new(alloc, size, size),
+        events_of: Rows::new(alloc, MOST_CORES, size),
+        program: Rows::new(alloc, size.wrapping_mul(2), size),
+        sets: Rows::new(alloc, 3, locations),
+        numbers: List::new(alloc, MOST_CORES.wrapping_mul(PLACES), NONE),
+        parts: List::new(alloc, 0, NO_PART),
+        given: List::new(alloc, 0, NO_FACT),
+        asked: true,
+    };
+    add_initial(&mut setting, problem);
+    for entry in &problem.events {
+        add_event(&mut setting, entry);
+    }
+    add_terms(&mut setting, problem);
+    add_sets(&mut setting);
+    add_program(&mut setting);
+    add_claim(&mut setting, problem);
+    setting
+}

@@ -1,0 +1,16 @@
+pub mod Vocabulary
+pub mod Filtering
+pub mod Parting
+pub mod Walking
+pub mod Weighing
+pub mod Branching
+pub mod Answering
+pub mod Narrowing
+pub mod Searching
+pub mod Answered
+pub mod Determining
+pub mod Rowing
+pub mod Stepping
+pub mod StepsAlong
+pub mod UsingAll
+pub mod Unstored

@@ -1,0 +1,104 @@
+use Rattle.short_reasons.proofs.Vocabulary.{◌≡◌, ◌+◌, true, arith, map, sym, subst, nil_from_length, Vec, node_of, facts_of, branches_of, asked_claim, refutes, IsCaseStep, AreOpenAfter}
+use Rattle.refutation_checker.specs.Trees.{lemma_of}
+use Rattle.refutation_checker.specs.declared.tree.Node.{Node}
+use Rattle.short_reasons.proofs.Searching.{IsSearch, first-case, its-branch, one-too-many, lighter-by-leaf, lighter-by-question, after-leaf, after-question, all-done}
+use Rattle.short_reasons.proofs.search.close_cases.Goals as goal
+use Rattle.short_reasons.proofs.search.close_cases.Goals.{in-Leaf+else-closed-limit+in_ok-told_node-in-Leaf+in_ok-push-in-Leaf, in-Question+in_ok-told_node-in-Question+in_ok-push-in-Question}
+
+pub loop-facts-init : goal.loop-facts-init
+loop-facts-init c = record {
+  search =
+      subst (λ ns. IsSearch c.args.model c.args.problem.now.test.now (branches_of c.add_branch.new.branches.items) (map node_of ns) 0)
+      (sym c.new-nodes.ensures.items)
+      (first-case c.args.model c.args.problem.now.test.now c.new-branches.result.items c.add_branch.new.branches.items c.args.given.items
+      c.new-branches.ensures.items c.in_ok-add_branch.ensures c.requires.given);
+  few = omega arith;
+}
+
+pub take_step-requires-clause-branch : goal.take_step-requires-clause-branch
+take_step-requires-clause-branch c =
+    its-branch c.args.model c.args.problem.now.test.now c.loop-facts.branches.items c.pop.new.self.items c.in-Some.facts c.in-Some.ensures.items
+    c.deref.result.now c.deref.ensures.value
+    (map node_of c.loop-facts.nodes.items) c.loop-facts.closed c.loop-facts.invariant.search
+
+pub returns-then-closed-limit : goal.returns-then-closed-limit
+returns-then-closed-limit c =
+    one-too-many c.args.model c.args.problem.now.test.now c.loop-facts.branches.items c.pop.new.self.items c.in-Some.facts c.in-Some.ensures.items
+    c.deref.result.now c.deref.ensures.value
+    c.in-Leaf.leaf c.loop-facts.nodes.items c.loop-facts.closed c.args.limit c.if-closed-limit.true c.loop-facts.invariant.search
+    (subst (IsCaseStep c.args.model c.args.problem.now.test.now (facts_of c.deref.result.now)) c.in-Leaf.is c.in_ok-leaf.ensures.step)
+
+pub overflow_add-closed : goal.overflow_add-closed
+overflow_add-closed c =
+    let few = c.loop-facts.invariant.few in
+    let other = c.if-closed-limit.false in
+    let fits = c.ranges.limit.fits in
+    omega (arith, few, other, fits)
+
+pub loop-facts-smaller : goal.loop-facts-smaller
+loop-facts-smaller c =
+    elim c.match-branch-3.branch [
+      | in-Leaf+else-closed-limit+in_ok-told_node-in-Leaf+in_ok-push-in-Leaf w ↦
+          lighter-by-leaf c.args.model c.args.problem.now.test.now c.loop-facts.branches.items c.pop.new.self.items c.in-Some.facts c.in-Some.ensures.items
+          c.deref.result.now c.deref.ensures.value
+          w.in-Leaf.leaf c.take_step.new.branches.items
+          (subst (AreOpenAfter c.args.problem.now.test.now (facts_of c.deref.result.now) (branches_of c.pop.new.self.items) (branches_of c.take_step.new.branches.items)) w.in-Leaf.is
+          c.in_ok-leaf.ensures.added)
+      | in-Question+in_ok-told_node-in-Question+in_ok-push-in-Question w ↦
+          lighter-by-question c.args.model c.args.problem.now.test.now c.loop-facts.branches.items c.pop.new.self.items c.in-Some.facts c.in-Some.ensures.items
+          c.deref.result.now c.deref.ensures.value
+          w.in-Question.question c.take_step.new.branches.items
+          (subst (IsCaseStep c.args.model c.args.problem.now.test.now (facts_of c.deref.result.now)) w.in-Question.is c.in_ok-leaf.ensures.step)
+          (subst (AreOpenAfter c.args.problem.now.test.now (facts_of c.deref.result.now) (branches_of c.pop.new.self.items) (branches_of c.take_step.new.branches.items)) w.in-Question.is
+          c.in_ok-leaf.ensures.added)
+    ]
+
+pub loop-facts-preserved : goal.loop-facts-preserved
+loop-facts-preserved c =
+    elim c.match-branch-3.branch [
+      | in-Leaf+else-closed-limit+in_ok-told_node-in-Leaf+in_ok-push-in-Leaf w ↦ record {
+        search =
+            subst (λ m. IsSearch c.args.model c.args.problem.now.test.now (branches_of c.take_step.new.branches.items) (map node_of c.match-branch-3.nodes.items) m)
+            (sym w.closed-is)
+            (subst (λ (v : Vec Node). IsSearch c.args.model c.args.problem.now.test.now (branches_of c.take_step.new.branches.items) (map node_of v.items)
+            (c.loop-facts.closed + 1)) (sym w.nodes-is)
+            (after-leaf c.args.model c.args.problem.now.test.now c.loop-facts.branches.items c.pop.new.self.items c.in-Some.facts c.in-Some.ensures.items
+            c.deref.result.now c.deref.ensures.value
+            w.in-Leaf.leaf w.in_ok-told_node-in-Leaf.field-0 w.in_ok-told_node-in-Leaf.ensures c.loop-facts.nodes.items w.push.new.self.items
+            c.loop-facts.closed w.in_ok-push-in-Leaf.ensures.items c.loop-facts.invariant.search c.take_step.new.branches.items
+            (subst (IsCaseStep c.args.model c.args.problem.now.test.now (facts_of c.deref.result.now)) w.in-Leaf.is c.in_ok-leaf.ensures.step)
+            (subst (AreOpenAfter c.args.problem.now.test.now (facts_of c.deref.result.now) (branches_of c.pop.new.self.items) (branches_of c.take_step.new.branches.items)) w.in-Leaf.is
+            c.in_ok-leaf.ensures.added)));
+        few =
+            let few = c.loop-facts.invariant.few in
+            let now = w.closed-is in
+            let other = w.if-closed-limit.false in omega (arith, few, other, now);
+      }
+      | in-Question+in_ok-told_node-in-Question+in_ok-push-in-Question w ↦ record {
+        search =
+            subst (λ m. IsSearch c.args.model c.args.problem.now.test.now (branches_of c.take_step.new.branches.items) (map node_of c.match-branch-3.nodes.items) m)
+            (sym w.closed-is)
+            (subst (λ (v : Vec Node). IsSearch c.args.model c.args.problem.now.test.now (branches_of c.take_step.new.branches.items) (map node_of v.items)
+            c.loop-facts.closed) (sym w.nodes-is)
+            (after-question c.args.model c.args.problem.now.test.now c.loop-facts.branches.items c.pop.new.self.items c.in-Some.facts c.in-Some.ensures.items
+            c.deref.result.now c.deref.ensures.value
+            w.in-Question.question w.in_ok-told_node-in-Question.field-0 w.in_ok-told_node-in-Question.ensures c.loop-facts.nodes.items w.push-in-Question.new.self.items
+            c.loop-facts.closed w.in_ok-push-in-Question.ensures.items c.loop-facts.invariant.search c.take_step.new.branches.items
+            (subst (IsCaseStep c.args.model c.args.problem.now.test.now (facts_of c.deref.result.now)) w.in-Question.is c.in_ok-leaf.ensures.step)
+            (subst (AreOpenAfter c.args.problem.now.test.now (facts_of c.deref.result.now) (branches_of c.pop.new.self.items) (branches_of c.take_step.new.branches.items)) w.in-Question.is
+            c.in_ok-leaf.ensures.added)));
+        few =
+            let few = c.loop-facts.invariant.few in
+            let now = w.closed-is in
+            omega (arith, few, now);
+      }
+    ]
+
+pub returns : goal.returns
+returns c =
+    let none = c.in_default.ensures.cases in
+    let size = c.loop-facts.branches.ok.0 in
+    subst (λ ls. refutes c.args.model c.args.problem.now.test.now (asked_claim c.args.problem.now.test.now.condition) (map lemma_of ls)
+    (map node_of c.loop-facts.nodes.items) ≡ true) (sym c.new.ensures.items)
+    (all-done c.args.model c.args.problem.now.test.now c.loop-facts.branches.items (map node_of c.loop-facts.nodes.items) c.loop-facts.closed
+    (nil_from_length c.loop-facts.branches.items (omega (arith, none, size))) c.loop-facts.invariant.search)
