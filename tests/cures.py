@@ -105,10 +105,6 @@ def is_register(name):
 
 # ---- the changes of words
 
-def write_decimal(text, number):
-    text.replace(number, str(int(number, 16)))
-
-
 def write_header(text, word):
     text.replace(word, "X86")
 
@@ -188,10 +184,14 @@ def write_cell(text, cell, told, has_end=None):
     core = next(core for core, one in enumerate(text.line.split("|")) if one.strip(" ;").startswith(cell))
     first, second, rest = re.fullmatch(r"(.*?)(?:, and in the next cell (.*?))?((?:, (?:with|which|where) |; ).*)?", told).groups()
     free = text.free_register(core) if rest and rest.startswith(", with a free register for EAX") else "EAX"
-    text.put(core, *(one.replace("EAX", free) for one in (first, second) if one))
-    foreign = re.match(r"; for (\w+) take one of EAX, .*", rest or "")
-    if foreign:
-        text.rename(core, foreign[1])
+    # The registers that are told to be put for others, those first.
+    foreign = re.findall(r"(\w+) (?:is )?for (\w+)", rest or "") if re.match(r"; \w+ is for ", rest or "") else []
+    cells = [one.replace("EAX", free) for one in (first, second) if one]
+    for written, name in foreign:
+        cells[0] = re.sub(r"\b%s\b" % written, name, cells[0])
+    text.put(core, *cells)
+    for _, name in foreign:
+        text.rename(core, name)
 
 
 def leave_out_word(text, word):
@@ -318,12 +318,14 @@ CURES = [
     (r"(\w+) is (?:another processor|a language): write its programs as X86 instructions, below a line X86 NAME; .*", write_header),
     (r"C is a language: the tool compiled reads such a test; tso reads programs of X86 instructions, below a line X86 NAME",
      lambda text: write_header(text, "C")),
-    (r"(\w+) is another processor, and the cells below are X86's: write X86 in its place", write_header),
+    (r"(\w+) isn't X86, and the cells below are X86's: write X86 in its place", write_header),
+    (r"the cells below are X86's: write X86 in place of (X86_64)", write_header),
     (r"(\w+): write X86, in capitals", write_header),
     (r"the test begins on line (\d+), with X86: leave out what stands above it, .*", leave_out_above),
     (r"'(.*)'(?: is AT&T's order, source first; here the destination stands first(?:, and words have 32 bits)?)?: "
      r"(?:no register can hold an address: |if it is one step, |registers and locations have 32 bits: |"
-     r"(?:no register can hold an address|\$ stands before numbers alone); for the location's word )?write "
+     r"no register can hold an address; for the location's word |"
+     r"\$ stands before numbers alone: for a constant write its number; for a location's word )?write "
      r"((?:MOV|XCHG|LOCK|MFENCE)\b(?!.* address is in [a-z]).*?)(; leave out the ; behind it, which ends a row)?", write_cell),
     (r"(\w+) stands behind the instruction: leave it out; .*", leave_out_word),
     (r"(not) begins no condition: write (~exists) in its place", Text.replace),
@@ -332,7 +334,8 @@ CURES = [
     (r"(\w+) isn't read: write two tests: one where it writes, as XCHG \[x\],EBX, .*", exchange_compared),
     (r"(CALL) isn't read: write the instructions of what it calls in its place", leave_out_cell),
     (r"(\w+) isn't read: nothing is computed in registers: leave it out, and where its result is used write .*", leave_out_cell),
-    (r"a register is written without %: EAX", leave_out_percent),
+    (r"%\w+: a register is written without %: \w+", leave_out_percent),
+    (r"(\w+) is no register: write (\w+)", Text.replace),
     (r"(&)(\w+): a location is written \[x\] in an instruction: .*", put_into_brackets),
     (r"\$ stands before (\w+): it stands before numbers alone, and a register is written without it", leave_out_dollar),
     (r"an exchange of two registers takes three MOVs, .*", exchange_by_moves),
@@ -348,7 +351,7 @@ CURES = [
     (r"(\w+) is none of EAX, EBX, ECX, EDX, ESI, EDI\b.*", rename_register),
     (r"(\w+) has 64 bits, and registers have 32 here: .*", rename_register),
     (r"(\w+) is a part of \w+: if the whole register will do, write (\w+)", Text.replace),
-    (r"(0[xX]\w+): numbers are decimal", write_decimal),
+    (r"(\w+): numbers are decimal: write (\d+)", Text.replace),
     (r"(\w+) is a type, and items have no types here: leave it out; if the item has no value, leave out the whole item, .*", leave_out_type),
     (r"(\w+) isn't read: without LOCK .* Write a load, as MOV EAX,\[x\], and a store of the result, .*", load_and_store),
     (r"(\w+): is a label, and a program has no jumps: leave it out", leave_out_jump),

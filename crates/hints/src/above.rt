@@ -1,14 +1,21 @@
 //! What is said of a text in which a test begins, but not with the first byte: of what stands above its first line, or beside it.
 
+use crate::kinds::is_of_report;
 use crate::line::Line;
-use crate::quotes::{is_all_digits, up_to};
+use crate::quotes::{first_word, is_all_digits, up_to};
 use crate::tables::is_exactly_one_of;
 
 const ABOVE: &str =
     "the test begins on line {}, with X86: leave out what stands above it, or make a comment of it: (* .. *)";
 
+const AROUND: &str =
+    "the test begins on line {}, with X86, and ends with its condition: leave out what stands above it and below it";
+
 const BESIDE: &str =
     "{} stands before X86: leave it out, here and in each line where it stands: a test begins with X86, a space and its name";
+
+const IN_STRINGS: &str =
+    "each line stands in a string of C: leave out its quotation marks and the \\n before the second one";
 
 const NUMBERED: &str =
     "{} stands before X86, as the line's number: leave out the number of each line";
@@ -23,17 +30,45 @@ pub fn says_above(line: &mut Line, rest: &[u8], number: usize) -> bool {
     }
     let before = before_header(header);
     if lines > 0 && !is_label(before) {
-        line.say_number(ABOVE, number.saturating_add(lines));
+        line.say_number(
+            if has_report_below(rest) {
+                AROUND
+            } else {
+                ABOVE
+            },
+            number.saturating_add(lines),
+        );
     } else if before.is_empty() {
         return false;
     } else if is_number(before) {
         line.say_of(NUMBERED, before);
+    } else if before.starts_with(b"\"") && header.trim_ascii_end().ends_with(b"\\n\"") {
+        line.say(IN_STRINGS);
     } else if is_label(before) || !before.contains(&b' ') {
         line.say_of(BESIDE, before);
     } else {
         return false;
     }
     true
+}
+
+/// Whether a report goes on below a condition.
+fn has_report_below(text: &[u8]) -> bool {
+    let mut has_condition = false;
+    for row in text.split(|byte| *byte == b'\n') {
+        let first = first_word(row);
+        if is_exactly_one_of("exists ~exists forall", up_to(first, b'(')) {
+            has_condition = true;
+        } else if has_condition && (is_of_report(first) || ends_copy(first)) {
+            return true;
+        }
+    }
+    false
+}
+
+/// Whether a line that begins with this word ends what a test was copied from: a page, a text in Markdown or a terminal.
+fn ends_copy(word: &[u8]) -> bool {
+    word.starts_with(b"<") || word.starts_with(b"```") || is_exactly_one_of("EOF $ % #", word)
 }
 
 /// Whether a test begins on a line below the first.

@@ -49,7 +49,12 @@ pub fn without_comment(cell: &[u8]) -> &[u8] {
     let cell = cell.trim_ascii();
     for at in 0..cell.len() {
         let rest = &cell[at..];
-        if rest.starts_with(b"(*") || rest.starts_with(b"//") || begins_comment(rest) {
+        if rest.starts_with(b"(*")
+            || rest.starts_with(b"//")
+            || rest.starts_with(b"/*")
+            || rest.starts_with(b" -- ")
+            || begins_comment(rest)
+        {
             return cell[..at].trim_ascii_end();
         }
     }
@@ -114,6 +119,8 @@ pub fn pair_in<'a>(instruction: &Instruction<'a>) -> Option<Pair<'a>> {
     }
     let order = if is_of_two_orders(first, second) {
         Order::Mixed
+    } else if copies_by_size(instruction.name, first, second) {
+        Order::SourceFirst
     } else {
         order_of(operands, operand_in(first), operand_in(second))
     };
@@ -146,6 +153,15 @@ fn is_of_two_orders(first: &[u8], second: &[u8]) -> bool {
         }
         _ => false,
     }
+}
+
+/// Whether two locations stand without square brackets behind a name with the size of its operands, as in AT&T's syntax.
+fn copies_by_size(name: &[u8], first: &[u8], second: &[u8]) -> bool {
+    is_one_of("MOVL MOVQ XADDL XADDQ", name)
+        && !first.contains(&b'[')
+        && !second.contains(&b'[')
+        && matches!(operand_in(first), Operand::Bare(_) | Operand::Word(_))
+        && matches!(operand_in(second), Operand::Bare(_) | Operand::Word(_))
 }
 
 /// Whether an operand is a number without `$`.

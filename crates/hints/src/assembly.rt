@@ -5,17 +5,24 @@ use crate::assembled::{Instruction, Pair, instruction_in, pair_in};
 use crate::line::{Line, Piece};
 use crate::mnemonics::{Kind, kind_of};
 use crate::moves::{
-    COMPUTED, STACK, say_cell, says_address, says_change, says_locked, says_locked_fence, says_move,
+    STACK, say_cell, says_address, says_change, says_locked, says_locked_fence, says_move,
 };
 use crate::operand::{Operand, operand_in};
+use crate::operands::said_of_sum;
 use crate::quotes::{digits_and_letters, up_to};
 use crate::registers::is_stack_pointer;
-use crate::tables::is_one_of;
+use crate::tables::{begins_with_one_of, is_one_of};
 use crate::target::{Target, say_target};
 use tso_terms::names::continues_name;
 
-const STRINGS: &str =
-    "{}: an instruction on strings takes its addresses from registers: write a store MOV [x],EAX for each location that it writes, a load for each that it reads";
+const COPIES: &str =
+    "{} copies words whose addresses are in registers: for each word write a load, as MOV EAX,[x], and in the next cell a store, as MOV [y],EAX";
+
+const FILLS: &str =
+    "{} stores words whose addresses are in a register: for each word write a store, as MOV [x],EAX";
+
+const READS: &str =
+    "{} loads words whose addresses are in registers: for each word write a load, as MOV EAX,[x]";
 
 const NOTHING: &str = "{} isn't read: it changes no final state, so leave it out";
 
@@ -127,7 +134,7 @@ fn says_sum(line: &mut Line, pair: &Pair<'_>) -> bool {
         (Operand::Register(_), Operand::Computed)
     );
     if is_sum {
-        line.say_of(COMPUTED, pair.cell);
+        line.say_of(said_of_sum(pair.cell), pair.cell);
     }
     is_sum
 }
@@ -142,7 +149,10 @@ fn says_one(line: &mut Line, kind: Kind, instruction: &Instruction<'_>) -> bool 
     let (name, operand) = (instruction.name, operand_in(instruction.operands));
     match (kind, operand) {
         (Kind::Push, _) => line.say_of(STACK, instruction.cell),
-        (Kind::Strings, _) => line.say_of(STRINGS, instruction.cell),
+        (Kind::Strings, _) => line.say_of(said_of_strings(name), instruction.cell),
+        _ if is_one_of("MOVSD MOVSW", name) && instruction.operands.is_empty() => {
+            line.say_of(COPIES, instruction.cell);
+        }
         (Kind::Nothing, _) if instruction.operands.is_empty() => line.say_of(NOTHING, name),
         (Kind::Increase | Kind::Decrease | Kind::Compute, Operand::Register(_)) => {
             line.say_of(COMPUTES, name);
@@ -159,6 +169,17 @@ fn says_one(line: &mut Line, kind: Kind, instruction: &Instruction<'_>) -> bool 
         _ => return false,
     }
     true
+}
+
+/// What is said of an instruction on strings, by its name.
+fn said_of_strings(name: &[u8]) -> &'static str {
+    if begins_with_one_of("MOVS", name) {
+        COPIES
+    } else if begins_with_one_of("STOS", name) {
+        FILLS
+    } else {
+        READS
+    }
 }
 
 /// Whether the first of several operands is a register.

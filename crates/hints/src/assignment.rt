@@ -1,9 +1,10 @@
 //! What is said of an assignment in C, C++ or Rust that stands in a cell: the cells that do the same here.
 
+use crate::c_forms::is_type;
 use crate::faults::NO_ARRAYS;
 use crate::line::{Line, Piece};
 use crate::numbers::number_in;
-use crate::quotes::{is_all_digits, up_to};
+use crate::quotes::{after_byte, first_word, is_all_digits, up_to, up_to_any};
 use crate::statement::Statement;
 use crate::tables::is_one_of;
 use crate::target::{Target, say_copy, say_target};
@@ -19,11 +20,12 @@ const COMPUTED: &str =
 /// The location that an argument or a side of an assignment names, perhaps through a pointer.
 pub fn location_in(text: &[u8]) -> Option<&[u8]> {
     let mut rest = text.trim_ascii();
-    for _ in 0..2 {
+    for _ in 0..4 {
         rest = rest
             .strip_prefix(b"*")
             .or(rest.strip_prefix(b"&"))
-            .unwrap_or(rest);
+            .unwrap_or(without_brackets(rest))
+            .trim_ascii();
     }
     let name = match rest {
         [b'[', inside @ .., b']'] => inside.trim_ascii(),
@@ -34,6 +36,18 @@ pub fn location_in(text: &[u8]) -> Option<&[u8]> {
         Some(name)
     } else {
         None
+    }
+}
+
+/// What stands in brackets, or behind a type in brackets.
+fn without_brackets(text: &[u8]) -> &[u8] {
+    let Some(after) = text.strip_prefix(b"(") else {
+        return text;
+    };
+    if is_type(first_word(up_to_any(after, b")*"))) {
+        after_byte(after, b')')
+    } else {
+        after.strip_suffix(b")").unwrap_or(text)
     }
 }
 
@@ -53,7 +67,7 @@ pub fn says_assignment(line: &mut Line, statement: &Statement<'_>) -> bool {
         line.say_with(ADDRESS, &[Piece::Named(statement.cell), Piece::Shown(name)]);
         return true;
     }
-    if says_event(line, statement) {
+    if says_event(line, statement) || says_pointed(line, statement) {
         return true;
     }
     let to = if statement.is_declared && is_location_name(left) {
@@ -81,21 +95,53 @@ pub fn says_assignment(line: &mut Line, statement: &Statement<'_>) -> bool {
 
 /// Of an access as papers write it, as `Wx=1` or `Rx=0`. Whether it is one.
 fn says_event(line: &mut Line, statement: &Statement<'_>) -> bool {
-    let ([kind, name], Some(value)) = (statement.left, number_in(statement.right)) else {
-        return false;
-    };
-    let name = [*name];
-    if !name[0].is_ascii_lowercase() || !b"WR".contains(kind) {
+    match (statement.left, number_in(statement.right)) {
+        ([kind, name], Some(value)) => says_access(line, statement.cell, *kind, *name, value),
+        _ => false,
+    }
+}
+
+/// Of an access as papers write it without a sign, as `Wx1` or `Ry0`. Whether it is one.
+pub fn says_short_event(line: &mut Line, cell: &[u8]) -> bool {
+    match cell {
+        [kind, name, digits @ ..] => match number_in(digits) {
+            Some(value) => says_access(line, cell, *kind, *name, value),
+            None => false,
+        },
+        _ => false,
+    }
+}
+
+/// Of an access by its kind and the name of its location. Whether these are such.
+fn says_access(line: &mut Line, cell: &[u8], kind: u8, name: u8, value: u32) -> bool {
+    let name = [name];
+    if !name[0].is_ascii_lowercase() || !b"WR".contains(&kind) {
         return false;
     }
-    line.say_of("{}: write ", statement.cell);
-    if *kind == b'W' {
+    line.say_of("{}: write ", cell);
+    if kind == b'W' {
         say_target(line, Target::StoreNumber(&name, value));
     } else {
         say_target(line, Target::Load(b"EAX", &name));
         line.say(", and ask for its value in the condition");
     }
     true
+}
+
+/// Of a word whose address a local variable holds. Whether one is.
+fn says_pointed(line: &mut Line, statement: &Statement<'_>) -> bool {
+    for side in [statement.left, statement.right] {
+        if let Some(name) = side.strip_prefix(b"*")
+            && is_local(name)
+        {
+            line.say_with(
+                "{}: no register can hold an address: write the name of the location that {} points to, as MOV [x],$1 or MOV EAX,[x]",
+                &[Piece::Named(statement.cell), Piece::Shown(name)],
+            );
+            return true;
+        }
+    }
+    false
 }
 
 /// Whether a side of an assignment is an element of an array.

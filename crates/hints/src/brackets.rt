@@ -3,12 +3,15 @@
 use crate::faults::NO_ARRAYS;
 use crate::instructions::WORDS;
 use crate::line::Line;
-use crate::quotes::{last_bytes, token};
+use crate::quotes::{digits_and_letters, last_bytes, token};
 use crate::tables::said_of;
 use litmus_tokens::{Lexeme, Symbol, Token, is_symbol};
 use tso_terms::names::is_location_name;
 
 const ONE_NAME: &str = "{} can't stand in [ ]: a location's name stands there alone, as [x]";
+
+const TWO_NAMES: &str =
+    "{} and another word stand in [ ]: a location's name is one word, as [x] or [x_1]";
 
 const NO_NUMBER: &str =
     "{} in [ ] is an address, and none is read: write a location's name there, as [x]";
@@ -51,7 +54,9 @@ fn says_of_content(line: &mut Line, cell: &[u8], tokens: &[Token<'_>]) -> bool {
             _ => is_open,
         };
         if let Some((said, named)) = misfit(is_open, before, here) {
-            line.say_of(said, token(last_bytes(cell, named.remaining)));
+            let text = last_bytes(cell, named.remaining);
+            let name = digits_and_letters(text);
+            line.say_of(said, if name.is_empty() { token(text) } else { name });
             return true;
         }
     }
@@ -71,11 +76,13 @@ fn misfit<'a>(
         (Lexeme::Name(name), Lexeme::Symbol(Symbol::OpenSquare)) if is_array(name) => Some((
             NO_ARRAYS, here,
         )),
-        (Lexeme::Symbol(Symbol::OpenSquare), Lexeme::Number(_)) => Some((NO_NUMBER, here)),
-        (Lexeme::Name(_), Lexeme::Name(_)) if is_open => Some((ONE_NAME, before)),
-        (_, Lexeme::Symbol(Symbol::Comma | Symbol::OpenRound | Symbol::OpenSquare)) if is_open => {
-            Some((ONE_NAME, here))
+        (Lexeme::Symbol(Symbol::OpenSquare), Lexeme::Symbol(Symbol::CloseSquare)) => {
+            Some(("no name stands in [ ]: write a location's, as [x]", here))
         }
+        (Lexeme::Symbol(Symbol::OpenSquare), Lexeme::Number(_)) => Some((NO_NUMBER, here)),
+        (Lexeme::Name(_), Lexeme::Name(_)) if is_open => Some((TWO_NAMES, before)),
+        (_, Lexeme::Symbol(Symbol::Comma | Symbol::Colon | Symbol::OpenRound | Symbol::OpenSquare))
+            if is_open => Some((ONE_NAME, here)),
         _ => None,
     }
 }

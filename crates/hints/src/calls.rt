@@ -27,12 +27,21 @@ pub enum Act {
     Thread,
     Lock,
     Unlock,
+    /// It writes what is computed of the location's word, in one step.
+    Compute,
 }
 
 /// Names of calls that do the same.
 struct Named(&'static str, Act);
 
-static CALLS: [Named; 16] = [
+static CALLS: [Named; 17] = [
+    Named(
+        "fetch_or fetch_and fetch_xor fetch_nand atomic_fetch_or atomic_fetch_and atomic_fetch_xor \
+         __atomic_fetch_or __atomic_fetch_and __atomic_fetch_xor __sync_fetch_and_or \
+         __sync_fetch_and_and __sync_fetch_and_xor atomic_or atomic_and atomic_xor InterlockedOr \
+         InterlockedAnd",
+        Act::Compute,
+    ),
     Named(
         "pthread_create pthread_join thrd_create thrd_join spawn thread join",
         Act::Thread,
@@ -40,7 +49,7 @@ static CALLS: [Named; 16] = [
     Named(
         "WRITE_ONCE smp_store smp_store_mb store atomic_store \
          atomic_store_explicit __atomic_store_n atomic_set set lazySet setRelease atomic_init \
-         write_volatile rcu_assign_pointer __atomic_clear atomic_flag_clear __sync_lock_release \
+         write_volatile rcu_assign_pointer \
          StoreInt32 StoreInt64 StoreUint32 StoreRelease STORE Store",
         Act::Store,
     ),
@@ -64,7 +73,7 @@ static CALLS: [Named; 16] = [
     Named(
         "fetch_add atomic_fetch_add atomic_fetch_add_explicit __atomic_fetch_add \
          __atomic_add_fetch __sync_fetch_and_add __sync_add_and_fetch atomic_add \
-         atomic_add_return xadd InterlockedExchangeAdd InterlockedAdd AddInt32 AddInt64 FAA faa",
+         atomic_add_return xadd InterlockedExchangeAdd _InterlockedExchangeAdd InterlockedAdd AddInt32 AddInt64 FAA faa",
         Act::Add,
     ),
     Named(
@@ -91,17 +100,17 @@ static CALLS: [Named; 16] = [
         Act::Compare,
     ),
     Named(
-        "smp_mb mb atomic_thread_fence thread_fence fence __sync_synchronize _mm_mfence \
-         __builtin_ia32_mfence __atomic_thread_fence MemoryBarrier smp_mb__after_spinlock \
+        "fullFence smp_mb mb atomic_thread_fence thread_fence fence __sync_synchronize _mm_mfence \
+         __builtin_ia32_mfence __faststorefence __atomic_thread_fence MemoryBarrier smp_mb__after_spinlock \
          smp_mb__before_atomic smp_mb__after_atomic mfence",
         Act::Fence,
     ),
     Named(
-        "smp_rmb smp_wmb rmb wmb dma_rmb dma_wmb _mm_lfence _mm_sfence",
+        "storeFence loadFence acquireFence releaseFence storeStoreFence loadLoadFence smp_rmb smp_wmb rmb wmb dma_rmb dma_wmb _mm_lfence _mm_sfence",
         Act::NoFence,
     ),
     Named(
-        "_mm_pause cpu_relax spin_loop spin_loop_hint sched_yield yield_now rcu_read_lock \
+        "Gosched onSpinWait yield __builtin_ia32_pause _mm_clflush _mm_pause cpu_relax spin_loop spin_loop_hint sched_yield yield_now rcu_read_lock \
          rcu_read_unlock printf puts usleep sleep free",
         Act::Nothing,
     ),
@@ -110,24 +119,26 @@ static CALLS: [Named; 16] = [
         Act::Barrier,
     ),
     Named(
-        "spin_lock mutex_lock pthread_mutex_lock pthread_spin_lock mtx_lock lock",
+        "spin_lock mutex_lock pthread_mutex_lock pthread_spin_lock mtx_lock lock EnterCriticalSection",
         Act::Lock,
     ),
     Named(
-        "spin_unlock mutex_unlock pthread_mutex_unlock pthread_spin_unlock mtx_unlock unlock",
+        "spin_unlock mutex_unlock pthread_mutex_unlock pthread_spin_unlock mtx_unlock unlock LeaveCriticalSection \
+         __atomic_clear atomic_flag_clear __sync_lock_release clear",
         Act::Unlock,
     ),
 ];
 
 /// What a function or a method of this name does with these arguments.
-pub fn act_of(name: &[u8], arguments: &[u8]) -> Option<Act> {
-    let name = name
+pub fn act_of(whole: &[u8], arguments: &[u8]) -> Option<Act> {
+    let name = whole
         .strip_suffix(b"_relaxed")
-        .or(name.strip_suffix(b"_acquire"))
-        .or(name.strip_suffix(b"_release"))
-        .unwrap_or(name);
+        .or(whole.strip_suffix(b"_acquire"))
+        .or(whole.strip_suffix(b"_release"))
+        .unwrap_or(whole);
+    let is_whole = is_exactly_one_of("__sync_lock_release", whole);
     for named in &CALLS {
-        if is_exactly_one_of(named.0, name) {
+        if is_exactly_one_of(named.0, if is_whole { whole } else { name }) {
             let is_weak = matches!(named.1, Act::Fence) && is_weak_order(arguments);
             return Some(if is_weak { Act::NoFence } else { named.1 });
         }

@@ -4,15 +4,17 @@ use crate::brackets::{count, says_of_brackets};
 use crate::c_forms::{is_type, said_of_access};
 use crate::cycles::says_edge;
 use crate::faults::{COMMENT, NO_VALUE, STORE_AND_LOAD, says_digit_first};
-use crate::instructions::{FORMS, LABEL, LOCKED, SIZED, TWO_REGISTERS, UNLOCKED, WORDS};
+use crate::instructions::{ALONE, FORMS, LABEL, LOCKED, SIZED, UNLOCKED, WORDS};
 use crate::items::is_no_number;
-use crate::keywords::begins_instruction;
-use crate::line::Line;
+use crate::keywords::{begins_instruction, near_instruction};
+use crate::line::{Line, Piece};
+use crate::numbers::number_in;
+use crate::pairs::says_of_pair;
 use crate::place::Place;
 use crate::prefixes::said_of_prefix;
-use crate::quotes::{token, up_to, up_to_any};
-use crate::registers::says_register;
-use crate::tables::{Alike, is_one_of, said_of, said_of_front};
+use crate::quotes::{has, last_bytes, token, up_to, up_to_any};
+use crate::registers::{register_of, says_register};
+use crate::tables::{Alike, begins_with_one_of, is_one_of, said_of, said_of_front};
 use litmus_tokens::{Lexeme, Symbol, Token, after_symbol, is_symbol, tokens_of};
 use std::alloc::Global;
 use tso_terms::names::is_location_name;
@@ -24,7 +26,8 @@ const NO_INSTRUCTION: &str =
 const LOCK_ALONE: &str =
     "LOCK may stand only before XCHG or XADD, in the same cell and without ;: LOCK XADD [x],EAX";
 
-const NO_REGISTER: &str = "{} is none of EAX, EBX, ECX, EDX, ESI, EDI; a location is written [x]";
+const NO_REGISTER: &str =
+    "{} is none of EAX, EBX, ECX, EDX, ESI, EDI; a location is written [x], and a number in digits, as $1";
 
 const NO_LOCATION: &str =
     "{} names no location, and no register can hold an address here: write the location's name in [ ], as [x]; the tool import does so where the initial state has an item as 0:EBX=x";
@@ -47,12 +50,6 @@ const NO_MORE: &str =
 const DECLARATION: &str =
     "{} is a type: no register and no location is declared here, so leave the cell empty";
 
-const SUM_OF_REGISTERS: &str =
-    "no sum of two registers is read: LOCK XADD adds a register to a location, as LOCK XADD [x],EAX";
-
-const TWO_LOCATIONS: &str =
-    "only one of the two may be a location: load the other in the cell before, as MOV EAX,[y], and write that register in its place";
-
 /// Of the cell at the front of a text.
 ///
 /// Errors: out of memory only.
@@ -68,6 +65,13 @@ pub fn bad_instruction(alloc: Global, line: &mut Line, rest: &[u8]) -> Result<()
     if says_edge(line, cell) {
         return Ok(());
     }
+    if has_operands_alone(cell) {
+        line.say_of(
+            "no instruction stands before {}: write one, as MOV [x],$1",
+            cell,
+        );
+        return Ok(());
+    }
     if let Some(said) = said_of_prefix(cell, rest) {
         line.say(said);
         return Ok(());
@@ -80,13 +84,71 @@ pub fn bad_instruction(alloc: Global, line: &mut Line, rest: &[u8]) -> Result<()
     let (name, operands) = first_name(&tokens.items);
     if name.eq_ignore_ascii_case(b"LOCK") {
         let (name, operands) = first_name(operands);
-        if !says_of_instruction(line, &LOCKED, cell, name, operands) {
+        if !says_of_instruction(line, &LOCKED, cell, name, operands)
+            && !says_near_instruction(line, name, operands, true)
+        {
             line.say(LOCK_ALONE);
         }
-    } else if !says_of_instruction(line, &UNLOCKED, cell, name, operands) {
+    } else if !says_of_instruction(line, &UNLOCKED, cell, name, operands)
+        && !says_near_instruction(line, name, operands, false)
+    {
         line.say_of(NO_INSTRUCTION, token(cell));
     }
     Ok(())
+}
+
+/// Says of an instruction and a register without a space between them. Whether a word has both.
+fn says_joined(line: &mut Line, word: &[u8]) -> bool {
+    for name in "MOV XCHG XADD".split(' ') {
+        let rest = last_bytes(word, word.len().saturating_sub(name.len()));
+        if begins_with_one_of(name, word) && Reg::from_name(rest).is_some() {
+            line.say_with(
+                "{}: write a space behind {}",
+                &[Piece::Named(word), Piece::Text(name)],
+            );
+            return true;
+        }
+    }
+    false
+}
+
+/// Says of a name that is almost an instruction's, where what stands behind it may stand behind that one, perhaps after LOCK. Whether
+/// it is.
+fn says_near_instruction(
+    line: &mut Line,
+    name: &[u8],
+    operands: &[Token<'_>],
+    is_locked: bool,
+) -> bool {
+    if says_joined(line, name) {
+        return true;
+    }
+    let Some(meant) = near_instruction(name) else {
+        return false;
+    };
+    let fits = if meant == "MFENCE" {
+        operands.is_empty() && !is_locked
+    } else if meant == "LOCK" {
+        is_one_of("XADD XCHG", first_name(operands).0)
+    } else {
+        count(Symbol::Comma, operands) == 1
+    };
+    if fits {
+        let sentence = if meant == "XADD" && !is_locked {
+            "{} is no instruction: write LOCK {}"
+        } else {
+            "{} is no instruction: write {}"
+        };
+        line.say_with(sentence, &[Piece::Named(name), Piece::Text(meant)]);
+    }
+    fits
+}
+
+/// Whether a cell begins with an operand and a comma, without an instruction before it.
+fn has_operands_alone(cell: &[u8]) -> bool {
+    let first = up_to(cell, b',').trim_ascii_end();
+    let is_place = first.starts_with(b"[") && first.ends_with(b"]");
+    first.len() < cell.len() && (is_place || Reg::from_name(first).is_some())
 }
 
 /// What is said of a cell in a form of another language, of its first token: of a word that is no instruction, a label or an
@@ -111,6 +173,8 @@ fn said_of_cell(tokens: &[Token<'_>]) -> Option<&'static str> {
     {
         return Some(if name.eq_ignore_ascii_case(b"LOCK") {
             LOCK_ALONE
+        } else if begins_instruction(name) {
+            "{}: leave out the colon behind it: a space stands before the operands"
         } else {
             LABEL
         });
@@ -149,7 +213,9 @@ fn says_of_instruction(
     name: &[u8],
     operands: &[Token<'_>],
 ) -> bool {
-    if let Some(said) = said_of_front(unread, name) {
+    if let Some(said) = said_of_front(unread, name)
+        && (said != ALONE || is_one_of("MFENCE", name))
+    {
         line.say_of(said, name);
         return true;
     }
@@ -176,16 +242,45 @@ fn says_of_operands(
 ) -> bool {
     says_of_digits(line, cell, operands)
         || says_of_brackets(line, cell, operands)
+        || says_parted(line, operands)
         || says_of_words(line, operands)
         || says_of_pair(line, instruction, operands)
 }
 
 /// Says of the first word among operands that begins with a digit and is no number. Whether there is one.
 fn says_of_digits(line: &mut Line, cell: &[u8], operands: &[Token<'_>]) -> bool {
+    let mut is_inside = false;
     for token in operands {
-        if !name_of(token).is_empty()
-            && says_digit_first(line, &Place::new(cell, token.remaining))
-        {
+        let place = Place::new(cell, token.remaining);
+        let is_address = is_inside && is_hexadecimal(place.bare_word());
+        if !is_address && !name_of(token).is_empty() && says_digit_first(line, &place) {
+            return true;
+        }
+        is_inside = is_symbol(Symbol::OpenSquare, token)
+            || (is_inside && !is_symbol(Symbol::CloseSquare, token));
+    }
+    false
+}
+
+/// Whether a word is a number to base 16 by a mark that says so.
+fn is_hexadecimal(word: &[u8]) -> bool {
+    let is_marked = begins_with_one_of("0x", word) || word.ends_with(b"h") || word.ends_with(b"H");
+    is_marked && number_in(word).is_some()
+}
+
+/// Says of a register with a space in its name. Whether one is among operands.
+fn says_parted(line: &mut Line, operands: &[Token<'_>]) -> bool {
+    for at in 1..operands.len() {
+        let (first, second) = (name_of(&operands[at - 1]), name_of(&operands[at]));
+        if let Some(meant) = register_of(first, second) {
+            line.say_with(
+                "{} {}: write {}, without a space",
+                &[
+                    Piece::Shown(first),
+                    Piece::Shown(second),
+                    Piece::Text(meant),
+                ],
+            );
             return true;
         }
     }
@@ -209,40 +304,6 @@ fn says_of_words(line: &mut Line, operands: &[Token<'_>]) -> bool {
         before = Some(token.lexeme);
     }
     false
-}
-
-/// Says of how many operands there are, and of which kinds. Whether it is known what was meant.
-fn says_of_pair(line: &mut Line, instruction: &[u8], operands: &[Token<'_>]) -> bool {
-    let (commas, locations) = (
-        count(Symbol::Comma, operands),
-        count(Symbol::OpenSquare, operands),
-    );
-    let is_sum = is_one_of("XADD", instruction);
-    let sentence = if commas == 0 && locations > 0 && operands.len() > 3 {
-        "no comma stands between the two operands, as in MOV [x],$1 and MOV EAX,[x]"
-    } else if commas > 1 {
-        "an instruction has two operands, as MOV [x],$1 and MOV EAX,[x]"
-    } else if !is_sum && !is_one_of("XCHG", instruction) {
-        return false;
-    } else if locations > 1 {
-        TWO_LOCATIONS
-    } else if !are_registers(operands) {
-        return false;
-    } else if is_sum {
-        SUM_OF_REGISTERS
-    } else {
-        TWO_REGISTERS
-    };
-    line.say(sentence);
-    true
-}
-
-/// Whether operands are two words, which are registers where no other word is at fault.
-fn are_registers(operands: &[Token<'_>]) -> bool {
-    match operands {
-        [first, _, second] => !name_of(first).is_empty() && !name_of(second).is_empty(),
-        _ => false,
-    }
 }
 
 /// Says of a name that is no operand, by what stands before it, among it a comma or none. Whether it is none.
@@ -307,7 +368,7 @@ fn ends_operand(lexeme: Lexeme<'_>) -> bool {
 }
 
 /// The name that a token is, or no bytes.
-fn name_of<'a>(token: &Token<'a>) -> &'a [u8] {
+pub fn name_of<'a>(token: &Token<'a>) -> &'a [u8] {
     match token.lexeme {
         Lexeme::Name(name) => name,
         _ => &[],

@@ -52,6 +52,10 @@ static BLANKS: [Alike; 2] = [
     ),
 ];
 
+/// What is said of a byte with which colours of a terminal begin.
+pub const COLOURS: &str =
+    "the byte 27 begins a colour or another sign of a terminal: paste the text without colours";
+
 /// Says of a byte that isn't printable, and of the character that it begins.
 pub fn say_character(line: &mut Line, place: &Place<'_>, byte: u8) {
     let dashes = if place.is_first_on_line() {
@@ -62,7 +66,9 @@ pub fn say_character(line: &mut Line, place: &Place<'_>, byte: u8) {
     let said = dashes.or(said_of_front(&SIGNS, place.rest)).unwrap_or(
         "leave it out, or write it in ASCII; it may stand only in a comment",
     );
-    if !says_wide(line, place) && !says_foreign_at(line, place, said) {
+    if byte == 27 {
+        line.say(COLOURS);
+    } else if !says_wide(line, place) && !says_foreign_at(line, place, said) {
         line.say_number("the byte {} can't stand here", usize::from(byte));
     }
 }
@@ -95,6 +101,17 @@ pub fn says_foreign(line: &mut Line, text: &[u8], said: &str) -> bool {
     for at in 0..text.len() {
         if !text[at].is_ascii() {
             return says_foreign_at(line, &Place::new(text, text.len() - at), said);
+        }
+    }
+    false
+}
+
+/// Says of the first character that isn't ASCII in a word that begins at a place. Whether one is there.
+pub fn says_foreign_in(line: &mut Line, place: &Place<'_>, word: &[u8], said: &str) -> bool {
+    for at in 0..word.len() {
+        if !word[at].is_ascii() {
+            let remaining = place.rest.len().saturating_sub(at);
+            return says_foreign_at(line, &Place::new(place.text, remaining), said);
         }
     }
     false

@@ -2,21 +2,25 @@
 //! stands for them here.
 
 use crate::body::{body_of, ending_of};
+use crate::cycles::is_edge_name;
 use crate::divider::{Asked, says_missing_divider};
 use crate::faults::{
-    COMMENT, CONNECTIVES, IMPLICATION, LEAVE_OUT, NO_ARRAYS, NO_VALUE, says_digit_first, unfit,
+    COMMENT, EQUIVALENCE, IMPLICATION, LEAVE_OUT, NO_ARRAYS, NO_VALUE, ONLY_ROUND,
+    says_digit_first, unfit,
 };
 use crate::items::{is_no_number, says_foreign_register};
 use crate::keywords::begins_instruction;
 use crate::line::{Line, Piece};
+use crate::near::near_word;
 use crate::place::Place;
+use crate::points::{CORE_AND_REGISTER, is_of_core};
 use crate::quotes::{
-    digits_and_letters, digits_at, first_bytes, is_all_digits, is_bare, is_choice, last_bytes,
-    up_to, word,
+    digits_and_letters, first_bytes, is_all_digits, is_bare, is_choice, last_bytes, up_to, word,
 };
 use crate::registers::is_register;
 use crate::signs::DIVIDER;
 use crate::tables::{Alike, is_exactly_one_of, is_one_of, said_of};
+use crate::values::{EQUAL, VALUES, said_of_further_value};
 use litmus_tokens::{Symbol, is_symbol, line_of, tokens_of};
 use std::alloc::Global;
 use tso_terms::names::is_location_name;
@@ -28,17 +32,14 @@ const CONDITION: &str =
 
 const JOIN: &str = "{}: parts of a condition are joined by /\\ for and, \\/ for or";
 
-const VALUES: &str = "{}: write an atom for each value, joined by \\/, as (0:EAX=0 \\/ 0:EAX=1)";
-
-const EQUAL: &str =
-    "{}: an atom compares a place with one number: that two places are equal is written (0:EAX=0 /\\ x=0) \\/ (0:EAX=1 /\\ x=1)";
-
 const NO_EQUALS: &str = "{}: an atom has = between a place and one number, as 0:EAX=1 or x=1";
 
 const REGISTER_ALONE: &str = "{}: a register is written after its core and a colon, as 0:EAX";
 
 const SECOND: &str =
     "a second condition begins here: a test has one, so leave one of them out; parts of one are joined by /\\ and \\/";
+
+const EDGE: &str = "{} is an edge: a condition asks for the values that show it, as 0:EAX=0 or x=1";
 
 /// What is said of a word that compares.
 static COMPARISONS: [Alike; 3] = [
@@ -82,7 +83,9 @@ pub fn bad_condition(alloc: Global, line: &mut Line, place: &Place<'_>) -> Resul
             return Ok(());
         }
     }
-    if !says_foreign_form(line, place)
+    if is_of_core(place) {
+        line.say_of(CORE_AND_REGISTER, place.token);
+    } else if !says_foreign_form(line, place)
         && !says_foreign_register(line, place)
         && !says_misfit(line, place)
     {
@@ -142,49 +145,31 @@ fn line_of_open_bracket(alloc: Global, place: &Place<'_>) -> Result<Option<usize
 
 /// Says of a number, a value or a connective of another form, within a condition or after it. Whether one stands there.
 fn says_foreign_form(line: &mut Line, place: &Place<'_>) -> bool {
-    let (token, rest) = (place.token, place.rest);
     if says_digit_first(line, place) {
         return true;
     }
-    let sentence = if rest.starts_with(b"=>") || rest.starts_with(b"==>") {
-        IMPLICATION
-    } else if begins_further_value(place) {
-        VALUES
-    } else if goes_on_after_value(place) {
-        EQUAL
-    } else if is_one_of("| and or xor implies iff", token)
-        || (is_exactly_one_of("=", token) && is_exactly_one_of("=", place.last_word))
-    {
-        CONNECTIVES
-    } else {
+    let Some(said) = said_of_connective(place).or(said_of_further_value(place)) else {
         return false;
     };
-    line.say_of(sentence, token);
+    line.say_of(said, place.token);
     true
 }
 
-/// Whether a further value of a place stands behind a sign or a word that joins, or several in brackets.
-fn begins_further_value(place: &Place<'_>) -> bool {
-    let (token, last) = (place.token, place.last_word);
-    let next = place.after_token();
-    let digits = digits_at(next);
-    if is_exactly_one_of("=", last) {
-        return is_exactly_one_of("{ [", token) && !digits.is_empty();
+/// What is said of a sign or a word that joins two claims in other languages.
+fn said_of_connective(place: &Place<'_>) -> Option<&'static str> {
+    let token = place.token;
+    if place.rest.starts_with(b"=>")
+        || place.rest.starts_with(b"==>")
+        || is_one_of("implies", token)
+    {
+        Some(IMPLICATION)
+    } else if is_one_of("iff", token) {
+        Some(EQUIVALENCE)
+    } else if is_one_of("xor", token) {
+        Some("{}: that one of a and b alone is so is written (a /\\ ~(b)) \\/ (~(a) /\\ b)")
+    } else {
+        None
     }
-    let after = last_bytes(next, next.len().saturating_sub(digits.len()));
-    is_all_digits(last)
-        && is_one_of(", | or", token)
-        && !digits.is_empty()
-        && !after.trim_ascii_start().starts_with(b":")
-}
-
-/// Whether an atom goes on behind its value, as with a second place.
-fn goes_on_after_value(place: &Place<'_>) -> bool {
-    let (before, last) = (place.before.trim_ascii_end(), place.last_word);
-    let place_and_sign = first_bytes(before, before.len().saturating_sub(last.len()));
-    is_exactly_one_of(": =", place.token)
-        && is_all_digits(last)
-        && place_and_sign.trim_ascii_end().ends_with(b"=")
 }
 
 /// Says of a token that doesn't fit, by what stands before it, where that tells what was meant. Whether it does.
@@ -193,9 +178,26 @@ fn says_misfit(line: &mut Line, place: &Place<'_>) -> bool {
     let (sentence, named) = match token.first() {
         Some(b',' | b';') => (JOIN, token),
         Some(b':') if is_one_of("exists forall", last) => (LEAVE_OUT, token),
+        Some(b':') if is_bare(last) && is_register(digits_and_letters(place.after_token())) => (
+            "{}: a core is its number alone here, as in 0:EAX",
+            last,
+        ),
         Some(b':') if is_bare(last) => (NO_EQUALS, token),
         Some(b'=') if is_all_digits(last) => (
             "{}: an atom has its place first and its number last, as x=1",
+            token,
+        ),
+        Some(b'=') if is_one_of("exists forall", last) => (LEAVE_OUT, token),
+        Some(b'=') if is_in_square(place) => (
+            "{}: [ ] stand around a location's name alone, if at all: write x=1 or [x]=1",
+            token,
+        ),
+        Some(b':') if is_exactly_one_of(":", last) => (
+            "{} stands twice: one stands between a core and its register, as 0:EAX",
+            token,
+        ),
+        Some(b'~') if place.after_token().starts_with(b"=") => (
+            "~=: that 0:EAX isn't 1 is written ~(0:EAX=1)",
             token,
         ),
         Some(b'(') if is_one_of("fault", last) => (
@@ -206,11 +208,14 @@ fn says_misfit(line: &mut Line, place: &Place<'_>) -> bool {
             "{}: a number stands without brackets, as x=1",
             token,
         ),
+        Some(b'(') if is_edge_name(last) => (EDGE, last),
+        Some(b'(') if is_bare(last) && !is_one_of("exists forall not", last) => (
+            "{} can't be asked for: an atom is a place and its value, as 0:EAX=1 or x=1",
+            last,
+        ),
         Some(b'[') if is_location_name(last) => (NO_ARRAYS, token),
         Some(b'[') if is_exactly_one_of("=", last) => (EQUAL, token),
-        Some(b'{' | b'[') if is_one_of("exists forall", last) => {
-            ("{}: only ( ) stand around parts of a condition", token)
-        }
+        Some(b'{' | b'[') if is_one_of("exists forall", last) => (ONLY_ROUND, token),
         Some(b'$') => ("{}: a number stands without $ in a condition", token),
         Some(b'(') if is_exactly_one_of("~", last) => ("write ~exists in place of ~ alone", token),
         Some(b')' | b'/' | b'\\') => return says_valueless(line, last),
@@ -227,6 +232,7 @@ fn says_misfit(line: &mut Line, place: &Place<'_>) -> bool {
             )
         }
         Some(first) if first.is_ascii_digit() && is_place(last) => (NO_EQUALS, token),
+        Some(first) if first.is_ascii_digit() && is_all_digits(last) => (JOIN, token),
         Some(_) => return false,
         None => return says_valueless(line, last),
     };
@@ -236,6 +242,13 @@ fn says_misfit(line: &mut Line, place: &Place<'_>) -> bool {
 
 /// Says of a name without a value before an end, or of a truth in capitals. Whether that is what stands there.
 fn says_valueless(line: &mut Line, last: &[u8]) -> bool {
+    if let Some(meant) = near_word("true false", last) {
+        line.say_with(
+            "{} is no atom: write {}",
+            &[Piece::Named(last), Piece::Text(meant)],
+        );
+        return true;
+    }
     let sentence = if is_one_of("true false", last) {
         "{}: true and false are written in small letters"
     } else if is_exactly_one_of("=", last) {
@@ -252,25 +265,61 @@ fn says_valueless(line: &mut Line, last: &[u8]) -> bool {
 /// Says of a name that doesn't fit. Whether it is known what was meant.
 fn says_misplaced_name(line: &mut Line, place: &Place<'_>) -> bool {
     let (token, last) = (place.token, place.last_word);
-    let sentence = if let Some(said) = said_of(&COMPARISONS, token)
-        && is_place(last)
-    {
-        said
-    } else if is_one_of("forall", token) && is_exactly_one_of("~", last) {
-        "~{} isn't read: write exists, and ~( ) around what follows"
-    } else if is_one_of("exists forall", token) {
-        "{} begins a second condition: a test has one, whose parts are joined by /\\ and \\/"
-    } else if is_exactly_one_of("=", last) {
-        if is_no_number(token) { NO_VALUE } else { EQUAL }
-    } else if is_all_digits(last) {
-        JOIN
-    } else if is_register(token) {
-        REGISTER_ALONE
-    } else {
+    let Some(said) = said_of_word(token, last).or(said_of_name(token, last)) else {
         return false;
     };
-    line.say_of(sentence, token);
+    line.say_of(said, token);
     true
+}
+
+/// What is said of an edge or a word that doesn't fit behind this one, where its meaning tells.
+fn said_of_word(token: &[u8], last: &[u8]) -> Option<&'static str> {
+    if is_edge_name(token) {
+        Some(EDGE)
+    } else if is_place(last) && said_of(&COMPARISONS, token).is_some() {
+        said_of(&COMPARISONS, token)
+    } else if is_one_of("forall", token) && is_exactly_one_of("~", last) {
+        Some("~{} isn't read: write exists, and ~( ) around what follows")
+    } else if is_one_of("exists forall", token) {
+        Some("{} begins a second condition: a test has one, whose parts are joined by /\\ and \\/")
+    } else if is_exactly_one_of("~", last) && near_word("exists", token).is_some() {
+        Some("{}: write exists")
+    } else {
+        None
+    }
+}
+
+/// What is said of a name that doesn't fit behind a word, by its place.
+fn said_of_name(token: &[u8], last: &[u8]) -> Option<&'static str> {
+    if is_exactly_one_of("=", last) {
+        Some(said_of_value(token))
+    } else if is_register(token) {
+        Some(REGISTER_ALONE)
+    } else if is_all_digits(last) {
+        Some(JOIN)
+    } else {
+        None
+    }
+}
+
+/// What is said of a name in the place of a number.
+fn said_of_value(token: &[u8]) -> &'static str {
+    if is_one_of("O", token) {
+        "{} is a letter: write the digit 0"
+    } else if is_one_of("l I", token) {
+        "{} is a letter: write the digit 1"
+    } else if is_no_number(token) {
+        NO_VALUE
+    } else {
+        EQUAL
+    }
+}
+
+/// Whether `[` stands before the name before a place.
+fn is_in_square(place: &Place<'_>) -> bool {
+    let before = place.before.trim_ascii_end();
+    let before = first_bytes(before, before.len().saturating_sub(place.last_word.len()));
+    before.trim_ascii_end().ends_with(b"[")
 }
 
 /// Whether a word may end a place in a condition: a location's name, a register's, or a bracket behind a name.
@@ -295,7 +344,10 @@ pub fn trailing(line: &mut Line, asked: Asked, place: &Place<'_>) {
     } else if first == b';' {
         line.say_of(said_of_end(place), token);
     } else if begins_instruction(token) {
-        line.say_of("{} stands after the condition: rows stand before it", token);
+        line.say_of(
+            "{} stands after the condition, which comes last: write the condition below all rows",
+            token,
+        );
     } else if matches!(first, b'(' | b',' | b'[' | b'~') || first.is_ascii_digit() {
         line.say_of(JOIN, token);
     } else if !is_own_line && is_location_name(token) {
@@ -306,6 +358,8 @@ pub fn trailing(line: &mut Line, asked: Asked, place: &Place<'_>) {
     } else {
         let sentence = if is_own_line && is_bare(token) && !asked.is_divided {
             "{} stands after the end of the test: leave out from here on, or put a line ==== above it if choices begin here"
+        } else if is_own_line && !is_one_of(") } ]", token) {
+            "{} begins a line after the end of the test: leave out from here on"
         } else {
             "{} stands after the end of the test: leave it out"
         };

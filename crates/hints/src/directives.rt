@@ -39,7 +39,7 @@ pub fn says_directive(line: &mut Line, cell: &[u8]) -> bool {
             "{} is for an assembler: write the instruction {} times, each in a row of its own",
             &[Piece::Named(first), Piece::Shown(word(rest))],
         );
-    } else if is_address(first) && is_byte(word(rest)) {
+    } else if (is_address(first) && is_byte(word(rest))) || begins_with_bytes(cell) {
         line.say_of(DISASSEMBLED, first);
     } else if let Some(name) = data_in(first, word(rest)) {
         say_data(line, cell, name, word(after(rest, word(rest))));
@@ -47,7 +47,12 @@ pub fn says_directive(line: &mut Line, cell: &[u8]) -> bool {
         line.say_of(LABEL, up_to(first, b':'));
     } else if is_one_of(".byte .word .long .quad .4byte db dw dd dq", first) {
         line.say_of(NUMBERS, cell);
-    } else if is_directive(first) || is_one_of("equ", word(rest)) {
+    } else if is_one_of("equ", word(rest)) || is_one_of("%define %assign equ", first) {
+        line.say_of(
+            "{} names a number: leave it out, and write the number wherever the name stands, as $1",
+            cell,
+        );
+    } else if is_directive(first) || is_one_of("proc endp segment ends", word(rest)) {
         line.say_of(
             "{} is for an assembler, and no instruction: leave it out",
             cell,
@@ -96,7 +101,7 @@ fn after<'a>(text: &'a [u8], first: &[u8]) -> &'a [u8] {
 /// Whether a word is a label: a name or a number and a colon.
 fn is_label(word: &[u8]) -> bool {
     match word.strip_suffix(b":") {
-        Some(name) => !is_one_of("LOCK", name) && is_bare(name.strip_prefix(b".").unwrap_or(name)),
+        Some(name) => !begins_instruction(name) && is_bare(name.strip_prefix(b".").unwrap_or(name)),
         None => false,
     }
 }
@@ -112,6 +117,21 @@ fn is_address(word: &[u8]) -> bool {
 /// Whether a word is a byte to base 16.
 fn is_byte(word: &[u8]) -> bool {
     word.len() == 2 && are_hexadecimal(word)
+}
+
+/// Whether an instruction stands behind two numbers or more to base 16, of two digits or more: an address and bytes.
+fn begins_with_bytes(cell: &[u8]) -> bool {
+    let mut rest = cell;
+    let mut count = 0usize;
+    for _ in 0..cell.len() {
+        let first = word(rest);
+        if first.len() < 2 || !are_hexadecimal(first.strip_suffix(b":").unwrap_or(first)) {
+            break;
+        }
+        count = count.saturating_add(1);
+        rest = after(rest, first);
+    }
+    count >= 2 && is_instruction(digits_and_letters(rest))
 }
 
 fn are_hexadecimal(digits: &[u8]) -> bool {

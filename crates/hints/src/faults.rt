@@ -2,6 +2,7 @@
 
 use crate::body::body_of;
 use crate::cells::bad_instruction;
+use crate::columns::bad_columns;
 use crate::conditions::{bad_condition, trailing};
 use crate::divider::Asked;
 use crate::forms::says_form;
@@ -10,11 +11,11 @@ use crate::hinting::NOTHING_KNOWN;
 use crate::items::{bad_init, says_information};
 use crate::keywords::says_no_row;
 use crate::line::Line;
-use crate::numbers::bad_number;
+use crate::numbers::{bad_number, digits_to, number_in};
 use crate::openings::{bad_token, unclosed};
 use crate::place::Place;
-use crate::quotes::{ends_with_name, is_all_digits, up_to};
-use crate::rows::{bad_columns, too_large, wrong_cells};
+use crate::quotes::{ends_with_name, first_bytes, is_all_digits, is_row_of_cores, up_to};
+use crate::rows::{bars_in, too_large, wrong_cells};
 use litmus_reader::Why;
 use litmus_tokens::line_of;
 use std::alloc::Global;
@@ -37,12 +38,25 @@ pub const CONNECTIVES: &str =
 /// What is said of an implication.
 pub const IMPLICATION: &str = "{}: that a implies b is written ~(a) \\/ (b)";
 
+/// What is said of an equivalence.
+pub const EQUIVALENCE: &str =
+    "{}: that a and b are both so, or neither, is written (a /\\ b) \\/ (~(a) /\\ ~(b))";
+
 /// What is said of a sign that stands for no other.
 pub const LEAVE_OUT: &str = "{} can't stand here: leave it out";
 
 /// What is said of a line that encloses a text in Markdown.
 pub const MARKDOWN: &str =
     "``` encloses a text in Markdown: leave this line out, and the other one too";
+
+/// What is said of a condition before rows.
+pub const COMES_LAST: &str = "{} begins the condition, which comes last: write it below the rows";
+
+/// What is said of a sign that ends a row in the place of `;`.
+pub const ENDS_ROW: &str = "{} ends this row: write ; in its place, here and at each row's end";
+
+/// What is said of brackets of another form in a condition.
+pub const ONLY_ROUND: &str = "{}: only ( ) stand around parts of a condition";
 
 /// What is said of an assignment.
 pub const STORE_AND_LOAD: &str =
@@ -65,7 +79,7 @@ pub const NESTED: &str =
 
 /// What is said of an address.
 pub const ADDRESS: &str =
-    "{}: no register can hold an address here: write the location's name in the instruction, as [x]; the tool import does so where no instruction changes the register";
+    "{}: no register can hold an address here: leave the item out, and write the location's name in the instruction, as [x]; the tool import does so where no instruction changes the register";
 
 /// Says what is at fault at a place of a test, with the line.
 ///
@@ -99,9 +113,10 @@ pub fn say_fault(
             "{} has a value already: give each location and each register only one",
             up_to(place.rest, b'='),
         ),
-        Why::NoSuchCore => line.say_of(
-            "there is no core {}: cores count from 0, as the row P0 | P1 | .. names them",
+        Why::NoSuchCore => line.say_of_number(
+            "there is no core {}: cores count from 0, so the last one here is {}",
             place.token,
+            last_core(place.text),
         ),
         Why::TooLarge => return too_large(alloc, line, place),
         Why::BadCondition => return bad_condition(alloc, line, place),
@@ -139,6 +154,29 @@ fn said_of_header(place: &Place<'_>) -> &'static str {
     }
 }
 
+/// Whether what stands before the digits before a place has a number behind it.
+fn is_of_value(place: &Place<'_>) -> bool {
+    let before = place.before.trim_ascii_end();
+    let before = first_bytes(before, before.len().saturating_sub(place.last_word.len()));
+    match before.trim_ascii_end().last() {
+        Some(last) => b"=$,#-+".contains(last),
+        None => false,
+    }
+}
+
+/// The number of the last core that a test's row of cores names.
+fn last_core(text: &[u8]) -> usize {
+    let mut is_at_start = true;
+    for at in 0..text.len() {
+        let rest = &text[at..];
+        if is_at_start && is_row_of_cores(up_to(rest, b'\n')) {
+            return bars_in(up_to(rest, b';'));
+        }
+        is_at_start = text[at] == b'\n';
+    }
+    0
+}
+
 /// Of what doesn't fit in a part of a test, which has this form; `end` says that the test ends there.
 pub fn unfit(line: &mut Line, place: &Place<'_>, end: &str, form: &str) {
     if place.rest.is_empty() {
@@ -157,22 +195,23 @@ pub fn says_digit_first(line: &mut Line, place: &Place<'_>) -> bool {
     if !is_of_digits || is_all_digits(word) {
         return false;
     }
-    let sentence = match word {
-        [b'0', b'x' | b'X', digits @ ..] if is_hexadecimal(digits) => "{}: numbers are decimal",
-        _ => DIGIT_FIRST,
+    let number = match number_in(word) {
+        Some(number) => Some(("{}: numbers are decimal: write {}", number)),
+        None => match digits_to(16, word) {
+            Some(number) => Some((
+                "{} is no decimal number: if it is to base 16, write {}",
+                number,
+            )),
+            None => None,
+        },
     };
-    line.say_of(sentence, word);
-    true
-}
-
-/// Whether these are digits to base 16, one or more.
-fn is_hexadecimal(bytes: &[u8]) -> bool {
-    for byte in bytes {
-        if !byte.is_ascii_hexdigit() {
-            return false;
+    match number {
+        Some((said, number)) if is_of_value(place) => {
+            line.say_of_number(said, word, number as usize);
         }
+        _ => line.say_of(DIGIT_FIRST, word),
     }
-    !bytes.is_empty()
+    true
 }
 
 /// The line on which the initial state of a text begins.

@@ -5,6 +5,7 @@ use crate::assembly::says_instruction;
 use crate::directives::says_directive;
 use crate::keywords::says_condition;
 use crate::line::Line;
+use crate::markup::unquoted;
 use crate::operands::{ENDS_OF_CELL, cell_at, says_unread};
 use crate::place::Place;
 use crate::quotes::{after_last, begins_with_letter, up_to_any};
@@ -51,7 +52,24 @@ fn is_in_operand(place: &Place<'_>) -> bool {
 
 /// Says of a cell in a form of another language, if all of it is known. Whether it is.
 pub fn says_cell(line: &mut Line, cell: &[u8]) -> bool {
-    says_instruction(line, cell) || says_statement(line, cell) || says_directive(line, cell)
+    let inside = before_comment(unquoted(cell));
+    let is_known = says_instruction(line, inside)
+        || says_statement(line, inside)
+        || says_directive(line, inside);
+    if is_known && cell.starts_with(b"\"") {
+        line.say("; leave the quotation marks out");
+    }
+    is_known
+}
+
+/// What stands before a comment of C, or all where none begins.
+fn before_comment(cell: &[u8]) -> &[u8] {
+    for at in 0..cell.len() {
+        if cell[at..].starts_with(b"/*") {
+            return cell[..at].trim_ascii_end();
+        }
+    }
+    cell
 }
 
 /// Whether a text begins with a location in C behind a bracket, as `(*x)`, which begins a comment here.

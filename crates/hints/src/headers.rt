@@ -2,21 +2,30 @@
 //! else it is.
 
 use crate::above::{begins_below, says_above};
-use crate::characters::says_foreign;
+use crate::characters::{COLOURS, says_foreign};
 use crate::divider::Asked;
 use crate::faults::MARKDOWN;
-use crate::kinds::{KERNEL, has_kernel_words, is_model, says_kind};
+use crate::kinds::{KERNEL, has_instructions, has_kernel_words, is_model, says_kind};
 use crate::line::{Line, Piece};
 use crate::mnemonics::is_narrow_name;
 use crate::place::Place;
-use crate::quotes::{digits_and_letters, first_bytes, has, is_row_of_cores, up_to, word};
-use crate::registers::NARROW;
+use crate::quotes::{
+    digits_and_letters, first_bytes, has, is_choice, is_row_of_cores, up_to, word,
+};
+use crate::registers::{NARROW, is_renamed};
 use crate::tables::{Alike, is_exactly_one_of, is_one_of, said_of};
+use tso_terms::names::continues_name;
 
 /// Processors of other kinds.
 const PROCESSORS: &str =
     "AArch64 ARM ARM64 ARMv8 ARMv7 PPC PPC64 Power PowerPC MIPS MIPS64 RISCV RISC-V RV64 S390 S390X \
      Alpha SPARC IA64 LOONGARCH BPF RISCV32 RISCV64 ARMv9 AArch32 Thumb";
+
+/// Names of the processors of 64 bits.
+const WIDE_NAMES: &str = "X86_64 x86-64 x8664 AMD64 x64 EM64T Intel64";
+
+/// Languages that begin headers.
+const LANGUAGES: &str = "C CPP C++ C11 LISA Bell LLVM JAVA ASL LK Rust";
 
 /// Processors and languages for which other tests are.
 static HEADERS: [Alike; 5] = [
@@ -25,25 +34,27 @@ static HEADERS: [Alike; 5] = [
         "{}: write X86, in capitals",
     ),
     Alike(
-        "X86_64 x86-64 x8664 AMD64 x64 EM64T Intel64",
+        WIDE_NAMES,
         "{}: by the name X86_64 the tool import makes an X86 test of it, or says what has no form here; by hand, begin with X86 and a name, and use EAX, EBX, ECX, EDX, ESI, EDI",
     ),
     Alike(
         PROCESSORS,
-        "{} is another processor: write its programs as X86 instructions, below a line X86 NAME; the tool import takes X86 and X86_64 tests alone",
+        "{} is another processor: write its programs as X86 instructions, below a line X86 NAME: a store is MOV [x],$1, a load MOV EAX,[x], a fence MFENCE; the tool import takes X86 and X86_64 tests alone",
     ),
     Alike(
         "C",
         "C is a language: the tool compiled reads such a test; tso reads programs of X86 instructions, below a line X86 NAME",
     ),
     Alike(
-        "CPP C++ C11 LISA Bell LLVM JAVA ASL LK Rust",
-        "{} is a language: write its programs as X86 instructions, below a line X86 NAME; the tool compiled reads C tests alone",
+        LANGUAGES,
+        "{} is a language: write its programs as X86 instructions, below a line X86 NAME: a store is MOV [x],$1, a load MOV EAX,[x], a fence MFENCE; the tool compiled reads C tests alone",
     ),
 ];
 
-const OTHER_NAME: &str =
-    "{} is another processor, and the cells below are X86's: write X86 in its place";
+const OTHER_NAME: &str = "{} isn't X86, and the cells below are X86's: write X86 in its place";
+
+const CHOICES_FIRST: &str =
+    "choices stand above the test: write the test first, then a line ====, and the choices below it";
 
 const WIDE: &str =
     "X86_64 tests aren't read: the tool import makes X86 tests of them, or says what has no form here; if you do so by hand, begin with X86 and a name, and use EAX, EBX, ECX, EDX, ESI, EDI";
@@ -67,6 +78,10 @@ pub fn no_header(line: &mut Line, asked: Asked, place: &Place<'_>) {
         no_text(line, asked, place.before);
     } else if let Some(said) = said_of_encoding(rest) {
         line.say(said);
+    } else if asked.is_divided && is_choice(word(rest)) {
+        line.say(CHOICES_FIRST);
+    } else if header.contains(&27) {
+        line.say(COLOURS);
     } else if rest.starts_with(b"```") {
         line.say(MARKDOWN);
     } else if !says_other_kind(line, rest)
@@ -130,7 +145,7 @@ fn is_utf_16(text: &[u8]) -> bool {
 fn says_foreign_name(line: &mut Line, header: &[u8]) -> bool {
     for at in 0..header.len() {
         if header[at..].starts_with(b"X86") {
-            return says_foreign(line, header, "a test's name is in ASCII");
+            return says_foreign(line, header, "write the test's name in ASCII");
         }
     }
     false
@@ -144,7 +159,10 @@ fn no_test(line: &mut Line, text: &[u8], first: &[u8]) {
         line.say(KERNEL);
     } else if is_exactly_one_of("X86_64", first) {
         wide_test(line, text);
-    } else if is_one_of(PROCESSORS, first) && has(text, b"MOV [") {
+    } else if (is_of_others(first) || (is_one_of(WIDE_NAMES, first) && has_narrow_cells(text)))
+        && has_instructions(text)
+        && has_row_of_cores(text)
+    {
         line.say_of(OTHER_NAME, first);
     } else if let Some(said) = said_of(&HEADERS, first) {
         line.say_of(said, first);
@@ -155,23 +173,47 @@ fn no_test(line: &mut Line, text: &[u8], first: &[u8]) {
     }
 }
 
+/// Whether a word that begins a header names another processor or a language.
+fn is_of_others(word: &[u8]) -> bool {
+    is_one_of(PROCESSORS, word) || is_exactly_one_of(LANGUAGES, word)
+}
+
 /// Of a test of `X86_64`.
 fn wide_test(line: &mut Line, text: &[u8]) {
     match narrow_in(text) {
         Some(name) => line.say_of(NARROW_IN_WIDE, name),
+        None if has(text, b"MOV [") && has_narrow_cells(text) => {
+            line.say("the cells below are X86's: write X86 in place of X86_64");
+        }
         None => line.say(WIDE),
     }
+}
+
+/// Whether a text has neither a register of 64 bits nor signs of AT&T's syntax.
+fn has_narrow_cells(text: &[u8]) -> bool {
+    !text.contains(&b'%') && !has_wide_register(text)
+}
+
+/// Whether a register of 64 bits stands in a text.
+fn has_wide_register(text: &[u8]) -> bool {
+    let mut is_at_start = true;
+    for at in 0..text.len() {
+        if is_at_start && is_renamed(digits_and_letters(&text[at..])) {
+            return true;
+        }
+        is_at_start = !continues_name(text[at]);
+    }
+    false
 }
 
 /// The first word of a text that says a size of less than 32 bits: an instruction's or a register's name, or a type.
 fn narrow_in(text: &[u8]) -> Option<&[u8]> {
     let mut is_at_start = true;
     for at in 0..text.len() {
-        let name = digits_and_letters(&text[at..]);
-        if is_at_start && is_narrow(name) {
-            return Some(name);
+        if is_at_start && is_narrow(digits_and_letters(&text[at..])) {
+            return Some(digits_and_letters(&text[at..]));
         }
-        is_at_start = name.is_empty();
+        is_at_start = !continues_name(text[at]);
     }
     None
 }
@@ -183,7 +225,7 @@ fn is_narrow(name: &[u8]) -> bool {
 }
 
 /// Whether a row of cores stands somewhere in a text, and so a test but for what should stand above it.
-fn has_row_of_cores(text: &[u8]) -> bool {
+pub fn has_row_of_cores(text: &[u8]) -> bool {
     for row in text.split(|byte| *byte == b'\n') {
         if is_row_of_cores(row) {
             return true;

@@ -17,6 +17,10 @@ pub const TWO_REGISTERS: &str =
 const JUMP: &str =
     "{} isn't read: a program has no jumps: leave it out, write the one way that is taken, and ask in the condition for the values that lead there, as 0:EAX=1";
 
+/// Of a sum of two registers.
+pub const SUM_OF_REGISTERS: &str =
+    "no sum of two registers is read: LOCK XADD adds a register to a location, as LOCK XADD [x],EAX";
+
 /// Of a compare with an exchange.
 pub const COMPARE_AND_EXCHANGE: &str =
     "{} isn't read: write two tests: one where it writes, as XCHG [x],EBX, and asks in the condition for the expected word in EBX; one where it fails, as LOCK XADD [x],EBX with 0 in EBX";
@@ -43,12 +47,15 @@ const FENCE: &str =
     "{} isn't read: the fence is MFENCE; leave out one that keeps only loads or only stores in order";
 
 /// Instructions and words of other processors and languages, by their whole names.
-pub static OTHERS: [Alike; 23] = [
+pub static OTHERS: [Alike; 27] = [
     Alike(
-        "STORE ST STR STLR STW SW SD WRITE W PUT SET ASSIGN let var",
+        "STORE ST STR STRB STRH STP STLR STW STD SW SB SD WRITE W PUT SET ASSIGN let var",
         STORE,
     ),
-    Alike("LOAD LD LDR LDAR LWZ LW READ R GET FETCH", LOAD),
+    Alike(
+        "LOAD LD LDR LDRB LDRH LDP LDAR LDAPR LWZ LW LB READ R GET FETCH",
+        LOAD,
+    ),
     Alike(
         "FENCE MF MB SYNC DMB DSB ISB BARRIER MEMBAR HWSYNC LWSYNC F smp_mb rmb wmb \
          memory_barrier thread_fence atomic_thread_fence __sync_synchronize _mm_mfence",
@@ -56,17 +63,18 @@ pub static OTHERS: [Alike; 23] = [
     ),
     Alike("TAS TSL SWAP SWP EXCHANGE EXCH RMW test_and_set", EXCHANGE),
     Alike(
-        "MOVE MVO OMV MOC MOVV MOOV MO",
-        "{} is no instruction: write MOV",
+        "LDXR LDAXR STXR STLXR LWARX STWCX LDREX STREX LR SC AMOSWAP AMOADD LDADDAL SWPAL",
+        "{} isn't read: what loads and stores in one step is XCHG [x],EAX or LOCK XADD [x],EAX",
     ),
     Alike(
-        "XHCG XCGH XCHNG XCHGE XCH XHG XCHAN XCHANGE",
-        "{} is no instruction: write XCHG",
+        "LI LIS ORI ADDI XORI LUI MV MR",
+        "{} isn't read: a register is set by MOV EAX,$1",
     ),
     Alike(
-        "MFENC MFENSE MFNECE MEFNCE MFECE MFNCE MFEENCE MFEMCE",
-        "{} is no instruction: write MFENCE",
+        "UNLOCK",
+        "{} isn't read: a lock is given back by a store of 0, as MOV [x],$0",
     ),
+    Alike("XCHAN XCHANGE", "{} is no instruction: write XCHG"),
     Alike("FAA FADD LDADD FETCH_ADD fetch_and_add INCREMENT", ADDITION),
     Alike(
         "LOCKXADD LOCK_XADD LOCKXCHG LOCK_XCHG",
@@ -78,11 +86,11 @@ pub static OTHERS: [Alike; 23] = [
     ),
     Alike("while for do until repeat spin wait await", LOOP),
     Alike(
-        "LEA",
+        "LEA LA ADRP ADR",
         "{} isn't read: no register can hold an address here: write the location's name in the instruction, as [x]",
     ),
     Alike(
-        "PUSH POP",
+        "PUSH POP PUSHA PUSHAD PUSHF PUSHFD PUSHFQ POPA POPAD POPF POPFD POPFQ ENTER",
         "{} isn't read: there is no stack: a store is MOV [x],EAX, a load MOV EAX,[x]",
     ),
     Alike(
@@ -98,8 +106,17 @@ pub static OTHERS: [Alike; 23] = [
         "{} isn't read: its store may pass other stores, and under TSO none does; a store in order is MOV [x],EAX",
     ),
     Alike(
-        "MUL IMUL DIV IDIV SAL SAR ROL ROR ADC SBB BSWAP",
+        "MUL IMUL DIV IDIV SAL SAR ROL ROR ADC SBB BSWAP EOR BSF BSR LZCNT TZCNT POPCNT XLAT",
         ARITHMETIC,
+    ),
+    Alike("MOVBE", "{} isn't read: write MOV"),
+    Alike(
+        "FLD FST FSTP FILD FIST FISTP",
+        "{} isn't read: there are no floating numbers: a store of a word of 32 bits is MOV [x],EAX, a load MOV EAX,[x]",
+    ),
+    Alike(
+        "INT3 MONITOR MWAIT INVLPG IN OUT RDFSBASE WRFSBASE RDRAND RDSEED LGDT LIDT STD CLD LAHF SAHF STC CLC",
+        "{} isn't read: leave it out",
     ),
     Alike(
         "XBEGIN XEND XABORT XTEST",
@@ -120,14 +137,17 @@ pub static OTHERS: [Alike; 23] = [
         "{} isn't read: registers have 32 bits here: leave it out",
     ),
     Alike(
-        "_ skip empty nothing none",
+        "_ skip empty nothing none pass noop begin done fi esac exit",
         "{} is no instruction: an empty cell is left empty",
     ),
 ];
 
+/// Of what has no operands.
+pub const ALONE: &str = "{} stands alone in its cell";
+
 /// By how its name begins, an instruction that isn't read without LOCK.
 pub static UNLOCKED: [Alike; 11] = [
-    Alike("MFENCE", "{} stands alone in its cell"),
+    Alike("MFENCE", ALONE),
     Alike(
         "SFENCE LFENCE",
         "{} isn't read: it changes nothing in the order of plain loads and stores, so leave it out",
@@ -206,7 +226,11 @@ pub static SIZED: [Alike; 5] = [
 ];
 
 /// Words about an operand: its size, its segment or its address.
-pub static WORDS: [Alike; 4] = [
+pub static WORDS: [Alike; 5] = [
+    Alike(
+        "TO INTO FROM",
+        "{}: a comma stands between two operands, the destination first, as in MOV [x],$1 and MOV EAX,[x]",
+    ),
     Alike("DWORD PTR", "{}: leave DWORD PTR out, words have 32 bits"),
     Alike(
         "QWORD WORD BYTE",

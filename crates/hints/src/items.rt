@@ -1,12 +1,15 @@
 //! What is said of a fault in the initial state: forms of other programs have the form that stands for them here.
 
 use crate::c_forms::is_type;
+use crate::characters::says_foreign_in;
 use crate::faults::{ADDRESS, NO_ARRAYS, NO_VALUE, line_of_initial_state, says_digit_first};
+use crate::keywords::is_instruction;
 use crate::line::{Line, Piece};
 use crate::place::Place;
+use crate::points::{CORE_AND_REGISTER, is_of_core};
 use crate::quotes::{
     after_byte, after_last, begins_with_letter, digits_and_letters, is_all_digits, is_bare,
-    is_row_of_cores, up_to, up_to_any,
+    is_row_of_cores, token, up_to, up_to_any,
 };
 use crate::region::{Region, region_of};
 use crate::registers::{is_of_others, is_register, is_renamed, says_register_of_core};
@@ -15,7 +18,7 @@ use crate::tables::{is_exactly_one_of, is_one_of};
 use tso_terms::names::{is_location_name, is_name};
 
 /// Keys of information as other programs write it above the initial state.
-const KEYS: &str =
+pub const KEYS: &str =
     "Cycle Generator Prefetch Com Orig Relax Safe Hash Align Unroll Timeout Variant Kind";
 
 const ITEM: &str = "{} doesn't fit: an item is x=1, [x]=1 or 0:EAX=1, and ; stands between items";
@@ -37,6 +40,12 @@ pub fn bad_init(line: &mut Line, place: &Place<'_>) {
     }
     if says_digit_first(line, place) {
         return;
+    }
+    if is_instruction(last) {
+        return line.say_of(
+            "{} begins an instruction: it stands in a row, below P0 | P1 ; and behind the } of the initial state",
+            last,
+        );
     }
     if is_type(last) && place.after_token().starts_with(b"[") {
         return line.say_of(NO_ARRAYS, b"[");
@@ -104,6 +113,11 @@ fn misfit(place: &Place<'_>) -> &'static str {
     let is_digit = is_all_digits(place.token);
     let after_name = is_location_name(last) || is_exactly_one_of("]", last);
     match place.token.first() {
+        Some(_) if is_of_core(place) => CORE_AND_REGISTER,
+        Some(b'|') if is_all_digits(last) => "{}: write ; between items, as x=1; y=1",
+        Some(b';' | b'}') if after_equals => {
+            "no number stands before {}: write one, as x=1, or leave the item out, since 0 is its value"
+        }
         Some(b'=') if after_equals => "{}: write one = between a name and its number, as x=1",
         Some(b':') if is_all_digits(last) => "{}: an item has one number behind =, as 0:EAX=1",
         Some(b':') if after_name => "{}: write = between a name and its number, as x=1",
@@ -112,7 +126,12 @@ fn misfit(place: &Place<'_>) -> &'static str {
             "no ; stands before {}: write ; between items, as x=1; 0:EAX=1"
         }
         Some(b',') => "{}: write ; between items, as x=1; y=1",
-        Some(b'$') => "{}: a number stands without $ in the initial state, as x=1",
+        Some(b'$') if !begins_name(place.after_token()) => {
+            "{}: a number stands without $ in the initial state, as x=1"
+        }
+        Some(b'$') if is_of_register(place) => {
+            "{} begins an address: no register can hold one here: leave the item out, and write the location's name in the instruction, as [x]"
+        }
         Some(b'[') if after_equals => ADDRESS,
         Some(b'[') if after_name => NO_ARRAYS,
         Some(b'{') if after_equals => NO_ARRAYS,
@@ -126,20 +145,35 @@ fn misplaced_name(place: &Place<'_>) -> &'static str {
     let (token, last) = (place.token, place.last_word);
     let is_register = is_register(token);
     if is_exactly_one_of("=", last) {
-        if is_register || is_no_number(token) {
+        if place.after_token().starts_with(b"=") {
+            "{}: each name has an item of its own: write x=1; y=1"
+        } else if is_register || is_no_number(token) {
             NO_VALUE
         } else {
             said_of_address(place)
         }
+    } else if is_all_digits(last) && is_one_of("and", token) {
+        "{}: write ; between items in its place, as x=1; y=1"
+    } else if is_all_digits(last) && is_register && !has_value(place) {
+        "no colon stands before {}: a register is written after its core and a colon, as 0:EAX=1"
     } else if is_all_digits(last) {
         "no ; stands before {}: write ; between items, as x=1; y=1"
+    } else if is_one_of("let var mut", last) {
+        "an item is its name, = and a number: leave out what stands before {}, as x=1"
+    } else if is_one_of("dd dw db dq resd", token) {
+        "{} is an assembler's word: an item is x=1"
     } else if is_register {
-        "{}: a register is written after its core and a colon, as 0:EAX=1"
+        "{}: a register is written after its core and a colon, as 0:EAX=1; a location needs another name"
     } else if is_name(token) && !is_location_name(token) {
         "{} is a word of conditions: give the location another name"
     } else {
         ITEM
     }
+}
+
+/// Whether the number before a place is the value of an item.
+fn has_value(place: &Place<'_>) -> bool {
+    after_last(place.before, b"{;").contains(&b'=')
 }
 
 /// Whether a word stands for a value in other languages, and is no number.
@@ -165,11 +199,14 @@ fn name_as_value<'a>(place: &Place<'a>) -> &'a [u8] {
 
 /// Of `&` or `*` in an item.
 pub fn bad_pointer(line: &mut Line, place: &Place<'_>) {
+    let is_first = is_one_of("{ ;", place.last_word);
     let named = match place.rest.split_first() {
-        Some((b'&', after)) => digits_and_letters(after),
+        Some((b'&', after)) if !is_first => digits_and_letters(after),
         _ => name_as_value(place),
     };
-    if named.is_empty() {
+    if is_all_digits(place.last_word) {
+        line.say_of("{}: write ; between items, as x=1; y=1", place.token);
+    } else if named.is_empty() {
         line.say_of("{}: leave it out: an item is x=0", place.token);
     } else if is_of_register(place) {
         line.say_of(ADDRESS_ALONE, named);
@@ -201,8 +238,10 @@ fn says_address_in_register(line: &mut Line, place: &Place<'_>) -> bool {
 /// stands there.
 pub fn says_foreign_register(line: &mut Line, place: &Place<'_>) -> bool {
     let last = place.last_word;
+    let written = up_to_any(place.rest, b" =;)}\n");
     if is_exactly_one_of(":", last) && begins_with_letter(place.rest) {
-        if !says_register_of_core(line, place.token) {
+        let is_said = says_foreign_in(line, place, written, "write the register's name in ASCII");
+        if !is_said && !says_register_of_core(line, place.token) {
             line.say_of(
                 "{} is none of EAX, EBX, ECX, EDX, ESI, EDI; a location stands without a core, as x=1",
                 place.token,

@@ -4,6 +4,7 @@
 use crate::faults::COMMENT;
 use crate::instructions::{FORMS, SIZED, UNLOCKED};
 use crate::line::{Line, Piece};
+use crate::near::near_word;
 use crate::place::Place;
 use crate::quotes::{begins_with_letter, digits_and_letters};
 use crate::signs::is_core;
@@ -17,20 +18,16 @@ const ALWAYS: &str = "{} begins no condition: write forall before what must alwa
 const SOMETIMES: &str =
     "{} begins no condition: write exists, or ~exists before what must never be";
 
+const LISTED: &str = "{} is no instruction: write locations, and [ .. ] after it";
+
 /// Words that stand after the rows of a test as it isn't read.
-static KEYWORDS: [Alike; 10] = [
+static KEYWORDS: [Alike; 11] = [
     Alike(
-        "exist exists exits exit exsits exsists exisits exsist exixts eixsts exitst existss",
+        "exists exsist exisist exitst",
         "{} is no instruction: write exists",
     ),
-    Alike(
-        "forall foral foralls for_all",
-        "{} is no instruction: write forall",
-    ),
-    Alike(
-        "location locations locs",
-        "{} is no instruction: write locations, and [ .. ] after it",
-    ),
+    Alike("forall", "{} is no instruction: write forall"),
+    Alike("locations location locs", LISTED),
     Alike(
         "never forbidden notexists not_exists nexists noexists impossible no disallowed \
          prohibited",
@@ -45,9 +42,13 @@ static KEYWORDS: [Alike; 10] = [
         "{} begins no condition: write ~exists before what must never be, or forall before what must always be",
     ),
     Alike(
-        "allowed allow sometimes possible maybe may can condition cond expect expected observed \
-         observe result results outcome there check query E",
+        "allowed allow sometimes possible maybe may can condition cond expect expected \
+         result results outcome there check query E",
         SOMETIMES,
+    ),
+    Alike(
+        "observed observe show print output",
+        "{} isn't read: ask for values by exists, as exists (0:EAX=0), or leave it out: tso outcomes --show all shows all values",
     ),
     Alike(
         "filter when where given",
@@ -72,7 +73,22 @@ pub fn says_condition(line: &mut Line, place: &Place<'_>) -> bool {
     {
         return false;
     }
-    if let Some(said) = said_of(&KEYWORDS, token) {
+    if is_one_of("exit", token) && place.whole_line().contains(&b'=') {
+        line.say_of("{} is no instruction: write exists", token);
+        return true;
+    }
+    if is_one_of("final", token) && !begins_quantifier(place.after_token()) {
+        line.say("final begins no condition: write exists, ~exists or forall in its place");
+        return true;
+    }
+    if is_of_report(token) && has_condition(place.rest) {
+        line.say_of(
+            "{} begins a line of a report, which is no part of a test: leave out the lines from here to the condition",
+            token,
+        );
+        return true;
+    }
+    if let Some(said) = said_of_keyword(token) {
         line.say_with(said, &[Piece::Named(token); 3]);
         return true;
     }
@@ -82,6 +98,41 @@ pub fn says_condition(line: &mut Line, place: &Place<'_>) -> bool {
     }
     is_one_of("not for", token)
         && says_of_two_words(line, token, digits_and_letters(place.after_token()))
+}
+
+/// Whether a word begins a line of a report that may stand in the place of a row.
+fn is_of_report(word: &[u8]) -> bool {
+    is_exactly_one_of(
+        "Observation State States Order Machine Outcomes Verdict Positive Witnesses Hash Histogram Ok",
+        word,
+    )
+}
+
+/// Whether a condition begins a later line of a text.
+fn has_condition(text: &[u8]) -> bool {
+    for row in text.split(|byte| *byte == b'\n') {
+        let first = row.trim_ascii_start();
+        let first = first.strip_prefix(b"~").unwrap_or(first).trim_ascii_start();
+        if is_exactly_one_of("exists forall", digits_and_letters(first)) {
+            return true;
+        }
+    }
+    false
+}
+
+/// Whether a text begins with a word that begins a condition, perhaps behind a colon.
+fn begins_quantifier(text: &[u8]) -> bool {
+    let text = text.strip_prefix(b":").unwrap_or(text).trim_ascii_start();
+    text.starts_with(b"~") || is_exactly_one_of("exists forall", digits_and_letters(text))
+}
+
+/// What is said of a word that stands for one of a condition, or is written almost as one.
+fn said_of_keyword(word: &[u8]) -> Option<&'static str> {
+    let meant = match near_word("exists forall locations", word) {
+        Some(meant) => meant.as_bytes(),
+        None => word,
+    };
+    said_of(&KEYWORDS, meant)
 }
 
 /// Whether what stands after a word makes a cell or a statement of it, and no condition.
@@ -134,6 +185,11 @@ fn follows_row(place: &Place<'_>) -> bool {
 /// Whether a word is an instruction's name, of one that is read or not.
 pub fn is_instruction(word: &[u8]) -> bool {
     begins_instruction(word) || said_of(&UNLOCKED, word).is_some()
+}
+
+/// The instruction that is read of which a word is almost the name.
+pub fn near_instruction(word: &[u8]) -> Option<&'static str> {
+    near_word("MOV MFENCE XCHG XADD LOCK", word)
 }
 
 /// Whether an instruction that is read begins with this word, perhaps with the size of its operands.

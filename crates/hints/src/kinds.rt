@@ -2,13 +2,15 @@
 //! by the first line that is no comment, and by words that only such texts have.
 
 use crate::cycles::says_cycle;
+use crate::heads::{DISASSEMBLY, said_of_line};
 use crate::keywords::is_instruction;
 use crate::line::Line;
 use crate::quotes::{
-    after_byte, begins_with_letter, digits_and_letters, first_word, has, is_all_digits, is_bare,
-    is_choice, last_bytes, up_to,
+    after_byte, digits_and_letters, first_bytes, first_word, has, is_all_digits, is_bare,
+    last_bytes, up_to,
 };
 use crate::tables::{Alike, is_exactly_one_of, is_one_of, said_of};
+use tso_terms::names::continues_name;
 
 /// Of a program in C with the macros of the Linux kernel.
 pub const KERNEL: &str =
@@ -17,49 +19,32 @@ pub const KERNEL: &str =
 const MODEL: &str =
     "this is a model in herd's language cat, and no test: tso has a model of its own, TSO, and --depth 0 for sequential consistency: give it a test, which begins with X86 and a name";
 
-const LIST: &str =
-    "this is a list of tests, and no test: give tso one of them at a time; the tool campaign takes lists";
-
-const VERDICTS: &str =
-    "this is a list of verdicts, and no test: give tso one of the tests that it names, which begins with X86 and a name";
-
 const REPORT: &str =
     "this is a report, and no test: give the test that it is about, which begins with X86 and a name";
 
-const KERNEL_LOG: &str =
-    "this is a log of the kernel, and no test: give the test that it is about, as X86 instructions below a line X86 NAME";
+const GRAPH: &str =
+    "this is a graph for graphviz, and no test: give the test that it shows, which begins with X86 and a name";
 
-const DIY: &str =
-    "this is a command line, and no test: call it, and give tso a test that it writes; the tool cycles makes tests of cycles too";
-
-const COMMAND: &str =
-    "this is a command line, and no test: tso reads the text of a test, which begins with X86 and a name, as in: tso run < FILE";
-
-const OPTIONS: &str =
-    "this is a configuration of diy, and no test: call diy7 -conf FILE with it, and give tso a test that it writes, which begins with X86 and a name";
+const HERD: &str =
+    "this is a configuration of herd7, and no test: tso needs none: give it a test, which begins with X86 and a name";
 
 const SETTINGS: &str =
     "this is a configuration of litmus7, and no test: give tso a test, which begins with X86 and a name";
 
-const PAGE: &str =
-    "this is a page in HTML: give the test alone, as text, which begins with X86 and a name";
-
 const DIFFERENCE: &str =
     "this is a difference of two files: give the test alone, which begins with X86 and a name";
 
-const CHOICES: &str = "these are choices, without the test that stands before them and a line ====";
-
 const CONDITION: &str =
     "a condition alone is no test: above it write a line X86 NAME, a line { }, a row P0 | P1 ; and rows of instructions, as MOV [x],$1 | MOV [y],$1 ;";
-
-const DISASSEMBLY: &str =
-    "this is a disassembly, and no test: write a line X86 NAME, a line { }, and each core's instructions, without addresses and bytes, into a column below P0 | P1 ;";
 
 const ASSEMBLY: &str =
     "this is an assembler's file, and no test: write a line X86 NAME, a line { }, and each core's instructions into a column below P0 | P1 ;";
 
 const INSTRUCTIONS: &str =
     "instructions alone are no test: write a line X86 NAME, a line { }, and each core's instructions into a column below P0 | P1 ;";
+
+const PAPER: &str =
+    "this is a program as papers have it: write a line X86 NAME, a line { }, a row P0 | P1 ; and a column for each thread: a store x := 1 is MOV [x],$1, a load r := y MOV EAX,[y], a fence MFENCE";
 
 const STATEMENT: &str =
     "this is assembly within C, and no test: write a line X86 NAME, a line { }, and each core's instructions, without \" \", into a column below P0 | P1 ;";
@@ -70,22 +55,46 @@ const SOURCE_IN_C: &str =
 const CPP: &str =
     "this is C++, which no tool here reads: write a line X86 NAME, a line { }, and each thread's accesses as instructions into a column below P0 | P1 ;";
 
+const PROGRAM: &str =
+    "this is a program in a language that no tool here reads: write a line X86 NAME, a line { }, and each thread's accesses as instructions into a column below P0 | P1 ;";
+
+const DATA: &str =
+    "this is a test in another form, and no tool here reads it: write a line X86 NAME, a line { } with what locations begin with, and each thread's instructions into a column below P0 | P1 ;";
+
 const RUST: &str =
     "this is Rust, which no tool here reads: write a line X86 NAME, a line { }, and each thread's accesses as instructions into a column below P0 | P1 ;";
 
+/// Words with which lines of reports begin.
+const REPORTED: &str =
+    "Test Histogram States State Observation Machine Order Outcomes Witnesses Positive: Hash Time \
+     Condition Result: Results Registers Memory Verdict Verdict: Sweep Ok Generated #START ** *** \
+     Relaxation";
+
+/// Whether a line of a report begins with this word.
+pub fn is_of_report(word: &[u8]) -> bool {
+    is_one_of(REPORTED, word)
+}
+
+/// How many bytes of a text are looked through for assignments.
+const HEAD: usize = 120;
+
+/// Words with which programs in further languages begin.
+const WORDS_OF_PROGRAMS: &str =
+    "template package public private class import func def module main let open proctype active byte func fun \
+     interface namespace using object val var export async from program procedure function @State \
+     @JCStressTest";
+
 /// Texts of other kinds, by the first word.
-static KINDS: [Alike; 8] = [
-    Alike(
-        "Test Histogram States State Observation Machine Order Outcomes Witnesses Positive: Hash \
-         Time Condition Result: Results Registers Memory Verdict Verdict: Sweep Ok Generated #START \
-         ** *** Relaxation",
-        REPORT,
-    ),
+static KINDS: [Alike; 11] = [
+    Alike(REPORTED, REPORT),
     Alike("diff --- +++ @@ Index:", DIFFERENCE),
+    Alike(WORDS_OF_PROGRAMS, PROGRAM),
+    Alike("digraph strict", GRAPH),
+    Alike("model showevents squished graph doshow skipcheck", HERD),
     Alike("exists ~exists forall", CONDITION),
     Alike("asm __asm__ __asm", STATEMENT),
     Alike(
-        "section segment global globl bits use32 use64 default org title proc %define %macro \
+        "format entry section segment global globl bits use32 use64 default org title proc %define %macro \
          %include %use",
         ASSEMBLY,
     ),
@@ -108,7 +117,7 @@ pub fn says_kind(line: &mut Line, text: &[u8]) -> bool {
     if says_cycle(line, head) {
         return true;
     }
-    let said = said_of_line(head)
+    let said = said_of_line(text, head)
         .or(said_of_program(text))
         .or(said_of(&KINDS, first_name(head)))
         .or(said_of_instructions(text, head));
@@ -166,97 +175,6 @@ fn first_name(line: &[u8]) -> &[u8] {
     }
 }
 
-/// What is said of a text by its first line alone, where no word of it tells.
-fn said_of_line(head: &[u8]) -> Option<&'static str> {
-    let first = first_word(head);
-    if is_choice(first) || is_exactly_one_of("seed", first) {
-        Some(CHOICES)
-    } else if is_of_command(head, first) {
-        Some(said_of_command(head))
-    } else if is_list(head) {
-        Some(LIST)
-    } else if head.starts_with(b"-")
-        && begins_with_letter(last_bytes(first, first.len().saturating_sub(1)))
-    {
-        Some(OPTIONS)
-    } else if is_verdict(head) {
-        Some(VERDICTS)
-    } else if is_stamp(head) {
-        Some(KERNEL_LOG)
-    } else if is_disassembly(head, first) {
-        Some(DISASSEMBLY)
-    } else if first.starts_with(b"<") {
-        Some(PAGE)
-    } else {
-        None
-    }
-}
-
-/// Whether a line calls a program.
-fn is_of_command(head: &[u8], first: &[u8]) -> bool {
-    let has_words = has(head, b" -") || has(head, b".") || has(head, b"/");
-    is_exactly_one_of(
-        "$ diy7 diyone7 diycross7 diyone herd7 litmus7 klitmus7 norm7 classify7 mcompare7 msum7",
-        first,
-    ) || first.starts_with(b"./")
-        || first.starts_with(b"tools/")
-        || first.starts_with(b"tso-")
-        || (is_exactly_one_of(
-            "diy herd litmus gcc g++ clang cc nasm yasm ld objdump gdb cat tso",
-            first,
-        ) && has_words)
-}
-
-fn said_of_command(head: &[u8]) -> &'static str {
-    if has(head, b"diy") { DIY } else { COMMAND }
-}
-
-/// Whether a line names a file of a test, or begins with a list's name, as `@all`.
-fn is_list(head: &[u8]) -> bool {
-    let is_one_word = first_word(head).len() == head.len();
-    is_one_word && (head.ends_with(b".litmus") || is_exactly_one_of("@all", head))
-}
-
-/// Whether a line is a name and a verdict.
-fn is_verdict(head: &[u8]) -> bool {
-    let first = first_word(head);
-    let rest = last_bytes(head, head.len().saturating_sub(first.len())).trim_ascii();
-    is_one_of(
-        "Allow Allowed Forbid Forbidden Require Required Never Sometimes Always Ok No",
-        rest,
-    )
-}
-
-/// Whether a line begins with a time, as in the kernel's log: seconds in square brackets.
-fn is_stamp(head: &[u8]) -> bool {
-    match head.strip_prefix(b"[") {
-        Some(after) => is_all_digits(up_to(after.trim_ascii_start(), b'.')),
-        None => false,
-    }
-}
-
-/// Whether a line is one of a disassembly: its title, a function's address, or an instruction's with its bytes.
-fn is_disassembly(head: &[u8], first: &[u8]) -> bool {
-    let after = last_bytes(head, head.len().saturating_sub(first.len())).trim_ascii_start();
-    let address = first.strip_suffix(b":").unwrap_or(first);
-    has(head, b"file format ")
-        || has(head, b"Disassembly of")
-        || (is_hexadecimal(address)
-            && (after.starts_with(b"<")
-                || (address.len() < first.len() && is_hexadecimal(first_word(after)))))
-}
-
-/// Whether these are digits to base 16, perhaps after `0x`.
-fn is_hexadecimal(word: &[u8]) -> bool {
-    let digits = word.strip_prefix(b"0x").unwrap_or(word);
-    for digit in digits {
-        if !digit.is_ascii_hexdigit() {
-            return false;
-        }
-    }
-    !digits.is_empty()
-}
-
 /// What is said of a program in another language, by words that only such programs have.
 fn said_of_program(text: &[u8]) -> Option<&'static str> {
     if is_model(text) {
@@ -270,11 +188,18 @@ fn said_of_program(text: &[u8]) -> Option<&'static str> {
         Some(CPP)
     } else if has_kernel_words(text) {
         Some(KERNEL)
+    } else if has(text, b"{{{") {
+        Some(PROGRAM)
+    } else if has(text, b"\"threads\"") || has(text, b"\"init\"") {
+        Some(DATA)
+    } else if begins_assignments(text) {
+        Some(PAPER)
+    } else if begins_function(text) && has_instructions(text) {
+        Some(INSTRUCTIONS)
     } else if has(text, b"atomic_store")
         || has(text, b"int main(")
         || has(text, b"#include <")
-        || text.starts_with(b"P0(")
-        || text.starts_with(b"P0 (")
+        || begins_function(text)
     {
         Some(SOURCE_IN_C)
     } else {
@@ -282,10 +207,56 @@ fn said_of_program(text: &[u8]) -> Option<&'static str> {
     }
 }
 
+/// Whether one of these lines begins with a word for threads, or for what they begin with.
+fn names_threads(lines: &[u8]) -> bool {
+    for row in lines.split(|byte| *byte == b'\n') {
+        let first = first_name(row);
+        if is_one_of(
+            "Initially Initial Init Thread Threads Process Processor Proc Core CPU",
+            first.strip_suffix(b":").unwrap_or(first),
+        ) {
+            return true;
+        }
+    }
+    false
+}
+
+/// Whether a text has assignments as papers write them, and names threads or what they begin with first.
+fn begins_assignments(text: &[u8]) -> bool {
+    let first = first_name(up_to(text, b'\n'));
+    let head = first_bytes(text, HEAD);
+    let is_named = names_threads(head);
+    let has_assignment = has(head, b":=") || has(head, b"<-") || has(head, b"\xe2\x86\x90");
+    is_named && (has_assignment || text.contains(&b'=') || has_instructions(text))
+        || (has_assignment && !is_one_of(WORDS_OF_PROGRAMS, first))
+}
+
+/// Whether a text begins as the function of a core in C.
+fn begins_function(text: &[u8]) -> bool {
+    text.starts_with(b"P0(") || text.starts_with(b"P0 (")
+}
+
+/// Instructions and registers of which one stands in nearly each program of X86.
+const WORDS_OF_X86: &str = "MFENCE XCHG XADD EAX EBX ECX EDX ESI EDI";
+
+/// Whether instructions of X86 stand in a text: one of them has a place in brackets, or a register stands there.
+pub fn has_instructions(text: &[u8]) -> bool {
+    let mut is_at_start = true;
+    for at in 0..text.len() {
+        if is_at_start && is_one_of(WORDS_OF_X86, digits_and_letters(&text[at..])) {
+            return true;
+        }
+        is_at_start = !continues_name(text[at]);
+    }
+    has(text, b"MOV [") || has(text, b"mov [") || has(text, b"DWORD PTR")
+}
+
 /// Whether a text is a model in the language cat: one of its lines is a rule of it.
 pub fn is_model(text: &[u8]) -> bool {
     for row in text.split(|byte| *byte == b'\n') {
-        if is_exactly_one_of("acyclic irreflexive", first_word(row)) || has(row, b".cat\"") {
+        if is_exactly_one_of("acyclic irreflexive instructions", first_word(row))
+            || has(row, b".cat\"")
+        {
             return true;
         }
     }
@@ -313,15 +284,32 @@ pub fn has_kernel_words(text: &[u8]) -> bool {
         || has(text, b"spin_lock(")
 }
 
+/// Whether a line is a function's name as a compiler's page shows it, as `main():`.
+fn is_of_functions(head: &[u8]) -> bool {
+    match head.strip_suffix(b":") {
+        Some(name) => name.ends_with(b")") && is_bare(up_to(name, b'(')),
+        None => false,
+    }
+}
+
 /// What is said of instructions, perhaps behind a label or a directive.
 fn said_of_instructions(text: &[u8], head: &[u8]) -> Option<&'static str> {
     let first = first_word(head);
     let after = last_bytes(text, text.len().saturating_sub(first.len())).trim_ascii_start();
     let is_label = is_bare(first.strip_suffix(b":").unwrap_or(b""));
     let second = first_word(after);
+    if is_of_functions(head) && has_instructions(text) {
+        return Some(INSTRUCTIONS);
+    }
+    if is_all_digits(first) && has_instructions(text) {
+        return Some(DISASSEMBLY);
+    }
     if head.starts_with(b".")
+        || head.starts_with(b"[bits")
+        || head.starts_with(b"[BITS")
+        || head.starts_with(b"[section")
         || (is_label && after.starts_with(b"."))
-        || is_one_of("dd dq dw db resd resq resw resb equ proc", second)
+        || is_one_of("dd dq dw db resd resq resw resb equ proc segment", second)
         || (is_one_of("extern", first) && !head.ends_with(b";"))
     {
         Some(ASSEMBLY)

@@ -30,7 +30,8 @@ struct Named(&'static str, Kind);
 static KINDS: [Named; 11] = [
     Named("PUSH PUSHL PUSHQ POP POPL POPQ", Kind::Push),
     Named(
-        "STOS STOSB STOSD STOSL STOSQ MOVSB MOVSL MOVSQ LODSB LODSD LODSL SCASB CMPSB",
+        "STOS STOSB STOSW STOSD STOSL STOSQ MOVS MOVSB MOVSL MOVSQ LODS LODSB LODSD LODSL SCAS \
+         SCASB SCASD CMPS CMPSB CMPSD",
         Kind::Strings,
     ),
     Named(

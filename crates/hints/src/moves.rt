@@ -1,11 +1,12 @@
 //! What is said of moves, exchanges and locked additions in an assembler's language: the cell that does the same here.
 
 use crate::assembled::{Order, Pair};
-use crate::instructions::TWO_REGISTERS;
+use crate::instructions::{SUM_OF_REGISTERS, TWO_REGISTERS};
 use crate::line::{Line, Piece};
 use crate::operand::Operand;
+use crate::operands::said_of_sum;
 use crate::quotes::{digits_and_letters, has};
-use crate::registers::{NARROW, is_stack, is_stack_pointer, parent_of};
+use crate::registers::{NARROW, is_of_others, is_stack, is_stack_pointer, parent_of};
 use crate::tables::is_one_of;
 use crate::target::{Target, say_copy, say_target};
 use tso_terms::names::continues_name;
@@ -17,11 +18,10 @@ pub const STACK: &str =
 const MIXED: &str =
     "{} mixes two orders of operands, so it may be a store or a load: a store is MOV [x],EAX, a load MOV EAX,[x]";
 
-const STACK_WORD: &str = "{}: there is no stack: write a location for what is kept there, as [s]";
+const PERCENT: &str =
+    "{} has a %, which no register has here, and mixes two orders of operands: a load is ";
 
-/// Of an address that is computed.
-pub const COMPUTED: &str =
-    "{}: no address is computed here: use a location for each address, and write its name alone, as [x1]";
+const STACK_WORD: &str = "{}: there is no stack: write a location for what is kept there, as [s]";
 
 const NO_ADDRESS: &str =
     "{}: no register can hold an address here: leave the cell empty, and write [{}] in each instruction that uses the register";
@@ -32,7 +32,8 @@ const NO_BRACKETS: &str = "{}: no register can hold an address; for the location
 
 const ITSELF: &str = "{}: leave it out: a register has no parts here, so it moves one to itself";
 
-const DOLLAR: &str = "{}: $ stands before numbers alone; for the location's word write ";
+const DOLLAR: &str =
+    "{}: $ stands before numbers alone: for a constant write its number; for a location's word write ";
 
 const NO_ADDRESS_THEN: &str =
     "; for its address leave the cell empty, and write [{}] in each instruction that uses the register";
@@ -67,6 +68,13 @@ pub fn says_move(line: &mut Line, pair: &Pair<'_>) -> bool {
     if !is_turned && (is_part(pair.to) || is_part(pair.from)) {
         return false;
     }
+    if let (Operand::Bare(reg), Operand::Number(value)) = (pair.to, pair.from)
+        && pair.cell.contains(&b'#')
+        && is_of_others(reg)
+    {
+        say_cell(line, pair, &[], Target::SetNumber(reg, value));
+        return true;
+    }
     if let Some(to) = location_of(pair.to) {
         return says_store(line, pair, to);
     }
@@ -76,7 +84,8 @@ pub fn says_move(line: &mut Line, pair: &Pair<'_>) -> bool {
             say_target(line, Target::Load(reg, name));
             true
         }
-        (Operand::Register(reg), from) if !is_stack_pointer(reg) => {
+        (Operand::Register(reg), from)
+            if !is_stack_pointer(reg) || matches!(from, Operand::Word(_)) => {
             says_load(line, pair, reg, from)
         }
         _ => says_no_place(line, pair),
@@ -91,7 +100,14 @@ fn say_mixed(line: &mut Line, pair: &Pair<'_>) {
         (Operand::Word(name), Operand::Register(reg)) if parent_of(reg).is_some() => (reg, name),
         _ => return line.say_of(MIXED, pair.cell),
     };
-    line.say_of("{} mixes two orders of operands: a load is ", pair.cell);
+    line.say_of(
+        if pair.cell.contains(&b'%') {
+            PERCENT
+        } else {
+            "{} mixes two orders of operands: a load is "
+        },
+        pair.cell,
+    );
     say_target(line, Target::Load(reg, name));
     line.say(", a store ");
     say_target(line, Target::StoreRegister(name, reg));
@@ -133,7 +149,9 @@ fn says_store(line: &mut Line, pair: &Pair<'_>, to: Location<'_>) -> bool {
 
 /// Of a move from one location to another. Whether it is known which of the two is the destination.
 fn says_copy(line: &mut Line, pair: &Pair<'_>, to: &[u8], from: &[u8]) -> bool {
-    let is_clear = is_one_of("MOV", pair.name) && !matches!(pair.order, Order::SourceFirst);
+    let is_turned = matches!(pair.order, Order::SourceFirst);
+    let is_clear = (is_one_of("MOV", pair.name) && !is_turned)
+        || (is_one_of("MOVL MOVQ", pair.name) && is_turned);
     if is_clear {
         line.say_of("{}: write ", pair.cell);
         say_copy(line, to, from);
@@ -158,8 +176,15 @@ fn says_load(line: &mut Line, pair: &Pair<'_>, reg: &[u8], from: Operand<'_>) ->
         Operand::Register(other) if !is_stack_pointer(other) => {
             say_cell(line, pair, &[], Target::SetRegister(reg, other));
         }
-        Operand::Address(name) if has_address_by_dollar(pair) => {
-            line.say_of(DOLLAR, pair.cell);
+        Operand::Address(name) if pair.cell.contains(&b'&') || has_address_by_dollar(pair) => {
+            line.say_of(
+                if pair.cell.contains(&b'&') {
+                    NO_BRACKETS
+                } else {
+                    DOLLAR
+                },
+                pair.cell,
+            );
             say_target(line, Target::Load(reg, name));
             line.say_with(NO_ADDRESS_THEN, &[Piece::Shown(name)]);
         }
@@ -191,7 +216,9 @@ fn says_no_place(line: &mut Line, pair: &Pair<'_>) -> bool {
         (Operand::Computed, _) | (_, Operand::Computed) if names_stack(pair.cell) => {
             line.say_of(STACK_WORD, pair.cell);
         }
-        (Operand::Computed, _) | (_, Operand::Computed) => line.say_of(COMPUTED, pair.cell),
+        (Operand::Computed, _) | (_, Operand::Computed) => {
+            line.say_of(said_of_sum(pair.cell), pair.cell);
+        }
         _ => return false,
     }
     true
@@ -232,6 +259,10 @@ pub fn says_locked(line: &mut Line, pair: &Pair<'_>, is_addition: bool) -> bool 
             (Operand::Register(one), Operand::Register(other)) if !is_addition => {
                 says_registers(line, pair, one, other)
             }
+            (Operand::Register(_), Operand::Register(_)) => {
+                line.say(SUM_OF_REGISTERS);
+                true
+            }
             _ => says_no_place(line, pair),
         };
     };
@@ -240,10 +271,31 @@ pub fn says_locked(line: &mut Line, pair: &Pair<'_>, is_addition: bool) -> bool 
         (Operand::Register(reg), true) => Target::Add(place.name, reg),
         (Operand::Number(value), false) => Target::ExchangeNumber(place.name, value),
         (Operand::Number(value), true) => Target::AddNumber(place.name, value),
+        (Operand::Word(source) | Operand::Bare(source), _) => {
+            say_two_places(line, pair, place.name, source, is_addition);
+            return true;
+        }
         _ => return false,
     };
     say_cell(line, pair, place.holder, target);
     true
+}
+
+/// Of an exchange of two locations, or of a location that is added to another.
+fn say_two_places(line: &mut Line, pair: &Pair<'_>, to: &[u8], from: &[u8], is_addition: bool) {
+    line.say_with(
+        if is_addition {
+            "{}: write MOV EAX,[{}], and in the next cell LOCK XADD [{}],EAX, with a free register for EAX"
+        } else {
+            "{}: write three cells, one below the other: MOV EAX,[{}]  XCHG [{}],EAX  MOV [{}],EAX, with a free register for EAX; together they aren't one step"
+        },
+        &[
+            Piece::Named(pair.cell),
+            Piece::Shown(from),
+            Piece::Shown(to),
+            Piece::Shown(from),
+        ],
+    );
 }
 
 /// Of an exchange of two registers, which does nothing where they are one.

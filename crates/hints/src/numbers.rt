@@ -1,7 +1,8 @@
 //! Numbers in the forms that other languages have; and what is said of one that is too great.
 
 use crate::line::Line;
-use crate::quotes::{first_bytes, is_all_digits};
+use crate::quotes::{first_bytes, is_all_digits, last_bytes};
+use crate::tables::is_one_of;
 use litmus_tokens::{Lexeme, Symbol, is_symbol, tokens_of, word};
 use std::alloc::Global;
 use tso_terms::NoMemory;
@@ -26,7 +27,11 @@ pub fn bad_number(alloc: Global, line: &mut Line, rest: &[u8]) -> Result<(), NoM
         };
     }
     match over {
-        Some(digits) => line.say_of_number("{} is over {}, the greatest value", digits, GREATEST),
+        Some(digits) => line.say_of_number(
+            "{} is over {}, the greatest value: write that or a smaller one",
+            digits,
+            GREATEST,
+        ),
         None => line.say_number("a value is at most {}", GREATEST),
     }
     Ok(())
@@ -51,10 +56,27 @@ fn unsigned_in(text: &[u8]) -> Option<u32> {
         return word(digits);
     }
     match text {
-        [b'0', b'x' | b'X', digits @ ..] => hexadecimal(digits),
-        [first, .., b'h' | b'H'] if first.is_ascii_digit() => {
-            hexadecimal(first_bytes(text, text.len().saturating_sub(1)))
+        [b'0', b'x' | b'X', ..] => digits_to(
+            16,
+            last_bytes(digits, digits.len().saturating_sub(2)),
+        ),
+        [b'0', b'b' | b'B', digits @ ..] => digits_to(2, digits),
+        [b'0', b'o' | b'O' | b'q', digits @ ..] => digits_to(8, digits),
+        [first, .., b'o' | b'O' | b'q' | b'Q'] if first.is_ascii_digit() => {
+            digits_to(8, first_bytes(text, text.len().saturating_sub(1)))
         }
+        [first, .., b'd' | b'D'] if first.is_ascii_digit() => {
+            digits_to(10, first_bytes(text, text.len().saturating_sub(1)))
+        }
+        [first, .., b'h' | b'H'] if first.is_ascii_digit() => {
+            digits_to(16, first_bytes(text, text.len().saturating_sub(1)))
+        }
+        [first, .., b'b' | b'B'] if first.is_ascii_digit() => {
+            digits_to(2, first_bytes(text, text.len().saturating_sub(1)))
+        }
+        [first, ..] if first.is_ascii_digit() && text.contains(&b'_') => digits_to(10, text),
+        _ if is_one_of("false null nullptr nil", text) => Some(0),
+        _ if is_one_of("true", text) => Some(1),
         _ => None,
     }
 }
@@ -71,19 +93,25 @@ fn without_suffix(text: &[u8]) -> &[u8] {
     rest
 }
 
-/// The number that these digits to base 16 say, if there are one to eight.
-fn hexadecimal(digits: &[u8]) -> Option<u32> {
-    if digits.is_empty() || digits.len() > 8 {
-        return None;
-    }
-    let mut value = 0u32;
+/// The number that these digits to this base say, underscores between them aside, if it is a word of 32 bits.
+pub fn digits_to(base: u32, digits: &[u8]) -> Option<u32> {
+    let mut number = None;
     for digit in digits {
-        let Some(next) = value_of(*digit) else {
-            return None;
-        };
-        value = value.wrapping_mul(16).wrapping_add(next);
+        if *digit != b'_' {
+            let value = match value_of(*digit) {
+                Some(value) if value < base => value,
+                _ => return None,
+            };
+            let next = u64::from(number.unwrap_or(0u32))
+                .wrapping_mul(u64::from(base))
+                .wrapping_add(u64::from(value));
+            if next > u64::from(u32::MAX) {
+                return None;
+            }
+            number = Some(next as u32);
+        }
     }
-    Some(value)
+    number
 }
 
 /// The value of a digit to base 16.

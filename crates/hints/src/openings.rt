@@ -1,16 +1,22 @@
 //! What is said of a fault before the initial state of a test; and of what doesn't end.
 
 use crate::c_forms::{said_of_access, said_of_function};
+use crate::columns::FRAMED;
+use crate::cycles::is_edge_name;
 use crate::divider::{Asked, says_missing_divider};
-use crate::faults::NESTED;
-use crate::keywords::is_instruction;
+use crate::faults::{COMES_LAST, COMMENT, NESTED};
+use crate::headers::has_row_of_cores;
+use crate::items::KEYS;
+use crate::keywords::{is_instruction, near_instruction};
 use crate::line::{Line, Piece};
 use crate::place::Place;
 use crate::quotes::{
-    after_byte, begins_with_letter, ends_with_name, has, is_all_digits, is_bare, up_to,
+    after_byte, after_last, begins_with_letter, ends_with_name, has, is_all_digits, is_bare,
+    is_row_of_cores, up_to,
 };
+use crate::region::{Region, region_of};
 use crate::signs::bad_byte;
-use crate::tables::{Alike, is_exactly_one_of, said_of_front};
+use crate::tables::{Alike, is_exactly_one_of, is_one_of, said_of_front};
 use tso_terms::limits::MAX_NAME;
 use tso_terms::names::continues_name;
 
@@ -43,7 +49,9 @@ pub fn unclosed(line: &mut Line, asked: Asked, place: &Place<'_>) {
         line.say("} closes nothing here: leave it out");
     } else if !says_missing_divider(line, asked, place) {
         let is_other_word = begins_with_letter(token) && is_bare(token) && !is_known(token);
-        let sentence = if is_other_word && is_claim(place) {
+        let sentence = if place.rest.starts_with(b"|") {
+            said_of_bars(place)
+        } else if is_other_word && is_claim(place) {
             "{} begins no condition: write exists, ~exists or forall in its place"
         } else if is_bare_condition(place) {
             "a condition begins with exists, ~exists or forall: write one before {}"
@@ -53,6 +61,15 @@ pub fn unclosed(line: &mut Line, asked: Asked, place: &Place<'_>) {
             "no ; ends the row that begins with {}: a row ends with ;"
         };
         line.say_of(sentence, token);
+    }
+}
+
+/// What is said of a row that begins with a bar, as tables in Markdown have them, and has no end.
+fn said_of_bars(place: &Place<'_>) -> &'static str {
+    if place.whole_line().trim_ascii_end().ends_with(b"|") {
+        FRAMED
+    } else {
+        "{} begins this row: leave it out, since one stands only between cells, and write ; at the end"
     }
 }
 
@@ -72,7 +89,7 @@ fn is_apart(place: &Place<'_>) -> bool {
 
 /// Whether a word begins an instruction, or an access in another language.
 fn is_known(word: &[u8]) -> bool {
-    is_instruction(word) || said_of_access(word).is_some()
+    is_instruction(word) || said_of_access(word).is_some() || near_instruction(word).is_some()
 }
 
 /// Says of a location in C behind a bracket, as in `(*x)`, which begins a comment here; of the function that gets it, where one does.
@@ -89,9 +106,12 @@ fn says_pointer(line: &mut Line, place: &Place<'_>) -> bool {
     } else {
         &[]
     };
-    match said_of_function(function) {
-        Some(said) => line.say_of(said, function),
-        None => line.say(
+    match (said_of_function(function), region_of(place)) {
+        (Some(said), _) => line.say_of(said, function),
+        (None, Region::Condition) => line.say(
+            "no *) ends the comment that begins here; a location stands in a condition without *, as x=1",
+        ),
+        _ => line.say(
             "no *) ends the comment that begins here; a location is written without *, as [x]",
         ),
     }
@@ -141,10 +161,52 @@ pub fn bad_token(line: &mut Line, place: &Place<'_>) {
     }
 }
 
+/// Whether the last line before a place has an item of an initial state, and its end.
+fn has_items(before: &[u8]) -> bool {
+    let last = after_last(before.trim_ascii_end(), b"\n");
+    last.contains(&b'=') && last.contains(&b';')
+}
+
 /// What is said of a token that stands before the initial state.
 fn said_before_braces(place: &Place<'_>) -> &'static str {
     if up_to(place.text.trim_ascii_start(), b'\n').contains(&b'{') {
         return "the { in the first line is a part of the test's name: begin a line with it";
+    }
+    let has_braces = place.rest.contains(&b'{');
+    if is_exactly_one_of("exists forall ~", place.token) {
+        return if has_braces || has_row_of_cores(place.rest) {
+            COMES_LAST
+        } else {
+            "no rows stand before {}: write { } above it, a row P0 | P1 ; and rows of instructions, as MOV [x],$1 | MOV [y],$1 ;"
+        };
+    }
+    if is_edge_name(place.token) {
+        return "a cycle stands in quotation marks: write \" before {} and at the line's end, or leave the line out";
+    }
+    if is_exactly_one_of(KEYS, place.token) && !place.after_token().starts_with(b"=") {
+        return "{}: a line of information has = behind its key, as Generator=diyone7: write it there, or leave the line out";
+    }
+    if place.rest.starts_with(b";") && place.is_first_on_line() {
+        return COMMENT;
+    }
+    if place.rest.starts_with(b"}") {
+        return "no { stands before {}: write one above the items of the initial state, or { } where it has none";
+    }
+    if is_one_of("init initial initially state", place.token)
+        && up_to(place.rest, b'\n').contains(&b'=')
+    {
+        return "{} begins no initial state: its items stand in braces, as { x=1; y=1; }, without this word";
+    }
+    if after_last(place.before.trim_ascii_end(), b"\n").contains(&b'=')
+        && place.before.trim_ascii_end().ends_with(b",")
+    {
+        return "{} goes on with the line above, and a line of information is one line: write it at that line's end";
+    }
+    if is_exactly_one_of("locations", place.token) {
+        return "{} stands before the initial state: write it below the rows, before the condition";
+    }
+    if is_row_of_cores(place.whole_line()) && !has_braces && has_items(place.before) {
+        return "no { stands before the initial state: write one before its items, above {}, and } behind them";
     }
     if is_exactly_one_of("P0", place.token) {
         "{} stands before the initial state: write { } in a line above, also where all begins as 0"

@@ -5,7 +5,7 @@ use crate::numbers::number_in;
 use crate::quotes::{
     after_byte, begins_with_letter, digits_and_letters, first_bytes, last_bytes, up_to,
 };
-use crate::registers::{NARROW, is_register, is_special};
+use crate::registers::{NARROW, is_near_register, is_register, is_special};
 use crate::tables::is_one_of;
 use tso_terms::names::is_location_name;
 
@@ -89,6 +89,12 @@ fn without_percent(text: &[u8]) -> &[u8] {
 
 /// The register, the number, the address or the name that an operand is; of any other that it is unknown.
 fn immediate_in(text: &[u8]) -> Operand<'_> {
+    if let Some(value) = text.strip_prefix(b"#") {
+        return match number_in(value) {
+            Some(number) => Operand::Number(number),
+            None => Operand::Unknown,
+        };
+    }
     if let Some(value) = text.strip_prefix(b"$") {
         return match number_in(value) {
             Some(number) => Operand::Number(number),
@@ -111,7 +117,7 @@ fn immediate_in(text: &[u8]) -> Operand<'_> {
             Operand::Unknown
         };
     }
-    if is_location(text) {
+    if is_location(text) && !is_near_register(text) {
         Operand::Bare(text)
     } else {
         Operand::Unknown
@@ -128,6 +134,10 @@ fn place_in(text: &[u8]) -> Operand<'_> {
     match text {
         [b'[', inside @ .., b']'] => address_in(inside),
         [b'(', inside @ .., b')'] => address_in(inside),
+        [b'{', inside @ .., b'}'] | [b'<', inside @ .., b'>'] | [b'"', inside @ .., b'"']
+            if is_location(inside) => Operand::Word(inside),
+        [b'*', name @ ..] if is_location(name) => Operand::Word(name),
+        [b'&', name @ ..] if is_location(name) => Operand::Address(name),
         [.., b']'] | [.., b')'] => indexed_in(text),
         [first, ..] if first.is_ascii_alphabetic() && is_sum(text) => Operand::Computed,
         _ => Operand::Unknown,
@@ -137,6 +147,10 @@ fn place_in(text: &[u8]) -> Operand<'_> {
 /// The word in memory at the address that stands in brackets.
 fn address_in(inside: &[u8]) -> Operand<'_> {
     let inside = after_relative(after_sizes(inside.trim_ascii()));
+    let inside = inside
+        .strip_prefix(b"*")
+        .or(inside.strip_prefix(b"&"))
+        .unwrap_or(inside);
     let name = without_percent(inside);
     if is_location(inside) {
         Operand::Word(inside)
@@ -178,12 +192,27 @@ fn indexed_in(text: &[u8]) -> Operand<'_> {
     let inside = without_percent(first_bytes(inside, inside.len().saturating_sub(1)));
     if is_location(before) && is_one_of("RIP EIP", inside) {
         Operand::Word(before)
+    } else if before == b"0".as_slice() && is_location(inside) {
+        Operand::Word(inside)
+    } else if is_one_of("RIP EIP", inside) && is_location(up_to(before, b'@')) {
+        linked_in(before)
     } else if !before.is_empty()
         && !before.ends_with(b"-")
+        && !before.starts_with(b"%")
         && is_part_of_sum(before)
         && is_part_of_sum(inside)
     {
         Operand::Computed
+    } else {
+        Operand::Unknown
+    }
+}
+
+/// What a name is with `@` and how it is linked: behind `GOTPCREL` an address is loaded.
+fn linked_in(text: &[u8]) -> Operand<'_> {
+    let name = up_to(text, b'@');
+    if is_one_of("GOTPCREL", after_byte(text, b'@')) {
+        Operand::Address(name)
     } else {
         Operand::Unknown
     }

@@ -66,6 +66,14 @@ impl<'a> Place<'a> {
         self.line_before().is_empty()
     }
 
+    /// Whether nothing but white space stands after its token on its line.
+    pub fn is_last_on_line(&self) -> bool {
+        let line = up_to(self.rest, b'\n');
+        last_bytes(line, line.len().saturating_sub(self.token.len()))
+            .trim_ascii()
+            .is_empty()
+    }
+
     /// What stands after its token, without white space before it.
     pub fn after_token(&self) -> &'a [u8] {
         let count = self.rest.len().saturating_sub(self.token.len());

@@ -155,6 +155,8 @@ pub fn begins_with_letter(text: &[u8]) -> bool {
 
 /// Whether a line is a row of cores, or begins one.
 pub fn is_row_of_cores(line: &[u8]) -> bool {
+    let line = line.trim_ascii_start();
+    let line = line.strip_prefix(b"|").unwrap_or(line);
     match line.trim_ascii_start().strip_prefix(b"P0") {
         Some(after) => {
             let after = after.trim_ascii_start();

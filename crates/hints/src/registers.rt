@@ -1,7 +1,12 @@
 //! What is said of registers that aren't read.
 
 use crate::line::{Line, Piece};
-use crate::quotes::{first_bytes, is_all_digits, last_bytes};
+use crate::near::near_word;
+use crate::place::Place;
+use crate::quotes::{
+    after_byte, after_last, begins_with_letter, first_bytes, is_all_digits, last_bytes, token,
+    up_to_any,
+};
 use crate::tables::{Alike, is_one_of, said_of};
 
 const RENAMED_BY_IMPORT: &str =
@@ -12,6 +17,15 @@ const OTHER: &str =
 
 const OF_CORE: &str =
     "{} is none of EAX, EBX, ECX, EDX, ESI, EDI: write the register that stands for it in the core's rows, as EAX";
+
+const NO_VECTORS: &str =
+    "{}: there are no registers of vectors or of control: write one of EAX, EBX, ECX, EDX, ESI, EDI that the core doesn't use";
+
+const PERCENT_AND_ADDRESS: &str =
+    "%{}: a register is written without %, and it can hold no address here: leave the item out, and write the location's name in the instruction, as [x]";
+
+/// The registers that are read.
+const READ: &str = "EAX EBX ECX EDX ESI EDI";
 
 /// Registers that the tool import renames.
 const RENAMED: &str =
@@ -53,10 +67,13 @@ pub fn is_register(word: &[u8]) -> bool {
 
 /// Whether a word names a register that no location is called by: of vectors, of segments or of control, or one of other processors.
 pub fn is_special(word: &[u8]) -> bool {
+    is_one_of("CS DS ES FS GS SS EFLAGS FLAGS", word) || is_numbered(word) || is_of_vectors(word)
+}
+
+/// Whether a word names a register of vectors or of control.
+fn is_of_vectors(word: &[u8]) -> bool {
     let digits = after_front(word);
-    is_one_of("CS DS ES FS GS SS EFLAGS FLAGS", word)
-        || is_numbered(word)
-        || (digits.len() < word.len() && is_all_digits(digits))
+    digits.len() < word.len() && is_all_digits(digits)
 }
 
 /// Whether a word names a register by `r` and its number, as other processors and tests in C have them.
@@ -87,17 +104,75 @@ pub fn is_stack_pointer(word: &[u8]) -> bool {
     is_one_of("ESP RSP SP", word)
 }
 
+/// The register that is read whose name these two words make together, if neither is empty.
+pub fn register_of(first: &[u8], second: &[u8]) -> Option<&'static str> {
+    for one in READ.split(' ') {
+        let name = one.as_bytes();
+        if !first.is_empty()
+            && !second.is_empty()
+            && first.len().saturating_add(second.len()) == name.len()
+            && first_bytes(name, first.len()).eq_ignore_ascii_case(first)
+            && last_bytes(name, second.len()).eq_ignore_ascii_case(second)
+        {
+            return Some(one);
+        }
+    }
+    None
+}
+
+/// Whether a word is written almost as a register that is read.
+pub fn is_near_register(word: &[u8]) -> bool {
+    near_word(READ, word).is_some()
+}
+
+/// Says of a word that is written almost as a register that is read. Whether one is.
+fn says_near(line: &mut Line, word: &[u8]) -> bool {
+    let Some(meant) = near_word(READ, word) else {
+        return false;
+    };
+    line.say_with(
+        "{} is no register: write {}",
+        &[Piece::Named(word), Piece::Text(meant)],
+    );
+    true
+}
+
+/// Says of a register behind `%` in the initial state or in a condition, where this stands after that sign. Whether one stands there.
+pub fn says_percent(line: &mut Line, place: &Place<'_>, after: &[u8]) -> bool {
+    let name = token(after);
+    let Some(written) = parent_of(name) else {
+        return false;
+    };
+    let value = after_byte(up_to_any(after, b";}/\\)\n"), b'=').trim_ascii();
+    let has_core = after_last(place.before, b"{;(\n").contains(&b':');
+    if begins_with_letter(value.strip_prefix(b"&").unwrap_or(value)) {
+        line.say_of(PERCENT_AND_ADDRESS, name);
+    } else {
+        line.say_with(
+            if has_core {
+                "%{}: a register is written without %: {}"
+            } else {
+                "%{}: a register is written without %, after its core and a colon: 0:{}"
+            },
+            &[Piece::Shown(name), Piece::Text(written)],
+        );
+    }
+    true
+}
+
 /// Says of a register in a row that isn't read. Whether a word is one.
 pub fn says_register(line: &mut Line, word: &[u8]) -> bool {
     if says_part(line, word) {
         return true;
     }
-    if is_renamed(word) {
+    if is_of_vectors(word) {
+        line.say_of(NO_VECTORS, word);
+    } else if is_renamed(word) {
         line.say_of(RENAMED_BY_IMPORT, word);
     } else if is_stack(word) || is_other(word) || is_numbered(word) {
         line.say_of(OTHER, word);
     } else {
-        return false;
+        return says_near(line, word);
     }
     true
 }
@@ -110,13 +185,15 @@ pub fn says_register_of_core(line: &mut Line, word: &[u8]) -> bool {
     }
     if is_one_of("EFLAGS FLAGS ZF CF SF OF PF", word) {
         line.say_of(
-            "{}: there are no flags: ask for a register or a location, as 0:EAX=1 or x=1",
+            "{}: there are no flags: leave it out, or take a register or a location, as 0:EAX=1 or x=1",
             word,
         );
+    } else if is_of_vectors(word) {
+        line.say_of(NO_VECTORS, word);
     } else if is_renamed(word) || is_stack(word) || is_other(word) || is_of_others(word) {
         line.say_of(OF_CORE, word);
     } else {
-        return false;
+        return says_near(line, word);
     }
     true
 }

@@ -2,7 +2,7 @@
 
 use crate::body::body_of;
 use crate::c_forms::{is_call, is_type};
-use crate::faults::{COMMENT, unfit};
+use crate::faults::COMMENT;
 use crate::forms::says_cell;
 use crate::instructions::{LOOP, STRAIGHT};
 use crate::keywords::{begins_instruction, is_instruction};
@@ -12,7 +12,7 @@ use crate::place::Place;
 use crate::prefixes::said_of_prefix;
 use crate::quotes::{
     after_byte, after_last, begins_with_letter, digits_and_letters, first_word, has, is_all_digits,
-    last_bytes, last_word, up_to, up_to_any,
+    last_word, up_to, up_to_any,
 };
 use crate::signs::is_core;
 use crate::tables::{is_exactly_one_of, is_one_of};
@@ -23,44 +23,13 @@ use tso_terms::NoMemory;
 use tso_terms::limits::{
     MAX_ATOMS, MAX_CORES, MAX_INSTRUCTIONS, MAX_LOCATIONS, MAX_OPEN, MAX_TEST_NAME,
 };
+use tso_terms::names::continues_name;
 
 const IN_C: &str =
     "{} begins a row as in C: a load is MOV EAX,[y], a store MOV [x],$1; a row has one such cell for each core, | between cells, and ; at its end";
 
 const CLAIMS: &str =
     "a condition begins with exists, ~exists or forall, and /\\ or \\/ joins its parts, as in exists (0:EAX=0 /\\ 1:EAX=0)";
-
-/// The form of the row of cores.
-const ROW_OF_CORES: &str = ": the row of cores is P0 | P1 | .. in order, ended by ;";
-
-/// Of the row of cores.
-pub fn bad_columns(line: &mut Line, place: &Place<'_>) {
-    let (token, last) = (place.token, place.last_word);
-    let sentence = if place.is_first_on_line() && is_core(last) {
-        "no ; ends the row of cores in the line before {}: a row ends with ;"
-    } else if is_core(token) && is_core(last) {
-        "no | stands before {}: cells are split by the vertical bar"
-    } else if is_exactly_one_of("(", token) && is_core(last) {
-        "{} begins the arguments of a function in C: here the row of cores is P0 | P1 | .. ;, and each core has a column of instructions below it"
-    } else if is_exactly_one_of("|", token) && place.is_first_on_line() {
-        "{} stands only between cells: leave out the one that begins the row"
-    } else if is_exactly_one_of("|", last)
-        && (is_exactly_one_of(";", token) || place.is_first_on_line())
-    {
-        "| stands only between cells: leave out the one at the row's end, before {}"
-    } else if is_exactly_one_of("|", token) && is_exactly_one_of("|", last) {
-        "{} stands twice: one splits two cells"
-    } else if is_exactly_one_of("exists forall ~", token) && place.is_first_on_line() {
-        "{} begins the condition, which comes last: write it below the rows"
-    } else if is_exactly_one_of(", /", token) {
-        "{}: cells are split by the vertical bar |"
-    } else if is_exactly_one_of(":", token) {
-        "{}: leave it out: the row of cores is P0 | P1 | .. ;, and each row below it has one cell for each core, with its next instruction"
-    } else {
-        return unfit(line, place, "the test ends within a row", ROW_OF_CORES);
-    };
-    line.say_of(sentence, token);
-}
 
 /// Of the row with too many or too few cells at a place.
 ///
@@ -90,6 +59,13 @@ fn says_other_row(line: &mut Line, place: &Place<'_>, row: &[u8]) -> bool {
         line.say_of(LOOP, first);
     } else if is_claim(place, row) {
         line.say(CLAIMS);
+    } else if row.is_empty() && place.is_first_on_line() {
+        line.say("; ends a row without cells: leave it out");
+    } else if is_all_digits(up_to(row, b'|').trim_ascii()) {
+        line.say_of(
+            "{} stands before the row's instructions, as its number: leave it out, and the | behind it",
+            first,
+        );
     } else if place.rest.starts_with(b";") && place.line_before().ends_with(b";") {
         line.say(said_of_second_end(place));
     } else if place.rest.starts_with(b"{") {
@@ -162,25 +138,28 @@ fn ends_within_operands(place: &Place<'_>) -> bool {
 fn has_second_instruction(row: &[u8]) -> bool {
     let mut is_at_start = false;
     for at in 0..row.len() {
-        let name = digits_and_letters(&row[at..]);
         if is_at_start
-            && begins_instruction(name)
+            && begins_instruction(digits_and_letters(&row[at..]))
             && !last_word(&row[..at]).eq_ignore_ascii_case(b"LOCK")
         {
             return true;
         }
-        is_at_start = name.is_empty();
+        is_at_start = !continues_name(row[at]);
     }
     false
 }
 
 /// Whether an instruction stands behind a comma.
 fn has_comma_between(row: &[u8]) -> bool {
+    let mut is_behind_comma = false;
     for at in 0..row.len() {
-        let after = last_bytes(row, row.len() - at - 1).trim_ascii_start();
-        if row[at] == b',' && begins_instruction(digits_and_letters(after)) {
+        if is_behind_comma
+            && !row[at].is_ascii_whitespace()
+            && begins_instruction(digits_and_letters(&row[at..]))
+        {
             return true;
         }
+        is_behind_comma = row[at] == b',' || (is_behind_comma && row[at].is_ascii_whitespace());
     }
     false
 }
@@ -204,7 +183,8 @@ fn is_in_c(first: &[u8], line: &[u8]) -> bool {
             || is_exactly_one_of("return", first))
 }
 
-fn bars_in(row: &[u8]) -> usize {
+/// How many bars a row has.
+pub fn bars_in(row: &[u8]) -> usize {
     let mut bars = 0usize;
     for byte in row {
         if *byte == b'|' {
@@ -273,7 +253,10 @@ pub fn too_large(alloc: Global, line: &mut Line, place: &Place<'_>) -> Result<()
         );
     } else if matches!(after_gap(place.text), Ok(rest) if rest.len() == place.rest.len()) {
         // Nothing stands before it but white space and comments.
-        line.say_number("the test's name has more than {} bytes", MAX_TEST_NAME);
+        line.say_number(
+            "the test's name has more than {} bytes: write a shorter one",
+            MAX_TEST_NAME,
+        );
     } else if is_exactly_one_of("( ~ not", token) {
         line.say_of_number(
             "{} is one too many: at most {} brackets and negations may be open at once",
@@ -284,7 +267,11 @@ pub fn too_large(alloc: Global, line: &mut Line, place: &Place<'_>) -> Result<()
         // What stands before the end of a cell, of an item or of an atom.
         let item = up_to_any(place.rest, b"|;}/\\)").trim_ascii_end();
         let (sentence, named, most) = match limit_at(alloc, place)? {
-            Limit::Cores => ("{}: a test has at most {} cores", token, MAX_CORES),
+            Limit::Cores => (
+                "{} is one too many: a test has at most {} cores",
+                token,
+                MAX_CORES,
+            ),
             Limit::Locations => (
                 "{} is one too many: a test has at most {} locations",
                 item,

@@ -1,7 +1,7 @@
 //! What is said of a statement in C, C++ or Rust that stands in a cell: the cells that do the same here. It is said only where all of the
 //! statement is known.
 
-use crate::assignment::{location_in, says_assignment, says_step};
+use crate::assignment::{location_in, says_assignment, says_short_event, says_step};
 use crate::c_forms::{is_type, said_of_access};
 use crate::calls::{Act, act_of, is_sequential};
 use crate::instructions::{COMPARE_AND_EXCHANGE, LOOP, STRAIGHT};
@@ -10,11 +10,11 @@ use crate::line::{Line, Piece};
 use crate::mnemonics::is_known_name;
 use crate::numbers::number_in;
 use crate::quotes::{
-    after_byte, digits_and_letters, first_bytes, has, is_all_digits, is_bare, last_bytes,
+    after_byte, digits_and_letters, ends_with_name, first_bytes, has, is_bare, last_bytes,
     last_word, up_to,
 };
 use crate::tables::{is_exactly_one_of, is_one_of};
-use crate::target::{Target, say_target};
+use crate::target::{Target, say_cells, say_registers};
 
 const MUTEX: &str =
     "{}: write MOV EAX,$1, and in the next cell XCHG [{}],EAX, with a free register for EAX; where the lock was free it is 0 then, so ask for that in the condition, as 0:EAX=0";
@@ -29,6 +29,15 @@ const NOTHING: &str = "{}: leave it out: it changes no final state";
 
 const THREAD: &str =
     "{}: leave it out: each core's instructions stand in a column of their own, below P0 | P1 ;";
+
+const GUARD: &str =
+    "{}: a lock is taken by MOV EAX,$1, and in the next cell XCHG [l],EAX, with a free register for EAX; it is given back by MOV [l],$0";
+
+const RESULT: &str =
+    "{} isn't read: no step computes this: write XCHG [x],EAX, with the word that it comes to in EAX";
+
+const STATIC: &str =
+    "{}: a location is declared nowhere: leave it out, and write a value that it begins with into the initial state, as { x=1; }";
 
 const COMPARE: &str =
     "{}: a program has no compares: leave it out, for a location write a load, as MOV EAX,[x], and ask for the value in the condition, as 0:EAX=1";
@@ -69,7 +78,35 @@ pub fn says_statement(line: &mut Line, cell: &[u8]) -> bool {
         return true;
     }
     if is_exactly_one_of("asm __asm__ __asm _asm", first) {
-        line.say_of(said_of_assembly(cell), cell);
+        let inside = last_bytes(cell, cell.len().saturating_sub(first.len())).trim_ascii();
+        if is_instruction(digits_and_letters(inside)) {
+            line.say_of(
+                "{}: write the instruction alone, without what stands before it",
+                cell,
+            );
+        } else {
+            line.say_of(said_of_assembly(cell), cell);
+        }
+        return true;
+    }
+    if has(cell, b"std::thread") || has(cell, b"thread::spawn") {
+        line.say_of(THREAD, cell);
+        return true;
+    }
+    if is_one_of("static atomic_int atomic_bool _Atomic", first) && !cell.contains(&b'(') {
+        line.say_of(STATIC, cell);
+        return true;
+    }
+    if has(cell, b"lock_guard") || has(cell, b"unique_lock") || has(cell, b"scoped_lock") {
+        line.say_of(GUARD, cell);
+        return true;
+    }
+    if has(cell, b"atomic<") || has(cell, b"Atomic<") {
+        line.say_of(STATIC, cell);
+        return true;
+    }
+    if (has(cell, b"&&") || (has(cell, b" ? ") && cell.contains(&b':'))) && !is_instruction(first) {
+        line.say_of(STRAIGHT, cell);
         return true;
     }
     if is_compare(cell) {
@@ -79,7 +116,7 @@ pub fn says_statement(line: &mut Line, cell: &[u8]) -> bool {
     let statement = statement_in(cell);
     match call_in(statement.right) {
         Some(call) => says_call(line, &statement, &call),
-        None if statement.left.is_empty() => says_step(line, cell),
+        None if statement.left.is_empty() => says_step(line, cell) || says_short_event(line, cell),
         None => says_assignment(line, &statement),
     }
 }
@@ -92,7 +129,11 @@ fn is_compare(cell: &[u8]) -> bool {
 /// Of assembly in a statement of C.
 fn said_of_assembly(cell: &[u8]) -> &'static str {
     let is_fence = has(cell, b"\"mfence") || (has(cell, b"lock") && has(cell, b"sp)"));
-    if has(cell, b"mov") || has(cell, b"xchg") || has(cell, b"xadd") {
+    if cell.ends_with(b"lock") {
+        "{}: LOCK and its instruction stand in one cell, without ; and quotation marks: LOCK XADD [x],EAX; what locks a word of the stack is a fence: MFENCE"
+    } else if cell.contains(&b'{') {
+        "{}: write each instruction in the braces into a cell of its own, as MOV [x],$1 or MOV EAX,[x]"
+    } else if has(cell, b"mov") || has(cell, b"xchg") || has(cell, b"xadd") {
         "{}: write each instruction in the quotation marks into a cell of its own, as MOV [x],$1 or MOV EAX,[x]"
     } else if is_fence {
         "{}: write MFENCE"
@@ -142,7 +183,7 @@ fn without_types(cell: &[u8]) -> &[u8] {
 fn up_to_assignment(text: &[u8]) -> &[u8] {
     for at in 0..text.len() {
         let rest = &text[at..];
-        if rest.starts_with(b"(") {
+        if rest.starts_with(b"(") && ends_with_name(&text[..at]) {
             return text;
         }
         if rest.starts_with(b":=")
@@ -251,6 +292,7 @@ fn said_of_act(act: Act) -> Option<&'static str> {
         Act::Barrier => Some(COMPILER),
         Act::Nothing => Some(NOTHING),
         Act::Thread => Some(THREAD),
+        Act::Compute => Some(RESULT),
         _ => None,
     }
 }
@@ -272,12 +314,22 @@ fn says_access(
         return false;
     };
     line.say_of("{}: write ", statement.cell);
-    say_target(line, target);
-    if matches!(act, Act::Store)
+    say_cells(line, target);
+    if matches!(target, Target::ExchangeNumber(..) | Target::AddNumber(..))
+        && is_bare(statement.left)
+        && !is_one_of("EAX", statement.left)
+    {
+        line.say_with(
+            ", which then has what {} gets",
+            &[Piece::Shown(statement.left)],
+        );
+    }
+    if matches!(act, Act::Store | Act::Unlock)
         && is_sequential(call.function, call.arguments, !call.receiver.is_empty())
     {
         line.say(", and in the next cell MFENCE, which keeps it before later loads");
     }
+    say_registers(line, target);
     true
 }
 

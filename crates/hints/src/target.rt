@@ -3,6 +3,8 @@
 use crate::line::{Line, Piece};
 use crate::registers::parent_of;
 
+const FOR_ONE: &str = "; {} is for {}: take a register that the core doesn't use";
+
 /// One cell or two. A location and a register have their names.
 #[derive(Clone, Copy)]
 pub enum Target<'a> {
@@ -43,37 +45,91 @@ impl<'a> Target<'a> {
         }
     }
 
-    /// The first of its registers that isn't read, nor a part of one that is.
-    fn foreign_register(self) -> Option<&'a [u8]> {
-        let (first, second) = match self {
+    /// Its registers, of which a target with one has none second.
+    fn registers(self) -> (&'a [u8], &'a [u8]) {
+        match self {
             Target::StoreRegister(_, reg)
             | Target::Load(reg, _)
             | Target::SetNumber(reg, _)
             | Target::Exchange(_, reg)
-            | Target::Add(_, reg) => (reg, reg),
+            | Target::Add(_, reg) => (reg, &[]),
             Target::SetRegister(reg, other) => (reg, other),
-            _ => return None,
-        };
-        if parent_of(first).is_none() {
-            Some(first)
-        } else if parent_of(second).is_none() {
-            Some(second)
-        } else {
-            None
+            _ => (&[], &[]),
+        }
+    }
+
+    /// The same with these registers.
+    fn with_registers(self, first: &'a [u8], second: &'a [u8]) -> Target<'a> {
+        match self {
+            Target::StoreRegister(loc, _) => Target::StoreRegister(loc, first),
+            Target::Load(_, loc) => Target::Load(first, loc),
+            Target::SetNumber(_, value) => Target::SetNumber(first, value),
+            Target::Exchange(loc, _) => Target::Exchange(loc, first),
+            Target::Add(loc, _) => Target::Add(loc, first),
+            Target::SetRegister(..) => Target::SetRegister(first, second),
+            other => other,
         }
     }
 }
 
-/// Writes the cells, and for a register that isn't read that another one takes its place.
-pub fn say_target(line: &mut Line, target: Target<'_>) {
-    let (form, pieces) = target.form();
-    line.say_with(form, &pieces);
-    if let Some(name) = target.foreign_register() {
-        line.say_with(
-            "; for {} take one of EAX, EBX, ECX, EDX, ESI, EDI that the core doesn't use",
-            &[Piece::Shown(name)],
-        );
+/// Whether a word is a register that isn't read, nor a part of one that is.
+fn is_foreign(word: &[u8]) -> bool {
+    !word.is_empty() && parent_of(word).is_none()
+}
+
+/// The register that is written for another one, so that it isn't the one beside it.
+fn written_for<'a>(word: &'a [u8], beside: &[u8]) -> &'a [u8] {
+    let is_taken = match parent_of(beside) {
+        Some(parent) => parent == "EAX",
+        None => false,
+    };
+    match (is_foreign(word), is_taken) {
+        (false, _) => word,
+        (true, false) => b"EAX",
+        (true, true) => b"EBX",
     }
+}
+
+/// Writes the cells, with a register that is read for each that isn't, and says so.
+pub fn say_target(line: &mut Line, target: Target<'_>) {
+    say_cells(line, target);
+    say_registers(line, target);
+}
+
+/// Writes the cells, with a register that is read for each that isn't.
+pub fn say_cells(line: &mut Line, target: Target<'_>) {
+    let (first, second) = target.registers();
+    let for_first = written_for(first, second);
+    let for_second = written_for(second, for_first);
+    let (form, pieces) = target.with_registers(for_first, for_second).form();
+    line.say_with(form, &pieces);
+}
+
+/// Says which registers are written for others.
+pub fn say_registers(line: &mut Line, target: Target<'_>) {
+    let (first, second) = target.registers();
+    let for_first = written_for(first, second);
+    let for_second = written_for(second, for_first);
+    let (sentence, named) = match (is_foreign(first), is_foreign(second)) {
+        (true, true) => (
+            "; {} is for {}, and {} for {}: take registers that the core doesn't use",
+            [for_first, first, for_second, second],
+        ),
+        (true, false) => (FOR_ONE, [for_first, first, first, first]),
+        (false, true) => (FOR_ONE, [for_second, second, second, second]),
+        (false, false) => return,
+    };
+    line.say_with(sentence, &shown(named));
+}
+
+/// These bytes as what stands in gaps.
+fn shown(named: [&[u8]; 4]) -> [Piece<'_>; 4] {
+    [
+        Piece::Shown(named[0]),
+        Piece::Shown(named[1]),
+        Piece::Shown(named[2]),
+        Piece::Shown(named[3]),
+    ]
 }
 
 /// Writes the cells that copy a location to another.
