@@ -34,6 +34,7 @@
 
 - tools/campaign that keeps nothing: a line a test as the program answers it, the program that its words name, claims that must hold, tests
   that end otherwise by depth, bus, model or program, rows that are alike, counts of caches as `run` has them, and tables of numbers.
+- A week's questions of what caches do, by one call beside a shell loop of `run`; its table in pandas, and pictures, where they can be made.
 - What caches did, in reports and campaigns, by a count of its own over the steps of traces (cache_counts.py); that script takes more runs.
 - tools/fences: of each test of the gallery just the least sets of fences that theory finds among all placements.
 - tools/workload: its tests are read back, end, and show what they are named for. tools/plot: pictures of such a table, where matplotlib is there.
@@ -56,6 +57,7 @@ import cache_counts
 import cache_tools
 import campaign_once
 import campaign_runs
+import campaign_week
 import cluster_runs
 import cycle_meanings
 import cycle_runs
@@ -225,7 +227,7 @@ def main():
     judge_comparisons(tally)
     judge_program(program, tally)
     for part in (imported_files, foreign_forms, byte_machine, cycle_meanings, cycle_runs, gallery_shapes, source_runs, module_runs,
-                 graph_runs, hardware_runs, campaign_runs, campaign_once, cache_counts, cache_tools,
+                 graph_runs, hardware_runs, campaign_runs, campaign_once, campaign_week, cache_counts, cache_tools,
                  fences_runs, cluster_runs):
         part.judge(program, tally)
     return tally.end()

@@ -3,13 +3,11 @@ otherwise on one row than on another, rows that are alike, what caches did, and 
 import csv
 import json
 import os
-import random
 import re
 import shutil
 import subprocess
 import sys
 import tempfile
-import time
 
 from scripts import COULD_NOT, DIFFERS, INTERRUPTED, SAME
 from tool_runs import GALLERY, TOOLS, described, gallery, interrupted, stand_in, test_file, tool, write
@@ -251,29 +249,6 @@ def judge_counts(program, tally, room):
     judge_table(table, rows, tally)
 
 
-# The machines of a week's questions: four protocols, three line sizes, two buses. So many of the rows are looked at.
-WEEK = ["--protocols", "msi,mesi,moesi,mosi", "--shapes", "1x2x1,1x2x2,1x2x4", "--buses", "atomic,split"]
-MACHINES, DRAWN = 24, 60
-
-
-def judge_week(program, tally, room):
-    """The gallery on all these machines, by one call; some rows, drawn by a seed, are those of `run`."""
-    table, begun = os.path.join(room, "week.csv"), time.monotonic()
-    done = tool("campaign", "counts", "--program", program, *WEEK, "--seeds", "1", "--csv", table, GALLERY)
-    print("campaign: what caches do in 128 tests on 24 machines: %d s" % (time.monotonic() - begun))
-    found = {}
-    with open(table, encoding="ascii", newline="") as file:
-        for row in csv.DictReader(file):
-            machine = [word for name in ("protocol", "bus", "sets", "ways", "words") for word in ("--" + name, row[name])]
-            counts = found.setdefault((row["test"], *machine), {})
-            counts[int(row["core"]), row["count"]] = [int(row[name]) for name in ("value", "least", "greatest")]
-    rows = len(list(gallery())) * MACHINES
-    tally.add("a week's questions", None if done.returncode == SAME and len(found) == rows else described(done)[-300:])
-    for name, *machine in random.Random(1).sample(sorted(found), DRAWN):
-        wanted = counted(program, name, machine, [0])
-        tally.add("a row of a week", None if found[name, *machine] == wanted else "%s: %s" % (name, machine))
-
-
 def judge_table(table, rows, tally):
     """The table is read by pandas, where that is there."""
     program = "import pandas, sys\nfound = pandas.read_csv(sys.argv[1])\nprint(len(found), found.groupby('count')['value'].sum()['misses'])\n"
@@ -361,6 +336,6 @@ def judge_stops(program, tally, room):
 def judge(program, tally):
     program = os.path.abspath(program)
     with tempfile.TemporaryDirectory() as room:
-        for part in (judge_lines, judge_program, judge_asserts, judge_depths, judge_differences, judge_alike, judge_counts, judge_week,
-                     judge_tables, judge_page, judge_stops):
+        for part in (judge_lines, judge_program, judge_asserts, judge_depths, judge_differences, judge_alike, judge_counts, judge_tables,
+                     judge_page, judge_stops):
             part(program, tally, room)

@@ -113,14 +113,14 @@ def judge_why(program, tally, room):
     known, place = why_forms.program(room, program), os.path.join(room, "reasons")
     done = tool("campaign", "why", known, "--results", place, *map(test_file, ("SB", "MP", "LB")))
     wanted = ("OPEN    LB --model tso expected=forbidden - more than 100000 cases\n"
-              "same    MP --model tso expected=forbidden found=forbidden leaves=3 true=0 false=3 states=3\n"
+              "same    MP --model tso expected=forbidden found=forbidden leaves=1 true=0 false=3 states=3\n"
               "same    SB --model tso expected=allowed found=allowed true=1 false=3 states=4\n")
     tally.add("answers of why", None if (done.returncode, done.stdout) == (COULD_NOT, wanted) else described(done))
     # by the name of MP, a test whose condition can be
     with open(test_file("SB"), encoding="ascii") as file:
         other = write(os.path.join(room, "other"), re.sub(r"^TSO=.*\n", "", file.read(), flags=re.M).replace("X86 SB", "X86 MP"))
     done = tool("campaign", "why", known, "--results", place, other)
-    told = done.stdout.startswith("DIFFERS MP --model tso found=forbidden leaves=3 true=1") and done.stdout.endswith("- not by outcomes\n")
+    told = done.stdout.startswith("DIFFERS MP --model tso found=forbidden leaves=1 true=1") and done.stdout.endswith("- not by outcomes\n")
     tally.add("an answer of why that all outcomes contradict", None if done.returncode == 1 and told else described(done))
     bare = stand_in(os.path.join(room, "bare"), program, "case $1 in --help) printf 'Commands:\\n  outcomes  all\\n' >&2; exit 2;; esac")
     done = tool("campaign", "why", bare, "--results", place, other)

@@ -53,7 +53,7 @@ def outcomes(answer, unbuffered, told):
 
 def cycle(reason, told):
     """The cycle of a reason: a column for each core, as the cycle comes to them, and its edges."""
-    edges = next(step["cycle"] for step in reason["steps"] if step["step"] == "cycle")
+    edges = next(closing["cycle"] for closing in closings_of(reason) if closing["step"] == "cycle")
     cores = list(dict.fromkeys(event_core(edge["from"]) for edge in edges))
     columns = {core: sorted({edge["from"] for edge in edges if event_core(edge["from"]) == core}, key=lambda text: text.split()[0])
                for core in cores}
@@ -78,63 +78,95 @@ def cycle(reason, told):
     return sheet.svg()
 
 
-class Question:
-    """Which write a read reads from, with the answers and what each leads to; a leaf is a text."""
+def closings_of(reason):
+    """What closes the cases of a reason, line by line."""
+    return [step["closing"] for step in reason["steps"] if step.get("closing")]
 
-    def __init__(self, read):
-        self.read, self.branches = read, []
+
+class Question:
+    """A question, with its answers and what each leads to; a text closes one."""
+
+    def __init__(self, text):
+        self.text, self.branches = text, []
 
     def leaves(self):
         return sum(below.leaves() if isinstance(below, Question) else 1 for _, below in self.branches)
 
+    def depth(self):
+        return 1 + max(below.depth() if isinstance(below, Question) else 0 for _, below in self.branches)
 
-def tree_of(steps, at=0, depth=0):
+
+# What a question asks, by its word or by a word of its answers.
+ASKED = {"part": "which part is true?", "reader": "who reads it?", "from": "what is read from?", "last": "which is the last?", "before": "which is first?"}
+
+
+def question_of(step):
+    words = [step["question"]] + step["answers"][0][0].split(" ")
+    return next((ASKED[word] for word in words if word in ASKED), "what is returned?")
+
+
+def answer_of(step):
+    """The answers of a case, a line for each fact."""
+    return "\nor\n".join(",\n".join(facts) for facts in step["answers"])
+
+
+def closing_of(closing):
+    """What closes a case, as a text of a few lines."""
+    kind = closing["step"]
+    if "cycle" in closing:
+        return "cycle:\n" + "\n".join("%s  %s" % (edge["from"], edge["relation"]) for edge in closing["cycle"])
+    if kind == "false":
+        return "not as asked:\n" + ",\n".join("%s is %s" % (place, " or ".join(map(str, words))) for place, words in closing["places"].items())
+    if kind == "between":
+        return "%s is between\n%s\nand %s" % (closing["between"], closing["read"], closing["write"])
+    return "by lemma %d" % closing["lemma"] if kind == "lemma" else "no %s is left of\n%s" % (closing["question"], closing["of"])
+
+
+def tree_of(steps, at):
     """The tree that begins at a step, and the first step after it."""
-    step = steps[at]
-    if step["step"] == "false":
-        return "not as asked:\n" + ", ".join("%s is %s" % (place, " or ".join(map(str, words))) for place, words in step["places"].items()), at + 1
-    if step["step"] == "cycle":
-        return "cycle:\n" + "\n".join("%s  %s" % (edge["from"], edge["relation"]) for edge in step["cycle"]), at + 1
-    question = Question(step["read"].split("=")[0])
+    if steps[at]["step"] == "leaf":
+        return closing_of(steps[at]["closing"]), at + 1
+    question = Question(question_of(steps[at]))
     while at < len(steps):
         step = steps[at]
-        if (step["step"], step["depth"]) == ("endcases", depth):
+        if step["step"] == "endcases":
             return question, at + 1
-        is_last = step["step"] == "so"
-        below, at = tree_of(steps, at + 1, depth if is_last else depth + 1)
-        question.branches.append((" or ".join(step["from"]), below))
-        if is_last:
+        below, at = (closing_of(step["closing"]), at + 1) if step["closing"] else tree_of(steps, at + 1)
+        question.branches.append((answer_of(step), below))
+        if step["step"] == "so":
             break
     return question, at
 
 
 def reason(answer, told):
-    """A reason as a tree from left to right."""
-    tree, _ = tree_of(answer["steps"])
-    row, apart = 108, 270
-    sheet = drawn.Sheet(800, tree.leaves() * row + 20, told)
-    drawings = []
+    """A reason without lemmas as a tree from left to right."""
+    steps = [step for step in answer["steps"] if step["step"] != "given"]
+    tree, _ = tree_of(steps, 0)
+    row, apart = 108, 250
+    sheet = drawn.Sheet(270 + 2 * apart * tree.depth(), tree.leaves() * row + 20, told)
+    ways = []
 
     def place(node, depth, top):
         """Draws a node below this row; answers where its middle is, half its size, and how many rows it has."""
-        x = 110 + depth * apart
+        x = 110 + 2 * depth * apart
         if not isinstance(node, Question):
             y = top * row + row / 2 + 10
-            return (x, y), sheet.boxed(x, y, node, "lit", size=12, wide=160), 1
+            return (x, y), sheet.boxed(x, y, node, "lit", size=12), 1
         taken, ends = 0, []
-        for answer_text, below in node.branches:
+        for text, below in node.branches:
             end, half, rows = place(below, depth + 1, top + taken)
-            ends.append((answer_text, end, half))
+            middle = sheet.boxed(x + apart, end[1], text, size=12)
+            ways.append(((x + apart + middle[0], end[1]), (end[0] - half[0], end[1])))
+            ends.append((end[1], middle[0]))
             taken += rows
-        y = sum(end[1] for _, end, _ in ends) / len(ends)
-        own = sheet.boxed(x, y, "%s\nreads from?" % node.read)
-        for answer_text, end, half in ends:
-            drawings.append(((x + own[0], y), (end[0] - half[0], end[1]), answer_text))
+        y = sum(end for end, _ in ends) / len(ends)
+        own = sheet.boxed(x, y, node.text)
+        ways.extend(((x + own[0], y), (x + apart - half, end)) for end, half in ends)
         return (x, y), own, taken
 
     place(tree, 0, 0)
-    for start, end, label in drawings:
-        sheet.arrow(start, end, "rf", 0, label, 0.5, 12)
+    for start, end in ways:
+        sheet.arrow(start, end)
     return sheet.svg()
 
 

@@ -1,16 +1,19 @@
 """The module tso, tools/tso, for tests/batteries.py: its answers are what the program prints, and what is no answer is an exception."""
+import dataclasses
 import json
 import os
 import re
 import subprocess
 import sys
 import tempfile
+import time
 
 import why_forms
 from tool_runs import TOP, TOOLS, described, gallery, stand_in, test_file, write
 
 import litmus
 import tso
+from tso import processes
 
 CHOICES = "seed 1 1000"
 
@@ -93,7 +96,7 @@ def judge_faults(program, tally, room):
     for call, kind, members in (
             (lambda: tso.outcomes("X86 SB\n{ }\n P0 ;\n MOV [x],$4294967296 ;\n", program=program), tso.Refused,
              {"text": "test", "line": 4, "word": None, "name": "BadNumber",
-              "hint": "line 4: 4294967296 is over 4294967295, the greatest value"}),
+              "hint": "line 4: 4294967296 is over 4294967295, the greatest value: write that or a smaller one"}),
             (lambda: tso.run(text, "0s 9s", program=program), tso.Refused, {"text": "choices", "line": None, "word": 2, "name": "NoSuchCore"}),
             (lambda: tso.check(text, "", program=program), tso.Refused, {"text": "order", "line": None, "word": None, "name": "NoOrder"}),
             (lambda: tso.outcomes("(*" + "x" * 2_000_000, program=program), tso.Refused, {"text": "input", "name": "TooLarge"}),
@@ -135,6 +138,67 @@ def judge_reasons(program, tally, room):
     tally.add("the commands of a program", None if {"outcomes", "why"} <= set(named) else str(named))
 
 
+# Shell scripts that never end; and others, each with an input, that print much before they read, read nothing, read late and are killed, close
+# their streams and go on, or leave behind what holds these for a moment.
+NEVER_END = "cat > /dev/null; sleep 60", "exec >&- 2>&-; sleep 60", "while :; do echo more; done"
+BEHAVE_BADLY = (
+    ("head -c 300000 /dev/zero; cat", b"x" * 300_000), ("exit 3", b"x" * 300_000), ("echo a; echo b >&2", b""),
+    ("sleep 0.1; cat; echo b >&2; kill -9 $$", b"x" * 70_000), ("exec >&- 2>&- <&-; sleep 0.2; exit 7", b"x"), ("sleep 0.2 & echo left", b""))
+
+# Seconds that each of them may take.
+BRIEF, PATIENT = 1, 20
+
+
+def judge_at_once(tally):
+    """Programs that run at once, four at a time, end as each does alone; those that never end are ended at once, and none is left."""
+    left = [(["sh", "-c", script], b"x") for script in NEVER_END] + [(["sh", "-c", script], given) for script, given in BEHAVE_BADLY]
+    left.insert(1, ([os.path.join(TOP, "no such program")], b""))
+    wanted = {words[-1]: subprocess.TimeoutExpired if words[-1] in NEVER_END else ended_alone(words, given) for words, given in left}
+    found, at_once, begun = {}, processes.AtOnce(), time.monotonic()
+    while left or at_once:
+        while left and len(at_once) < 4:
+            words, given = left.pop(0)
+            at_once.begin(words[-1], words, given, BRIEF if words[-1] in NEVER_END else PATIENT)
+        for mark, done in at_once.ended(True):
+            found[mark] = type(done) if isinstance(done, Exception) else (done.returncode, done.stdout, done.stderr)
+    for mark, due in wanted.items():
+        tally.add("at once: " + mark, None if found.get(mark) == due else "%.300s is not %.300s" % (found.get(mark), due))
+    took = time.monotonic() - begun
+    tally.add("programs at once", None if not processes.running and took < PATIENT else "%s run, %.1f s" % (processes.running, took))
+    at_once.begin("late", ["sh", "-c", "sleep 0.1; echo late"], b"", BRIEF)
+    time.sleep(1.1 * BRIEF)
+    done = at_once.ended(True)[0][1]
+    tally.add("what ended while nobody asked", None if getattr(done, "stdout", None) == b"late\n" else str(done))
+
+
+def ended_alone(words, given):
+    """How a program ends alone."""
+    try:
+        done = processes.answered(words, given, PATIENT)
+    except (OSError, subprocess.TimeoutExpired) as fault:
+        return type(fault)
+    return done.returncode, done.stdout, done.stderr
+
+
+def judge_records(tally):
+    """Answers are dataclasses whose members can't be set."""
+    first, same = (tso.Spread(sum=3, least=1, greatest=2) for _ in range(2))
+    told = dataclasses.asdict(first), repr(first), first == same, hash(first) == hash(same), first == tso.Spread(3, 1, 1)
+    wanted = {"sum": 3, "least": 1, "greatest": 2}, "Spread(sum=3, least=1, greatest=2)", True, True, False
+    tally.add("a record", None if told == wanted else str(told))
+    tally.add("a record like another", None if dataclasses.replace(first, sum=4) == tso.Spread(4, 1, 2) else "another record")
+    for name, wrong, kind in (("a member that is set", lambda: setattr(first, "sum", 4), dataclasses.FrozenInstanceError),
+                              ("a member that goes", lambda: delattr(first, "sum"), dataclasses.FrozenInstanceError),
+                              ("too few members", lambda: tso.Spread(1, 2), TypeError),
+                              ("too many members", lambda: tso.Spread(1, 2, 3, 4), TypeError),
+                              ("an unknown member", lambda: tso.Spread(1, 2, 3, most=4), TypeError),
+                              ("a member said twice", lambda: tso.Spread(1, 2, 3, sum=4), TypeError)):
+        try:
+            tally.add(name, "no exception, but %s" % (wrong(),))
+        except kind:
+            tally.add(name)
+
+
 def judge_places(program, tally, room):
     """The program is found: where it is named, of a script that tells it, and beside the module."""
     real, link, script = os.path.realpath(program), os.path.join(room, "tso"), os.path.join(room, "script")
@@ -152,6 +216,8 @@ def judge_places(program, tally, room):
 def judge(program, tally):
     judge_json(program, tally)
     judge_lines(program, tally)
+    judge_at_once(tally)
+    judge_records(tally)
     with tempfile.TemporaryDirectory() as room:
         for part in (judge_faults, judge_reasons, judge_places):
             part(program, tally, room)

@@ -24,45 +24,76 @@ def claim_holds(quantifier, true, false):
     return {"exists": true > 0, "~exists": true == 0, "forall": false == 0}[quantifier]
 
 
+class Question:
+    """A question to the program of a test, whose answer is a record, plain data. There are four commands:
+
+    - outcomes: all final states: `states`, a list of values by place, and how many of them make the condition `true` and `false`; where there
+      are too many states, `unfinished`, the limit, and those that were `met`, and how many of these make the condition `true`;
+    - sweep: how often seeds met each state: `states`, by the state's text; how many runs had no end: `unfinished`; how many made the
+      condition `true` and `false`;
+    - why: whether what the condition asks for can be so: `answer`, never or allowed, of what is `asked` (a quantifier and a truth, None without
+      a condition); `leaves`, those of the proof, of a never; `unfinished`, the limit, where there are too many cases;
+    - counts: what the caches did in the runs of seeds that ended: `cores`, for each core by the count's name the `sum`, the `least` and the
+      `greatest`, None where no run ended; how many `ended` and how many were `unfinished`.
+
+    What is no answer is a record too: `fault`, what went wrong."""
+
+    def __init__(self, command, program, text, options, limit):
+        self.command = command
+        self.asked = tso.question(command, text, {"program": program, "further": options, "limit": limit})
+
+    def ask(self):
+        """The record, for which this waits."""
+        return self.record_of(self.asked.ask)
+
+    def record(self, done):
+        """The record of the program that ended so."""
+        return self.record_of(lambda: self.asked.answer(done))
+
+    def record_of(self, answer):
+        try:
+            return RECORDS[self.command](answer())
+        except tso.Unfinished as met:
+            return LIMITS[self.command](met)
+        except tso.NoAnswer as fault:
+            return {"fault": str(fault)}
+
+
 def outcomes(program, text, options, limit):
-    """All final states: `states`, a list of values by place, and how many of them make the condition `true` and `false`;
-    where there are too many states, `unfinished`, the limit, and those that were `met`, and how many of these make the condition `true`;
-    or `fault`, what went wrong."""
-    try:
-        found = tso.outcomes(text, program=program, further=options, limit=limit)
-    except tso.Unfinished as met:
-        # an older program tells no state that it has met
-        states = met.met or []
-        return {"unfinished": met.states, "met": [state.values for state in states], "true": sum(state.holds is True for state in states)}
-    except tso.NoAnswer as fault:
-        return {"fault": str(fault)}
+    """The record of all final states."""
+    return Question("outcomes", program, text, options, limit).ask()
+
+
+def why(program, text, options, limit):
+    """The record of whether what a condition asks for can be so."""
+    return Question("why", program, text, options, limit).ask()
+
+
+def of_outcomes(found):
     return dict(observed(found), states=[state.values for state in found.states])
 
 
-def sweep(program, text, options, first, seeds, limit):
-    """How often these seeds met each state: `states`, by the state's text; how many runs had no end: `unfinished`; how many made the
-    condition `true` and `false`; or `fault`."""
-    try:
-        found = tso.sweep(text, from_=first, seeds=seeds, program=program, further=options, limit=limit)
-    except tso.NoAnswer as fault:
-        return {"fault": str(fault)}
+def of_states_met(met):
+    # an older program tells no state that it has met
+    states = met.met or []
+    return {"unfinished": met.states, "met": [state.values for state in states], "true": sum(state.holds is True for state in states)}
+
+
+def of_sweep(found):
     states = {" ".join("%s=%d" % pair for pair in met.values.items()): met.runs for met in found.states}
     return dict(observed(found), states=states, unfinished=found.unfinished)
 
 
-def why(program, text, options, limit):
-    """Whether what the condition asks for can be so: `answer`, never or allowed, of what is `asked` (a quantifier and a truth, None without a
-    condition); `leaves`, those of the proof, of a never; `unfinished`, the limit, where there are too many cases; or `fault`."""
-    try:
-        found = tso.why(text, program=program, further=options, limit=limit)
-    except tso.Unfinished as met:
-        return {"unfinished": met.cases}
-    except tso.NoAnswer as fault:
-        return {"fault": str(fault)}
+def of_reason(found):
     asked = found.asked and [found.asked.kind, found.asked.truth]
     if isinstance(found, tso.Never):
         return {"answer": "never", "asked": asked, "leaves": found.leaves}
     return {"answer": "allowed", "asked": asked}
+
+
+def of_counts(found):
+    cores = found.cores and [{name: dict(vars(spread)) for name, spread in vars(core).items()} for core in found.cores]
+    return {"cores": cores, "ended": found.runs.ended, "unfinished": found.runs.unfinished}
 
 
 def observed(found):
@@ -70,15 +101,9 @@ def observed(found):
     return {"true": found.observation.true, "false": found.observation.false} if found.observation else {"true": 0, "false": 0}
 
 
-def counts(program, text, options, first, seeds, limit):
-    """What the caches did in the runs of these seeds that ended: `cores`, for each core by the count's name the `sum`, the `least` and the
-    `greatest`, None where no run ended; how many `ended` and how many were `unfinished`; or `fault`."""
-    try:
-        found = tso.counts(text, from_=first, seeds=seeds, program=program, further=options, limit=limit)
-    except tso.NoAnswer as fault:
-        return {"fault": str(fault)}
-    cores = found.cores and [{name: dict(vars(spread)) for name, spread in vars(core).items()} for core in found.cores]
-    return {"cores": cores, "ended": found.runs.ended, "unfinished": found.runs.unfinished}
+# The record of each command's answer, and of a limit that it met.
+RECORDS = {"outcomes": of_outcomes, "sweep": of_sweep, "why": of_reason, "counts": of_counts}
+LIMITS = {"outcomes": of_states_met, "why": lambda met: {"unfinished": met.cases}}
 
 
 def counts_of_cores(first, second):

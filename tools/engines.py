@@ -1,8 +1,6 @@
 """What carries out the tasks of a campaign: processes of this machine, or a cluster of Dask's."""
 import collections
-import concurrent.futures
 import glob
-import logging
 import os
 import queue
 import shutil
@@ -42,29 +40,49 @@ class Waiting:
         return bool(self.tasks) or self.take_one()
 
 
-def by_processes(program, coming, processes):
-    """The results of these tasks, which may still be made, by processes of this machine, as they come."""
-    waiting, tried, running = Waiting(coming), collections.Counter(), {}
-    with concurrent.futures.ThreadPoolExecutor(processes) as pool:
+class Asking:
+    """A task that is carried out by a program: its steps, and the question that is asked now."""
+
+    def __init__(self, task, program):
+        self.task, self.steps = task, task.steps(program)
+        self.question = next(self.steps)
+
+    def asked(self):
+        """Words, input and limit of the call that asks the question."""
+        asked = self.question.asked
+        return asked.words, asked.given, asked.limit
+
+    def result(self, done):
+        """The task's result, once the program has ended so; None where there is a further question then."""
         try:
-            while waiting.is_one() or running:
-                while len(running) < 2 * processes and waiting.is_one():
-                    task = waiting.tasks.popleft()
-                    tried[task.key] += 1
-                    running[pool.submit(task.carry_out, program)] = task
-                how_long = 0 if waiting.take_one() else None
-                done, _ = concurrent.futures.wait(running, how_long, return_when=concurrent.futures.FIRST_COMPLETED)
-                for future in done:
-                    task, one = running.pop(future), future.result()
-                    if "fault" in one and tried[task.key] < TRIES:
-                        waiting.tasks.append(task)
-                    else:
-                        yield one
-        except BaseException:
-            # what runs has no end of its own that anybody waits for
-            pool.shutdown(wait=False, cancel_futures=True)
-            tso.processes.end_all("stopped")
-            raise
+            self.question = self.steps.send(self.question.record(done))
+        except StopIteration as end:
+            return end.value
+        return None
+
+
+def by_processes(program, coming, processes):
+    """The results of these tasks, which may still be made, by processes of this machine, as they come. There is a single thread: several
+    would wait for each other longer than for most answers."""
+    waiting, tried, running = Waiting(coming), collections.Counter(), tso.processes.AtOnce()
+    try:
+        while waiting.is_one() or running:
+            while len(running) < processes and waiting.is_one():
+                asking = Asking(waiting.tasks.popleft(), program)
+                tried[asking.task.key] += 1
+                running.begin(asking, *asking.asked())
+            for asking, done in running.ended(not waiting.take_one()):
+                one = asking.result(done)
+                if one is None:
+                    running.begin(asking, *asking.asked())
+                elif "fault" in one and tried[asking.task.key] < TRIES:
+                    waiting.tasks.append(asking.task)
+                else:
+                    yield one
+    except BaseException:
+        # what runs has no end of its own that anybody waits for
+        tso.processes.end_all("stopped")
+        raise
 
 
 class NoCluster(Exception):
@@ -190,6 +208,7 @@ class Cluster:
         self.distributed, cloudpickle = dask()
         self.address, self.say = address, say
         # what Dask says of connections that end is told in one line here
+        import logging
         logging.disable(logging.CRITICAL)
         for module in work.modules:
             cloudpickle.register_pickle_by_value(module)

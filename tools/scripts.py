@@ -6,7 +6,6 @@ import os
 import re
 import signal
 import sys
-import traceback
 
 import tso.processes
 
@@ -26,6 +25,16 @@ def script(name):
         module = importlib.util.module_from_spec(importlib.util.spec_from_loader(name, loader))
         sys.modules[name] = module
         loader.exec_module(module)
+    return sys.modules[name]
+
+
+def later(name):
+    """A module of this folder that few calls need: it's read when it is first used."""
+    if name not in sys.modules:
+        spec = importlib.util.find_spec(name)
+        spec.loader = importlib.util.LazyLoader(spec.loader)
+        sys.modules[name] = importlib.util.module_from_spec(spec)
+        spec.loader.exec_module(sys.modules[name])
     return sys.modules[name]
 
 
@@ -185,8 +194,8 @@ def end_with(main, name, faults, stopped="stopped"):
         status, why = COULD_NOT, fault
     except MemoryError:
         status, why = COULD_NOT, "out of memory"
-    except Exception:
-        traceback.print_exc()
+    except Exception as fault:
+        sys.excepthook(type(fault), fault, fault.__traceback__)
         status, why = COULD_NOT, None
     tso.processes.end_all(stopped)
     forsake_output()

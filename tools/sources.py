@@ -7,9 +7,11 @@ from dataclasses import dataclass
 import answers
 import comments
 import faults
-import importer
 import inputs
 import litmus
+import scripts
+
+importer = scripts.later("importer")
 
 # What begins a comment, or is a test's first line.
 MARK = re.compile(r"\(\*|^X86(?:_64)?[ \t][^\n]*\n?", re.M)

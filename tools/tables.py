@@ -6,8 +6,10 @@ import re
 
 import tso
 
-COLUMNS = ("test", "command", "program", "model", "protocol", "bus", "depth", "sets", "ways", "words", "options", "judged", "core", "count",
-           "value", "least", "greatest", "runs")
+# What a row is of, and one of its numbers.
+OF_LINE = ("test", "command", "program", "model", "protocol", "bus", "depth", "sets", "ways", "words", "options", "judged")
+OF_NUMBER = ("core", "count", "value", "least", "greatest", "runs")
+COLUMNS = OF_LINE + OF_NUMBER
 
 # A test that ends at once.
 SMALLEST = "X86 smallest\n{ }\n P0 ;\n MFENCE ;\n"
@@ -20,12 +22,12 @@ def table_of(command, lines, program):
     """The table of these rows. `program` is one that says what machine it takes where none is named."""
     usual = usual_machine(program) if command in ("sweep", "counts") else {}
     text = io.StringIO()
-    writer = csv.DictWriter(text, COLUMNS, lineterminator="\n")
-    writer.writeheader()
+    writer = csv.writer(text, lineterminator="\n")
+    writer.writerow(COLUMNS)
     for line in lines:
         about = dict(about_row(command, line), **machine_of(line, usual))
-        for numbers in numbers_of(line.members) or [{}]:
-            writer.writerow(dict(about, **numbers))
+        told = [about.get(name) for name in OF_LINE]
+        writer.writerows(told + [numbers.get(name) for name in OF_NUMBER] for numbers in numbers_of(line.members) or [{}])
     return text.getvalue()
 
 

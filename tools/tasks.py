@@ -21,10 +21,36 @@ class Task:
         self.command, self.text, self.words, self.limit, self.seeds, self.show = command, text, words, limit, seeds, list(show)
         self.key = hashlib.sha256(json.dumps([digest, command, text, words, seeds, self.show]).encode()).hexdigest()[:32]
 
-    def carry_out(self, program):
-        """The result of this task: a record for a line of the file of results."""
-        found = {"outcomes": self.outcomes, "sweep": self.sweep, "why": self.why, "counts": self.counts}[self.command](program)
+    def steps(self, program):
+        """Makes the result of this task, a record for a line of the file of results: yields each question to the program, and is sent the
+        record of its answer."""
+        found = yield self.question(program)
+        if self.command == "why" and "fault" not in found:
+            beside = yield self.question_beside(program)
+            found = dict(found, **{name: beside[name] for name in ("states", "true", "false") if "states" in beside})
+        if self.seeds:
+            found = dict(found, seeds="%d+%d" % self.seeds)
         return dict(found, task=self.key, test=answers.name_of(self.text), options=" ".join(self.words))
+
+    def carry_out(self, program):
+        """The result of this task, for which this waits."""
+        steps, record = self.steps(program), None
+        while True:
+            try:
+                record = steps.send(record).ask()
+            except StopIteration as end:
+                return end.value
+
+    def question(self, program):
+        words = self.words + (self.show if self.command == "outcomes" else [])
+        if self.seeds:
+            words = ["--from", str(self.seeds[0]), "--seeds", str(self.seeds[1])] + words
+        return answers.Question(self.command, program, self.text, words, self.limit)
+
+    def question_beside(self, program):
+        """Beside the answer of `why`, all final states."""
+        depth = DEPTH_OF_MODEL[self.words[self.words.index("--model") + 1]]
+        return answers.Question("outcomes", program, self.text, ["--depth", str(depth)] + self.show, self.limit)
 
     def plain(self):
         """What a worker of a cluster is told of it."""
@@ -33,24 +59,6 @@ class Task:
     def fault(self, why):
         """Its result where it failed for good."""
         return {"fault": why, "task": self.key, "test": answers.name_of(self.text), "options": " ".join(self.words)}
-
-    def outcomes(self, program):
-        return answers.outcomes(program, self.text, self.words + self.show, self.limit)
-
-    def sweep(self, program):
-        return dict(answers.sweep(program, self.text, self.words, *self.seeds, self.limit), seeds="%d+%d" % self.seeds)
-
-    def counts(self, program):
-        return dict(answers.counts(program, self.text, self.words, *self.seeds, self.limit), seeds="%d+%d" % self.seeds)
-
-    def why(self, program):
-        """The answer of `why`, and beside it all final states, where their search ends."""
-        found = answers.why(program, self.text, self.words, self.limit)
-        if "fault" in found:
-            return found
-        depth = DEPTH_OF_MODEL[self.words[self.words.index("--model") + 1]]
-        beside = answers.outcomes(program, self.text, ["--depth", str(depth)] + self.show, self.limit)
-        return dict(found, **{name: beside[name] for name in ("states", "true", "false") if "states" in beside})
 
 
 class Machine:

@@ -13,6 +13,7 @@ Each function takes `program`, a path or a command's name (else `find()` says wh
 `further`, a list of words for the command line. What is no answer is an exception, a kind of NoAnswer: Refused has the line and the
 hint, Unfinished the limit that was met. The folder stands alone, with the standard library; docs/PYTHON.md has examples.
 """
+import functools
 import json
 import os
 import re
@@ -22,9 +23,9 @@ import sys
 
 from . import processes
 from .faults import BadWords, Failed, NoAnswer, NoProgram, Refused, TookTooLong, Unfinished
+from .making import made
 from .records import (Allowed, Asked, Cache, Check, Choices, Closing, Condition, Copy, Core, Counted, Counts, Edge, Holder, Machine, Met,
-                      Moment, Never, Observation, Outcomes, Reason, Run, Runs, Source, Spread, State, Step, Sweep, Trace, Traced, Witness,
-                      made)
+                      Moment, Never, Observation, Outcomes, Reason, Run, Runs, Source, Spread, State, Step, Sweep, Trace, Traced, Witness)
 
 # Statuses of the program.
 ANSWERED, REFUSED, BAD_WORDS, UNFINISHED, NOT_VALID = 0, 1, 2, 3, 4
@@ -119,12 +120,36 @@ def help_of(words, program):
 
 def call(words, given, program=None, limit=None):
     """What the program prints of this command line and input, and the status: ANSWERED, UNFINISHED or NOT_VALID. All else is raised."""
-    try:
-        done = processes.answered([chosen(program), *map(str, words)], given.encode("latin-1", "replace"), limit)
-    except subprocess.TimeoutExpired:
-        raise TookTooLong(limit) from None
-    except OSError as fault:
-        raise NoProgram(str(fault)) from None
+    return Question(words, given, program, limit).ask()
+
+
+class Question:
+    """What is asked of the program: the words of its command line, an input, and within how many seconds it is to answer. `read` makes the
+    answer of what it prints and its status."""
+
+    def __init__(self, words, given, program=None, limit=None, read=lambda said, status: (said, status)):
+        self.words, self.limit, self.read = [chosen(program), *map(str, words)], limit, read
+        self.given = given.encode("latin-1", "replace")
+
+    def ask(self):
+        """The answer, for which this waits."""
+        try:
+            done = processes.answered(self.words, self.given, self.limit)
+        except (OSError, subprocess.TimeoutExpired) as fault:
+            done = fault
+        return self.answer(done)
+
+    def answer(self, done):
+        """The answer of the program that ended so, as processes.AtOnce tells it."""
+        if isinstance(done, subprocess.TimeoutExpired):
+            raise TookTooLong(self.limit)
+        if isinstance(done, OSError):
+            raise NoProgram(str(done))
+        return self.read(*said_by(done))
+
+
+def said_by(done):
+    """What a program has printed that ended so, and its status. All but an answer is raised."""
     said, errors = done.stdout.decode("latin-1"), done.stderr.decode("latin-1")
     hint = re.search(r"^hint: (.*)", errors, re.M)
     if done.returncode == REFUSED and said.startswith("Refused "):
@@ -133,7 +158,7 @@ def call(words, given, program=None, limit=None):
         raise BadWords(errors.split("\n\n")[0].strip())
     if done.returncode not in (ANSWERED, UNFINISHED, NOT_VALID):
         raise Failed(done.returncode, said or errors)
-    if said.startswith("{") and (done.returncode == UNFINISHED or "--assert" in words):
+    if said.startswith("{") and (done.returncode == UNFINISHED or "--assert" in done.args):
         answered = json.loads(said)
         # with --assert the status is that of a verdict where a state that was met decides it
         if "unfinished" in answered:
@@ -154,38 +179,71 @@ def order_text(order):
     return order if order is None or isinstance(order, str) else "\n".join(["Order", *order, "Endorder %d" % len(order), ""])
 
 
-def answer(command, given, how, kind=None):
-    """What a command says of an input; with `kind` its JSON as that. `how` has options, and program, limit and further words."""
+def question(command, given, how):
+    """What a command is asked of an input. `how` has options, and program, limit and further words."""
     how = dict(how)
     program, limit, further = how.pop("program", None), how.pop("limit", None), how.pop("further", ())
-    words = [command] + ["--json"] * (kind is not None)
+    words = [command] + ["--json"] * (command in PRINT_JSON)
     words += [word for name, value in how.items() if value is not None for word in ("--" + name.rstrip("_"), value)]
-    said, status = call(words + list(further), given, program, limit)
+    return Question(words + list(further), given, program, limit, lambda said, status: answer_in(command, said, status))
+
+
+def answer_in(command, said, status):
+    """The answer of a command that printed this and ended so."""
     try:
-        return made(kind, json.loads(said)) if kind else said.splitlines()
-    except (ValueError, KeyError, TypeError):
+        return READ[command](json.loads(said) if command in PRINT_JSON else said.splitlines())
+    except (AttributeError, IndexError, KeyError, TypeError, ValueError):
         raise Failed(status, said) from None
 
 
 def run(test, choices=None, **options):
     """The run of a test under choices, a text (`0s 1s 0d`, `seed 1 1000`)."""
-    return answer("run", text_of(test, choices), options, Run)
+    return question("run", text_of(test, choices), options).ask()
 
 
 def trace(test, choices=None, **options):
     """The same run, and what each choice did."""
-    return answer("trace", text_of(test, choices), options, Traced)
+    return question("trace", text_of(test, choices), options).ask()
 
 
 def outcomes(test, **options):
     """All final states that a test can reach: of TSO, or at the depth that is given. They show what the condition names; with `show` also
     each register that is written (registers), and all locations (all)."""
-    return answer("outcomes", text_of(test), options, Outcomes)
+    return question("outcomes", text_of(test), options).ask()
 
 
 def sweep(test, **options):
     """What the runs of many seeds met: `seeds=1000`; the first is `from_`."""
-    lines = answer("sweep", text_of(test), options)
+    return question("sweep", text_of(test), options).ask()
+
+
+def counts(test, choices=None, **options):
+    """What the caches did in the runs of many seeds: `seeds=1000`; the first is `from_`. With choices, a text, in the run under these."""
+    if choices is not None:
+        options["further"] = [*options.get("further", ()), "--given"]
+    return question("counts", text_of(test, choices), options).ask()
+
+
+def why(test, **options):
+    """Allowed, an execution in which what the test asks is so, or Never, a proof that there is none; `model` is tso or sc, `cases` the most
+    leaves of a proof."""
+    return question("why", text_of(test), options).ask()
+
+
+def check(test, order=None, **options):
+    """Whether an order, a text or a list of entries, is an execution of the test."""
+    return question("check", text_of(test, order_text(order)), options).ask()
+
+
+def witness(test, order=None, **options):
+    """Choices that reach an order."""
+    return question("witness", text_of(test, order_text(order)), options).ask()
+
+
+# ---- what its commands print
+
+def sweep_in(lines):
+    """What a sweep's lines tell."""
     ended, unfinished = map(int, re.search(r" ended=(\d+) unfinished=(\d+)", lines[2]).groups())
     met = [line.split(" ", 2) for line in lines if line.startswith("State ")]
     states = [Met(int(runs), {place: int(word) for place, word in (value.split("=") for value in " ".join(values).split())})
@@ -195,31 +253,27 @@ def sweep(test, **options):
     return Sweep(lines[0][len("Test "):], states, ended, unfinished, observation)
 
 
-def counts(test, choices=None, **options):
-    """What the caches did in the runs of many seeds: `seeds=1000`; the first is `from_`. With choices, a text, in the run under these."""
-    if choices is not None:
-        options["further"] = [*options.get("further", ()), "--given"]
-    return answer("counts", text_of(test, choices), options, Counts)
+def check_in(lines):
+    """What the line of a check tells."""
+    return Check(True) if lines[0] == "Check valid" else Check(False, lines[0][len("Check invalid "):])
 
 
-def why(test, **options):
-    """Allowed, an execution in which what the test asks is so, or Never, a proof that there is none; `model` is tso or sc, `cases` the most
-    leaves of a proof."""
-    found = answer("why", text_of(test), options, dict)
-    return made({"never": Never, "allowed": Allowed}[found["answer"]], found)
-
-
-def check(test, order=None, **options):
-    """Whether an order, a text or a list of entries, is an execution of the test."""
-    line = answer("check", text_of(test, order_text(order)), options)[0]
-    return Check(True) if line == "Check valid" else Check(False, line[len("Check invalid "):])
-
-
-def witness(test, order=None, **options):
-    """Choices that reach an order."""
-    line = answer("witness", text_of(test, order_text(order)), options)[0]
+def witness_in(lines):
+    """What the line of a witness tells."""
+    line = lines[0]
     if line.startswith("Depth needed="):
         return Witness(needed=int(line[len("Depth needed="):]))
     if line.startswith("Check invalid "):
         return Witness(breach=line[len("Check invalid "):])
     return Witness(choices=line)
+
+
+def reason_in(found):
+    """Which of the two kinds of reasons this JSON is."""
+    return made({"never": Never, "allowed": Allowed}[found["answer"]], found)
+
+
+# The commands that are asked for JSON; and what makes an answer of each command's JSON, or of its lines.
+PRINT_JSON = ("run", "trace", "outcomes", "counts", "why")
+READ = {"run": functools.partial(made, Run), "trace": functools.partial(made, Traced), "outcomes": functools.partial(made, Outcomes),
+        "counts": functools.partial(made, Counts), "why": reason_in, "sweep": sweep_in, "check": check_in, "witness": witness_in}

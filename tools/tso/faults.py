@@ -2,7 +2,8 @@
 import re
 import typing
 
-from .records import State, Trace, made
+from .making import made
+from .records import State, Trace
 
 
 class NoAnswer(Exception):

@@ -1,12 +1,13 @@
 """The answers of the program `tso` as objects. Members have the names of docs/schemas/, but for `from`, which is `from_`."""
-import dataclasses
 import typing
+
+from .making import Record, record
 
 Word, Place = int, str
 
 
-@dataclasses.dataclass(frozen=True)
-class Observation:
+@record
+class Observation(Record):
     """In how many states, or runs, the condition's proposition is `true` and `false`; the word is Never, Sometimes or Always."""
 
     word: str
@@ -14,8 +15,8 @@ class Observation:
     false: int
 
 
-@dataclasses.dataclass(frozen=True)
-class State:
+@record
+class State(Record):
     """A final state: values by places, as 0:EAX and x; choices that lead there; and whether the condition's proposition holds in it, None
     without a condition."""
 
@@ -24,8 +25,8 @@ class State:
     holds: typing.Optional[bool] = None
 
 
-@dataclasses.dataclass(frozen=True)
-class Outcomes:
+@record
+class Outcomes(Record):
     """All final states at a depth of the buffers. The verdict, Ok or No, says whether it is as the condition claims. Without a condition
     there is neither observation nor verdict."""
 
@@ -36,8 +37,8 @@ class Outcomes:
     verdict: typing.Optional[str] = None
 
 
-@dataclasses.dataclass(frozen=True)
-class Machine:
+@record
+class Machine(Record):
     """The machine of a run. The bus is atomic or split."""
 
     protocol: str
@@ -48,16 +49,16 @@ class Machine:
     bus: str = "atomic"
 
 
-@dataclasses.dataclass(frozen=True)
-class Condition:
+@record
+class Condition(Record):
     """A condition: its kind, exists, ~exists or forall, and whether its proposition holds."""
 
     kind: str
     holds: bool
 
 
-@dataclasses.dataclass(frozen=True)
-class Choices:
+@record
+class Choices(Record):
     """How many choices were used, how many of these stalled, and how many stood after the end."""
 
     used: int
@@ -65,8 +66,8 @@ class Choices:
     unused: int
 
 
-@dataclasses.dataclass(frozen=True)
-class Cache:
+@record
+class Cache(Record):
     """What a core's accesses were."""
 
     hits: int
@@ -77,8 +78,8 @@ class Cache:
     flushes: int
 
 
-@dataclasses.dataclass(frozen=True)
-class Run:
+@record
+class Run(Record):
     """A run that ended: the order that memory saw, entry by entry, each core's registers, and each location's word."""
 
     test: str
@@ -91,8 +92,8 @@ class Run:
     cache: list[Cache]
 
 
-@dataclasses.dataclass(frozen=True)
-class Copy:
+@record
+class Copy(Record):
     """A core's copy of a line of the caches: its state, and the words of its locations."""
 
     line: str
@@ -100,8 +101,8 @@ class Copy:
     words: list[Word]
 
 
-@dataclasses.dataclass(frozen=True)
-class Core:
+@record
+class Core(Record):
     """A core: how many instructions are done, its registers, its pending stores, the oldest first, and its cache, set by set."""
 
     place: int
@@ -110,8 +111,8 @@ class Core:
     lines: list[list[Copy]]
 
 
-@dataclasses.dataclass(frozen=True)
-class Holder:
+@record
+class Holder(Record):
     """The action that holds the split bus."""
 
     core: int
@@ -121,8 +122,8 @@ class Holder:
     words: list[Word]
 
 
-@dataclasses.dataclass(frozen=True)
-class Moment:
+@record
+class Moment(Record):
     """A machine between two choices: memory's own words, and those that the machine means."""
 
     cores: list[Core]
@@ -131,8 +132,8 @@ class Moment:
     bus: typing.Optional[Holder]
 
 
-@dataclasses.dataclass(frozen=True)
-class Step:
+@record
+class Step(Record):
     """What a choice did. docs/TRACE.md has each member."""
 
     choice: str
@@ -150,15 +151,15 @@ class Step:
     supplied: typing.Optional[str] = None
 
 
-@dataclasses.dataclass(frozen=True)
-class Trace:
+@record
+class Trace(Record):
     """The machine at the start, and what each choice did."""
 
     start: Moment
     steps: list[Step]
 
 
-@dataclasses.dataclass(frozen=True)
+@record
 class Traced(Run):
     """A run with its trace, each core's instructions, and the condition's proposition as text."""
 
@@ -167,16 +168,16 @@ class Traced(Run):
     trace: Trace
 
 
-@dataclasses.dataclass(frozen=True)
-class Met:
+@record
+class Met(Record):
     """A final state that so many runs of a sweep met."""
 
     runs: int
     values: dict[Place, Word]
 
 
-@dataclasses.dataclass(frozen=True)
-class Sweep:
+@record
+class Sweep(Record):
     """What the runs of many seeds met, and how many of them ended and didn't. A state that isn't met may still be possible."""
 
     test: str
@@ -186,8 +187,8 @@ class Sweep:
     observation: typing.Optional[Observation]
 
 
-@dataclasses.dataclass(frozen=True)
-class Spread:
+@record
+class Spread(Record):
     """A number over the runs that ended: its sum, the least and the greatest."""
 
     sum: int
@@ -195,8 +196,8 @@ class Spread:
     greatest: int
 
 
-@dataclasses.dataclass(frozen=True)
-class Counted:
+@record
+class Counted(Record):
     """What a core's cache did over the runs that ended: what its accesses were, its requests on the bus, the copies of other cores that
     they turned to I, and the lines that were supplied to it and written to memory for it."""
 
@@ -214,8 +215,8 @@ class Counted:
     to_memory: Spread
 
 
-@dataclasses.dataclass(frozen=True)
-class Runs:
+@record
+class Runs(Record):
     """How many runs ended and how many didn't; of many seeds how many there are, the first, and how many choices each makes."""
 
     ended: int
@@ -225,8 +226,8 @@ class Runs:
     length: typing.Optional[int] = None
 
 
-@dataclasses.dataclass(frozen=True)
-class Counts:
+@record
+class Counts(Record):
     """What the caches did in runs, for each core; None where no run ended."""
 
     test: str
@@ -235,16 +236,16 @@ class Counts:
     cores: typing.Optional[list[Counted]]
 
 
-@dataclasses.dataclass(frozen=True)
-class Check:
+@record
+class Check(Record):
     """Whether an order is an execution; else `breach`, the words of the first breach: a letter and what it names."""
 
     valid: bool
     breach: typing.Optional[str] = None
 
 
-@dataclasses.dataclass(frozen=True)
-class Witness:
+@record
+class Witness(Record):
     """Choices that reach an order; else the depth of the buffers that it `needed`, or its first `breach`."""
 
     choices: typing.Optional[str] = None
@@ -252,24 +253,24 @@ class Witness:
     breach: typing.Optional[str] = None
 
 
-@dataclasses.dataclass(frozen=True)
-class Asked:
+@record
+class Asked(Record):
     """Which truth of its condition's proposition a test asks for."""
 
     kind: str
     truth: bool
 
 
-@dataclasses.dataclass(frozen=True)
-class Source:
+@record
+class Source(Record):
     """The write that a read reads from, or `initial`."""
 
     read: str
     write: str
 
 
-@dataclasses.dataclass(frozen=True)
-class Allowed:
+@record
+class Allowed(Record):
     """An execution in which what is asked is so: the source of each read, each location's writes in their order, choices that lead there,
     and the last values."""
 
@@ -283,8 +284,8 @@ class Allowed:
     values: dict[Place, Word]
 
 
-@dataclasses.dataclass(frozen=True)
-class Edge:
+@record
+class Edge(Record):
     """An edge of the model's relations between two events: po, mfence, implied, rf, co or fr."""
 
     from_: str
@@ -292,8 +293,8 @@ class Edge:
     to: str
 
 
-@dataclasses.dataclass(frozen=True)
-class Closing:
+@record
+class Closing(Record):
     """Why a case can't be: a cycle (cycle or uniproc), between, false, a question without an answer (none, with what it asks `of`), or a
     lemma. What a closing hasn't is None."""
 
@@ -308,8 +309,8 @@ class Closing:
     lemma: typing.Optional[int] = None
 
 
-@dataclasses.dataclass(frozen=True)
-class Reason:
+@record
+class Reason(Record):
     """A step of a proof: what is given, or what a lemma says is never all so (never), by `facts`; a case or what is so by its `answers`, each
     with its facts, with its `closing` where that stands in the step; a leaf; or endcases. Of older programs a case or what is so names the
     read and `from_` which writes, or two writes of which one is `first`, and the step that follows has what closes it (cycle, uniproc,
@@ -332,8 +333,8 @@ class Reason:
     places: typing.Optional[dict[Place, list[Word]]] = None
 
 
-@dataclasses.dataclass(frozen=True)
-class Never:
+@record
+class Never(Record):
     """Why what is asked is so in no execution: a proof with so many leaves."""
 
     test: str
@@ -342,19 +343,3 @@ class Never:
     verdict: typing.Optional[str]
     leaves: int
     steps: list[Reason]
-
-
-def made(kind, value):
-    """A value of JSON as this kind. Members that a later version has more are passed over."""
-    if dataclasses.is_dataclass(kind) and value is not None:
-        # dataclasses.fields finds none of a class that came by value from another process
-        named = {one.name: (one.type, one.name.rstrip("_")) for one in kind.__dataclass_fields__.values()}
-        return kind(**{name: made(inner, value[key]) for name, (inner, key) in named.items() if key in value})
-    parts = typing.get_args(kind)
-    if not parts or value is None:
-        return value
-    if isinstance(value, list):
-        return [made(parts[0], one) for one in value]
-    if isinstance(value, dict) and typing.get_origin(kind) is dict:
-        return {name: made(parts[1], one) for name, one in value.items()}
-    return made(parts[0], value)
