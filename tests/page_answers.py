@@ -71,13 +71,11 @@ class Asked(typing.NamedTuple):
 
 # Options that the page's module isn't asked with: its states show what the condition names, and its answers tell a verdict by their text.
 LEFT_OUT = ("--show", "--assert")
-# The page has no sheet for the counts of many runs.
-COMMANDS_LEFT_OUT = ("counts",)
 
 
 def is_of_page(words):
     """Whether the module can be asked so."""
-    return words[:1] not in ([command] for command in COMMANDS_LEFT_OUT) and not any(word.partition("=")[0] in LEFT_OUT for word in words)
+    return not any(word.partition("=")[0] in LEFT_OUT for word in words)
 
 
 def asked_by_rows(folder=rows.FOLDER):

@@ -7,8 +7,9 @@
 //   tests/page_program.js --serve                          answers one call after the other: each a line of JSON with words and input,
 //                                                       each answer one with status, output and errors, texts in base64
 //
-// A command more than the program has is `step`, with the options of a machine: the last step of `trace --json` alone. Which values an
-// option may have is judged by the module; help, the version and the words of refused command lines aren't here.
+// A command more than the program has is `step`, with the options of a machine: the last step of `trace --json` alone. `counts --given` is
+// a command of its own to the module. Which values an option may have is judged by the module; help, the version and the words of refused
+// command lines aren't here.
 'use strict';
 
 const fs = require('fs');
@@ -24,11 +25,12 @@ const REFUSED = 2;
 const MACHINE = ['protocol', 'bus', 'depth', 'sets', 'ways', 'words'];
 const OPTIONS = {
   run: [...MACHINE, 'json'], sweep: [...MACHINE, 'from', 'seeds', 'length'], outcomes: ['depth', 'states', 'show', 'json', 'assert'],
-  why: ['model', 'cases', 'json', 'assert'],
+  why: ['model', 'cases', 'json', 'assert'], counts: [...MACHINE, 'from', 'seeds', 'length', 'given', 'json'],
   trace: [...MACHINE, 'json'], step: MACHINE, check: [], witness: ['depth'], tables: ['protocol'],
 };
 const WORDS = { protocol: Tso.PROTOCOLS, bus: Tso.BUSES, model: Tso.MODELS, show: Tso.SHOWN };
-const FLAGS = ['json', 'assert'];
+const FLAGS = ['json', 'assert', 'given'];
+const OF_SEEDS = ['from', 'seeds', 'length'];
 const MOST = { depth: 254, sets: 254, ways: 254, words: 254 };
 
 /** What a script of the page gives this name. */
@@ -62,6 +64,7 @@ function optionsOf([command, ...words]) {
     if (!OPTIONS[command].includes(name) || name in options) refuse();
     options[name] = FLAGS.includes(name) ? true : valueOf(name, joined ?? words.shift());
   }
+  if (options.given) return OF_SEEDS.some(name => name in options) ? refuse() : { ...options, command: 'counted' };
   return command === 'outcomes' ? { depth: 32, ...options } : options;
 }
 

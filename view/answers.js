@@ -4,7 +4,7 @@
 
 /** A module of WebAssembly that answers as the program does. An instance is thrown away after a trap, and the next call has a new one. */
 class Tso {
-  static COMMANDS = ['run', 'sweep', 'check', 'witness', 'tables', 'outcomes', 'trace', 'step', 'why'];
+  static COMMANDS = ['run', 'sweep', 'check', 'witness', 'tables', 'outcomes', 'trace', 'step', 'why', 'counts', 'counted'];
   static PROTOCOLS = ['msi', 'mesi', 'moesi', 'mosi'];
   static BUSES = ['atomic', 'split'];
   static MODELS = ['tso', 'sc'];

@@ -8,7 +8,7 @@
  */
 const bench = { tso: null, bytes: null, task: null, answer: null, tracing: null };
 
-const LONG = ['outcomes', 'sweep', 'why'];
+const LONG = ['outcomes', 'sweep', 'counts', 'why'];
 
 /** The bytes of a module that were packed by gzip and stand as a text in base64. */
 async function unpacked(text) {
@@ -187,6 +187,7 @@ function showLong(command, [answer, beside], options, input) {
   if (command === 'run') showLongRun(answer, beside, options, input);
   else if (command === 'outcomes' && isGood) showOutcomes(answer, beside, input);
   else if (command === 'outcomes' && isUnended) showMet(answer, options.depth);
+  else if (command === 'counts' && (isGood || isUnended)) showCounts(answer);
   else if (command === 'why' && isGood) showReason(answer, input);
   else if (command === 'why' && isUnended) showUnfinished(command, answer);
   else showOpenAnswer(answer);
@@ -237,7 +238,7 @@ function backToRun() {
 function questionsOf(command, options) {
   if (command === 'run') return [options, { ...options, json: true }];
   if (command === 'outcomes') return [{ ...options, json: true }, ...(options.depth > 0 ? [{ ...options, depth: 0, json: true }] : [])];
-  return [command === 'why' ? { ...options, json: true } : options];
+  return [['counts', 'why'].includes(command) ? { ...options, json: true } : options];
 }
 
 function showLongRun(answer, line, options, input) {
@@ -338,7 +339,9 @@ async function makeBench() {
   const tso = await Tso.of(bench.bytes);
   bench.tracing = tracingOf(tso);
   bench.tso = tso;
-  if (!tellsWhy(tso)) for (const part of document.querySelectorAll('[data-for=why]')) part.remove();
+  for (const [command, tells] of [['why', tellsWhy], ['counts', tellsCounts]]) {
+    if (!tells(tso)) for (const part of document.querySelectorAll(`[data-for=${command}]`)) part.remove();
+  }
   const { version, tools, sources } = MODULE;
   byId('version').textContent = `The machine has version ${version}. It was made by ${tools}, from sources with the digest ${sources.slice(0, 16)}.`;
 }

@@ -3,7 +3,7 @@
 // The answer as it is printed, and as JSON. Of a search the page has asked for JSON: the other form is asked for when somebody wants it.
 
 /** The commands that answer in both forms. */
-const IN_BOTH = ['run', 'outcomes', 'why'];
+const IN_BOTH = ['run', 'outcomes', 'counts', 'why'];
 
 /** The two forms of the answer that is shown, as far as they are known, and the task that asks for one. */
 const formats = { texts: { printed: null, json: null }, task: null };

@@ -1,12 +1,13 @@
 'use strict';
 
-// What is set: the command, the machine, and what a sweep or a search goes by.
+// What is set: the command, the machine, and what a sweep, counts or a search go by.
 
 /** Which settings each command looks at; the others are out of sight. */
 const SETTINGS = {
   run: ['protocol', 'bus', 'depth', 'sets', 'ways', 'words'],
   outcomes: ['searched', 'states'],
   sweep: ['protocol', 'bus', 'depth', 'sets', 'ways', 'words', 'from', 'seeds', 'length'],
+  counts: ['protocol', 'bus', 'depth', 'sets', 'ways', 'words', 'from', 'seeds', 'length'],
   check: [],
   witness: ['depth'],
   tables: ['protocol'],
@@ -14,7 +15,7 @@ const SETTINGS = {
 };
 const CHOSEN = ['protocol', 'bus', 'model'];
 /** What the button says that begins a long command. */
-const BEGINS = { outcomes: 'Find all outcomes', sweep: 'Run the seeds', why: 'Say why' };
+const BEGINS = { outcomes: 'Find all outcomes', sweep: 'Run the seeds', counts: 'Count the runs', why: 'Say why' };
 /** The settings by the names of the page: `searched` is the depth of a search, whose default is another than that of a run. */
 const SET_AT_FIRST = { ...Tso.DEFAULTS, searched: 32 };
 const SET_NAMES = ['protocol', 'bus', 'depth', 'sets', 'ways', 'words', 'from', 'seeds', 'length', 'searched', 'states', 'model', 'cases'];

@@ -1,6 +1,6 @@
 -- What the numbers of the page ask for, and what answers them: the same settings and answers as those of the program, so
 -- that its promises hold of the page.
-use Rattle.std.specs.Prelude.{ℕ, ◌≡◌, ◌<◌, ◌≤◌, ◌⊎◌, true, List, Some, length, take}
+use Rattle.std.specs.Prelude.{ℕ, ◌≡◌, ◌<◌, ◌≤◌, ◌⊎◌, true, List, Some, None, length, take}
 use Rattle.tso_terms.specs.declared.choice.Bus.{Bus}
 use Rattle.cache_set.specs.Geometry.{geometry, IsShapeWithinLimits}
 use Rattle.protocol_tables.specs.declared.kind.ProtocolKind.{ProtocolKind}
@@ -62,12 +62,14 @@ IsMachineOf a kind config =
     (kind_number kind ≡ a.protocol) × (config.depth ≡ a.depth) × (bus_number config.bus ≡ a.bus)
     × (config.shape ≡ geometry a.sets a.ways a.words)
 
--- the settings of the command that the numbers ask for: these are one at most, and never those of `counts`
+-- the settings of the command that the numbers ask for: these are one at most
 abbrev pub Asks : Numbers → Settings → Type 0
 Asks a (settings.Run kind config json) = (a.command ≡ 0) × IsMachineOf a kind config × (json ≡ a.json)
 Asks a (settings.Sweep kind config plan) =
     (a.command ≡ 1) × IsMachineOf a kind config × (plan ≡ record { from = a.from; seeds = a.seeds; length = a.length })
-Asks a (settings.Counts kind config plan json) = ⊥
+Asks a (settings.Counts kind config (Some plan) json) =
+    (a.command ≡ 9) × IsMachineOf a kind config × (plan ≡ record { from = a.from; seeds = a.seeds; length = a.length }) × (json ≡ a.json)
+Asks a (settings.Counts kind config None json) = (a.command ≡ 10) × IsMachineOf a kind config × (json ≡ a.json)
 Asks a settings.Check = a.command ≡ 2
 Asks a (settings.Witness depth) = (a.command ≡ 3) × (depth ≡ a.depth)
 Asks a (settings.Tables kind) = (a.command ≡ 4) × (kind_number kind ≡ a.protocol)
@@ -98,6 +100,8 @@ IsCommandAskable a =
     ⊎ ((a.command ≡ 5) × (a.show < 3) × (a.depth ≤ most_depth) × (1 ≤ a.states) × (a.states ≤ most_states))
     ⊎ ((a.command ≡ 6) × IsMachineAsked a)
     ⊎ ((a.command ≡ 8) × (a.model < 2) × (1 ≤ a.cases) × (a.cases ≤ most_told_apart))
+    ⊎ ((a.command ≡ 9) × IsMachineAsked a × IsPlanWithinLimits (record { from = a.from; seeds = a.seeds; length = a.length }))
+    ⊎ ((a.command ≡ 10) × IsMachineAsked a)
 
 -- the same of a question
 abbrev pub IsAskable : Numbers → Type 0

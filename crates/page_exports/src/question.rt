@@ -21,7 +21,8 @@ use tso_terms::limits::{MAX_DEPTH, MIN_DEPTH};
 #[repr(C)]
 #[derive(Clone, Copy)]
 pub struct Numbers {
-    /// 0 run, 1 sweep, 2 check, 3 witness, 4 tables, 5 outcomes, 6 trace, 8 why; 7 the last step of a trace alone.
+    /// 0 run, 1 sweep, 2 check, 3 witness, 4 tables, 5 outcomes, 6 trace, 8 why; 7 the last step of a trace alone; 9 counts of
+    /// the runs of seeds, 10 counts of the run of the choices that are given.
     pub command: u8,
     /// 0 msi, 1 mesi, 2 moesi, 3 mosi.
     pub protocol: u8,
@@ -35,11 +36,11 @@ pub struct Numbers {
     pub ways: u8,
     /// Words of a line, 1, 2 or 4.
     pub words: u8,
-    /// Whether the answer of a run, of a trace or of either search is JSON.
+    /// Whether the answer of a run, of a trace, of counts or of either search is JSON.
     pub json: bool,
-    /// The first seed of a sweep.
+    /// The first seed of a sweep or of counts.
     pub from: u32,
-    /// How many seeds a sweep has, 1 to 1000.
+    /// How many seeds a sweep or counts have, 1 to 1000.
     pub seeds: u32,
     /// How many choices a seed makes, 0 to 100000.
     pub length: u32,
@@ -152,6 +153,25 @@ fn command_of(asked: &Numbers) -> Option<Settings>
                 plan,
                 json: asked.json,
                 assert: asked.assert,
+            })
+        }
+        9 => {
+            let (protocol, config) = machine_of(asked)?;
+            let plan = SweepPlan::new(asked.from, asked.seeds, asked.length)?;
+            Some(Settings::Counts {
+                protocol,
+                config,
+                plan: Some(plan),
+                json: asked.json,
+            })
+        }
+        10 => {
+            let (protocol, config) = machine_of(asked)?;
+            Some(Settings::Counts {
+                protocol,
+                config,
+                plan: None,
+                json: asked.json,
             })
         }
         _ => None,

@@ -1,0 +1,46 @@
+'use strict';
+
+// The sheet of counts: what the caches did in the runs of many seeds.
+
+/** The numbers of a core in the answer, each with its words. */
+const COUNTED = {
+  hits: 'hits', misses: 'misses', upgrades: 'upgrades', forwards: 'loads that a store buffer answered', get_s: 'GetS on the bus', get_m: 'GetM on the bus',
+  invalidations: 'copies of other caches made invalid', from_caches: 'lines that another cache supplied', from_memory: 'lines that memory supplied',
+  to_memory: 'lines written to memory for it', flushes: 'flushes', write_backs: 'write-backs',
+};
+
+/** Whether a module answers `counts`; an older one doesn't. */
+function tellsCounts(tso) {
+  try {
+    return tso.answer({ command: 'counts', json: true, seeds: 1 }, EXAMPLES[FIRST_TEXT]).text.startsWith('{');
+  } catch {
+    return false;
+  }
+}
+
+/** How many of the runs ended, in words. */
+function countedSentence({ ended, unfinished }) {
+  if (ended === 0) return 'No run ended, so there is nothing to count. Give each seed more choices.';
+  const left = unfinished === 0 ? '' : ` ${unfinished} didn’t end and aren’t counted.`;
+  return `${ended === 1 ? 'One run' : `${ended} runs`} ended.${left} What happens when a test settles at its end isn’t counted.`;
+}
+
+/** A number's sum over the runs, and the least and the greatest of one run. */
+const spreadText = ({ sum, least, greatest }) => `${sum} (${least}–${greatest})`;
+
+/** A row for each number, a column for each core, and one for the sum over all cores. */
+function countsTable(cores) {
+  const titles = ['', ...cores.map((_, core) => `P${core}`), 'All cores'];
+  return tableOf('The sum over the runs, and in brackets the least and the greatest of one run', titles, Object.entries(COUNTED).map(([name, words]) => html('tr', {},
+    html('th', { scope: 'row', class: 'wraps' }, words),
+    ...cores.map(core => html('td', { class: 'number' }, spreadText(core[name]))),
+    html('td', { class: 'number' }, String(cores.reduce((sum, core) => sum + core[name].sum, 0))))));
+}
+
+/** Shows the answer of `counts --json`. */
+function showCounts(answer) {
+  const { cores, runs } = JSON.parse(answer.text);
+  showAnswer(answer);
+  foldReport(answer);
+  byId('states').replaceChildren(answerTitle('What the caches did'), html('p', { role: 'status' }, countedSentence(runs)), ...(cores === null ? [] : [countsTable(cores)]));
+}
