@@ -181,7 +181,8 @@ SPLIT = ("tso_cli.specs.SplitRun", "split_run")
 JSON = (("tso_report.specs.Json", "json_report"), ("tso_report.specs.Json", "json_unfinished"))
 TRACED_AS_JSON = (*JSON, ("trace_report.specs.TracedRun", "json_ended"), ("trace_report.specs.TracedRun", "json_unended"))
 FOUND_AS_JSON = (("search_report.specs.OutcomesJson", "outcomes_json"), ("search_report.specs.OutcomesJson", "unfinished_outcomes_json"))
-REASONS_AS_JSON = tuple(("search_report.specs.ReasonJson", name) for name in ("never_json", "allowed_json", "unfinished_reason_json"))
+REASONS_AS_JSON = (("search_report.specs.LineJson", "never_json"), ("search_report.specs.ReasonJson", "allowed_json"),
+                   ("search_report.specs.ReasonJson", "unfinished_reason_json"))
 PROMISES = {
     "run": ([TOP_LEVEL], "Run", (SPLIT, *JSON)),
     "run-whole": ([TOP_LEVEL], "Run", ()),
@@ -261,16 +262,24 @@ LAWS = {
 FREE_FUNCTION = re.compile(r"^pub (?:extern \"C\" )?fn (\w+)(?:[^{;]|; \d+\])*?\n    (?:ensures|requires)\b", re.M)
 
 
-# The pages whose names are promises.
-PAGES = ("README.md", "docs/REFERENCE.md", "docs/PROVED.md", "docs/READING.md")
+# The pages whose names are promises, and of a page that has definitions too the part that promises.
+PAGES = {"README.md": "", "docs/REFERENCE.md": "", "docs/PROVED.md": "", "docs/READING.md": "",
+         "docs/BRANCHES.md": "\n## What is proved\n", "docs/COUNTS.md": "\n## What caches did\n"}
+
+
+def promising_text():
+    """What these pages say."""
+    texts = []
+    for page, heading in PAGES.items():
+        with open(os.path.join(TOP, page), encoding="utf-8") as file:
+            whole = file.read()
+        texts.append(whole.split(heading)[1].split("\n## ")[0] if heading else whole)
+    return "".join(texts)
 
 
 def named_functions():
     """The public functions, but for methods, that PAGES name: pairs of a crate and a name."""
-    text = ""
-    for page in PAGES:
-        with open(os.path.join(TOP, page), encoding="utf-8") as file:
-            text += file.read()
+    text = promising_text()
     words = {word for span in re.findall(r"`([^`\n]+)`", text) for word in re.findall(r"\w+", span)}
     found = []
     for crate in sorted(os.listdir(os.path.join(TOP, "crates"))):

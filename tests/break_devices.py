@@ -63,7 +63,7 @@ JOBS = [
     ("why --json", judging.OWN_STORE_FIRST, ENDED),
     ("why --model sc", judging.STORE_BUFFERING, ENDED),
     ("why --model sc --assert", judging.STORE_BUFFERING, INVALID),
-    ("why --model sc --cases 1", judging.STORE_BUFFERING, UNFINISHED),
+    ("why --cases 1", judging.THREE_TURNS, UNFINISHED),
     ("tables", b"", ENDED),
 ]
 

@@ -35,6 +35,12 @@ SHARING = """X86 Sharing
 ====
 0s 0d 1s 1d 0s 0d 1s 1d 0s 0d 1s 1d
 """
+LOCK = """X86 lock
+{ 0:EAX=1; 1:EAX=1; 2:EAX=1; }
+ P0           | P1           | P2           ;
+ XCHG [x],EAX | XCHG [x],EAX | XCHG [x],EAX ;
+exists ((0:EAX=0 /\\ 1:EAX=0) \\/ (0:EAX=0 /\\ 2:EAX=0) \\/ (1:EAX=0 /\\ 2:EAX=0))
+"""
 PADDED = SHARING.replace("x=0; y=0;", "x=0; pad=0; y=0;").replace("X86 Sharing", "X86 Padded")
 SPLIT = """X86 Split
 { }
@@ -77,7 +83,7 @@ PICTURES = {
         *(json_of(program, ["outcomes", "--depth", depth], content(EXAMPLES, "store-buffering.litmus")) for depth in ("32", "0")), words),
     "message-passing": lambda program, words: drawn_runs.cycle(reason_of(program, "MP"), words),
     "iriw": lambda program, words: drawn_runs.cycle(reason_of(program, "IRIW"), words),
-    "reason": lambda program, words: drawn_runs.reason(reason_of(program, "MP"), words),
+    "reason": lambda program, words: drawn_runs.reason(json_of(program, ["why"], LOCK), words),
     "false-sharing": lambda program, words: drawn_runs.lifelines(json_of(program, ["trace", "--words", "2"], SHARING), words),
     "padded": lambda program, words: drawn_runs.lifelines(json_of(program, ["trace", "--words", "2"], PADDED), words),
     "split-bus": lambda program, words: drawn_runs.bus_times(json_of(program, ["trace", "--bus", "split"], SPLIT), words),

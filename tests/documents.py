@@ -297,9 +297,9 @@ def lists_the_commands(text):
 
 
 def faults_of_defined_names():
-    """docs/DEFINITIONS.md names definitions with their file in brackets: they stand in a file of that name."""
+    """The pages of definitions name them with their file in brackets: they are in a file of that name."""
     faults = []
-    text = content(os.path.join(TOP, "docs", "DEFINITIONS.md"))
+    text = "\n".join(content(os.path.join(TOP, "docs", name)) for name in ("DEFINITIONS.md", "BRANCHES.md", "COUNTS.md", "REASONS.md"))
     for names, crate, file in re.findall(r"((?:`[A-Za-z_]\w*`(?:, )?)+) \((?:(\w+), )?([A-Z]\w+)\)", text):
         texts = [content(path) for path in glob.glob(os.path.join(TOP, "crates", crate or "*", "specs", "**", file + ".antt"), recursive=True)]
         if not texts and file.endswith("Fault"):  # a refusal of a relation, not of a file
@@ -332,8 +332,8 @@ LONGEST_CELL = 300
 
 def faults_of_cells():
     """A table of what is proved reads as a page where no cell is long."""
-    rows = [line for line in content(os.path.join(TOP, "docs", "PROVED.md")).splitlines() if line.startswith("|")]
-    cells = (cell for row in rows for cell in row.split("|"))
+    text = content(os.path.join(TOP, "docs", "PROVED.md")) + content(os.path.join(TOP, "docs", "BRANCHES.md"))
+    cells = (cell for row in text.splitlines() if row.startswith("|") for cell in row.split("|"))
     return ["a cell of %d bytes: %s.." % (len(cell), cell[:60]) for cell in cells if len(cell) > LONGEST_CELL]
 
 
@@ -387,7 +387,7 @@ def rows_of(program):
     yield "files of crates in docs/HACKING.md", faults_of_crates_files
     yield "files that a further protocol touches", lambda: faults_of_list("A further protocol", lists_the_protocols)
     yield "files that a further command touches", lambda: faults_of_list("A further command or option", lists_the_commands)
-    yield "names in docs/DEFINITIONS.md", faults_of_defined_names
+    yield "names of definitions", faults_of_defined_names
     yield "types that the headline rests on", faults_of_declared
     yield "what has to be believed", faults_of_believed
     yield "cells of docs/PROVED.md", faults_of_cells

@@ -16,7 +16,7 @@ FORBIDDABLE, BEYOND = 34, ["INC"]
 MEMORY = ("store", "load", "fence", "xchg", "xadd")
 
 LOCKED_WANTED = """SB: Allowed, and 4 sets of fences forbid it
-  P0 after MOV [x],$1; P1 after MOV [y],$1: Never, leaves=3
+  P0 after MOV [x],$1; P1 after MOV [y],$1: Never, leaves=1
     without P0 after MOV [x],$1: Allowed
     without P1 after MOV [y],$1: Allowed
 """
@@ -92,7 +92,7 @@ def judge_told(program, tally, room):
     tally.add("stores as XCHG", None if same else described(done))
     full = write(os.path.join(room, "full"), NO_REGISTER)
     done = tool("fences", "--program", program, "--locked", full)
-    wanted = ("Full: Allowed, and 1 set of fences forbids it\n  P0 after MOV [x],$1: Never, leaves=3\n"
+    wanted = ("Full: Allowed, and 1 set of fences forbids it\n  P0 after MOV [x],$1: Never, leaves=1\n"
               "    without P0 after MOV [x],$1: Allowed\n")
     tally.add("a core without a free register", None if (done.returncode, done.stdout) == (SAME, wanted) else described(done))
     done = tool("fences", "--program", program, "--tests", "--locked", *map(test_file, ("SB", "n6", "Peterson")))
@@ -115,7 +115,7 @@ def judge_open(program, tally, room):
     unfinished = ("[ $(printf '%%s' \"$text\" | grep -o MFENCE | wc -l) -%s 1 ] && "
                   "{ echo '{\"test\":\"SB\",\"model\":\"tso\",\"unfinished\":{\"cases\":1}}'; exit 3; }")
     one = "  %s after MOV [%s],$1: open, more than 1 cases\n"
-    both = "SB: Allowed, and 1 set of fences forbids it\n  P0 after MOV [x],$1; P1 after MOV [y],$1: Never, leaves=3\n"
+    both = "SB: Allowed, and 1 set of fences forbids it\n  P0 after MOV [x],$1; P1 after MOV [y],$1: Never, leaves=1\n"
     none = ["SB: Allowed, and no set that was tried is known to forbid it\n", "  P0 after MOV [x],$1; P1 after MOV [y],$1: open"]
     for how, wanted in (("ge", none),
                         ("eq", [both, "    without P0 after MOV [x],$1: open\n", one % ("P0", "x"), one % ("P1", "y")])):

@@ -99,9 +99,9 @@ The **verdicts** are those of `outcomes`, for SC with `--depth 0`: `Verdict Ok` 
 
 CYCLES = """## The cycles of those that are forbidden
 
-Each row has one line with which `./tso why` closes a case ([how to read it](../docs/DEFINITIONS.md#what-is-printed-of-reasons)). It is a
-cycle of the published model, `x86tso.cat`, or a write between the parts of a locked instruction. Lines `False` are left out. Of several
-lines it is one of the global relation if it can. The last column says how many there are.
+Each row has one line with which `./tso why` closes a case ([how to read it](../docs/REASONS.md#what-is-printed-of-reasons)). It is a
+cycle of the published model, `x86tso.cat`, a write between the parts of a locked instruction, or a question without an answer. Lines
+`False` are left out. Of several lines it is one of the global relation if it can. The last column says how many there are.
 """
 
 SOURCES = """## Sources
@@ -374,12 +374,12 @@ def faults_of_counts(program, piece):
 
 
 def faults_of_why(program, piece):
-    """Of x86-TSO and of sequential consistency: an execution where it is allowed, else a reason, which has a cycle."""
+    """Of x86-TSO and of sequential consistency: an execution where it is allowed, else a reason."""
     words = [(model, verdict, answer(program, ["why", "--model", model], piece.text)[1].splitlines()[1:2])
              for model, verdict in (("tso", piece.facts["TSO"]), ("sc", piece.facts["SC"]))]
     faults = ["why --model %s prints %s of what is %s" % (model, line, verdict) for model, verdict, line in words
               if not re.match("Allowed" if verdict == "allowed" else r"Never \w+ leaves=\d+$", "".join(line))]
-    return faults if piece.allowed or cycles_of(program, piece) else faults + ["its reason has no cycle"]
+    return faults
 
 
 def rows_of(piece):

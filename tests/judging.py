@@ -61,6 +61,11 @@ OWN_STORE_FIRST = (b"X86 n6\n{ }\n P0          | P1         ;\n MOV [x],$1  | MO
 LOADS_BEFORE_OWN_STORE = b"0s 0s 0s 1s 1s 1d 1d 0d\n"
 OWN_STORE_FIRST_ORDER = (b"Order\nP0:1 R x=1\nP0:2 R y=0\nP1:0 W y=2\nP1:1 W x=2\nP0:0 W x=1\nEndorder 5\n")
 
+# Three cores exchange numbers of their own, and one reads what another one wrote: always so, by one case for each order of the three.
+THREE_TURNS = (b"X86 turns\n{ 0:EAX=1; 1:EAX=2; 2:EAX=3; }\n P0           | P1           | P2           ;\n"
+               b" XCHG [x],EAX | XCHG [x],EAX | XCHG [x],EAX ;\nforall (0:EAX=0 /\\ (1:EAX=1 \\/ 2:EAX=1) \\/ "
+               b"1:EAX=0 /\\ (0:EAX=2 \\/ 2:EAX=2) \\/ 2:EAX=0 /\\ (0:EAX=3 \\/ 1:EAX=3))\n")
+
 NAMES_OF_TEST_FAULTS = ("NoHeader", "Unclosed", "BadToken", "BadInit", "BadHeaderRow", "WrongCells", "BadInstruction",
                         "BadNumber", "TwiceInit", "NoSuchCore", "TooLarge", "BadCondition", "Trailing")
 NAMES_OF_CHOICE_FAULTS = ("BadWord", "NoSuchCore", "TooMany")

@@ -27,7 +27,6 @@ STAY = {
     "Gives": "what is answered is what reading gives, of tests and of orders",
     "HasWord": "an entry's value is a word",
     "first_of_two": "the first of the two that is there",
-    "is_leaf": "a node that asks nothing",
     "is_space": "the bytes of white space",
     "last_or": "the last of a list, or this one",
     "onto": "one put before what is read after it",

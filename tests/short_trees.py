@@ -3,7 +3,7 @@
 
     tests/short_trees.py [PART-OF-NAME]
 
-The texts are in tests/short_slips.py; further ones that are right are the examples of docs/DEFINITIONS.md, 'What is printed of reasons': a
+The texts are in tests/short_slips.py; further ones that are right are the examples of docs/REASONS.md, 'What is printed of reasons': a
 test, and what is printed of it. The last line is 'N passed, M failed'.
 """
 import argparse
@@ -18,7 +18,7 @@ import short_slips
 from reference import reading, short_reasons
 from reference.candidates import TSO
 
-PAGE = os.path.join(judging.TOP, "docs", "DEFINITIONS.md")
+PAGE = os.path.join(judging.TOP, "docs", "REASONS.md")
 EXAMPLE = re.compile(r"^```\n(X86 .*?)```\n+```\n(Test .*?)```$", re.MULTILINE | re.DOTALL)
 
 

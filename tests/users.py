@@ -5,8 +5,8 @@
     tests/users.py --list            each of them with what takes it up
     tests/users.py --renew TREE..    writes tests/data/silent_users.list anew, from what checks left in these trees
 
-What is looked at are the fields of the records that a promise of README.md, docs/REFERENCE.md, docs/PROVED.md or docs/READING.md
-reaches (tests/believed.py), and the clauses of the public functions that these pages name, with a name or without. Such a thing is taken up
+What is looked at are the fields of the records that a promise of the pages reaches (PAGES of tests/believed.py), and the clauses of the
+public functions that these pages name, with a name or without. Such a thing is taken up
 
 - by a proof, a lemma or a definition that says `x.field`, `c.call.ensures.clause`, or `c.call.ensures` of a clause without a name
   (tests/proof_texts.py, by the texts alone);
@@ -91,10 +91,7 @@ def fields():
 
 def named_in_pages():
     """The words that these pages have in backquotes, and the types whose methods they speak of."""
-    text = ""
-    for page in believed.PAGES:
-        with open(os.path.join(TOP, page), encoding="utf-8") as file:
-            text += file.read()
+    text = believed.promising_text()
     return {word for span in re.findall(r"`([^`\n]+)`", text) for word in re.findall(r"\w+", span)}, set(METHODS.findall(text))
 
 

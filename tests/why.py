@@ -7,8 +7,8 @@ The tests are those of the gallery and of the examples, some of examples/cycles.
 --whole all 3,372 of that list, 1,000 made ones, and great ones. Each is asked under `exists`, `~exists` and `forall`, with negations and
 disjunctions, and without a condition, of x86-TSO and of sequential consistency:
 
-- a refutation is a tree that refutes: each question has all its cases, each leaf closes its case by the answers that are given there, and
-  it is printed as its definition has it, byte for byte (tests/reference/, reasons and refutations);
+- a refutation refutes: each question has all its cases, each closing holds by the facts that are given there, each lemma is shown before it is
+  used, and it is printed as its definition has it, byte for byte (tests/reference/, short_reasons and short_refutations);
 - of an execution the choices lead there, by `run` and by a machine in Python, its candidate is allowed by the relational model, what
   is asked is so, and it is printed as its definition has it;
 - `--json` says the same;
@@ -32,6 +32,7 @@ sys.dont_write_bytecode = True
 import judging
 import reason_inputs
 import reason_slips
+import short_slips
 import tool_runs
 from reference import candidates, conditions, litmus, printing, reading, reasons, refutations
 
@@ -208,7 +209,7 @@ def main():
     parser.add_argument("--seed", type=int, default=1)
     asked = parser.parse_args()
     programs, tally = judging.programs_in(asked), judging.Tally()
-    tally.add("the judge of reasons", reason_slips.judge())
+    tally.add("the judge of reasons", short_slips.judge())
     tally.add("why", judging.judged(rows_of(reason_inputs.repository()), programs, asked.part, at_once=4))
     tally.add("why", judging.judged_in_turn(rows_of(inputs(asked.whole, asked.seed)), programs, asked.part, at_once=4))
     if asked.whole:

@@ -19,17 +19,12 @@ def edges(*words):
 ASKED = {"kind": "exists", "truth": True}
 
 NEVER = {
-    "answer": "never", "asked": ASKED, "leaves": 3, "model": "tso", "test": "MP", "verdict": "No", "steps": [
-        step("case", 0, read="P1:0 R y=0", **{"from": ["initial"]}),
-        step("false", 1, places={"1:EAX": [0]}),
-        step("so", 0, read="P1:0 R y=1", **{"from": ["P0:1 W y=1"]}),
-        step("case", 0, read="P1:1 R x=0", **{"from": ["initial"]}),
-        step("cycle", 1, cycle=edges("P0:0 W x=1", "po", "P0:1 W y=1", "rf", "P1:0 R y=1", "po", "P1:1 R x=0", "fr")),
-        step("case", 0, read="P1:1 R x=1", **{"from": ["P0:0 W x=1"]}),
-        step("false", 1, places={"1:EBX": [1]}),
-        step("endcases", 0)]}
+    "answer": "never", "asked": ASKED, "leaves": 1, "model": "tso", "test": "MP", "verdict": "No", "steps": [
+        dict(step="given", facts=["P1:0 R y=1", "P1:1 R x=0"]),
+        step("leaf", 0, closing=dict(step="cycle", cycle=edges(
+            "P0:0 W x=1", "po", "P0:1 W y=1", "rf", "P1:0 R y=1", "po", "P1:1 R x=0", "fr")))]}
 
-# A refutation by facts: what is given, a lemma, cases that their lines close, and one that has a part.
+# What is given, a lemma, cases that their lines close, and one that has a part.
 SHORT = {
     "answer": "never", "asked": ASKED, "leaves": 4, "model": "tso", "test": "passed", "verdict": "No", "steps": [
         dict(step="given", facts=["P1:0 R y not 0", "P2:0 R z=1", "P2:1 R x=0"]),

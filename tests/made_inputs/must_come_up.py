@@ -94,7 +94,9 @@ REASONS = {
     "asked": ("exists", "~exists", "forall", "nothing"),
     "verdict of why": CLAIMED + ["none"],
     "asserted of why": ASSERTED,
-    "step of a reason": ("case", "so", "cycle", "uniproc", "between", "false", "endcases"),
+    "step of a reason": ("given", "case", "so", "leaf", "endcases"),
+    "closing of a reason": ("cycle", "uniproc", "between", "false", "none"),
+    "question of a reason": ("plain", "reader", "part"),
     "relation in a reason": ("po", "mfence", "implied", "rf", "co", "fr"),
 }
 

@@ -1,4 +1,4 @@
-"""Facts as they are printed, and read back: docs/DEFINITIONS.md, 'What is printed of reasons', its table of facts."""
+"""Facts as they are printed, and read back: docs/REASONS.md, 'What is printed of reasons', its table of facts."""
 import re
 
 from . import lexing, litmus, printing, seen

@@ -1,4 +1,4 @@
-"""What facts leave possible of a test: docs/DEFINITIONS.md, 'What is printed of reasons', its parts on facts, on what is possible, on
+"""What facts leave possible of a test: docs/REASONS.md, 'What is printed of reasons', its parts on facts, on what is possible, on
 which write comes first, and on counters.
 
 A register holds a number, or what a read returned; a write writes one of these, or the sum of what its load part returned and one of
@@ -327,8 +327,13 @@ class Board:
         return self.words_left(place[1]) if place[0] == "location" else self.register_left(*place[1:])
 
     def words_shown(self, place):
-        """What is shown of it: of a location what its last write can leave there, whatever is asked of the last word."""
-        return self.last_words(place[1]) if place[0] == "location" else self.register_left(*place[1:])
+        """What is shown of it: of a location what its last write can leave there, whatever is asked of the last word; where that can be
+        any value, what it can leave by what is asked too."""
+        if place[0] == "register":
+            return self.register_left(*place[1:])
+        on_events = Board(self.programs, [fact for fact in self.facts if not isinstance(fact, Holds)], self.rows)
+        words = on_events.last_words(place[1])
+        return self.last_words(place[1]) if words is None else words
 
     def allows(self, claim, truth):
         """Whether the proposition can have this truth."""

@@ -1,13 +1,12 @@
-"""Refutations: trees of questions and leaves, and how one is printed step by step: docs/DEFINITIONS.md, 'Why a proposition is never
-true', and docs/MODELS.md, 'Refutations'.
+"""Refutations as trees of questions and leaves: docs/DEFINITIONS.md, 'Why a proposition is never true', and docs/MODELS.md,
+'Refutations'.
 
-A part of a tree is a question, `Reads` or `First`, with a part for each of its answers, or a leaf. A step is what `why --json` has
-it as. What is known in a branch are its answers, and what follows from them of values.
+A part of a tree is a question, `Reads` or `First`, with a part for each of its answers, or a leaf. What is known in a branch are its
+answers, and what follows from them of values.
 """
-import itertools
 import typing
 
-from . import litmus, printing
+from . import litmus
 from .candidates import GLOBAL, UNIPROC, Relations, events_of
 from .orders import LOCKED_READ, LOCKED_WRITE, READ, WRITE, Entry
 
@@ -63,7 +62,7 @@ class Known:
         self.test, self.events, self.sources, self.pairs = test, events, sources, pairs
         self.relations, self.claim = Relations(events, sources, pairs), asked_of(test)
         self.writes, self.registers = values or self.values_by_rounds()
-        # What was asked for of the branches that begin here: a tree is gone through twice, to judge it and to print it.
+        # What was asked for of the branches that begin here.
         self.after = {}
 
     def with_source(self, read, write):
@@ -152,33 +151,8 @@ class Known:
         """Whether the proposition can have this truth."""
         return can_have(claim, truth, self.words_at)
 
-    def telling(self, claim, truth):
-        """The places that tell that the proposition can't have this truth: of parts of which one suffices those of the first that can't
-        have it, else those of all."""
-        form = claim[0]
-        if form == "truth":
-            return set()
-        if form in ("register", "location"):
-            return {claim[:-1]}
-        if form == "not":
-            return self.telling(claim[1], not truth)
-        if (form == "and") == truth:
-            return self.telling(next((part for part in claim[1] if not self.allows(part, truth)), claim[1][-1]), truth)
-        return set().union(*(self.telling(part, truth) for part in claim[1]))
-
     def is_false(self):
         return not self.allows(self.claim, True)
-
-    def places(self):
-        """The places that are named of a false proposition, in the order of a line `State`: they tell it, and what is there is known."""
-        telling = self.telling(self.claim, True)
-        looked = printing.Looked(self.test)
-        places = [("register",) + place for place in looked.registers] + [("location", place) for place in looked.locations]
-        words = {place: self.words_at(place) for place in places if place in telling}
-        return [place for place in places if place in words and None not in words[place]]
-
-    def place_name(self, place):
-        return self.test.locations[place[1]] if place[0] == "location" else "%d:%s" % (place[1], litmus.REGISTERS[place[2]])
 
 
 def can_have(claim, truth, words_at):
@@ -192,36 +166,6 @@ def can_have(claim, truth, words_at):
         return can_have(claim[1], not truth, words_at)
     every = (form == "and") == truth
     return (all if every else any)(can_have(part, truth, words_at) for part in claim[1])
-
-
-def places_of(cases):
-    """The places that a line `False` names which closes these cases, each with all values that it has in one of them."""
-    return {place: list(dict.fromkeys(word for case in cases for word in case.words_at(place))) for place in cases[0].places()}
-
-
-def are_enough(claim, places):
-    """Whether a line that names these places says it of all cases: it names one place, or with any of the values at each the proposition is
-    false."""
-    return len(places) == 1 or not can_have(claim, True, lambda place: places.get(place, [None]))
-
-
-def judge_as_read(test, step):
-    """Raises `Wrong` where a line `False` isn't so as it is read: what is asked can be true with one of its values at each place."""
-    names = [place_named(test, name) for name in step["places"]]
-    for chosen in itertools.product(*step["places"].values()):
-        held = dict(zip(names, chosen))
-        if can_have(asked_of(test), True, lambda place, held=held: [held.get(place)]):
-            raise Wrong("what is asked isn't false with %s" % dict(zip(step["places"], chosen)))
-
-
-def place_named(test, name):
-    """The register or location of a name; raises `Wrong` where the test has none."""
-    core, colon, register = name.partition(":")
-    if colon and register in litmus.REGISTERS:
-        return "register", int(core), litmus.REGISTERS.index(register)
-    if name not in test.locations:
-        raise Wrong("no place of the test: " + name)
-    return "location", test.locations.index(name)
 
 
 # ---- whether a tree refutes
@@ -272,70 +216,6 @@ def relation_of(leaf, known, model, x, y):
     """The name of the first relation that leads from x to y, or None."""
     names = UNIPROC if leaf.step == "uniproc" else GLOBAL[model]
     return next((name for name, related in names if related(known.relations, x, y)), None)
-
-
-# ---- how a tree is printed
-
-def steps_of(part, depth, known, model):
-    """The steps of a part that stands so deep."""
-    if isinstance(part, LEAVES):
-        return [leaf_step(part, depth, [known], model)]
-    branches = branches_of(part, known)
-    closed, steps = [branch for branch in branches if isinstance(branch[2], LEAVES)], []
-    for group in groups_of(closed, isinstance(part, Reads)):
-        shown = group[0][1] if len(group) == 1 else known
-        steps.append(answer_step("case", depth, shown, part, [answer for answer, _, _ in group]))
-        steps.append(leaf_step(group[0][2], depth + 1, [after for _, after, _ in group], model))
-    rest = [branch for branch in branches if not isinstance(branch[2], LEAVES)]
-    for answer, after, below in rest:
-        word, deeper = ("so", 0) if len(rest) == 1 else ("case", 1)
-        steps.append(answer_step(word, depth, after, part, [answer]))
-        steps += steps_of(below, depth + deeper, after, model)
-    return steps if len(rest) == 1 else steps + [{"step": "endcases", "depth": depth}]
-
-
-def branches_of(question, known):
-    """Each answer, what is known with it, and its part."""
-    if isinstance(question, Reads):
-        return [(source, known.with_source(question.read, source), question.parts[source])
-                for source in [None] + known.writes_to(question.read.location)]
-    pairs = (question[:2], question[1::-1])
-    return [(pair, known.with_pair(*pair), part) for pair, part in zip(pairs, question.parts)]
-
-
-def groups_of(closed, are_sources):
-    """Branches that a leaf closes, those together which one line `False` closes: sources of a read of which the same places are named, where
-    one line says it of all."""
-    groups = {}
-    for at, branch in enumerate(closed):
-        alike = are_sources and isinstance(branch[2], FalseClaim)
-        groups.setdefault(tuple(branch[1].places()) if alike else at, []).append(branch)
-    return [part for group in groups.values() for part in ([group] if share_a_line(group) else [[branch] for branch in group])]
-
-
-def share_a_line(group):
-    cases = [known for _, known, _ in group]
-    return len(group) == 1 or are_enough(cases[0].claim, places_of(cases))
-
-
-def answer_step(word, depth, known, question, answers):
-    if isinstance(question, Reads):
-        return {"step": word, "depth": depth, "read": known.text(question.read), "from": [known.text(source) for source in answers]}
-    return {"step": word, "depth": depth, "first": known.text(answers[0][0]), "second": known.text(answers[0][1])}
-
-
-def leaf_step(leaf, depth, cases, model):
-    """The step of a leaf that closes these cases."""
-    known = cases[0]
-    if isinstance(leaf, Cycle):
-        edges = [{"from": known.text(x), "relation": relation_of(leaf, known, model, x, y), "to": known.text(y)}
-                 for x, y in edges_of(leaf.events)]
-        return {"step": leaf.step, "depth": depth, "cycle": edges}
-    if isinstance(leaf, Between):
-        return {"step": "between", "depth": depth, "read": known.text(leaf.read), "between": known.text(leaf.between),
-                "write": known.text(leaf.write)}
-    places = {known.place_name(place): words for place, words in places_of(cases).items()}
-    return {"step": "false", "depth": depth, "places": places}
 
 
 def most_cases(test):

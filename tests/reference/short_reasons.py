@@ -1,4 +1,4 @@
-"""What `why` prints of short refutations, as text and as JSON: docs/DEFINITIONS.md, 'What is printed of reasons', and docs/SCRIPTS.md,
+"""What `why` prints of short refutations, as text and as JSON: docs/REASONS.md, 'What is printed of reasons', and docs/SCRIPTS.md,
 'JSON'.
 
 Which refutation is printed is left open there, so one that is told is judged. It is held as `why --json` has it; its text is the same in

@@ -1,4 +1,4 @@
-"""Short refutations, and whether one refutes: docs/DEFINITIONS.md, 'What is printed of reasons', its parts on questions, on closings and
+"""Short refutations, and whether one refutes: docs/REASONS.md, 'What is printed of reasons', its parts on questions, on closings and
 on lemmas.
 
 A part is a `Question`, with an answer and a part for each of its cases as they are printed, or a closing. A branch is what the facts on

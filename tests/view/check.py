@@ -109,10 +109,11 @@ def folder_with_reasons(room, view, program):
 
 
 def rows_of_reasons(page, room, folder):
-    """The rows of `why`: by the module where it answers, else by the program's answers; none where neither does."""
+    """The rows of `why`: by the module where it answers as the program does, else by the program's answers; none where that has no such command.
+    A module of older sources may print reasons in another form."""
     page.window.open(page.address)
     page.value(READY)
-    if page.value("document.querySelector('#commands [value=why]') === null"):
+    if not reasons.is_answered_alike(page):
         told = folder_with_reasons(room, page.folder.removeprefix("file://"), page.program)
         if told is None:
             print("left out, the rows of why: the program doesn't answer it")

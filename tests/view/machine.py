@@ -209,6 +209,28 @@ def sweep_row(bench):
     return faults + safety(bench)
 
 
+def counts_row(bench):
+    """Counts of many runs are a table of what the program counts; runs that didn't end are named, and where none ended there is no table."""
+    bench.open()
+    if not bench.value("document.querySelector('#commands input[value=counts]') !== null"):
+        return ["the module answers no counts"] if bench.value("tellsCounts(bench.tso)") else []
+    test = read(EXAMPLES, FIRST).partition(DIVIDING_LINE)[0]
+    bench.choose("counts")
+    bench.fill("set-protocol", "moesi")
+    bench.window.click("#begin")
+    bench.wait("document.querySelector('#states table')")
+    cores = json.loads(bench.program(test, "counts", "--protocol", "moesi", "--json")[1])["cores"]
+    wanted = sorted("%d (%d–%d)" % (each["sum"], each["least"], each["greatest"]) for core in cores for each in core.values())
+    shown = bench.value("[...document.querySelectorAll('#states tbody tr')].flatMap(row => [...row.cells].slice(1, -1).map(cell => cell.textContent))")
+    faults = differs("the counts", sorted(shown), wanted)
+    faults += [] if "10 runs ended." in bench.text("#states p") else ["it says " + bench.text("#states p")]
+    bench.fill("set-length", "1")
+    bench.window.click("#begin")
+    bench.wait("document.querySelector('#states p')?.textContent.startsWith('No run ended')")
+    faults += differs("a table where no run ended", bench.value("document.querySelectorAll('#states table').length"), 0)
+    return faults + safety(bench)
+
+
 def stop_row(bench):
     """A long search is stopped, and the page goes on."""
     bench.open()
@@ -394,6 +416,7 @@ def rows(page, folder):
         ("outcomes", lambda: outcomes_row(bench, folder)),
         ("the verdict", lambda: verdict_row(bench)),
         ("a sweep", lambda: sweep_row(bench)),
+        ("counts", lambda: counts_row(bench)),
         ("a search that is stopped", lambda: stop_row(bench)),
         ("a run of very many choices", lambda: long_run_row(bench)),
         ("other machines", lambda: comparison_row(bench)),

@@ -28,6 +28,15 @@ def told_by(program, name, model):
     return json.loads(done.stdout) if done.returncode == 0 else None
 
 
+def is_answered_alike(page):
+    """Whether the page's module answers `why` of a test as the program does."""
+    name, model = ASKED[0]
+    if page.value("document.querySelector('#commands [value=why]') === null"):
+        return False
+    answer = page.value("bench.tso.answer({ command: 'why', json: true }, %s).text" % json.dumps(text_of(name)))
+    return json.loads(answer) == told_by(page.program, name, model)
+
+
 def stand_in(program):
     """A script by which a page's module answers `why` of these tests as the program does; None where the program doesn't."""
     told = {"%s %s" % asked: told_by(program, *asked) for asked in ASKED}

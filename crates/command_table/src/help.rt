@@ -127,11 +127,11 @@ Standard input is a test; why doesn't read what follows a line ====. It asks whe
 exists and ~exists can be true, and whether that of forall can be false. Without a condition, it asks\n\
 whether there is any execution.\n\
 \n\
-If there is no such execution, Never stands first, and the reason follows. It tells cases apart by which\n\
-write a read reads from (Case R from W), and by which of two writes comes first (Case A before B). If\n\
-leaves close all cases but the last one, that one stands as So. Each case ends in a leaf: Cycle and\n\
-Uniproc, events that would each have to come before the next; Between, a write between the parts of a\n\
-locked instruction; or False, values that aren't those asked for.\n\
+If there is no such execution, Never stands first, and the reason follows. Given has what the condition\n\
+gives. Lemma has facts that are never all so. Case and So have answers to a question, and what follows\n\
+a colon closes them: Cycle and Uniproc, events that would each have to come before the next; Between, a\n\
+write between the parts of a locked instruction; False, values that aren't those asked for; No, a\n\
+question that has no answer; or By lemma.\n\
 \n\
 If there is one, Allowed stands first, and the execution follows: From tells what each read reads from,\n\
 Coherence has the writes to each location in their order, By has choices under which run ends there (at\n\

@@ -231,7 +231,7 @@ module _ (t : Litmus) (condition : Condition) (s : Search) (e : Explanation) (js
   refuted-word : (r : PrintsRefutation t e.model again other) → is_well condition.quantifier false ≡ other_verdict
   refuted-word r =
       one-verdict again _ other_verdict other
-      (subst (EndsIn (verdict_tail again (is_well condition.quantifier false))) (sym r.printed) (refutation-end again e.model t condition r.nodes is))
+      (subst (EndsIn (verdict_tail again (is_well condition.quantifier false))) (sym r.printed) (refutation-end again e.model t condition r.lemmas r.tree is))
       (ends-so again other_verdict other says)
 
   allowed-word : (r : PrintsExecutionOf t e.model again other) → is_well condition.quantifier true ≡ other_verdict
@@ -309,9 +309,9 @@ outcomes-unasserted t s json _ _ (too_many outcomes more are) = inr (by (is_met_
 
 why-status : (t : Litmus) (condition : Condition) (e : Explanation) (json assert verdict : Bool) (out : List ℕ) (status : Status) → t.condition ≡ Some condition
     → IsWhyAnswer t e json assert out status → PrintsVerdict json (verdict_word verdict) out → status ≡ status_of_verdict assert verdict
-why-status t condition e json assert verdict _ _ is (never nodes refuted) says =
+why-status t condition e json assert verdict _ _ is (never lemmas tree refuted) says =
     let claimed = ap (λ c. is_as_claimed c false) is in
-    ap (status_of_verdict assert) (claimed ∙ one-verdict json _ verdict _ (refutation-end json e.model t condition nodes is) (ends-so json verdict _ says))
+    ap (status_of_verdict assert) (claimed ∙ one-verdict json _ verdict _ (refutation-end json e.model t condition lemmas tree is) (ends-so json verdict _ says))
 why-status t condition e json assert verdict _ _ is (allowed out r) says =
     let claimed = ap (λ c. is_as_claimed c true) is in
     ap (status_of_verdict assert) (claimed ∙ one-verdict json _ verdict out

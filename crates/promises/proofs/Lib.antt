@@ -47,21 +47,8 @@ pub mod TraceNumbers
 pub mod TraceRuns
 pub mod PrintedTraces
 pub mod MachineValues
-pub mod ReasonWords
-pub mod ReasonParts
-pub mod ReasonLines
-pub mod KnownWords
-pub mod EventsFit
-pub mod ReasonsFit
-pub mod ReasonValues
-pub mod PlainAnswers
-pub mod CaseGroups
-pub mod ReadAnswers
-pub mod ReadLeaves
-pub mod ReadCases
-pub mod ReadingBack
-pub mod AsRead
-pub mod FalseValues
-pub mod PrintedTrees
+pub mod ReasonHeads
+pub mod RefutingLines
+pub mod ReadByHand
 pub mod SourcesTold
 mod StepsCounted

@@ -2,17 +2,17 @@
 pub use Rattle.std.proofs.Common.{◌≡◌, ℕ, ◌^◌, ◌<◌, Bool, true, false, List, [], ◌∷◌, ◌++◌, get_or, drop, refl, sym, ap, subst, ◌∙◌, zero, suc, ◌≤◌, Option, unwrap_or, arith, inl, inr, ◌+◌, length, slice_index, All, Some, None, is_some, ◌-◌, ◌==◌, cond, map, ◌≢◌, not, ◌||◌, ◌/◌, ◌%◌, lt-ltb, le-leb, ◌&&◌, slice_index_or, eq-eqb, Contains, eqb-true, ◌⊎◌, if◌then◌else◌, ◌*◌, take, IfSome, nat_lt, slice_get, slice_set, append-nil}
 pub use Rattle.std.specs.Fmt.{decimal, digits_onto, digit_glyph}
 unfoldable pub use Rattle.std.specs.Fmt.{digits}
-pub use Rattle.std.specs.List.{list_all, AllByRecursion, flat_map, range_with_len, list_any}
+pub use Rattle.std.specs.List.{list_all, AllByRecursion, flat_map, range_with_len}
 pub use Rattle.std.specs.Char.{is_ascii_digit}
-pub use Rattle.std.proofs.lemmas.Bool.{and_parts, and_from, or_cases, or_right}
-pub use Rattle.std.proofs.lemmas.Fmt.{decimal_injective, decimal_nonempty}
+pub use Rattle.std.proofs.lemmas.Bool.{and_parts, and_from}
+pub use Rattle.std.proofs.lemmas.Fmt.{decimal_injective}
 pub use Rattle.std.proofs.lemmas.List.{append_cancel_left, append_cancel_right, append_assoc, length-append, length-map, map-append, drop_more, get_or-take, length-take, length-replicate}
 pub use Rattle.json.specs.Json.{document, max_depth}
 pub use Rattle.json.specs.Tree.{depth, HasNumbers, items_depth, members_depth, ItemsHaveNumbers, MembersHaveNumbers, json_tokens}
 pub use Rattle.serde_json.specs.Data.{Data, string, Members, no_members, member, put, object, array}
 pub use Rattle.serde_json.specs.Written.{outline, compact_text, items_outline, members_outline, members_text}
 pub use Rattle.serde_json.proofs.Texts.{print-outline}
-pub use Rattle.std.specs.Prelude.{codes, sum, count_by, filter, max}
+pub use Rattle.std.specs.Prelude.{codes, sum, count_by, max}
 pub use Rattle.json.proofs.Printed.Decimals.{IsNumber-decimal}
 pub use Rattle.tso_report.specs.Report.{line, bus_text, machine_line, head, printed_registers, register_lines, printed_words, printed_quantifier, printed_truth, printed_verdict, choices_line, cache_line, cache_lines, report, memory_line, condition_line, test_line, body}
 unfoldable pub use Rattle.tso_report.specs.Report.{all_registers}
@@ -26,9 +26,9 @@ pub use Rattle.protocol_tables.specs.declared.kind.ProtocolKind.{ProtocolKind}
 pub use Rattle.cache_set.specs.Geometry.{IsLineSize}
 pub use Rattle.multiprocessor.specs.Configuration.{Configuration, IsConfigurationWithinLimits}
 pub use Rattle.std.proofs.lemmas.List.Elements.{All-head, All-tail, All-contains, All-weaker, All-map, All-cons, All-nil, All-push, All-set, All-filter, All-drop, All-append, All-take}
-pub use Rattle.tso_terms.specs.Condition.{Condition, Claim, truth_of, TruthClaim, RegClaim, LocClaim, NotClaim, AndClaim, OrClaim}
+pub use Rattle.tso_terms.specs.Condition.{Condition, Claim, truth_of}
 pub use Rattle.tso_terms.specs.Registers.{IsWord, AreRegisters, index_of, name_of}
-pub use Rattle.tso_terms.specs.Thread.{value_in, entry, fence, value_of, sum_of, updated, entries_by, registers_by, values_after, entries_of}
+pub use Rattle.tso_terms.specs.Thread.{value_in, entry, fence, value_of, sum_of, updated}
 pub use Rattle.multiprocessor.specs.Keeping.{IsAtMost}
 pub use Rattle.multiprocessor.specs.declared.counts.Counts.{Counts}
 pub use Rattle.order_builder.specs.PrintedOrder.{printed_order, printed_entry, printed_end, printed_lines, letters_of, printed_access, HasWord}
@@ -39,7 +39,7 @@ pub use Rattle.tso_cli.specs.Fitting.{RunFitsTest, IsStateOf, shown_under, Ended
 pub use Rattle.std.proofs.lemmas.List.Sums.{sum_by-cons, count_by-le-length}
 pub use Rattle.tso_report.specs.declared.named.Named.{Named}
 pub use Rattle.tso_report.specs.declared.named.Named.TheVariants.{Register, Location}
-pub use Rattle.tso_report.specs.Tally.{RunCounts, looked_at, ended_in, printed_value, printed_values, counted_state_lines, sweep_line, frequency, observed_line, observation, tally_text, runs_in, named_register, named_registers, named_locations, is_looked_at, ends_text}
+pub use Rattle.tso_report.specs.Tally.{RunCounts, looked_at, ended_in, printed_value, printed_values, counted_state_lines, sweep_line, frequency, observed_line, observation, tally_text, runs_in, named_register, named_registers, named_locations, ends_text}
 pub use Rattle.std.specs.Ordering.{nat_cmp, match_ordering, is_eq}
 pub use Rattle.std.specs.Cmp.Lexicographic.{slice_cmp}
 pub use Rattle.std.specs.declared.cmp.Ordering.{Ordering}
@@ -67,12 +67,11 @@ pub use Rattle.promises.specs.Verdicts.{PrintsVerdict, EndsInNumbers, IsAsClaime
 pub use Rattle.search_report.specs.MetOutcomes.{unfinished_search_in}
 pub use Rattle.search_report.specs.PrintedOutcomes.{outcomes_in}
 pub use Rattle.promises.specs.Observed.{EndsInWord, HasWordInObject, PrintsWord, IsSoEverywhere, IsSoSomewhere, IsSoNowhere, IsAlwaysSo, IsSometimesSo, WordMeans}
-pub use Rattle.relational_model.specs.Candidates.{Candidate, events_from}
-pub use Rattle.refutation_laws.specs.Refutations.{Node, asked_claim, ReadsFrom, ComesFirst, OnLocation, Globally, Between, FalseClaim, sources_of, is_node, branches, close, refutes}
+pub use Rattle.relational_model.specs.Candidates.{Candidate}
+pub use Rattle.refutation_laws.specs.Refutations.{asked_claim}
 pub use Rattle.refutation_laws.specs.declared.model.Model.{Model}
-pub use Rattle.search_report.specs.Steps.{ReasonStep, Case, So, Leaf, Endcases, steps_of, leaves_in, Answer, From, Before, Closing, Uniproc, Cycle, Amid, False, event_at, edges_back, edges_of, is_leaf, leaf_steps, replies, with_reply, Part, Branch, branches_with, is_closed, write_of_answer, answer_at, are_alike, groups, known_of_case, one_case, share_a_line, closed_case, case_steps, so_steps, rest_steps, question_steps, grown, is_false_source, is_source, is_false, answer_of_case, answer_of_branch, parts_of_nodes}
-pub use Rattle.search_report.specs.ReasonText.{model_name, truth_asked, asked_line, never_line, reason_step_line, blanks, answer_text, closing_text, from_line, reads_of, coherence_lines, values_left, location_text, entry_text, event_text, relation_text, hop_text, cycle_text, source_text, or_text, sources_text, bar_text, words_text, place_text}
-pub use Rattle.search_report.specs.ReasonJson.{asked_value, step_value, edge_value, answer_value, place_members, never_value_of, never_json_line, allowed_value, unfinished_reason_json, cycle_value}
+pub use Rattle.search_report.specs.ReasonText.{model_name, truth_asked, asked_line, never_line, blanks, from_line, reads_of, coherence_lines, values_left}
+pub use Rattle.search_report.specs.ReasonJson.{allowed_value, unfinished_reason_json}
 pub use Rattle.tso_terms.specs.FinalState.{final_words, final_registers}
 pub use Rattle.tso_terms.specs.FlatMachine.{registers_in, chosen, CoreState, State, Effect, is_none_pending, stalled, advanced_with, stored, load_value, effect_by, idle, program_of, core_of, effect_of, memory_after, applied, started, start, step_of}
 pub use Rattle.tso_laws.specs.Outcomes.{IsEnd, EndsAreWhatTsoAllows}
@@ -96,8 +95,8 @@ pub use Rattle.tso_terms.specs.declared.choice.Stall.TheVariants.{Done, Full, Em
 pub use Rattle.promises.specs.Traces.{bare_store, told_by_line, TraceStepFits, TracesTellTheirSteps, told_by_object, SourceFits, ObjectsTellTheirSteps, IsReadable, TraceValuesTellTheirSteps, PrintedTracesAreTold, PrintedTracesNameTheSame}
 pub use Rattle.trace_report.specs.JsonValues.{text_or_null, array_of_texts}
 pub use Rattle.trace_report.specs.StepJson.{outcome_word, stall_in, step_json}
-pub use Rattle.tso_terms.specs.Actions.{action_of, location_of}
-pub use Rattle.tso_terms.specs.ProgramOrder.{is_write, writes_to, is_read}
+pub use Rattle.tso_terms.specs.Actions.{action_of}
+pub use Rattle.tso_terms.specs.ProgramOrder.{is_write, writes_to}
 pub use Rattle.tso_terms.specs.MemoryAccess.{MemoryAccess, NoAccess, Writes, Locks, access_of, next_of}
 pub use Rattle.tso_terms.specs.SplitMachine.{Holder, Free, HeldBy, HeldBetween, Attempt, BusEffect, same_choice, needs_bus, acts, asks, begins, completes, as_read, writes_last, split_effect}
 pub use Rattle.tso_terms.specs.declared.action.Action.TheVariants.{Store, Load, Move, Fence, Lock}
@@ -119,21 +118,4 @@ pub use Rattle.trace_report.specs.OwnWords.{own_word, own_words_from, own_words,
 pub use Rattle.trace_report.specs.ProgramsJson.{instruction_text, program_value, programs_value}
 pub use Rattle.trace_report.specs.PropositionJson.{proposition_text, proposition_value}
 pub use Rattle.trace_report.specs.TraceJson.{sourced_by, step_to, steps_json, trace_json, Sourced}
-pub use Rattle.refutation_laws.specs.Edges.{on_location, global_in, relates, is_edge, is_cycle, leads_back, are_parts}
-pub use Rattle.refutation_laws.specs.declared.model.Relation.{Relation}
-pub use Rattle.refutation_laws.specs.declared.model.Relation.TheVariants.{Po, PoLoc, PoGhb, Mfence, Implied, Rf, Rfe, Co, Fr}
-pub use Rattle.search_report.specs.declared.steps.Event.{Event}
-pub use Rattle.promises.specs.Reasons.{told_event, IsValueFor, EventFits, IsRelationAmong, told_edge, told_answer, LeadFrom, CycleFits, CaseFits, IsNamed, PlaceFits, told_closing, told_reason_step, ClosingFits, ReasonsTellTheirTests, ReasonsTellTheirSteps, StepsOfRefutationsFit, PrintedRefutationsTellTheirSteps, told_by_value, depth_in, AreCounted, ReasonValuesTellTheirSteps, ReasonStepFits}
-pub use Rattle.search_report.specs.Places.{Place, words_at, known_among, unseen, suffices, place_with_values, places_in, name_the_same}
-pub use Rattle.search_report.specs.declared.steps.Edge.{Edge}
-pub use Rattle.refutation_laws.specs.Known.{Known, events_of, same_event, bare, is_event, nothing, with_source, with_pair, is_write_of, reads_from, comes_before, is_overwritten, from_reads}
-pub use Rattle.refutation_laws.specs.declared.known.Source.{Source}
-pub use Rattle.refutation_laws.specs.Values.{known_in, known_operand, known_update, word_given, write_with, writes_by, registers_left_by, writes_of, left_of, known_first_registers, writes_from, value_among, returned_from, returned, known_writes, all_known, value_read, register_at_end, words_at_end, can_be_last, can_be, allows}
-pub use Rattle.refutation_laws.specs.Shown.{value_known, first_that_relates}
-pub use Rattle.refutation_laws.proofs.Standing.{same-bare}
-pub use Rattle.search_report.specs.declared.replies.Reply.{Reply}
-pub use Rattle.search_report.specs.declared.replies.Reply.TheVariants.{Reads, First}
-pub use Rattle.basic_laws.proofs.Lists.{Each, each-map, each-append, each-left, each-right}
-pub use Rattle.refutation_laws.proofs.Soundness.{itself, bare-same}
-pub use Rattle.promises.specs.ReadBack.{entry_of_event, replies_in, ReadCase, same_source, same_reply, source_in, leaf_in, ReadPart, Closed, Cases, nodes_with, nodes_of, cases_with, parts_before, parts_in, question_answered, tree_of, StepsOfRefutationsRefute, LinesTellTheirTree, PrintedTreesRefute, ValuesTellTheirTree, PrintedValuesRefute, HasOneOfEach, IsSoAsRead, PrintedFalseLinesAreSo, PrintedFalseValuesAreSo}
 pub use Rattle.trace_report.specs.Shown.{ShownStep}

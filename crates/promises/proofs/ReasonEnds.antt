@@ -1,6 +1,12 @@
 -- The verdict that stands at the end of what `why` prints.
-use Rattle.promises.proofs.PrintedVocabulary.{◌≡◌, ℕ, Bool, true, false, List, [], ◌∷◌, ◌++◌, refl, sym, ap, subst, Option, Some, decimal, flat_map, append_assoc, string, no_members, member, compact_text, codes, line, printed_quantifier, printed_truth, test_line, Litmus, Condition, looked_at, printed_values, escape_byte, Choice, by_line, state_line, is_well, outcomes_verdict_value, verdict_line, never_value_of, Candidate, Node, asked_claim, Model, ReasonStep, Case, So, Leaf, Endcases, steps_of, leaves_in, model_name, truth_asked, asked_line, never_line, reason_step_line, blanks, answer_text, closing_text, from_line, reads_of, coherence_lines, values_left, allowed_value, unfinished_reason_json}
-use Rattle.search_report.specs.PrintedReasons.{refutation_in, allowed_in, unfinished_cases_in}
+use Rattle.promises.proofs.PrintedVocabulary.{◌≡◌, ℕ, Bool, true, false, List, [], ◌∷◌, ◌++◌, refl, sym, ap, subst, Option, Some, decimal, flat_map, append_assoc, string, no_members, member, compact_text, codes, line, printed_quantifier, printed_truth, test_line, Litmus, Condition, looked_at, printed_values, escape_byte, Choice, by_line, state_line, is_well, outcomes_verdict_value, verdict_line, Candidate, asked_claim, Model, model_name, truth_asked, asked_line, never_line, blanks, from_line, reads_of, coherence_lines, values_left, allowed_value, unfinished_reason_json}
+use Rattle.short_refutations.specs.Refutations.{Lemma, Node}
+use Rattle.search_report.specs.PrintedReasons.{allowed_in, unfinished_cases_in}
+use Rattle.search_report.specs.ShortReports.{short_refutation_in}
+use Rattle.search_report.specs.ShownText.{closing_text, facts_text}
+use Rattle.search_report.specs.Lines.{Line, Given, Never, Case, So, Leaf, Endcases, refutation_lines, leaves_in}
+use Rattle.search_report.specs.LineText.{case_text, line_text}
+use Rattle.search_report.specs.LineJson.{never_value_of}
 use Rattle.promises.proofs.Digits.{both-other, number-in-line}
 use Rattle.promises.proofs.Endings.{EndsIn, behind, all-feeds, line-feed, verdict_tail, no-verdict-line, no-verdict-member, object-ends}
 use Rattle.promises.proofs.LastLines.{behind-feed, nested}
@@ -10,11 +16,13 @@ use Rattle.promises.proofs.LastLines.{behind-feed, nested}
 feeds : (front text : List ℕ) → EndsIn (10 ∷ []) (front ++ line text)
 feeds front text = behind front (line text) (10 ∷ []) (line-feed text)
 
-step-feeds : (t : Litmus) (s : ReasonStep) → EndsIn (10 ∷ []) (reason_step_line t s)
-step-feeds t (Case depth answer) = behind (blanks depth) _ (10 ∷ []) (feeds (codes "Case ") (answer_text t answer))
-step-feeds t (So depth answer) = behind (blanks depth) _ (10 ∷ []) (feeds (codes "So ") (answer_text t answer))
-step-feeds t (Leaf depth closing) = feeds (blanks depth) (closing_text t closing)
-step-feeds t (Endcases depth) = feeds (blanks depth) (codes "Endcases")
+each-feeds : (t : Litmus) (l : Line) → EndsIn (10 ∷ []) (line_text t l)
+each-feeds t (Given facts) = feeds (codes "Given ") (facts_text t facts)
+each-feeds t (Never number facts) = behind (codes "Lemma ") _ (10 ∷ []) (behind (decimal number) _ (10 ∷ []) (feeds (codes " ") (facts_text t facts)))
+each-feeds t (Case depth question answers closing) = behind (blanks depth) _ (10 ∷ []) (feeds (codes "Case ") (case_text t question answers closing))
+each-feeds t (So depth question answers closing) = behind (blanks depth) _ (10 ∷ []) (feeds (codes "So ") (case_text t question answers closing))
+each-feeds t (Leaf depth closing) = feeds (blanks depth) (closing_text t closing)
+each-feeds t (Endcases depth) = feeds (blanks depth) (codes "Endcases")
 
 asked-feeds : (c : Option Condition) (condition : Condition) → c ≡ Some condition → EndsIn (10 ∷ []) (asked_line c)
 asked-feeds c condition is =
@@ -29,17 +37,17 @@ verdict-behind c condition truth text is feed =
 
 -- ---- either form
 
-pub refutation-end : (json : Bool) (model : Model) (t : Litmus) (condition : Condition) (nodes : List Node) → t.condition ≡ Some condition
-    → EndsIn (verdict_tail json (is_well condition.quantifier false)) (refutation_in json model t nodes)
-refutation-end false model t condition nodes is =
-    let steps = steps_of model t (asked_claim t.condition) nodes in
+pub refutation-end : (json : Bool) (model : Model) (t : Litmus) (condition : Condition) (lemmas : List Lemma) (tree : List Node) → t.condition ≡ Some condition
+    → EndsIn (verdict_tail json (is_well condition.quantifier false)) (short_refutation_in json model t lemmas tree)
+refutation-end false model t condition lemmas tree is =
+    let ls = refutation_lines model t (asked_claim t.condition) lemmas tree in
     let tail = verdict_tail false (is_well condition.quantifier false) in
-    let lines = asked_line t.condition ++ flat_map (reason_step_line t) steps in
-    let steps_feed = all-feeds (reason_step_line t) (step-feeds t) (asked_line t.condition) (asked-feeds t.condition condition is) steps in
-    let last = subst (EndsIn tail) (append_assoc (asked_line t.condition) (flat_map (reason_step_line t) steps) (verdict_line t.condition false)) (verdict-behind t.condition condition false lines is steps_feed) in
-    behind (test_line t) _ tail (behind (never_line model (leaves_in steps)) _ tail last)
-refutation-end true model t condition nodes is =
-    object-ends (is_well condition.quantifier false) (never_value_of model t (steps_of model t (asked_claim t.condition) nodes)) (ap (λ c. member (codes "verdict") (outcomes_verdict_value c false) no_members) is)
+    let lines = asked_line t.condition ++ flat_map (line_text t) ls in
+    let lines_feed = all-feeds (line_text t) (each-feeds t) (asked_line t.condition) (asked-feeds t.condition condition is) ls in
+    let last = subst (EndsIn tail) (append_assoc (asked_line t.condition) (flat_map (line_text t) ls) (verdict_line t.condition false)) (verdict-behind t.condition condition false lines is lines_feed) in
+    behind (test_line t) _ tail (behind (never_line model (leaves_in ls)) _ tail last)
+refutation-end true model t condition lemmas tree is =
+    object-ends (is_well condition.quantifier false) (never_value_of model t (refutation_lines model t (asked_claim t.condition) lemmas tree)) (ap (λ c. member (codes "verdict") (outcomes_verdict_value c false) no_members) is)
 
 pub execution-end : (json : Bool) (model : Model) (t : Litmus) (condition : Condition) (c : Candidate) (choices : List Choice) → t.condition ≡ Some condition
     → EndsIn (verdict_tail json (is_well condition.quantifier true)) (allowed_in json model t c choices)

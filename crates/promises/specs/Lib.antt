@@ -10,6 +10,6 @@ pub mod Traces
 pub mod TracedMachines
 pub mod CountedSteps
 pub mod Reasons
-pub mod ReadBack
+pub mod ByHand
 pub mod Sources
 pub mod inner

@@ -5,14 +5,13 @@ pub use Rattle.tso_terms.specs.FlatMachine.{chosen, core_of, registers_in}
 pub use Rattle.tso_terms.specs.Litmus.{IsTest, Litmus}
 pub use Rattle.tso_terms.specs.Registers.{IsWord}
 pub use Rattle.tso_terms.specs.Runs.{CoresExist}
-pub use Rattle.basic_laws.specs.Types.{Exists, F, Forall, Kind, NotExists, Quantifier}
-pub use Rattle.refutation_laws.specs.Known.{bare, same_event}
-pub use Rattle.refutation_laws.specs.Refutations.{asked_claim, Between, ComesFirst, FalseClaim, Globally, Node, OnLocation, ReadsFrom, refutes}
+pub use Rattle.basic_laws.specs.Types.{Exists, Forall, NotExists, Quantifier}
+pub use Rattle.refutation_laws.specs.Refutations.{asked_claim}
 pub use Rattle.refutation_laws.specs.declared.model.Model.{Model}
 pub use Rattle.litmus_reader.specs.Spelling.{SpellsTest}
 pub use Rattle.scheduler.specs.Limits.{most_choices}
 pub use Rattle.protocol_tables.specs.declared.kind.ProtocolKind.{ProtocolKind}
-pub use Rattle.order_builder.specs.Spelling.{IsEntryFor, IsOrderFor}
+pub use Rattle.order_builder.specs.Spelling.{IsOrderFor}
 pub use Rattle.multiprocessor.specs.Configuration.{Configuration, IsConfigurationWithinLimits}
 pub use Rattle.tso_report.specs.Report.{line}
 pub use Rattle.tso_report.specs.declared.named.Named.{Named}
@@ -21,10 +20,6 @@ pub use Rattle.trace_report.specs.Steps.{line_state, trace_under}
 pub use Rattle.tso_report.specs.ShownNames.{names_shown, values_at}
 pub use Rattle.search_report.specs.Outcomes.{Outcome, printed_numbers, shown_values}
 pub use Rattle.search_report.specs.Verdict.{verdict_word}
-pub use Rattle.search_report.specs.ReasonText.{never_lines, never_text}
-pub use Rattle.search_report.specs.Steps.{Amid, Answer, Before, Case, Closing, Cycle, Endcases, False, From, Leaf, leaves_in, ReasonStep, replies, So, steps_of, Uniproc}
-pub use Rattle.search_report.specs.declared.steps.Edge.{Edge}
-pub use Rattle.search_report.specs.declared.steps.Event.{Event}
 pub use Rattle.command_line.specs.Search.{Search}
 pub use Rattle.counted_io.specs.Limits.{longest_input}
 pub use Rattle.machine_runs.specs.Runs.{AnswersFit, run_under}

@@ -57,7 +57,7 @@ pub mod telling_calls;
 pub mod threads;
 pub mod told_choices;
 pub mod told_cores;
-pub mod told_reasons;
+pub mod told_lines;
 pub mod told_sources;
 pub mod told_steps;
 pub mod told_sweeps;
@@ -73,11 +73,7 @@ pub use laws_of_outcomes::{
     printed_states_fit_their_test, statuses_tell_the_verdict, true_names_the_true_states,
     verdicts_mean_what_they_say, words_mean_what_they_say,
 };
-pub use laws_of_reasons::{
-    printed_trees_refute, reasons_tell_their_steps, reasons_tell_their_tests,
-    steps_of_reasons_fit_their_test, values_of_reasons_tell_their_steps,
-    worked_trees_are_read_back,
-};
+pub use laws_of_reasons::{printed_lines_refute, reasons_tell_their_tests};
 pub use laws_of_runs::{
     printed_runs_are_told, reports_tell_their_machines, reports_tell_their_runs,
     sweeps_tell_their_counts, sweeps_tell_their_machines, unfinished_runs_are_told,

@@ -2,7 +2,7 @@
 //! and one model both are never printed.
 
 ghost use Rattle.std.specs.Prelude.{◌≡◌, ◌<◌, ◌≤◌, ◌↔◌, ℕ, Bool, true, List, length, IsSome, IfSome};
-ghost use Rattle.tso_terms.specs.Litmus.{Litmus, IsTest};
+ghost use Rattle.tso_terms.specs.Litmus.{Litmus};
 ghost use Rattle.tso_terms.specs.FinalState.{final_registers, final_words};
 ghost use Rattle.tso_terms.specs.FlatMachine.{registers_in};
 ghost use Rattle.tso_terms.specs.Runs.{run};
@@ -12,12 +12,14 @@ ghost use Rattle.tso_laws.specs.EndedRuns.{End};
 ghost use Rattle.relational_model.specs.Candidates.{Candidate};
 ghost use Rattle.relational_model.specs.CandidatesOfOrders.{IsCandidateOf};
 ghost use Rattle.refutation_laws.specs.Models.{IsExecutionOf, depth_of};
-ghost use Rattle.refutation_laws.specs.Refutations.{Node, asked_claim, refutes};
+ghost use Rattle.refutation_laws.specs.Refutations.{asked_claim};
 ghost use Rattle.refutation_laws.specs.declared.model.Model.{Model};
 ghost use Rattle.scheduler.specs.Grammar.{SpellsChoices};
 ghost use Rattle.scheduler.specs.Printed.{printed_choices};
-ghost use Rattle.reasons.specs.Reasons.{HasMoreCases, most_cases};
-ghost use Rattle.search_report.specs.PrintedReasons.{allowed_in, refutation_in, unfinished_cases_in};
+ghost use Rattle.short_refutations.specs.Refutations.{Lemma, Node, refutes};
+ghost use Rattle.short_reasons.specs.Reasons.{ClosesMoreCases, most_cases};
+ghost use Rattle.search_report.specs.PrintedReasons.{allowed_in, unfinished_cases_in};
+ghost use Rattle.search_report.specs.ShortReports.{short_refutation_in};
 ghost use Rattle.command_line.specs.Explanation.{Explanation, IsExplanationWithinLimits};
 ghost use Rattle.command_line.specs.declared.settings.Settings.{Settings};
 ghost use Rattle.tso_cli.specs.Dividing.{parts_of};
@@ -33,10 +35,11 @@ use command_line::ReasonPlan;
 use refutation_laws::model;
 use tso_cli::headline_laws::headlines_leave_one_text;
 
-/// A printed refutation is that of a tree that refutes.
+/// A printed refutation is that of lemmas and a tree that refute.
 pub fn a_printed_refutation_refutes()
     ensures { (t : Litmus) (model : Model) (json : Bool) (out : List ℕ) → PrintsRefutation t model json out
-        → (nodes : List Node) × (out ≡ refutation_in json model t nodes) × (refutes model t (asked_claim t.condition) nodes ≡ true) }
+        → (lemmas : List Lemma) × (tree : List Node) × (out ≡ short_refutation_in json model t lemmas tree)
+        × (refutes model t (asked_claim t.condition) lemmas tree ≡ true) }
 {}
 
 /// Where a refutation is printed, what is asked is so at the end of no execution of the model, and of no run.
@@ -85,7 +88,7 @@ pub fn a_text_without_a_reason_names_its_limit()
     ensures printed { (t : Litmus) (plan : Explanation) (json : Bool) (out : List ℕ) (said : GivesNoReason t plan json out)
         → out ≡ unfinished_cases_in json t plan.cases }
     ensures more { (t : Litmus) (plan : Explanation) (json : Bool) (out : List ℕ) (said : GivesNoReason t plan json out)
-        → HasMoreCases plan.model t plan.cases }
+        → ClosesMoreCases plan.model t plan.cases }
     ensures fewer { (t : Litmus) (plan : Explanation) (json : Bool) (out : List ℕ) (said : GivesNoReason t plan json out)
         → plan.cases < most_cases t }
 {}

@@ -36,7 +36,9 @@ fn values_of_any(
 }
 
 /// What the last write to a location can leave there.
-fn last_words(alloc: Global, told: Told<'_>, loc: u8) -> Result<Option<Vec<u32>>, NoMemory>
+///
+/// Errors: out of memory only.
+pub fn last_words(alloc: Global, told: Told<'_>, loc: u8) -> Result<Option<Vec<u32>>, NoMemory>
     requires { IsTold told }
     ensures { IfOk result (λ v. known_of v ≡ spec.last_words told.entry.test.now (facts_of told.entry.facts.now) (readings_of told.entry.readings.now) loc) }
 {

@@ -9,15 +9,16 @@ pub mod Printing
 pub mod MeetingLimit
 pub mod Members
 pub mod Showing
-pub mod FalseLines
 pub mod Alike
 pub mod Hiding
 mod Staying
-pub mod Cutting
-pub mod Distinct
-pub mod Grouping
 pub mod Growing
-pub mod Laying
-pub mod Moving
 pub mod NoFloatsInReasons
 pub mod ShownReasons
+pub mod LastWords
+pub mod FalsePlaces
+pub mod Lining
+pub mod NoFloatsInLines
+pub mod Separating
+pub mod Branching
+pub mod Sharing

@@ -1,5 +1,5 @@
 -- What is printed of a search that met its limit.
-use Rattle.search_report.proofs.Vocabulary.{◌≡◌, ◌∙◌, ℕ, Bool, true, false, List, [], ◌++◌, length, All, refl, sym, ap, subst, values_of, codes, Option, Some, None, no_members, member, object, has_float, Litmus, Condition, FinalState, Named, Outcome, outcome_of, is_met_in, outcome_lines, kept_lines, outcomes_verdict_value, states_value, IsOutcomeOf, kept_of, kept_after, AreShown}
+use Rattle.search_report.proofs.Vocabulary.{◌≡◌, ◌∙◌, ℕ, Bool, true, false, List, [], ◌++◌, length, All, refl, sym, ap, subst, values_of, Option, has_float, Litmus, Condition, FinalState, Named, Outcome, outcome_of, is_met_in, outcome_lines, kept_lines, states_value, IsOutcomeOf, kept_of, kept_after, AreShown}
 use Rattle.tso_report.proofs.NoFloats.{neither}
 use Rattle.search_report.specs.MetOutcomes.{unfinished_outcomes_line, met_line, decided_line, decided_value, met_text, met_value, unfinished_search_in, PrintsMet}
 use Rattle.search_report.proofs.Keeping.{kept-printed}

@@ -1,34 +1,8 @@
 -- The values that are printed have no float, so that their text is known.
-use Rattle.search_report.proofs.Vocabulary.{filter, writes_to, Entry, Choice, printed_entry, Named, Model, value_members, outcomes_verdict_value, Reading, reading_value, coherence_members_by, with_coherence, ◌≡◌, ◌+◌, ℕ, Bool, true, false, List, [], ◌∷◌, map, Option, Some, None, refl, string, array, Members, items_of, has_float, items_have_float, members_have_float, Litmus, Condition, count, key_of, Place, Answer, From, Before, Closing, Uniproc, Cycle, Amid, False, ReasonStep, Leaf, source_text, edge_value, edges_value, answer_value, place_members, closing_value, step_value, asked_value, never_value_of}
-use Rattle.search_report.specs.declared.steps.Edge.{Edge}
-use Rattle.search_report.specs.Steps.{Case, So, Endcases}
+use Rattle.search_report.proofs.Vocabulary.{filter, writes_to, Entry, Choice, printed_entry, Named, Model, value_members, outcomes_verdict_value, Reading, reading_value, coherence_members_by, with_coherence, ◌≡◌, ◌+◌, ℕ, Bool, true, false, List, [], ◌∷◌, map, Option, Some, None, refl, string, array, Members, items_of, has_float, items_have_float, members_have_float, Litmus, Condition, count, key_of, Place, source_text, edge_value, edges_value, place_members, asked_value}
+use Rattle.search_report.specs.declared.shown.Edge.{Edge}
 use Rattle.tso_report.proofs.NoFloats.{neither, one_more, each}
 use Rattle.search_report.proofs.ShownReasons.{value-from}
-
-places : (t : Litmus) (ps : List Place) → members_have_float (place_members t ps) ≡ false
-places t [] = refl
-places t (p ∷ ps) =
-    one_more (key_of t p.named) (array (items_of (map count p.values))) (place_members t ps) (each count (λ v. refl) p.values) (places t ps)
-
-edges : (t : Litmus) (es : List Edge) → has_float (edges_value t es) ≡ false
-edges t es = each (edge_value t) (λ e. refl) es
-
-answer : (t : Litmus) (step : List ℕ) (depth : ℕ) (a : Answer) → has_float (answer_value t step depth a) ≡ false
-answer t step depth (From r ws) = neither (items_have_float (items_of (map (λ w. string (source_text t w)) ws))) false
-    (each (λ w. string (source_text t w)) (λ w. refl) ws) refl
-answer t step depth (Before w v) = refl
-
-closing : (t : Litmus) (depth : ℕ) (c : Closing) → has_float (closing_value t depth c) ≡ false
-closing t depth (Uniproc es) = neither (has_float (edges_value t es)) false (edges t es) refl
-closing t depth (Cycle es) = neither (has_float (edges_value t es)) false (edges t es) refl
-closing t depth (Amid r v w) = refl
-closing t depth (False ps) = neither (members_have_float (place_members t ps)) false (places t ps) refl
-
-step : (t : Litmus) (s : ReasonStep) → has_float (step_value t s) ≡ false
-step t (Case depth a) = answer t _ depth a
-step t (So depth a) = answer t _ depth a
-step t (Leaf depth c) = closing t depth c
-step t (Endcases depth) = refl
 
 asked : (o : Option Condition) → has_float (asked_value o) ≡ false
 asked None = refl
@@ -52,12 +26,6 @@ named : (t : Litmus) (ns : List Named) (vs : List ℕ) → members_have_float (v
 named t [] vs = refl
 named t (n ∷ ns) [] = refl
 named t (n ∷ ns) (v ∷ vs) = one_more (key_of t n) (count v) (value_members t ns vs) refl (named t ns vs)
-
-pub never-has-no-float : (model : Model) (t : Litmus) (ss : List ReasonStep) → has_float (never_value_of model t ss) ≡ false
-never-has-no-float model t ss =
-    neither (has_float (asked_value t.condition)) _ (asked t.condition)
-    (neither (items_have_float (items_of (map (step_value t) ss))) _ (each (step_value t) (step t) ss)
-    (neither (has_float (outcomes_verdict_value t.condition false)) false (verdict t.condition false) refl))
 
 pub allowed-has-no-float : (t : Litmus) (order : List Entry) (xs : List Reading) (choices : List Choice) (n m : List ℕ) (ns : List Named) (vs : List ℕ)
     → has_float (value-from t choices n m (map (reading_value t) xs) (coherence_members_by t order 0 t.locations) (value_members t ns vs)) ≡ false

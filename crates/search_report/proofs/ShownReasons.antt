@@ -8,7 +8,7 @@ use Rattle.tso_report.specs.Tally.{printed_values}
 use Rattle.search_report.specs.Outcomes.{by_line, state_line}
 use Rattle.search_report.specs.ReasonText.{source_text, read_source}
 use Rattle.search_report.specs.inner.ShownExecutions.{event_of, event_of_write}
-use Rattle.search_report.specs.declared.steps.Event.{Event}
+use Rattle.search_report.specs.declared.shown.Event.{Event}
 
 -- ---- the last write
 

@@ -1,6 +1,6 @@
 -- The names that the proofs of this crate bring in from definitions and from crates below; each file takes its own from here.
-pub use Rattle.std.proofs.Common.{◌≡◌, ◌∙◌, Bool, true, false, cond, List, [], ◌∷◌, Option, Some, None, is_some, Less, Equal, Contains, refl, ap, subst, ℕ, ◌<◌, map, length, drop, slice_index_or, ◌+◌, Vec, Bor, All, sym, suc, ◌-◌, not, arith, ◌≤◌, if◌then◌else◌, ◌++◌, codes, append_assoc, ◌||◌, ◌⊎◌, inl, inr, zero, filter, ⊎_elim, ◌==◌, ◌&&◌, slice_index, take, slice_get, slice_set, ◌≢◌, string_bytes, ◌^◌, IfOk, rules, get_or, set, length-set, get_or-set_same, get_or-set_other, vec_len, drop-cons}
-pub use Rattle.std.specs.List.{AllByRecursion, flat_map, list_any, list_all}
+pub use Rattle.std.proofs.Common.{◌≡◌, ◌∙◌, Bool, true, false, cond, List, [], ◌∷◌, Option, Some, None, is_some, Less, Equal, Contains, refl, ap, subst, ℕ, ◌<◌, map, length, drop, slice_index_or, ◌+◌, Vec, Bor, All, sym, suc, ◌-◌, not, arith, ◌≤◌, if◌then◌else◌, ◌++◌, codes, append_assoc, ◌||◌, ◌⊎◌, inl, inr, zero, filter, ⊎_elim, ◌==◌, ◌&&◌, slice_index, take, slice_get, slice_set, ◌≢◌, string_bytes, IfOk, get_or, set, vec_len, drop-cons}
+pub use Rattle.std.specs.List.{AllByRecursion, flat_map, list_any}
 unfoldable pub use Rattle.std.specs.List.Sorted.{IsStrictlySortedBy}
 pub use Rattle.std.specs.Ordering.{is_eq, nat_cmp, ordering_reverse, match_ordering}
 pub use Rattle.std.specs.Cmp.Lexicographic.{slice_cmp}
@@ -12,7 +12,7 @@ pub use Rattle.std.specs.declared.alloc.Global.{Global}
 pub use Rattle.std.specs.declared.cmp.Ordering.{Ordering}
 pub use Rattle.std.specs.declared.cmp.Ordering.TheVariants.{Greater}
 pub use Rattle.std.proofs.lemmas.List.Elements.{All-from_recursion, recursion_from_All, All-head, All-tail, All-nil, All-cons}
-pub use Rattle.std.proofs.lemmas.List.{get_or-map, length-map, drop_more, map_push, drop_all, at_drop_more, take_all, length-drop, append-nil}
+pub use Rattle.std.proofs.lemmas.List.{get_or-map, length-map, drop_more, drop_all, at_drop_more, take_all, length-drop, append-nil}
 pub use Rattle.tso_terms.specs.Litmus.{Litmus, IsTest, IsCondition}
 pub use Rattle.explorer.specs.declared.final_states.FinalState.{FinalState}
 pub use Rattle.tso_report.specs.Tally.{shown_value, claim_names_register, claim_names_location, is_looked_at, named_register, named_location, named_registers, named_locations, looked_at, values_in}
@@ -20,11 +20,11 @@ pub use Rattle.tso_report.specs.declared.named.Named.{Named}
 pub use Rattle.tso_report.specs.Json.{count}
 pub use Rattle.search_report.specs.Outcomes.{Outcome, outcome_of, shown_values, ArePrinted, held_in, failed_in, true_from, true_in, printed_numbers, state_line, by_line, outcome_lines, outcomes_line, condition_lines, outcomes_text, is_met_in}
 pub use Rattle.search_report.specs.inner.ShownOutcomes.{IsOutcomeOf, is_kept, kept_of, with_outcome, kept_after, AreShown, outcomes_at, AllHave}
-pub use Rattle.std.specs.Prelude.{count_by, replicate}
+pub use Rattle.std.specs.Prelude.{count_by}
 pub use Rattle.std.proofs.lemmas.List.Sums.{sum_by-cons}
 pub use Rattle.tso_terms.specs.Condition.{Claim, NamesExist, truth_of, claim_of, condition_of, Condition, TruthClaim, RegClaim, LocClaim, NotClaim, AndClaim, OrClaim}
-pub use Rattle.serde_json.specs.Data.{array, boolean, Data, string, Members, no_members, member, put, object}
-pub use Rattle.serde_json.specs.View.{view, items_of, members_view}
+pub use Rattle.serde_json.specs.Data.{array, Data, string, Members, no_members, member, put, object}
+pub use Rattle.serde_json.specs.View.{view, items_of}
 pub use Rattle.search_report.specs.OutcomesJson.{holds_in, state_value, states_value, key_of, value_members, with_holds, observation_value, outcomes_value}
 pub use Rattle.search_report.specs.inner.WrittenOutcomes.{kept_lines, kept_values}
 pub use Rattle.serde_json.specs.Written.{has_float, members_have_float, items_have_float, compact_text}
@@ -42,29 +42,15 @@ pub use Rattle.tso_laws.specs.Dead.{cleared, hidden_of, seen_from, seen, none_hi
 pub use Rattle.tso_report.specs.declared.named.Named.TheVariants.{Register, Location}
 pub use Rattle.search_report.specs.inner.Hidden.{IsNotHidden}
 pub use Rattle.std.proofs.lemmas.Result.{on_ok_weaker, IfOk-weaker}
-pub use Rattle.serde_json.specs.declared.value.Value.{the_lemmas}
-pub use Rattle.scheduler.specs.Printed.{printed_choices}
-pub use Rattle.refutation_laws.specs.Known.{Known, nothing}
-pub use Rattle.refutation_laws.specs.Refutations.{asked_claim, sources_of}
-pub use Rattle.refutation_laws.specs.Values.{can_be}
 pub use Rattle.refutation_laws.specs.declared.model.Model.{Model}
-pub use Rattle.refutations.specs.Trees.{node_of}
-pub use Rattle.search_report.specs.Steps.{Part, grown, replies, branches_with, Branch, are_alike, groups, is_false_source, known_of_case, one_case, share_a_line, closed_case, ReasonStep, is_leaf, is_closed, with_reply, so_steps, case_steps, rest_steps, leaf_steps, Answer, From, Before, Closing, Uniproc, Cycle, Amid, False, Leaf, write_of_answer}
-pub use Rattle.search_report.specs.declared.replies.Reply.{Reply}
-pub use Rattle.search_report.specs.declared.parts.Refutation.{Refutation}
-pub use Rattle.search_report.specs.inner.Parts.{parts_of_nodes_from, first_part, parts_of_refutation, branch_in, AreNext, IsNextPart, AreBelow, IsLayoutReady, root_at}
-pub use Rattle.refutations.specs.inner.Trees.{known_of, relations_of}
-pub use Rattle.search_report.specs.Places.{suffices, name_the_same, places_in, are_enough, Place, place_with_values, words_at, distinct, unseen, known_among}
-pub use Rattle.search_report.specs.Views.{reason_step_of, place_of}
-pub use Rattle.search_report.specs.declared.closed.Closed.{Closed}
-pub use Rattle.search_report.specs.inner.Closed.{IsClosed, BranchesAreClosed, closed_branch, same_truths, alike, known_alike}
-unfoldable pub use Rattle.search_report.specs.inner.Closed.{rest_of}
-pub use Rattle.search_report.specs.inner.Tasks.{Task, Passed, Case, So, Endcases, task_of, tasks_of, branch_task, branch_tasks, end_of, as_branch, emit, depth_below, task_of_answered, task_depth, TasksAreWithin, spec_wanted, with_wanted}
+pub use Rattle.refutations.specs.inner.Trees.{relations_of}
+pub use Rattle.search_report.specs.Places.{Place}
+pub use Rattle.search_report.specs.inner.Views.{place_of}
 pub use Rattle.tso_terms.specs.ProgramOrder.{writes_to, is_read, is_before}
 pub use Rattle.order_builder.specs.PrintedOrder.{printed_entry}
 pub use Rattle.search_report.specs.declared.readings.Reading.{Reading}
 pub use Rattle.search_report.specs.inner.ShownExecutions.{reading_value, coherence_members_by, last_or, ReadsIt, AreIn, AreReadings, IsShown, read_with_source, reading_line, coherence_by}
-pub use Rattle.search_report.specs.ReasonJson.{with_coherence, edge_value, edges_value, answer_value, place_members, closing_value, step_value, asked_value, never_value_of, from_value, coherence_members, allowed_value}
+pub use Rattle.search_report.specs.ReasonJson.{with_coherence, edge_value, edges_value, place_members, asked_value, from_value, coherence_members, allowed_value}
 pub use Rattle.search_report.specs.ReasonText.{source_text, model_name, asked_line, from_line, reads_of, coherence_lines, coherence_line, allowed_text}
 pub use Rattle.tso_terms.specs.ProgramEntries.{made}
 pub use Rattle.tso_terms.specs.FinalState.{final_words, final_registers}

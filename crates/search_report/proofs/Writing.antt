@@ -1,5 +1,5 @@
 -- What is written of the states that are kept.
-use Rattle.search_report.proofs.Vocabulary.{◌≡◌, ◌∙◌, ℕ, Bool, Option, Some, codes, Condition, held_in, failed_in, true_in, printed_numbers, List, [], ◌∷◌, ◌++◌, map, length, Vec, Bor, refl, sym, ap, subst, append_assoc, values_of, Global, length-map, All-head, All-tail, array, Litmus, FinalState, shown_value, Named, Outcome, outcome_of, shown_values, state_line, by_line, outcome_lines, outcomes_line, condition_lines, outcomes_text, holds_in, state_value, IsOutcomeOf, kept_of, AreShown, kept_lines, kept_values}
+use Rattle.search_report.proofs.Vocabulary.{◌≡◌, ◌∙◌, ℕ, Bool, Option, Some, codes, Condition, held_in, failed_in, true_in, printed_numbers, List, [], ◌∷◌, ◌++◌, map, length, Vec, Bor, refl, sym, ap, subst, append_assoc, values_of, Global, length-map, All-head, All-tail, Litmus, FinalState, shown_value, Named, Outcome, outcome_of, shown_values, state_line, by_line, outcome_lines, outcomes_line, condition_lines, outcomes_text, holds_in, state_value, IsOutcomeOf, kept_of, AreShown, kept_lines, kept_values}
 use Rattle.tso_report.specs.declared.arrays.Array.{Array}
 use Rattle.tso_report.specs.inner.Arrays.{IsBegun}
 use Rattle.tso_report.specs.Report.{line, test_line}

@@ -7,13 +7,23 @@ pub mod MetOutcomes
 pub mod Laws
 pub mod Vocabulary
 pub mod Places
-pub mod Steps
 pub mod ReasonText
 pub mod ReasonJson
 pub mod PrintedReasons
+pub mod ClaimText
+pub mod Shown
+pub mod ShownText
+pub mod Lines
+pub mod LineText
+pub mod LineJson
+pub mod ShortReports
+pub mod FalseLines
+pub mod WorkedLines
 pub mod Worked
-pub mod Views
 pub mod inner
 pub use Rattle.refutation_laws.specs.Known
 pub use Rattle.refutation_laws.specs.Refutations
 pub use Rattle.relational_model.specs.Candidates
+pub use Rattle.short_refutations.specs.Edges
+pub use Rattle.short_refutations.specs.Refutations as ShortRefutations
+pub use Rattle.refutation_checker.specs.Trees

@@ -1,14 +1,8 @@
--- What `why` prints, in either form: lines of text, or a JSON value on one line. Both show the same.
+-- What `why` prints of an execution, or where its search met its limit, in either form: lines of text, or a JSON value on one line. Both show the same.
 use Rattle.std.specs.Prelude.{ℕ, ◌≡◌, Bool, true, false, List}
 use Rattle.search_report.specs.Vocabulary.{Candidate, Choice, Entry, IsCandidateOf, Litmus, Model}
-use Rattle.refutation_laws.specs.Refutations.{Node}
-use Rattle.search_report.specs.ReasonText.{never_text, allowed_text, unfinished_reason_line}
-use Rattle.search_report.specs.ReasonJson.{never_json, allowed_json, unfinished_reason_json}
-
--- of a refutation of what the test asks
-abbrev pub refutation_in : Bool → Model → Litmus → List Node → List ℕ
-refutation_in false model t nodes = never_text model t nodes
-refutation_in true model t nodes = never_json model t nodes
+use Rattle.search_report.specs.ReasonText.{allowed_text, unfinished_reason_line}
+use Rattle.search_report.specs.ReasonJson.{allowed_json, unfinished_reason_json}
 
 -- of a candidate in which what the test asks is so, and of choices that lead there
 abbrev pub allowed_in : Bool → Model → Litmus → Candidate → List Choice → List ℕ

@@ -3,12 +3,10 @@
 use Rattle.std.specs.Prelude.{ℕ, suc, true, false, List, [], ◌∷◌, map, Option, Some, None, codes}
 use Rattle.search_report.specs.Vocabulary.{array, boolean, Candidate, Choice, Condition, Data, Entry, items_of, key_of, line, Litmus, looked_at, member, Members, Model, no_members, null, object, outcomes_verdict_value, printed_choices, printed_entry, printed_quantifier, put, string, value_members}
 use Rattle.serde_json.specs.Written.{compact_text}
-use Rattle.refutation_laws.specs.Refutations.{Node, asked_claim}
 use Rattle.tso_report.specs.Json.{count}
 use Rattle.search_report.specs.Places.{Place}
-use Rattle.search_report.specs.declared.steps.Event.{Event}
-use Rattle.search_report.specs.declared.steps.Edge.{Edge}
-use Rattle.search_report.specs.Steps.{Answer, From, Before, Closing, Uniproc, Cycle, Amid, False, ReasonStep, Case, So, Leaf, Endcases, steps_of, leaves_in}
+use Rattle.search_report.specs.declared.shown.Event.{Event}
+use Rattle.search_report.specs.declared.shown.Edge.{Edge}
 use Rattle.search_report.specs.ReasonText.{model_name, truth_asked, event_text, relation_text, source_text, read_source, reads_of, values_left}
 
 -- ---- what is asked
@@ -20,7 +18,7 @@ asked_value (Some c) =
     object (member (codes "kind") (string (printed_quantifier c.quantifier))
     (member (codes "truth") (boolean (truth_asked c.quantifier)) no_members))
 
--- ---- steps
+-- ---- what lines show
 abbrev pub event_value : Litmus → Event → Data
 event_value t e = string (event_text t e)
 
@@ -33,64 +31,10 @@ edge_value t e =
 abbrev pub edges_value : Litmus → List Edge → Data
 edges_value t edges = array (items_of (map (edge_value t) edges))
 
--- an answer of this step, `case` or `so`
-abbrev pub answer_value : Litmus → List ℕ → ℕ → Answer → Data
-answer_value t step depth (From r ws) =
-    object (member (codes "depth") (count depth)
-    (member (codes "from") (array (items_of (map (λ w. string (source_text t w)) ws)))
-    (member (codes "read") (event_value t r)
-    (member (codes "step") (string step) no_members))))
-answer_value t step depth (Before w v) =
-    object (member (codes "depth") (count depth)
-    (member (codes "first") (event_value t w)
-    (member (codes "second") (event_value t v)
-    (member (codes "step") (string step) no_members))))
-
 -- a member for each place, where the bytes of its key belong: the values that it has
 abbrev pub place_members : Litmus → List Place → Members
 place_members t [] = no_members
 place_members t (p ∷ ps) = put (key_of t p.named) (array (items_of (map count p.values))) (place_members t ps)
-
--- a cycle, as `cycle` or `uniproc`
-abbrev pub cycle_value : Litmus → List ℕ → ℕ → List Edge → Data
-cycle_value t step depth edges =
-    object (member (codes "cycle") (edges_value t edges)
-    (member (codes "depth") (count depth)
-    (member (codes "step") (string step) no_members)))
-
-abbrev pub closing_value : Litmus → ℕ → Closing → Data
-closing_value t depth (Uniproc edges) = cycle_value t (codes "uniproc") depth edges
-closing_value t depth (Cycle edges) = cycle_value t (codes "cycle") depth edges
-closing_value t depth (Amid r v w) =
-    object (member (codes "between") (event_value t v)
-    (member (codes "depth") (count depth)
-    (member (codes "read") (event_value t r)
-    (member (codes "step") (string (codes "between"))
-    (member (codes "write") (event_value t w) no_members)))))
-closing_value t depth (False places) =
-    object (member (codes "depth") (count depth)
-    (member (codes "places") (object (place_members t places))
-    (member (codes "step") (string (codes "false")) no_members)))
-
-abbrev pub step_value : Litmus → ReasonStep → Data
-step_value t (Case depth answer) = answer_value t (codes "case") depth answer
-step_value t (So depth answer) = answer_value t (codes "so") depth answer
-step_value t (Leaf depth closing) = closing_value t depth closing
-step_value t (Endcases depth) =
-    object (member (codes "depth") (count depth) (member (codes "step") (string (codes "endcases")) no_members))
-
--- ---- what can't be
-
--- the steps of a refutation of what the test asks
-abbrev pub never_value_of : Model → Litmus → List ReasonStep → Data
-never_value_of model t steps =
-    object (member (codes "answer") (string (codes "never"))
-    (member (codes "asked") (asked_value t.condition)
-    (member (codes "leaves") (count (leaves_in steps))
-    (member (codes "model") (string (model_name model))
-    (member (codes "steps") (array (items_of (map (step_value t) steps)))
-    (member (codes "test") (string t.name)
-    (member (codes "verdict") (outcomes_verdict_value t.condition false) no_members)))))))
 
 -- ---- what can be
 abbrev pub from_value : Litmus → Candidate → Entry → Data
@@ -127,12 +71,6 @@ unfinished_reason_value t limit =
     (member (codes "unfinished") (object (member (codes "cases") (count limit) no_members)) no_members))
 
 -- ---- what is printed: the compact text of the value, on one line
-abbrev pub never_json_line : Model → Litmus → List ReasonStep → List ℕ
-never_json_line model t steps = line (compact_text (never_value_of model t steps))
-
-abbrev pub never_json : Model → Litmus → List Node → List ℕ
-never_json model t nodes = never_json_line model t (steps_of model t (asked_claim t.condition) nodes)
-
 abbrev pub allowed_json : Model → Litmus → Candidate → List Choice → List ℕ
 allowed_json model t c choices = line (compact_text (allowed_value model t c choices))
 

@@ -1,17 +1,15 @@
--- What `why` prints as lines of text: why what a test asks is never so, or an execution in which it is.
+-- What `why` prints as lines of text: the head of each answer, events and edges, and an execution in which what a test asks is so.
 use Rattle.std.specs.Prelude.{ℕ, suc, Bool, true, false, List, [], ◌∷◌, ◌++◌, filter, Option, Some, None, slice_index_or, codes, replicate}
 use Rattle.std.specs.List.{flat_map}
 use Rattle.std.specs.Fmt.{decimal}
 use Rattle.search_report.specs.Vocabulary.{Choice, Condition, entry, Entry, Exists, F, Forall, is_read, key_of, Kind, letters_of, line, Litmus, looked_at, Model, NotExists, printed_entry, printed_quantifier, printed_truth, Quantifier, Relation, test_line, values_in, verdict_line}
 use Rattle.relational_model.specs.Candidates.{Candidate, events, registers_left, words_left}
-use Rattle.refutation_laws.specs.Refutations.{Node, asked_claim}
 use Rattle.refutation_laws.specs.declared.model.Model.TheVariants.{Tso, Sequential}
 use Rattle.refutation_laws.specs.declared.model.Relation.TheVariants.{Po, PoLoc, PoGhb, Mfence, Implied, Rf, Rfe, Co, Fr}
 use Rattle.search_report.specs.Outcomes.{by_line, state_line}
 use Rattle.search_report.specs.Places.{Place}
-use Rattle.search_report.specs.declared.steps.Event.{Event}
-use Rattle.search_report.specs.declared.steps.Edge.{Edge}
-use Rattle.search_report.specs.Steps.{Answer, From, Before, Closing, Uniproc, Cycle, Amid, False, ReasonStep, Case, So, Leaf, Endcases, steps_of, leaves_in}
+use Rattle.search_report.specs.declared.shown.Event.{Event}
+use Rattle.search_report.specs.declared.shown.Edge.{Edge}
 
 -- ---- what is asked
 abbrev pub model_name : Model → List ℕ
@@ -71,25 +69,12 @@ abbrev pub cycle_text : Litmus → List Edge → List ℕ
 cycle_text t [] = []
 cycle_text t (e ∷ es) = codes " " ++ (event_text t e.source ++ flat_map (hop_text t) (e ∷ es))
 
--- ---- steps
+-- ---- what lines show
 
 -- a write, or the initial one
 abbrev pub source_text : Litmus → Option Event → List ℕ
 source_text t None = codes "initial"
 source_text t (Some w) = event_text t w
-
--- a further one
-abbrev pub or_text : Litmus → Option Event → List ℕ
-or_text t w = codes " or " ++ source_text t w
-
--- one, or several with `or` between them
-abbrev pub sources_text : Litmus → List (Option Event) → List ℕ
-sources_text t [] = []
-sources_text t (w ∷ ws) = source_text t w ++ flat_map (or_text t) ws
-
-abbrev pub answer_text : Litmus → Answer → List ℕ
-answer_text t (From r ws) = event_text t r ++ (codes " from " ++ sources_text t ws)
-answer_text t (Before w v) = event_text t w ++ (codes " before " ++ event_text t v)
 
 abbrev pub bar_text : ℕ → List ℕ
 bar_text v = codes "|" ++ decimal v
@@ -103,36 +88,15 @@ words_text (v ∷ vs) = decimal v ++ flat_map bar_text vs
 abbrev pub place_text : Litmus → Place → List ℕ
 place_text t p = codes " " ++ (key_of t p.named ++ (codes "=" ++ words_text p.values))
 
-abbrev pub closing_text : Litmus → Closing → List ℕ
-closing_text t (Uniproc edges) = codes "Uniproc" ++ cycle_text t edges
-closing_text t (Cycle edges) = codes "Cycle" ++ cycle_text t edges
-closing_text t (Amid r v w) = codes "Between " ++ (event_text t r ++ (codes " " ++ (event_text t v ++ (codes " " ++ event_text t w))))
-closing_text t (False places) = codes "False" ++ flat_map (place_text t) places
-
--- a blank for each step that it stands deeper
+-- a blank for each step that a line stands deeper
 abbrev pub blanks : ℕ → List ℕ
 blanks depth = replicate depth 32
-
-abbrev pub reason_step_line : Litmus → ReasonStep → List ℕ
-reason_step_line t (Case depth answer) = blanks depth ++ (codes "Case " ++ line (answer_text t answer))
-reason_step_line t (So depth answer) = blanks depth ++ (codes "So " ++ line (answer_text t answer))
-reason_step_line t (Leaf depth closing) = blanks depth ++ line (closing_text t closing)
-reason_step_line t (Endcases depth) = blanks depth ++ line (codes "Endcases")
 
 -- ---- what can't be
 
 -- `Never tso leaves=3`
 abbrev pub never_line : Model → ℕ → List ℕ
 never_line model leaves = codes "Never " ++ (model_name model ++ (codes " leaves=" ++ line (decimal leaves)))
-
-abbrev pub never_lines : Model → Litmus → List ReasonStep → List ℕ
-never_lines model t steps =
-    test_line t ++ (never_line model (leaves_in steps) ++ (asked_line t.condition ++ (flat_map (reason_step_line t) steps
-    ++ verdict_line t.condition false)))
-
--- the text of a refutation of what the test asks
-abbrev pub never_text : Model → Litmus → List Node → List ℕ
-never_text model t nodes = never_lines model t (steps_of model t (asked_claim t.condition) nodes)
 
 -- ---- what can be
 

@@ -8,15 +8,13 @@ pub use Rattle.tso_terms.specs.Thread.{entry}
 pub use Rattle.basic_laws.specs.Types.{Choice, Quantifier, Exists, Forall, NotExists, Entry, Kind, F, W}
 pub use Rattle.relational_model.specs.Candidates.{Candidate}
 pub use Rattle.relational_model.specs.CandidatesOfOrders.{IsCandidateOf, last_in}
-pub use Rattle.refutation_laws.specs.Known.{events_of, Known, nothing, with_pair, with_source}
 pub use Rattle.refutation_laws.specs.Refutations.{asked_claim}
 pub use Rattle.refutation_laws.specs.declared.model.Model.{Model}
 pub use Rattle.refutation_laws.specs.declared.model.Relation.{Relation}
-pub use Rattle.refutations.specs.inner.Trees.{known_of}
 pub use Rattle.scheduler.specs.Printed.{printed_choices}
-pub use Rattle.order_builder.specs.PrintedOrder.{letters_of, printed_access, printed_entry, printed_lines}
+pub use Rattle.order_builder.specs.PrintedOrder.{letters_of, printed_entry, printed_lines}
 pub use Rattle.tso_report.specs.Report.{line, printed_quantifier, printed_truth, test_line}
-pub use Rattle.tso_report.specs.Tally.{claim_names_location, claim_names_register, looked_at, values_in}
+pub use Rattle.tso_report.specs.Tally.{looked_at, values_in}
 pub use Rattle.tso_report.specs.declared.named.Named.{Named}
 pub use Rattle.search_report.specs.OutcomesJson.{key_of, value_members}
 pub use Rattle.search_report.specs.Verdict.{outcomes_verdict_value, verdict_line}

@@ -3,8 +3,9 @@ pub mod ShownOutcomes
 pub mod WrittenOutcomes
 pub mod Hidden
 pub mod Views
-pub mod Parts
-pub mod Closed
-pub mod Tasks
 pub mod ShownExecutions
 pub mod Pieces
+pub mod Standing
+pub mod LineParts
+pub mod LineViews
+pub mod ShownViews

@@ -5,48 +5,55 @@
 //! registers make no state look different is known before a search.
 //!
 //! `why` prints the reason why what a test asks is never so, as cases that a reader can check by hand, or an execution in which
-//! it is. A refutation is laid out in steps, of which both forms are made (`specs/Steps.antt`). Of a question's cases those come
-//! first that a leaf closes at once, so that most reasons read as a chain.
+//! it is. A refutation is laid out in lines, of which both forms are made (`specs/Lines.antt`). Of a question's cases those come
+//! first that their line closes, so that most reasons read as a chain.
 #![tactic(auto)]
 
 pub mod alike_outcomes;
 pub mod allowed;
 pub mod asked;
-pub mod cases;
-pub mod closed;
-pub mod closing;
+pub mod cases_of_lines;
 mod counted_states;
-mod enough;
 pub mod fields;
 pub mod hidden;
 mod items;
 pub mod keys;
-pub mod layout;
-pub mod leaves;
+mod laws_of_lines;
+mod line_json;
+pub mod line_layout;
+mod line_text;
+pub mod lines;
 pub mod met_outcomes;
 mod outcomes;
 pub mod outcomes_as_json;
 mod outcomes_as_text;
-pub mod parts;
 pub mod pieces;
 pub mod pieces_json;
 pub mod pieces_text;
-pub mod places;
 pub mod printed_outcomes;
 pub mod printed_reasons;
 pub mod readings;
 pub mod reasons_as_json;
 pub mod reasons_as_text;
-pub mod replies;
-pub mod steps;
+mod short_reports;
+pub mod shown;
+mod shown_closings;
+mod shown_events;
+mod shown_facts;
+mod shown_places;
+mod shown_text;
+pub mod standing;
 pub mod verdict;
 mod worked;
+mod worked_lines;
 
 pub use hidden::hidden_registers;
-pub use layout::steps_of;
+pub use laws_of_lines::false_lines_are_so;
 pub use met_outcomes::{PrintedMet, unfinished_report};
 pub use printed_outcomes::{Printed, outcomes_report};
-pub use printed_reasons::{allowed_report, refutation_report, unfinished_cases_report};
-pub use reasons_as_json::{never_json, unfinished_reason_json};
-pub use reasons_as_text::{never_text, unfinished_text};
+pub use printed_reasons::{allowed_report, unfinished_cases_report};
+pub use reasons_as_json::unfinished_reason_json;
+pub use reasons_as_text::unfinished_text;
+pub use short_reports::short_refutation_report;
 pub use worked::worked_reasons;
+pub use worked_lines::worked_short_reasons;

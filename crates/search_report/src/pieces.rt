@@ -1,6 +1,6 @@
-//! What a step or a reading shows: each thing once, for lines of text and for JSON objects.
+//! What a line or a reading shows: each thing once, for lines of text and for JSON objects.
 
-use crate::steps::{Edge, Event, Place};
+use crate::shown::{Edge, Event, Place};
 
 /// A piece of a line, or what stands under a key.
 #[derive(Clone, Copy)]
@@ -13,14 +13,10 @@ pub enum Piece<'a> {
     Event(&'a Event),
     /// What a read reads from; none is the initial write.
     Source(&'a Option<Event>),
-    /// One or several of these.
-    Sources(&'a [Option<Event>]),
     /// The edges of a cycle.
     Cycle(&'a [Edge]),
     /// Places, with what stands there.
     Places(&'a [Place]),
-    /// Nothing in a line, and no key.
-    Nothing,
 }
 
 /// What stands before a piece in a line, its key in an object, and the piece.

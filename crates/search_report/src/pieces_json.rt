@@ -5,7 +5,6 @@ ghost use Rattle.serde_json.specs.Data.{array, string};
 ghost use Rattle.serde_json.specs.View.{view, members_view, items_of};
 ghost use Rattle.tso_terms.specs.ProgramOrder as program_order;
 ghost use Rattle.order_builder.specs.PrintedOrder.{printed_entry};
-ghost use Rattle.search_report.specs.ReasonText as text;
 ghost use Rattle.search_report.specs.ReasonJson as spec;
 ghost use Rattle.search_report.specs.inner.Pieces as pieces;
 
@@ -14,7 +13,7 @@ use crate::keys::key_text;
 use crate::pieces::Piece;
 use crate::pieces_text::{relation_text, write_piece};
 use crate::readings::event_of;
-use crate::steps::{Edge, Event};
+use crate::shown::Edge;
 use refutations::events::writes_to;
 use serde_json::Value;
 use std::alloc::Global;
@@ -22,13 +21,6 @@ use tso_report::arrays::Array;
 use tso_report::members::{numbers_value, word_value};
 use tso_report::objects::Object;
 use tso_terms::{Entry, Loc, NoMemory, Test};
-
-/// Whether a piece is nothing.
-pub fn is_nothing(piece: Piece<'_>) -> bool
-    ensures { result ≡ pieces.is_nothing piece.entry }
-{
-    matches!(piece, Piece::Nothing)
-}
 
 /// What stands under a key.
 ///
@@ -40,7 +32,6 @@ pub fn piece_value(alloc: Global, test: &Test, piece: Piece<'_>) -> Result<Value
         Piece::Word(_, word) => word_value(alloc, word),
         Piece::Depth(depth) => Ok(Value::from(depth)),
         Piece::Event(_) | Piece::Source(_) => text_value(alloc, test, piece),
-        Piece::Sources(writes) => array_of(alloc, test, writes),
         Piece::Cycle(edges) => array_of(alloc, test, edges),
         Piece::Places(places) => {
             let mut members = Object::new(alloc);
@@ -51,15 +42,6 @@ pub fn piece_value(alloc: Global, test: &Test, piece: Piece<'_>) -> Result<Value
             }
             members.value()
         }
-        Piece::Nothing => Ok(Value::Null),
-    }
-}
-
-impl Valued for Option<Event> {
-    ghost valued = { λ t write. string (text.source_text t write) };
-
-    fn value(&self, alloc: Global, test: &Test) -> Result<Value, NoMemory> {
-        text_value(alloc, test, Piece::Source(self))
     }
 }
 

@@ -14,7 +14,7 @@ use crate::items::{Written, write_each, write_separated};
 use crate::keys::{name_of, write_key};
 use crate::pieces::Piece;
 use crate::readings::event_of;
-use crate::steps::{Edge, Event, Place};
+use crate::shown::{Edge, Event, Place};
 use order_builder::letters_of;
 use refutation_laws::Relation;
 use refutations::events::writes_to;
@@ -37,7 +37,6 @@ pub fn write_piece(text: &mut String, test: &Test, piece: Piece<'_>) -> Result<(
         }
         Piece::Event(event) => write_event(text, test, event),
         Piece::Source(write) => write.write(text, test),
-        Piece::Sources(writes) => write_separated(text, test, " or ", writes),
         Piece::Cycle(edges) => {
             let Some((first, _)) = edges.split_first() else {
                 return Ok(());
@@ -47,7 +46,6 @@ pub fn write_piece(text: &mut String, test: &Test, piece: Piece<'_>) -> Result<(
             write_each(text, test, " ", edges)
         }
         Piece::Places(places) => write_each(text, test, " ", places),
-        Piece::Nothing => Ok(()),
     }
 }
 

@@ -1,46 +1,22 @@
-//! What is printed of a refutation, of an execution, or of a search that met its limit: lines of text, or a JSON value on one line.
+//! What is printed of an execution, or of a search that met its limit: lines of text, or a JSON value on one line.
 
 ghost use Rattle.std.specs.Prelude.{◌≡◌, All, IfOk, length, map, string_bytes};
 ghost use Rattle.tso_terms.specs.FinalState.{final_registers, final_words};
 ghost use Rattle.refutation_laws.specs.Models.{IsExecutionOf};
-ghost use Rattle.refutations.specs.Trees.{node_of};
 ghost use Rattle.tso_report.specs.Tally.{shown_value};
 ghost use Rattle.tso_report.specs.inner.Tally.{NameExists};
-ghost use Rattle.search_report.specs.PrintedReasons.{refutation_in, unfinished_cases_in, ShowsExecution};
+ghost use Rattle.search_report.specs.PrintedReasons.{unfinished_cases_in, ShowsExecution};
 
 use crate::allowed::Shown;
-use crate::layout::steps_of;
 use crate::readings::readings;
-use crate::reasons_as_json::{allowed_json, never_json, unfinished_reason_json};
-use crate::reasons_as_text::{allowed_text, never_text, unfinished_text};
+use crate::reasons_as_json::{allowed_json, unfinished_reason_json};
+use crate::reasons_as_text::{allowed_text, unfinished_text};
 use execution_check::final_state::{registers_left, words_left};
 use refutation_laws::Model;
-use refutations::Node;
 use relational_model::{candidates_of_executions_are_allowed, executions_have_candidates};
 use std::alloc::Global;
 use tso_report::named::{Named, looked_at, values_at};
 use tso_terms::{Choice, Entry, Execution, NoMemory, Test};
-
-/// What is printed of a refutation of what the test asks, as lines of text or with `json` as a JSON value: its cases, step by step,
-/// and what closes each.
-///
-/// Errors: out of memory only.
-pub fn refutation_report(
-    alloc: Global,
-    test: &Test,
-    model: Model,
-    nodes: &[Node],
-    json: bool,
-) -> Result<String, NoMemory>
-    ensures { IfOk result (λ text. string_bytes text ≡ refutation_in json model test.now (map node_of nodes.now)) }
-{
-    let steps = steps_of(alloc, test, model, nodes)?;
-    if json {
-        never_json(alloc, test, model, &steps)
-    } else {
-        never_text(alloc, test, model, &steps)
-    }
-}
 
 /// What is printed of an execution of the model in which what the test asks is so, and of choices that lead there, as lines of text
 /// or with `json` as a JSON value: what each read reads from, the writes to each location in their order, and the values that are

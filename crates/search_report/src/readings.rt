@@ -8,7 +8,7 @@ ghost use Rattle.relational_model.specs.Events.{IsIn};
 ghost use Rattle.search_report.specs.inner.ShownExecutions as shown;
 ghost use Rattle.search_report.specs.inner.ShownExecutions.{AreIn, ReadsIt, AreReadings};
 
-use crate::steps::Event;
+use crate::shown::Event;
 use execution_check::final_state::entries_made;
 use refutations::events::{is_before, is_read, writes_to};
 use std::alloc::Global;

@@ -1,26 +1,24 @@
 //! A report as JSON, for programs to read. It is one line, and its objects have their keys in the order of their bytes.
 
-ghost use Rattle.std.specs.Prelude.{◌≡◌, All, IfOk, string_bytes, length, map};
+ghost use Rattle.std.specs.Prelude.{◌≡◌, All, IfOk, string_bytes, length};
 ghost use Rattle.serde_json.specs.Data.{object, no_members};
 ghost use Rattle.serde_json.specs.View.{view};
 ghost use Rattle.relational_model.specs.Candidates.{Candidate};
 ghost use Rattle.tso_report.specs.Tally.{looked_at};
 ghost use Rattle.tso_report.specs.inner.Tally.{NameExists};
 ghost use Rattle.search_report.specs.ReasonJson as spec;
-ghost use Rattle.search_report.specs.Views.{reason_step_of};
 ghost use Rattle.search_report.specs.inner.Pieces.{with_fields};
 ghost use Rattle.search_report.specs.inner.ShownExecutions.{IsShown, reading_value, coherence_members_by};
 
 use crate::allowed::Shown;
 use crate::asked::{asked_value, model_name};
-use crate::fields::{reading_fields, step_fields};
+use crate::fields::reading_fields;
 use crate::items::{Valued, array_of};
 use crate::outcomes_as_json::{choices_value, values_value};
 use crate::pieces::Field;
-use crate::pieces_json::{is_nothing, piece_value, writes_value};
+use crate::pieces_json::{piece_value, writes_value};
 use crate::readings::Reading;
 use crate::reasons_as_text::has_write;
-use crate::steps::{Step, leaves_in};
 use crate::verdict::outcomes_verdict_value;
 use refutation_laws::Model;
 use serde_json::Value;
@@ -29,28 +27,6 @@ use tso_report::json::unfinished_search_json;
 use tso_report::members::word_value;
 use tso_report::objects::Object;
 use tso_terms::{Entry, Loc, NoMemory, Test};
-
-/// A refutation of what the test asks, as JSON: one line.
-///
-/// Errors: out of memory only.
-pub fn never_json(
-    alloc: Global,
-    test: &Test,
-    model: Model,
-    steps: &[Step],
-) -> Result<String, NoMemory>
-    ensures { IfOk result (λ line. string_bytes line ≡ spec.never_json_line model test.now (map reason_step_of steps.now)) }
-{
-    Object::new(alloc)
-        .member("answer", word_value(alloc, "never"))
-        .member("asked", asked_value(alloc, test))
-        .member("leaves", Ok(Value::from(leaves_in(steps))))
-        .member("model", word_value(alloc, model_name(model)))
-        .member("steps", array_of(alloc, test, steps))
-        .member("test", word_value(alloc, test.name()))
-        .member("verdict", outcomes_verdict_value(alloc, test, false))
-        .line()
-}
 
 /// An execution in which what the test asks is so, as JSON: one line.
 ///
@@ -98,19 +74,9 @@ fn object_of(alloc: Global, test: &Test, fields: &[Field<'_>]) -> Result<Value, 
 {
     let mut object = Object::new(alloc);
     for (_before, key, piece) in fields {
-        if !is_nothing(*piece) {
-            object = object.member(key, piece_value(alloc, test, *piece));
-        }
+        object = object.member(key, piece_value(alloc, test, *piece));
     }
     object.value()
-}
-
-impl Valued for Step {
-    ghost valued = { λ t step. spec.step_value t (reason_step_of step) };
-
-    fn value(&self, alloc: Global, test: &Test) -> Result<Value, NoMemory> {
-        object_of(alloc, test, &step_fields(self))
-    }
 }
 
 impl Valued for Reading {

@@ -1,24 +1,22 @@
 //! A report as lines of text.
 
-ghost use Rattle.std.specs.Prelude.{◌≡◌, ◌++◌, ◌∷◌, [], All, OnOk, IfOk, string_bytes, length, map};
+ghost use Rattle.std.specs.Prelude.{◌≡◌, ◌++◌, ◌∷◌, [], All, OnOk, IfOk, string_bytes, length};
 ghost use Rattle.std.specs.List.{flat_map, list_any};
 ghost use Rattle.tso_terms.specs.ProgramOrder as program_order;
 ghost use Rattle.relational_model.specs.Candidates.{Candidate};
 ghost use Rattle.tso_report.specs.Tally.{looked_at};
 ghost use Rattle.tso_report.specs.inner.Tally.{NameExists};
 ghost use Rattle.search_report.specs.ReasonText as spec;
-ghost use Rattle.search_report.specs.Views.{reason_step_of};
 ghost use Rattle.search_report.specs.inner.Pieces.{field_text};
 ghost use Rattle.search_report.specs.inner.ShownExecutions.{IsShown, reading_line, coherence_by};
 
 use crate::allowed::Shown;
 use crate::asked::{model_name, write_asked};
-use crate::fields::{reading_fields, step_fields};
+use crate::fields::reading_fields;
 use crate::items::{Written, write_each};
 use crate::pieces::Field;
 use crate::pieces_text::{write_piece, write_writes};
 use crate::readings::Reading;
-use crate::steps::{Step, leaves_in};
 use crate::verdict::write_verdict;
 use refutation_laws::Model;
 use refutations::events::writes_to;
@@ -27,35 +25,6 @@ use std::alloc::Global;
 use tso_report::pieces::{Piece as Printed, write_characters, write_pieces};
 use tso_report::printed_values::write_values;
 use tso_terms::{Entry, Loc, NoMemory, Test};
-
-/// A refutation of what the test asks, as lines of text: the test; that it is refuted, and in how many leaves; what is asked; the
-/// steps; and herd's verdict.
-///
-/// Errors: out of memory only.
-pub fn never_text(
-    alloc: Global,
-    test: &Test,
-    model: Model,
-    steps: &[Step],
-) -> Result<String, NoMemory>
-    ensures { IfOk result (λ text. string_bytes text ≡ spec.never_lines model test.now (map reason_step_of steps.now)) }
-{
-    let head = [
-        Printed::Text("Test "),
-        Printed::Text(test.name()),
-        Printed::Text("\nNever "),
-        Printed::Text(model_name(model)),
-        Printed::Text(" leaves="),
-        Printed::Number(leaves_in(steps) as u64),
-        Printed::Text("\n"),
-    ];
-    let mut text = String::new(alloc);
-    write_pieces(&mut text, &head)?;
-    write_asked(&mut text, test)?;
-    write_each(&mut text, test, "", steps)?;
-    write_verdict(&mut text, test, false)?;
-    Ok(text)
-}
 
 /// An execution in which what the test asks is so, as lines of text: the test; the model; what is asked; what each read reads from; the
 /// writes to each location in their order; choices that lead there; the values at the end; and herd's verdict.
@@ -132,14 +101,6 @@ fn write_line(text: &mut String, test: &Test, fields: &[Field<'_>]) -> Result<()
         write_piece(text, test, *piece)?;
     }
     write_characters(text, "\n")
-}
-
-impl Written for Step {
-    ghost written = { λ t step. spec.reason_step_line t (reason_step_of step) };
-
-    fn write(&self, text: &mut String, test: &Test) -> Result<(), NoMemory> {
-        write_line(text, test, &step_fields(self))
-    }
 }
 
 impl Written for Reading {

@@ -33,8 +33,8 @@ module _ (kind : ProtocolKind) (c : Configuration) (e : Explanation) (json told 
     (separated : (rest : List ℕ) → parts_of (joined_parts (parts_of input).test rest) ≡ record { test = (parts_of input).test; rest = rest }) where
   of-a-test : (t : Litmus) (out : List ℕ) (status : Status) → SpellsTest (parts_of input).test t → IsPrinted status → IsWhyAnswer t e told assert out status
       → IsExplained kind c json e.model told (parts_of input).test out
-  of-a-test t _ _ spelled good (never nodes refuted) =
-      never t spelled (refutation-means t e.model told nodes laws (texts.test (parts_of input).test t spelled) refuted)
+  of-a-test t _ _ spelled good (never lemmas tree refuted) =
+      never t spelled (refutation-means t e.model told lemmas tree laws (texts.test (parts_of input).test t spelled) refuted)
   of-a-test t _ _ spelled good (allowed out is) =
       let said = execution-means t e told out reaching (texts.test (parts_of input).test t spelled) is in
       allowed t spelled said

@@ -105,4 +105,5 @@ pub use Rattle.trace_report.specs.inner.ToldSteps.{told_step}
 pub use Rattle.explorer.specs.FinalStates.{AreReached, HaveEveryEnd, HasMoreStates}
 pub use Rattle.explorer.specs.declared.final_states.FinalState.{FinalState}
 pub use Rattle.tso_cli.specs.Verdicts.{status_of_verdict}
-pub use Rattle.search_report.specs.PrintedReasons.{ShowsExecution, refutation_in, unfinished_cases_in}
+pub use Rattle.search_report.specs.PrintedReasons.{ShowsExecution, unfinished_cases_in}
+pub use Rattle.search_report.specs.ShortReports.{short_refutation_in}

@@ -1,11 +1,12 @@
 -- What the answer of `why` means.
 use Rattle.tso_cli.proofs.Vocabulary.{◌≡◌, ℕ, Bool, true, false, not, List, [], length, Option, Some, None, refl, sym, ap, subst, arith, append-nil, Litmus, IsTest, Claim, Condition, NamesExist, truth_of, final_words, final_registers, registers_in, run, Choice, Entry, LeadTo, End, IsExecutionOf, depth_of, SpellsChoices, printed_choices, Explanation, IsWhyAnswer, Status, PrintsRefutation, PrintsExecutionOf, HeadlineOfReasons}
 use Rattle.basic_laws.specs.Types.{Quantifier, Forall}
-use Rattle.refutation_laws.specs.Refutations.{Node, asked_claim, refutes}
+use Rattle.refutation_laws.specs.Refutations.{asked_claim}
+use Rattle.short_refutations.specs.Refutations.{Lemma, Node, refutes}
 use Rattle.refutation_laws.specs.declared.model.Model.{Model}
 use Rattle.refutation_laws.specs.declared.model.Model.TheVariants.{Tso, Sequential}
 use Rattle.search_report.specs.ReasonText.{truth_asked}
-use Rattle.search_report.specs.PrintedReasons.{refutation_in}
+use Rattle.search_report.specs.ShortReports.{short_refutation_in}
 use Rattle.tso_cli.specs.Why.{IsAllowedAnswer, never, allowed, too_many}
 use Rattle.tso_cli.specs.WhyHeadline.{IsSoIn, IsDepthOf, never, allowed, too_many}
 use Rattle.tso_cli.proofs.WitnessLemmas.{Reaching, choices-few}
@@ -13,14 +14,14 @@ use Rattle.tso_cli.proofs.WitnessLemmas.{Reaching, choices-few}
 -- what the crates below say of refutations
 pub record Refuting : Type 0 where
   pub names : (t : Litmus) → IsTest t → NamesExist (length t.programs) (length t.words) (asked_claim t.condition)
-  pub executions : (model : Model) (t : Litmus) (claim : Claim) (nodes : List Node) (order : List Entry)
-      → NamesExist (length t.programs) (length t.words) claim → refutes model t claim nodes ≡ true → IsExecutionOf model t order
+  pub executions : (model : Model) (t : Litmus) (claim : Claim) (lemmas : List Lemma) (tree : List Node) (order : List Entry)
+      → NamesExist (length t.programs) (length t.words) claim → refutes model t claim lemmas tree ≡ true → IsExecutionOf model t order
       → truth_of (final_registers t order) (final_words t order) claim ≡ false
-  pub tso : (t : Litmus) (claim : Claim) (nodes : List Node) (depth : ℕ) (choices : List Choice)
-      → IsTest t → NamesExist (length t.programs) (length t.words) claim → refutes Tso t claim nodes ≡ true → End t depth choices
+  pub tso : (t : Litmus) (claim : Claim) (lemmas : List Lemma) (tree : List Node) (depth : ℕ) (choices : List Choice)
+      → IsTest t → NamesExist (length t.programs) (length t.words) claim → refutes Tso t claim lemmas tree ≡ true → End t depth choices
       → truth_of (registers_in (run t depth choices).state) (run t depth choices).state.memory claim ≡ false
-  pub sequential : (t : Litmus) (claim : Claim) (nodes : List Node) (choices : List Choice)
-      → IsTest t → NamesExist (length t.programs) (length t.words) claim → refutes Sequential t claim nodes ≡ true → End t 0 choices
+  pub sequential : (t : Litmus) (claim : Claim) (lemmas : List Lemma) (tree : List Node) (choices : List Choice)
+      → IsTest t → NamesExist (length t.programs) (length t.words) claim → refutes Sequential t claim lemmas tree ≡ true → End t 0 choices
       → truth_of (registers_in (run t 0 choices).state) (run t 0 choices).state.memory claim ≡ false
 
 -- ---- what is asked, as a proposition
@@ -52,25 +53,26 @@ never-so condition registers memory q so = let p = true-when condition registers
 
 -- ---- a refutation
 
-no-run : (model : Model) (t : Litmus) (nodes : List Node) (depth : ℕ) (choices : List Choice) → Refuting → IsTest t → refutes model t (asked_claim t.condition) nodes ≡ true
+no-run : (model : Model) (t : Litmus) (lemmas : List Lemma) (tree : List Node) (depth : ℕ) (choices : List Choice) → Refuting → IsTest t → refutes model t (asked_claim t.condition) lemmas tree ≡ true
     → IsDepthOf model depth → End t depth choices → ¬ IsSoIn t.condition (registers_in (run t depth choices).state) (run t depth choices).state.memory
-no-run Tso t nodes depth choices laws test refuted is ended =
+no-run Tso t lemmas tree depth choices laws test refuted is ended =
     never-so t.condition (registers_in (run t depth choices).state) (run t depth choices).state.memory
-    (laws.tso t (asked_claim t.condition) nodes depth choices test (laws.names t test) refuted ended)
-no-run Sequential t nodes depth choices laws test refuted is ended =
+    (laws.tso t (asked_claim t.condition) lemmas tree depth choices test (laws.names t test) refuted ended)
+no-run Sequential t lemmas tree depth choices laws test refuted is ended =
     subst (λ d. End t d choices → ¬ IsSoIn t.condition (registers_in (run t d choices).state) (run t d choices).state.memory) (sym is)
     (λ over. never-so t.condition (registers_in (run t 0 choices).state) (run t 0 choices).state.memory
-    (laws.sequential t (asked_claim t.condition) nodes choices test (laws.names t test) refuted over)) ended
+    (laws.sequential t (asked_claim t.condition) lemmas tree choices test (laws.names t test) refuted over)) ended
 
-pub refutation-means : (t : Litmus) (model : Model) (json : Bool) (nodes : List Node) → Refuting → IsTest t → refutes model t (asked_claim t.condition) nodes ≡ true
-    → PrintsRefutation t model json (refutation_in json model t nodes)
-refutation-means t model json nodes laws test refuted = record {
-  nodes = nodes;
+pub refutation-means : (t : Litmus) (model : Model) (json : Bool) (lemmas : List Lemma) (tree : List Node) → Refuting → IsTest t → refutes model t (asked_claim t.condition) lemmas tree ≡ true
+    → PrintsRefutation t model json (short_refutation_in json model t lemmas tree)
+refutation-means t model json lemmas tree laws test refuted = record {
+  lemmas = lemmas;
+  tree = tree;
   printed = refl;
   refuted = refuted;
   executions = λ order execution. never-so t.condition (final_registers t order) (final_words t order)
-      (laws.executions model t (asked_claim t.condition) nodes order (laws.names t test) refuted execution);
-  runs = λ depth choices is ended. no-run model t nodes depth choices laws test refuted is ended;
+      (laws.executions model t (asked_claim t.condition) lemmas tree order (laws.names t test) refuted execution);
+  runs = λ depth choices is ended. no-run model t lemmas tree depth choices laws test refuted is ended;
 }
 
 -- ---- an execution
@@ -96,6 +98,6 @@ execution-means t e json out reaching test is = record {
 
 pub reasons-mean : (t : Litmus) (e : Explanation) (json assert : Bool) (out : List ℕ) (status : Status) → Reaching → Refuting → IsTest t
     → IsWhyAnswer t e json assert out status → HeadlineOfReasons t e json out
-reasons-mean t e json assert _ _ reaching laws test (never nodes refuted) = never (refutation-means t e.model json nodes laws test refuted)
+reasons-mean t e json assert _ _ reaching laws test (never lemmas tree refuted) = never (refutation-means t e.model json lemmas tree laws test refuted)
 reasons-mean t e json assert _ _ reaching laws test (allowed out is) = allowed (execution-means t e json out reaching test is)
 reasons-mean t e json assert _ _ reaching laws test (too_many more fewer) = too_many more fewer refl

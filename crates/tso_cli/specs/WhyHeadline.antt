@@ -1,11 +1,12 @@
 -- What `why` prints: why what a test asks is so in no execution of the model, or an execution in which it is, and how to get there.
 -- (Primer, chapter 4, for the axioms of TSO, and chapter 3 for sequential consistency; Herding Cats, section 4, for the refutation.)
 use Rattle.std.specs.Prelude.{ℕ, ◌<◌, ◌≡◌, Bool, true, List, length, Option, Some, None}
-use Rattle.tso_cli.specs.Vocabulary.{Choice, Condition, Entry, Explanation, final_registers, final_words, HasMoreCases, LeadTo, Litmus, Model, most_cases, printed_choices, refutation_in, run, ShowsExecution, SpellsChoices, truth_of, unfinished_cases_in}
+use Rattle.tso_cli.specs.Vocabulary.{Choice, ClosesMoreCases, Condition, Entry, Explanation, final_registers, final_words, LeadTo, Litmus, Model, most_cases, printed_choices, run, short_refutation_in, ShowsExecution, SpellsChoices, truth_of, unfinished_cases_in}
 use Rattle.tso_terms.specs.FlatMachine.{registers_in}
 use Rattle.tso_laws.specs.EndedRuns.{End}
 use Rattle.refutation_laws.specs.Models.{IsExecutionOf, depth_of}
-use Rattle.refutation_laws.specs.Refutations.{Node, asked_claim, refutes}
+use Rattle.refutation_laws.specs.Refutations.{asked_claim}
+use Rattle.short_refutations.specs.Refutations.{Lemma, Node, refutes}
 use Rattle.refutation_laws.specs.declared.model.Model.TheVariants.{Tso, Sequential}
 use Rattle.search_report.specs.ReasonText.{truth_asked}
 
@@ -22,9 +23,10 @@ IsDepthOf Sequential depth = depth ≡ 0
 -- what was printed is a refutation of what the test asks: it is so at the end of no execution of the model, and of no run that ends;
 -- and who reads the refutation can tell by the definition alone that it refutes
 pub record PrintsRefutation (t : Litmus) (model : Model) (json : Bool) (out : List ℕ) : Type 0 where
-  pub nodes : List Node
-  pub printed : out ≡ refutation_in json model t nodes
-  pub refuted : refutes model t (asked_claim t.condition) nodes ≡ true
+  pub lemmas : List Lemma
+  pub tree : List Node
+  pub printed : out ≡ short_refutation_in json model t lemmas tree
+  pub refuted : refutes model t (asked_claim t.condition) lemmas tree ≡ true
   pub executions : (order : List Entry) → IsExecutionOf model t order → ¬ IsSoIn t.condition (final_registers t order) (final_words t order)
   pub runs : (depth : ℕ) (choices : List Choice) → IsDepthOf model depth → End t depth choices
       → ¬ IsSoIn t.condition (registers_in (run t depth choices).state) (run t depth choices).state.memory
@@ -45,5 +47,5 @@ pub record PrintsExecutionOf (t : Litmus) (model : Model) (json : Bool) (out : L
 pub data HeadlineOfReasons (t : Litmus) (e : Explanation) (json : Bool) (out : List ℕ) : Type 0 where
   never : PrintsRefutation t e.model json out → HeadlineOfReasons t e json out
   allowed : PrintsExecutionOf t e.model json out → HeadlineOfReasons t e json out
-  too_many : HasMoreCases e.model t e.cases → e.cases < most_cases t → out ≡ unfinished_cases_in json t e.cases
+  too_many : ClosesMoreCases e.model t e.cases → e.cases < most_cases t → out ≡ unfinished_cases_in json t e.cases
       → HeadlineOfReasons t e json out

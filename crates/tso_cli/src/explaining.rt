@@ -1,17 +1,18 @@
 //! The answer of `why`: the reason why what a test asks never is, an execution in which it is, or that more cases have to be
 //! told apart than may be. A part of a reason must never look like a whole one.
 
-ghost use Rattle.std.specs.Prelude.{IfOk, string_bytes};
+ghost use Rattle.std.specs.Prelude.{◌≡◌, IfOk, string_bytes, true};
+ghost use Rattle.tso_terms.specs.Condition.{TruthClaim, claim_of};
 ghost use Rattle.tso_cli.specs.Why.{IsWhyAnswer};
 
 use crate::answer::{Answer, Status};
 use command_line::ReasonPlan;
 use hints::Cause;
-use reasons::{Reason, choices_to, explain};
 use search_report::verdict::is_as_claimed;
-use search_report::{allowed_report, refutation_report, unfinished_cases_report};
+use search_report::{allowed_report, short_refutation_report, unfinished_cases_report};
+use short_reasons::{Reason, choices_to, explain};
 use std::alloc::Global;
-use tso_terms::{NoMemory, Test};
+use tso_terms::{NoMemory, Prop, Test};
 
 /// The answer of `why` to a test: a refutation of what it asks, under the plan's model; or an execution
 /// in which it is so, with choices that lead there; or that more cases have to be told apart than may be.
@@ -27,11 +28,29 @@ pub fn why_answer(
 ) -> Result<Answer, NoMemory>
     ensures { IfOk result (λ a. IsWhyAnswer test.now plan json assert (string_bytes a.text) a.status) }
 {
+    let always = Prop::Truth(true);
+    reason_answer(alloc, test, &always, plan, json, assert)
+}
+
+/// The same, with the proposition that is asked of a test without a condition: one that is always true.
+///
+/// Errors: out of memory only.
+fn reason_answer<'t>(
+    alloc: Global,
+    test: &'t Test,
+    always: &'t Prop,
+    plan: ReasonPlan,
+    json: bool,
+    assert: bool,
+) -> Result<Answer, NoMemory>
+    requires always { claim_of always.now ≡ TruthClaim true }
+    ensures { IfOk result (λ a. IsWhyAnswer test.now plan json assert (string_bytes a.text) a.status) }
+{
     let model = plan.model();
     let cases = plan.cases();
     match explain(alloc, test, model, cases as usize)? {
-        Reason::Never(nodes) => {
-            let text = refutation_report(alloc, test, model, &nodes, json)?;
+        Reason::Never(lemmas, tree) => {
+            let text = short_refutation_report(alloc, test, always, model, &lemmas, &tree, json)?;
             Ok(Answer {
                 text,
                 status: Status::of_verdict(assert, is_as_claimed(test, false)),

@@ -6,7 +6,7 @@ use Rattle.relational_model.specs.Events.{IsIn}
 use Rattle.search_report.specs.ReasonText.{event_text, source_text, reads_of, coherence_line, values_left}
 use Rattle.search_report.specs.ReasonJson.{event_value, with_coherence}
 use Rattle.search_report.specs.declared.readings.Reading.{Reading}
-use Rattle.search_report.specs.declared.steps.Event.{Event}
+use Rattle.search_report.specs.declared.shown.Event.{Event}
 
 -- the last of these, or else this one
 abbrev pub last_or : Option Entry → List Entry → Option Entry

@@ -1,4 +1,8 @@
-use Rattle.search_report.proofs.Vocabulary.{◌≡◌, ◌∙◌, subst, codes, IfOk, Data, boolean, string, no_members, object, put, view, printed_choices, condition_of, truth_of, outcome_of, holds_in, value_members, state_value, rules, the_lemmas}
+use Rattle.search_report.proofs.Vocabulary.{◌≡◌, ◌∙◌, subst, codes, IfOk, Data, string, no_members, object, put, view, condition_of, truth_of, outcome_of, holds_in, value_members, state_value}
+use Rattle.serde_json.specs.Data.{boolean}
+use Rattle.scheduler.specs.Printed.{printed_choices}
+use Rattle.std.proofs.Common.{rules}
+use Rattle.serde_json.specs.declared.value.Value.{the_lemmas}
 use Rattle.search_report.proofs.Truths.{names-there}
 use Rattle.search_report.proofs.outcomes_as_json.state_value.Goals as goal
 

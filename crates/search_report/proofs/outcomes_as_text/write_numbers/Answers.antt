@@ -1,4 +1,5 @@
-use Rattle.search_report.proofs.Vocabulary.{◌∙◌, ◌+◌, ◌<◌, ◌≤◌, ◌^◌, length, string_bytes, arith, claim_of}
+use Rattle.search_report.proofs.Vocabulary.{◌∙◌, ◌+◌, ◌<◌, ◌≤◌, length, string_bytes, arith, claim_of}
+use Rattle.std.specs.Prelude.{◌^◌}
 use Rattle.search_report.proofs.Numbering.{none-numbered, next-has, one-true, one-false, one-more-fits}
 use Rattle.search_report.proofs.outcomes_as_text.write_numbers.Goals as goal
 

@@ -28,8 +28,8 @@ returns c =
     } in
     let refuting : Refuting = record {
       names = c.refuted_questions_are_answered.ensures.names;
-      executions = c.refuted_claims_are_false.ensures.executions;
-      tso = c.no_run_makes_a_refuted_claim_true.ensures.tso;
-      sequential = c.no_run_makes_a_refuted_claim_true.ensures.sequential;
+      executions = c.short_refutations_are_sound.ensures.executions;
+      tso = c.no_run_meets_what_is_refuted.ensures.tso;
+      sequential = c.no_run_meets_what_is_refuted.ensures.sequential;
     } in
     λ s known out status. command-means s known out status texts runs reaching searches refuting

@@ -1,6 +1,0 @@
--- Words of contracts inside the crate.
-pub mod Questions
-pub mod Precedence
-pub mod Cycles
-pub mod Cases
-pub mod Steps
