@@ -10,7 +10,7 @@ from reference.reading import Refused, read_test
 from reference.search import Search
 from reference.tracing import MOST_STEPS
 
-from . import choice_texts, command_lines, fault_table, order_texts, small_tests
+from . import choice_texts, command_lines, fault_table, locked_tests, order_texts, small_tests
 from .drafts import PLAIN_NAMES, Drafter
 
 # Sizes of tests, as `Drafter.draft` takes them: the most cores (0 stands for two), instructions and locations.
@@ -177,9 +177,13 @@ class Maker:
     # Reasons.
 
     def a_reason(self):
-        """`why` of a test: every third time one of the gallery, most of which have cycles; else a small one."""
-        text = self.a_test_of_the_gallery() if self.turn % 3 == 2 else self.a_small_test()
+        """`why` of a test: every third time one of the gallery, most of which have cycles; sometimes one of locked instructions; else a small
+        one."""
         cases = (None, None, 1_000_000, 1, 2, self.draw.randrange(3, 50))[self.turn // len(REASONED) % 6]
+        if self.turn % 6 == 1:
+            text, cases = locked_tests.locked_test(self.draw, self.turn // 6), (cases, 1)[self.turn // 24 % 2]
+        else:
+            text = self.a_test_of_the_gallery() if self.turn % 3 == 2 else self.a_small_test()
         words = command_lines.why(self.draw, cases)
         return words, text if self.draw.random() < 0.7 else self.joined(text, "x y z\n====\n")
 
