@@ -74,7 +74,6 @@ JOBS = [
     ("why --model sc", judging.STORE_BUFFERING, ENDED),
     ("why --model sc --json", judging.STORE_BUFFERING, ENDED),
     ("why --model sc --assert", judging.STORE_BUFFERING, INVALID),
-    ("why --cases 1", judging.THREE_TURNS, UNFINISHED),
     ("why", judging.STORE_BUFFERING + b")", REFUSED),
     ("sweep --seeds 3 --length 2000", EVERY_FORM, ENDED),
     ("sweep --seeds 3 --length 6", judging.STORE_BUFFERING, UNFINISHED),
