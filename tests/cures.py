@@ -334,7 +334,7 @@ CURES = [
     (r"(\w+) isn't read: write two tests: one where it writes, as XCHG \[x\],EBX, .*", exchange_compared),
     (r"(CALL) isn't read: write the instructions of what it calls in its place", leave_out_cell),
     (r"(\w+) isn't read: nothing is computed in registers: leave it out, and where its result is used write .*", leave_out_cell),
-    (r"%\w+: a register is written without %: \w+", leave_out_percent),
+    (r"%\w+: a register is written without %: \w+|'%' can't stand in (?:the initial state|a condition): .*", leave_out_percent),
     (r"(\w+) is no register: write (\w+)", Text.replace),
     (r"(&)(\w+): a location is written \[x\] in an instruction: .*", put_into_brackets),
     (r"\$ stands before (\w+): it stands before numbers alone, and a register is written without it", leave_out_dollar),
