@@ -2,14 +2,14 @@
 
 _tso_options() {
   case $1 in
-    run) echo --protocol --depth --sets --ways --words --bus --json --help ;;
-    trace) echo --protocol --depth --sets --ways --words --bus --json --help ;;
-    sweep) echo --protocol --depth --sets --ways --words --bus --from --seeds --length --help ;;
-    counts) echo --protocol --depth --sets --ways --words --bus --from --seeds --length --given --json --help ;;
-    outcomes) echo --depth --states --show --assert --json --help ;;
-    why) echo --model --cases --assert --json --help ;;
-    check) echo --help ;;
-    witness) echo --depth --help ;;
+    run) echo --protocol --depth --sets --ways --words --bus --instructions --json --help ;;
+    trace) echo --protocol --depth --sets --ways --words --bus --instructions --json --help ;;
+    sweep) echo --protocol --depth --sets --ways --words --bus --instructions --from --seeds --length --help ;;
+    counts) echo --protocol --depth --sets --ways --words --bus --instructions --from --seeds --length --given --json --help ;;
+    outcomes) echo --depth --states --show --instructions --assert --json --help ;;
+    why) echo --model --cases --instructions --assert --json --help ;;
+    check) echo --instructions --help ;;
+    witness) echo --depth --instructions --help ;;
     tables) echo --protocol --help ;;
     help) echo run trace sweep counts outcomes why check witness tables help ;;
     *) echo run trace sweep counts outcomes why check witness tables help --help --version ;;
@@ -23,6 +23,7 @@ _tso_values() {
     --words) echo 1 2 4 ;;
     --model) echo tso sc ;;
     --show) echo condition registers all ;;
+    --instructions) echo basic all ;;
     --depth | --sets | --ways | --from | --seeds | --length | --states | --cases) echo ;;
     *) return 1 ;;
   esac

@@ -29,6 +29,7 @@ complete -c tso -f -n "__fish_seen_subcommand_from run" -l sets -x
 complete -c tso -f -n "__fish_seen_subcommand_from run" -l ways -x
 complete -c tso -f -n "__fish_seen_subcommand_from run" -l words -x -a "1 2 4"
 complete -c tso -f -n "__fish_seen_subcommand_from run" -l bus -x -a "atomic split"
+complete -c tso -f -n "__fish_seen_subcommand_from run" -l instructions -x -a "basic all"
 complete -c tso -f -n "__fish_seen_subcommand_from run" -l json
 complete -c tso -f -n "__fish_seen_subcommand_from run" -l help
 
@@ -38,6 +39,7 @@ complete -c tso -f -n "__fish_seen_subcommand_from trace" -l sets -x
 complete -c tso -f -n "__fish_seen_subcommand_from trace" -l ways -x
 complete -c tso -f -n "__fish_seen_subcommand_from trace" -l words -x -a "1 2 4"
 complete -c tso -f -n "__fish_seen_subcommand_from trace" -l bus -x -a "atomic split"
+complete -c tso -f -n "__fish_seen_subcommand_from trace" -l instructions -x -a "basic all"
 complete -c tso -f -n "__fish_seen_subcommand_from trace" -l json
 complete -c tso -f -n "__fish_seen_subcommand_from trace" -l help
 
@@ -47,6 +49,7 @@ complete -c tso -f -n "__fish_seen_subcommand_from sweep" -l sets -x
 complete -c tso -f -n "__fish_seen_subcommand_from sweep" -l ways -x
 complete -c tso -f -n "__fish_seen_subcommand_from sweep" -l words -x -a "1 2 4"
 complete -c tso -f -n "__fish_seen_subcommand_from sweep" -l bus -x -a "atomic split"
+complete -c tso -f -n "__fish_seen_subcommand_from sweep" -l instructions -x -a "basic all"
 complete -c tso -f -n "__fish_seen_subcommand_from sweep" -l from -x
 complete -c tso -f -n "__fish_seen_subcommand_from sweep" -l seeds -x
 complete -c tso -f -n "__fish_seen_subcommand_from sweep" -l length -x
@@ -58,6 +61,7 @@ complete -c tso -f -n "__fish_seen_subcommand_from counts" -l sets -x
 complete -c tso -f -n "__fish_seen_subcommand_from counts" -l ways -x
 complete -c tso -f -n "__fish_seen_subcommand_from counts" -l words -x -a "1 2 4"
 complete -c tso -f -n "__fish_seen_subcommand_from counts" -l bus -x -a "atomic split"
+complete -c tso -f -n "__fish_seen_subcommand_from counts" -l instructions -x -a "basic all"
 complete -c tso -f -n "__fish_seen_subcommand_from counts" -l from -x
 complete -c tso -f -n "__fish_seen_subcommand_from counts" -l seeds -x
 complete -c tso -f -n "__fish_seen_subcommand_from counts" -l length -x
@@ -68,19 +72,23 @@ complete -c tso -f -n "__fish_seen_subcommand_from counts" -l help
 complete -c tso -f -n "__fish_seen_subcommand_from outcomes" -l depth -x
 complete -c tso -f -n "__fish_seen_subcommand_from outcomes" -l states -x
 complete -c tso -f -n "__fish_seen_subcommand_from outcomes" -l show -x -a "condition registers all"
+complete -c tso -f -n "__fish_seen_subcommand_from outcomes" -l instructions -x -a "basic all"
 complete -c tso -f -n "__fish_seen_subcommand_from outcomes" -l assert
 complete -c tso -f -n "__fish_seen_subcommand_from outcomes" -l json
 complete -c tso -f -n "__fish_seen_subcommand_from outcomes" -l help
 
 complete -c tso -f -n "__fish_seen_subcommand_from why" -l model -x -a "tso sc"
 complete -c tso -f -n "__fish_seen_subcommand_from why" -l cases -x
+complete -c tso -f -n "__fish_seen_subcommand_from why" -l instructions -x -a "basic all"
 complete -c tso -f -n "__fish_seen_subcommand_from why" -l assert
 complete -c tso -f -n "__fish_seen_subcommand_from why" -l json
 complete -c tso -f -n "__fish_seen_subcommand_from why" -l help
 
+complete -c tso -f -n "__fish_seen_subcommand_from check" -l instructions -x -a "basic all"
 complete -c tso -f -n "__fish_seen_subcommand_from check" -l help
 
 complete -c tso -f -n "__fish_seen_subcommand_from witness" -l depth -x
+complete -c tso -f -n "__fish_seen_subcommand_from witness" -l instructions -x -a "basic all"
 complete -c tso -f -n "__fish_seen_subcommand_from witness" -l help
 
 complete -c tso -f -n "__fish_seen_subcommand_from tables" -l protocol -x -a "msi mesi moesi mosi"

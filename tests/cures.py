@@ -248,6 +248,18 @@ def exchange_by_moves(text):
     text.put(core, "MOV %s,%s" % (free, one), "MOV %s,%s" % (one, other), "MOV %s,%s" % (other, free))
 
 
+def load_change_and_store(text, cell, *told):
+    """The three instructions that one in memory is, with a register that is free."""
+    core = next(core for core, one in enumerate(text.line.split("|")) if one.strip(" ;").startswith(cell))
+    named, free = told[-1], text.free_register(core)
+    text.put(core, *(one.replace(named, free) for one in told[:-1]))
+
+
+def lock_cell(text, cell, told):
+    core = next(core for core, one in enumerate(text.line.split("|")) if one.strip(" ;").startswith(cell))
+    text.put(core, told)
+
+
 def put_into_brackets(text, sign, name):
     text.line = text.line.replace(sign + name, "[%s]" % name, 1)
 
@@ -336,6 +348,9 @@ CURES = [
     (r"(\w+) isn't read: nothing is computed in registers: leave it out, and where its result is used write .*", leave_out_cell),
     (r"%\w+: a register is written without %: \w+|'%' can't stand in (?:the initial state|a condition): .*", leave_out_percent),
     (r"(\w+) is no register: write (\w+)", Text.replace),
+    (r"'?(.*?)'?: without LOCK it is three instructions, each in a cell of its own: (.*?)  (.*?)  (.*?), with a free register for (\w+); .*",
+     load_change_and_store),
+    (r"'?(.*?)'? isn't read without LOCK, which makes it one step: (LOCK CMPXCHG .*); .*", lock_cell),
     (r"(&)(\w+): a location is written \[x\] in an instruction: .*", put_into_brackets),
     (r"\$ stands before (\w+): it stands before numbers alone, and a register is written without it", leave_out_dollar),
     (r"an exchange of two registers takes three MOVs, .*", exchange_by_moves),
@@ -400,14 +415,21 @@ def line_of_word(text, number):
     return test.count("\n") + 3 + before.count("\n")
 
 
+# What a hint adds to the command line where the larger set of instructions has what stands there.
+LARGER_SET = "--instructions all"
+
+
 def followed(program, text):
     """What a text is where its hints are followed until it is read, or None where one names no change; and the hints."""
-    hints = []
+    hints, words = [], ["run"]
     for _ in range(MOST_HINTS):
-        done = program.run(["run"], text.encode())
+        done = program.run(words, text.encode())
         if done.returncode != judging.REFUSED:
             return text, hints
         hints.append(done.stdout.decode().strip() + ", " + done.stderr.decode().strip())
+        if LARGER_SET in hints[-1] and LARGER_SET not in " ".join(words):
+            words = ["run", *LARGER_SET.split()]
+            continue
         text = cured(text, done.stderr.decode())
         if text is None:
             return None, hints

@@ -57,7 +57,7 @@ def judge_read(program, tally, room):
         here, by_hand = content(folder, name), content(HAND, name)
         said, due = verdicts.by_theory(theory, here), verdicts.by_theory(theory, by_hand)
         tally.add(name, None if said.verdict == due.verdict else "theory says %s, and by hand %s" % (said.verdict, due.verdict))
-        logs = [log + tso.call(["outcomes"], text, program, 60)[0] for log, text in zip(logs, (here, by_hand))]
+        logs = [log + tso.call(["outcomes", "--instructions", "all"], text, program, 60)[0] for log, text in zip(logs, (here, by_hand))]
         again = importer.Importer(here).test().text()
         tally.add(name, None if again == here else "isn't imported as itself:\n" + again)
     paths = [write(os.path.join(room, "log %d" % number), log) for number, log in enumerate(logs)]

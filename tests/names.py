@@ -39,7 +39,6 @@ STAY = {
     "words_left": "what locations hold at the end, in a candidate and as far as facts tell",
     # the code of refutations with and without what is possible
     "IsTold": "what is told of a step; what a table tells of a test",
-    "expression_of": "what a write writes, of definitions and of the code's",
     "known_of": "what is known, of the code's",
     "node_of": "the node that one of the code's stands for",
     "reading_of": "what is read; a read's row, of the code's",

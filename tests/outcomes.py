@@ -34,7 +34,7 @@ import sys
 sys.dont_write_bytecode = True
 
 import judging
-from reference import conditions, litmus, reading
+from reference import arithmetic, conditions, litmus, reading
 
 DEPTHS = (0, 1, 2, 32)
 SHOWN = CONDITION, WITH_REGISTERS, WITH_ALL = ("condition", "registers", "all")
@@ -62,7 +62,7 @@ def after_step(test, state, core, depth):
     if held and (done.kind == litmus.FENCE or done.kind in litmus.LOCKED):
         return None
     if done.kind in litmus.STORES:
-        value = done.source if done.kind == litmus.STORE_NUMBER else own[done.source]
+        value = arithmetic.operand(done, own)
         if depth == 0:
             memory = put(memory, done.location, value)
         elif len(held) == depth:
@@ -73,14 +73,11 @@ def after_step(test, state, core, depth):
         newest = [value for location, value in held if location == done.location]
         registers = put(registers, core, put(own, done.register, newest[-1] if newest else memory[done.location]))
     elif done.kind in litmus.MOVES:
-        value = done.source if done.kind == litmus.SET_NUMBER else own[done.source]
-        registers = put(registers, core, put(own, done.register, value))
+        registers = put(registers, core, tuple(arithmetic.moved(done, own)))
     elif done.kind in litmus.LOCKED:
-        word, value = memory[done.location], own[done.register]
-        if done.kind == litmus.ADD:
-            value = (word + value) % 2**32
-        memory = put(memory, done.location, value)
-        registers = put(registers, core, put(own, done.register, word))
+        word, taken = memory[done.location], arithmetic.taken_by(done)
+        memory = put(memory, done.location, arithmetic.updated(done, own, word))
+        registers = registers if taken is None else put(registers, core, put(own, taken, word))
     return put(places, core, places[core] + 1), registers, pending, memory
 
 

@@ -5,10 +5,18 @@ from reference.orders import Entry
 from worked_terms import NONE, TRUE, Made, Record, curried, truth
 
 KINDS = {"StoreImm": litmus.STORE_NUMBER, "StoreReg": litmus.STORE_REGISTER, "Load": litmus.LOAD, "SetImm": litmus.SET_NUMBER,
-         "SetReg": litmus.SET_REGISTER, "Fence": litmus.FENCE, "Xchg": litmus.EXCHANGE, "Xadd": litmus.ADD}
+         "SetReg": litmus.SET_REGISTER, "Fence": litmus.FENCE, "Xchg": litmus.EXCHANGE, "Xadd": litmus.ADD,
+         "CompareExchange": litmus.COMPARE_EXCHANGE, "LockedNegate": litmus.LOCKED_NEGATE, "Negate": litmus.NEGATE, "Swap": litmus.SWAP,
+         "Nop": litmus.NOTHING}
+# Those of an operator and an operand: their kinds where it is a number, and where it is a register.
+OF_OPERATORS = {"LockedCombine": (litmus.LOCKED_NUMBER, litmus.LOCKED_REGISTER), "Combine": (litmus.COMBINE_NUMBER, litmus.COMBINE_REGISTER)}
+OPERATORS = {"Add": "ADD", "Subtract": "SUB", "And": "AND", "Or": "OR", "Xor": "XOR"}
 # The arguments of each instruction, in the order in which a definition has them.
 ARGUMENTS = {"StoreImm": ("location", "source"), "StoreReg": ("location", "source"), "Load": ("register", "location"), "SetImm": ("register", "source"),
-             "SetReg": ("register", "source"), "Fence": (), "Xchg": ("location", "register"), "Xadd": ("location", "register")}
+             "SetReg": ("register", "source"), "Fence": (), "Xchg": ("location", "register"), "Xadd": ("location", "register"),
+             "CompareExchange": ("location", "register"), "LockedNegate": ("location",), "Negate": ("register",),
+             "Swap": ("register", "source"), "Nop": (), "LockedCombine": ("location", "operator", "source"),
+             "Combine": ("register", "operator", "source")}
 UNIPROC_ALONE = "uniproc forbids the candidate"
 QUANTIFIERS = {"exists": "Exists", "~exists": "NotExists", "forall": "Forall"}
 
@@ -33,6 +41,11 @@ def argument_of(value):
 
 
 def instruction_of(made):
+    if made[0] in OF_OPERATORS:
+        of_number, of_register = OF_OPERATORS[made[0]]
+        first, operator, operand = made[1:]
+        kind = of_number if operand[0] == "Number" else of_register
+        return litmus.Instruction(kind, **{ARGUMENTS[made[0]][0]: argument_of(first)}, source=argument_of(operand[1]), operator=OPERATORS[operator[0]])
     named = dict(zip(ARGUMENTS[made[0]], map(argument_of, made[1:])))
     return litmus.Instruction(KINDS[made[0]], **named)
 
@@ -66,13 +79,18 @@ def choice_value(choice):
 
 
 def argument_value(field, value, kind):
-    if field == "register" or field == "source" and kind in (litmus.STORE_REGISTER, litmus.SET_REGISTER):
-        return Made((litmus.REGISTERS[value].capitalize(),))
-    return number(value) if field == "location" else value
+    if field == "operator":
+        return Made((next(name for name, mnemonic in OPERATORS.items() if mnemonic == value),))
+    is_register = field == "register" or field == "source" and kind in litmus.OF_REGISTERS
+    found = Made((litmus.REGISTERS[value].capitalize(),)) if is_register else number(value) if field == "location" else value
+    if field == "source" and any(kind in kinds for kinds in OF_OPERATORS.values()):
+        return Made(("Held" if is_register else "Number", found))
+    return found
 
 
 def instruction_value(instruction):
-    name = next(name for name, kind in KINDS.items() if kind == instruction.kind)
+    kinds = {**{name: (kind,) for name, kind in KINDS.items()}, **OF_OPERATORS}
+    name = next(name for name, found in kinds.items() if instruction.kind in found)
     return Made((name, *(argument_value(field, getattr(instruction, field), instruction.kind) for field in ARGUMENTS[name])))
 
 
@@ -105,9 +123,12 @@ def test_value(test):
 # ---- texts
 
 
-def told(spelled):
+SETS = {"Basic": litmus.BASIC, "All": litmus.ALL}
+
+
+def told_in(instructions, spelled):
     """The refusal of a text that spells no test, with its line, and what stands from the place of its fault on."""
-    given = lexing.Text(bytes(spelled))
+    given = lexing.Text(bytes(spelled), SETS[instructions[0]])
     try:
         reading.TestReader(given).test()
     except lexing.Fault as fault:
@@ -116,8 +137,8 @@ def told(spelled):
     return NONE
 
 
-def spells_test(spelled, t):
-    return test_value(reading.TestReader(lexing.Text(bytes(spelled))).test()) == t
+def spells_test(instructions, spelled, t):
+    return test_value(reading.TestReader(lexing.Text(bytes(spelled), SETS[instructions[0]])).test()) == t
 
 
 # ---- orders, runs, candidates
@@ -361,8 +382,8 @@ def readings(t, facts):
 
 
 VOICES = {
-    ("worked_examples.specs.RefusedTexts", "told"): told,
-    ("litmus_reader.specs.Spelling", "SpellsTest"): curried(2, spells_test),
+    ("worked_examples.specs.RefusedTexts", "told_in"): curried(2, told_in),
+    ("litmus_reader.specs.Spelling", "SpellsTest"): curried(3, spells_test),
     ("tso_terms.specs.Axioms", "IsTsoExecution"): curried(2, is_execution),
     ("tso_terms.specs.SequentialConsistency", "KeepsAllOrder"): keeps_all_order,
     ("tso_terms.specs.FinalState", "final_registers"): curried(2, final_registers),

@@ -6,7 +6,7 @@ from the printed table of the protocol. `Board.line` makes the next choice and s
 import re
 import typing
 
-from reference import litmus
+from reference import arithmetic, litmus
 
 # The parts of a line, each where it applies.
 PARTS = ("number", "choice", "outcome", "entries", "moved", "forwarded", "access", "request", "flush", "write_back", "changes", "buffer")
@@ -172,13 +172,15 @@ class Board:
         elif done.kind == litmus.FENCE:
             self.commit(due, self.entry(core, "F"))
         else:
-            own[done.register] = done.source if done.kind == litmus.SET_NUMBER else own[done.source]
-            due.update(outcome="moved", moved="%s=%d" % (litmus.REGISTERS[done.register], own[done.register]))
+            own[:] = arithmetic.moved(done, own)
+            given = {litmus.SWAP: (done.register, done.source), litmus.NOTHING: ()}.get(done.kind, (done.register,))
+            due["outcome"] = "moved"
+            if given:
+                due["moved"] = " ".join("%s=%d" % (litmus.REGISTERS[one], own[one]) for one in given)
         self.places[core] += 1
 
     def value_stored(self, core):
-        done = self.instruction(core)
-        return done.source if done.kind == litmus.STORE_NUMBER else self.registers[core][done.source]
+        return arithmetic.operand(self.instruction(core), self.registers[core])
 
     def act_with_access(self, core, letter, access, due):
         """A drain, a load, a locked instruction, or a store without a buffer, through the core's cache."""
@@ -212,8 +214,7 @@ class Board:
     def read_part(self, core, location, due):
         """A locked instruction reads; on the atomic bus it writes at once."""
         done, old = self.instruction(core), self.read(core, location)
-        operand = self.registers[core][done.register]
-        value = operand if done.kind == litmus.EXCHANGE else (old + operand) % 2**32
+        value = arithmetic.updated(done, self.registers[core], old)
         parts = self.entry(core, "LR", location, old), self.entry(core, "LW", location, value)
         if self.is_split:
             self.holder.parts, self.holder.value = parts, value
@@ -229,7 +230,9 @@ class Board:
 
     def finish(self, core, location, value, parts):
         """A locked instruction writes. Its two parts stand side by side in the order."""
-        self.registers[core][self.instruction(core).register] = self.read(core, location)
+        taken = arithmetic.taken_by(self.instruction(core))
+        if taken is not None:
+            self.registers[core][taken] = self.read(core, location)
         self.write(core, location, value)
         self.order += parts
         self.places[core] += 1

@@ -25,19 +25,36 @@ def register(name):
     return "%%" + name.lower()
 
 
+# Each kind in AT&T's order of operands: where it stands are the location, the register, the operand and the operator.
+LINES = {
+    "store": "movl {operand},{place}",
+    "load": "movl {place},{register}",
+    "move": "movl {operand},{register}",
+    "fence": "mfence",
+    "xchg": "xchgl {register},{place}",
+    "xadd": "lock xaddl {register},{place}",
+    "cmpxchg": "lock cmpxchgl {register},{place}",
+    "locked": "lock {operator}l {operand},{place}",
+    "lockedneg": "lock negl {place}",
+    "combine": "{operator}l {operand},{register}",
+    "neg": "negl {register}",
+    "swap": "xchgl {operand},{register}",
+    "nop": "nop",
+}
+
+
 def line_of(instruction, locations):
     """An instruction in AT&T's order of operands, as a string of an assembler block of C."""
-    place = None if instruction.location is None else "%d(%s)" % (APART * locations.index(instruction.location), BASE)
-    kind = instruction.kind
-    if kind == "store":
-        return "movl %s,%s" % (operand(instruction.operand), place)
-    if kind == "load":
-        return "movl %s,%s" % (place, register(instruction.register))
-    if kind == "move":
-        return "movl %s,%s" % (operand(instruction.operand), register(instruction.register))
-    if kind == "fence":
-        return "mfence"
-    return "%s %s,%s" % ("xchgl" if kind == "xchg" else "lock xaddl", register(instruction.register), place)
+    named = {}
+    if instruction.location is not None:
+        named["place"] = "%d(%s)" % (APART * locations.index(instruction.location), BASE)
+    if instruction.register is not None:
+        named["register"] = register(instruction.register)
+    if instruction.operand is not None:
+        named["operand"] = operand(instruction.operand)
+    if instruction.operator is not None:
+        named["operator"] = instruction.operator.lower()
+    return LINES[instruction.kind].format(**named)
 
 
 def block_of(name, program, locations):

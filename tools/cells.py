@@ -2,11 +2,19 @@
 import re
 from dataclasses import dataclass
 
+import litmus
 import registers
 import remedies
 from faults import ADDRESSES, NUMBER, OPERANDS, SIZES, Fault, location_in, number_in, signed_in
 
 LETTERS = {"l": 4, "q": 8}
+
+# Instructions of one operand, those that compute, and those that do nothing.
+OF_ONE = ("inc", "dec", "neg", "not")
+COMPUTING = tuple(map(str.lower, litmus.OPERATORS)) + OF_ONE
+DOING_NOTHING = tuple(map(str.lower, litmus.NOTHING))
+
+FORM = re.compile(r"(mov|xchg|xadd|cmpxchg|%s)([lqwb]?)|mfence|%s" % ("|".join(COMPUTING), "|".join(DOING_NOTHING)))
 
 
 @dataclass(frozen=True)
@@ -20,13 +28,14 @@ class Memory:
 
 @dataclass(frozen=True)
 class Cell:
-    """A cell: its text, the mnemonic without the letter of a size, the bytes that it says (None where it says none), and the operands,
-    the target first: numbers, names of registers, and places in memory."""
+    """A cell: its text, the mnemonic without the letter of a size, the bytes that it says (None where it says none), the operands, the
+    target first: numbers, names of registers, and places in memory; and whether it has LOCK."""
 
     text: str
     mnemonic: str
     size: int
     operands: tuple
+    lock: bool
 
     def kinds(self):
         return tuple({int: "number", str: "register", Memory: "memory"}[type(one)] for one in self.operands)
@@ -40,34 +49,37 @@ def cell_in(text):
     if not word:
         raise Fault("%s is no instruction that is read here" % text, "cells that are no instruction")
     lock, mnemonic, rest = bool(word.group(1)), word.group(2).lower(), word.group(3)
-    form = re.fullmatch(r"(mov|xchg|xadd)([lqwb]?)|mfence", mnemonic)
-    if not form or lock and mnemonic == "mfence":
-        told = remedies.remedy(text, mnemonic, lock) or "MOV, MFENCE, XCHG and LOCK XADD alone are read"
+    form = FORM.fullmatch(mnemonic)
+    if not form or lock and form.group(1) is None:
+        told = remedies.remedy(text, mnemonic, lock) or "MOV, MFENCE, XCHG, LOCK XADD, LOCK CMPXCHG, arithmetic and fences alone are read"
         raise Fault("%s: %s" % (text, told), "the instruction %s" % mnemonic.upper())
-    if mnemonic == "mfence":
+    if form.group(1) is None:
         if rest:
-            raise Fault("%s: MFENCE has no operands" % text, OPERANDS)
-        return Cell(text, mnemonic, None, ())
+            raise Fault("%s: %s has no operands here" % (text, mnemonic.upper()), OPERANDS)
+        return Cell(text, mnemonic, None, (), False)
     base, letter = form.group(1), form.group(2)
     if letter in ("w", "b"):
         raise Fault("%s: words of 32 bits alone are read" % text, SIZES)
     if lock and base == "mov":
         raise Fault("%s: MOV can't be locked" % text, OPERANDS)
-    if base == "xadd" and not lock:
-        raise Fault("%s: XADD is read with LOCK alone" % text, "XADD without LOCK")
-    operands, size = operands_in(text, rest, LETTERS.get(letter))
-    if base == "xadd" and size == 8:
+    if base in ("xadd", "cmpxchg") and not lock:
+        raise Fault("%s: %s is read with LOCK alone" % (text, base.upper()), "%s without LOCK" % base.upper())
+    operands, size = operands_in(text, rest, LETTERS.get(letter), 1 if base in OF_ONE else 2)
+    if size == 8 and (base == "xadd" or base in COMPUTING):
         raise Fault("%s: a sum of 64 bits isn't one of 32" % text, "sums of 64 bits")
-    return Cell(text, base, size, operands)
+    cell = Cell(text, base, size, operands, lock)
+    if base in COMPUTING and lock != (cell.kinds()[0] == "memory"):
+        raise Fault("%s: %s" % (text, remedies.of_a_step(cell)), "arithmetic in memory without LOCK" if not lock else OPERANDS)
+    return cell
 
 
-def operands_in(cell, text, size):
-    """Both operands, the target first, and the bytes that the cell says; `size` is what the letter of its mnemonic says."""
+def operands_in(cell, text, size, wanted):
+    """The operands, the target first, and the bytes that the cell says; `size` is what the letter of its mnemonic says."""
     if re.search(r"\([^()]*,", text):
         raise Fault("%s: addresses with an index aren't read" % cell, "addresses with an index")
     words = [word.strip() for word in text.split(",")]
-    if len(words) != 2:
-        raise Fault("%s: two operands are wanted" % cell, OPERANDS)
+    if len(words) != wanted:
+        raise Fault("%s: %s wanted" % (cell, "two operands are" if wanted == 2 else "one operand is"), OPERANDS)
     found = [operand_in(cell, word) for word in words]
     operands = [operand for operand, _ in found]
     if is_source_first(cell, text, operands):

@@ -14,6 +14,9 @@ CUT, DIGITS = 58, 5
 
 LOCATIONS = ("x", "y", "z", "a", "b", "c", "d", "e", "f", "g", "h", "i", "j", "k", "l", "m")
 
+# How names of tests end whose Rmw compare.
+COMPARES = "+cmpxchg"
+
 # Names of the literature (Herding cats; the Power tutorial), each for a cycle without fences.
 LITERATURE = {
     "SB": "PodWR Fre PodWR Fre",
@@ -81,12 +84,12 @@ def name_of_cycle(cycle):
 class Access:
     """A load or store of the test: its core, location, direction, whether it is locked, and whether MFENCE follows it. A store has its
     `number` in coherence; a load has the number of the store that it `read`, 0 for the first word. Each has a `value`. A store of a data
-    dependency has the load whose value it `copies`; the two parts of an XCHG that the cycle goes through have each other as `other`. What
-    has a register gets it with its instruction."""
+    dependency has the load whose value it `copies`; the two parts of a locked instruction that the cycle goes through have each other as
+    `other`. What has a register gets it with its instruction, and what stores by comparing gets another one, in which its value is."""
 
     def __init__(self, core, location, direction, locked=False, fenced=False):
         self.core, self.location, self.direction, self.locked, self.fenced = core, location, direction, locked, fenced
-        self.number = self.read = self.value = self.register = self.copies = self.other = None
+        self.number = self.read = self.value = self.register = self.copies = self.other = self.stored_from = None
 
 
 def accesses_of(cycle):
@@ -169,12 +172,21 @@ def observers(last, core):
         core += 1
 
 
-def test_of(cycle, name=None):
-    """The test whose condition asks for the cycle. BadCycle where it isn't within the limits of a test."""
+def with_end(name, end):
+    """A name with this at its end. Of one that is too long then, some of the middle is left out, so that it keeps its digits."""
+    room = litmus.LONGEST_NAME - len(end)
+    return (name if len(name) <= room else name[:room - DIGITS - 1] + name[-DIGITS - 1:]) + end
+
+
+def test_of(cycle, name=None, compares=False):
+    """The test whose condition asks for the cycle. BadCycle where it isn't within the limits of a test. Where it `compares`, the first
+    Rmw of each core is LOCK CMPXCHG, whose EAX begins as what is to be read: it ends so where that was read."""
     named = literature_name(cycle)
     if named:
         cycle, name = named[0], name or named[1]
     name = name or name_of_cycle(cycle)
+    if compares and any(edge.kind == "Rmw" for edge in cycle):
+        name = with_end(name, COMPARES)
     accesses = accesses_of(cycle)
     last = last_numbers(accesses)
     accesses += observers(last, accesses[-1].core + 1)
@@ -182,7 +194,7 @@ def test_of(cycle, name=None):
     if accesses[-1].core >= litmus.MOST_CORES or len({access.location for access in accesses}) > litmus.MOST_LOCATIONS:
         raise BadCycle("a test has at most %d cores, those that see the order of stores with them, and %d locations"
                        % (litmus.MOST_CORES, litmus.MOST_LOCATIONS))
-    programs, initial = programs_of(accesses)
+    programs, initial = programs_of(accesses, compares)
     asked = [("is", (access.core, access.register), access.value) for access in accesses if access.read is not None]
     lasts = {access.location: access.value for access in accesses if access.number and access.number == last[access.location]}
     asked += [("is", location, lasts[location]) for location, number in sorted(last.items()) if number > 1]
@@ -190,20 +202,34 @@ def test_of(cycle, name=None):
     return litmus.Test(name, programs, initial, facts, ("exists", ("and", tuple(asked))))
 
 
-def programs_of(accesses):
+def compare_in(accesses):
+    """The first Rmw of each core: their load parts, by their cores."""
+    found = {}
+    for access in accesses:
+        if access.other and access.direction == "R":
+            found.setdefault(access.core, access)
+    return found
+
+
+def programs_of(accesses, compares=False):
     """The cores' programs, with the first values of registers. Each load and locked instruction gets a register of its own."""
     programs, initial = [[] for _ in range(accesses[-1].core + 1)], {}
     free = [list(litmus.REGISTERS) for _ in programs]
+    compared = compare_in(accesses) if compares else {}
+    for core, access in compared.items():
+        free[core].remove("EAX")
+        access.stored_from = free[core].pop()
+        initial[core, "EAX"], initial[core, access.stored_from] = access.value, access.other.value
     for access in accesses:
         program = programs[access.core]
         if access.other is None or access.direction == "R":
             if access.direction == "R" or access.locked:
-                if not free[access.core]:
+                if not free[access.core] and access.stored_from is None:
                     raise BadCycle("a core has %d registers, one that sees the order of stores too" % len(litmus.REGISTERS))
-                access.register = free[access.core].pop(0)
+                access.register = free[access.core].pop(0) if access.stored_from is None else "EAX"
             program.append(instruction_of(access))
         stored = access.other or access
-        if access.register and stored.direction == "W":
+        if access.register and stored.direction == "W" and access.stored_from is None:
             initial[access.core, access.register] = stored.value
         if access.fenced:
             program.append(litmus.Instruction("fence"))
@@ -213,6 +239,8 @@ def programs_of(accesses):
 
 
 def instruction_of(access):
+    if access.stored_from:
+        return litmus.Instruction("cmpxchg", access.location, access.stored_from)
     if access.other or access.direction == "W" and access.locked:
         return litmus.Instruction("xchg", access.location, access.register)
     if access.direction == "W":

@@ -10,7 +10,7 @@ import litmus
 import registers
 import remedies
 import words
-from cells import Memory, cell_in
+from cells import COMPUTING, DOING_NOTHING, Memory, cell_in
 from faults import ADDRESSES, INITIAL, NUMBER, OPERANDS, ROWS, TWICE, Fault, Refused, number_in, word_of
 from litmus import Instruction
 
@@ -263,6 +263,8 @@ class Importer:
         wanted = [(place, line) for place, value, line in items if not is_address(value)]
         wanted += [((core, one), line) for core, column in enumerate(columns) for cell, line in column for one in cell.operands
                    if isinstance(one, str)]
+        # A compare and exchange uses this one too.
+        wanted += [((core, "eax"), line) for core, column in enumerate(columns) for cell, line in column if cell.mnemonic == "cmpxchg"]
         wanted += tokens + [one for one in shown if not self.holds_address(one[0])]
         self.settle(self.want([one for one in wanted if isinstance(one[0], tuple)]))
 
@@ -316,6 +318,10 @@ class Importer:
         kinds = cell.kinds()
         if cell.mnemonic == "mfence":
             return Instruction("fence")
+        if cell.mnemonic in DOING_NOTHING:
+            return Instruction("nop")
+        if cell.mnemonic in COMPUTING:
+            return self.computing(cell, kinds, values)
         if cell.mnemonic == "mov":
             if kinds in (("memory", "number"), ("memory", "register")):
                 return Instruction("store", values[0], operand=values[1])
@@ -327,7 +333,21 @@ class Importer:
             return Instruction(cell.mnemonic, *values)
         elif cell.mnemonic == "xchg" and kinds == ("register", "memory"):
             return Instruction(cell.mnemonic, values[1], values[0])
+        elif cell.mnemonic == "xchg" and kinds == ("register", "register") and not cell.lock:
+            return Instruction("swap", register=values[0], operand=values[1])
         raise Fault("%s: such operands aren't read" % cell.text, OPERANDS)
+
+    def computing(self, cell, kinds, values):
+        """Arithmetic, on a location in one step or on a register."""
+        if cell.size is None and self.words.wide:
+            raise Fault("%s: a sum of 64 bits isn't one of 32, and the cell says no size" % cell.text, "sums of 64 bits")
+        if kinds[0] == "number" or kinds[1:] == ("memory",):
+            raise Fault("%s: such operands aren't read" % cell.text, OPERANDS)
+        operator, operand = litmus.SHORT.get(cell.mnemonic.upper(), (cell.mnemonic.upper(), values[-1]))
+        place = {"location": values[0]} if cell.lock else {"register": values[0]}
+        if operator == "NEG":
+            return Instruction("lockedneg" if cell.lock else "neg", **place)
+        return Instruction("locked" if cell.lock else "combine", operand=operand, operator=operator, **place)
 
     # ---- the condition, and what is shown
 

@@ -21,6 +21,14 @@ MOST_NESTED = 100
 
 DIVIDER = "===="
 
+# Operators, by their mnemonics, and instructions of one operand, by what they are read as: an operator and its number.
+OPERATORS = ("ADD", "SUB", "AND", "OR", "XOR")
+SHORT = {"INC": ("ADD", 1), "DEC": ("SUB", 1), "NOT": ("XOR", WORD - 1)}
+
+# Instructions that do nothing here, and those that read and write a location in one step.
+NOTHING = ("NOP", "PAUSE", "LFENCE", "SFENCE")
+LOCKED = ("xchg", "xadd", "cmpxchg", "locked", "lockedneg")
+
 # What herd's logs say of a test by its condition.
 QUANTIFIERS = {"exists": "Allowed", "~exists": "Forbidden", "forall": "Required"}
 
@@ -31,15 +39,34 @@ class BadTest(Exception):
 
 @dataclass(frozen=True)
 class Instruction:
-    """One instruction: its kind, a location or None, a register or None, and an operand: a number, or the name of a register.
+    """One instruction: its kind, a location or None, a register or None, an operand: a number, or the name of a register, and the
+    mnemonic of an operator.
 
-    kinds: store (location, operand), load (register, location), move (register, operand), fence, xchg and xadd (location, register)
+    kinds: store (location, operand), load (register, location), move (register, operand), fence, xchg, xadd and cmpxchg (location,
+    register), locked (location, operator, operand), lockedneg (location), combine (register, operator, operand), neg (register),
+    swap (register, operand), nop
     """
 
     kind: str
     location: str = None
     register: str = None
     operand: object = None
+    operator: str = None
+
+    def is_locked(self):
+        return self.kind in LOCKED
+
+    def written(self):
+        """The registers that it writes."""
+        if self.kind == "swap":
+            return self.register, self.operand
+        if self.kind == "cmpxchg":
+            return ("EAX",)
+        return (self.register,) if self.register else ()
+
+    def named(self):
+        """The registers that it reads or writes."""
+        return {name for name in (self.register, self.operand, *self.written()) if isinstance(name, str)}
 
     def text(self):
         value = "$%d" % self.operand if isinstance(self.operand, int) else self.operand
@@ -50,6 +77,13 @@ class Instruction:
             "fence": "MFENCE",
             "xchg": "XCHG [%s],%s" % (self.location, self.register),
             "xadd": "LOCK XADD [%s],%s" % (self.location, self.register),
+            "cmpxchg": "LOCK CMPXCHG [%s],%s" % (self.location, self.register),
+            "locked": "LOCK %s [%s],%s" % (self.operator, self.location, value),
+            "lockedneg": "LOCK NEG [%s]" % self.location,
+            "combine": "%s %s,%s" % (self.operator, self.register, value),
+            "neg": "NEG %s" % self.register,
+            "swap": "XCHG %s,%s" % (self.register, self.operand),
+            "nop": "NOP",
         }[self.kind]
 
 
@@ -159,7 +193,7 @@ def shown(test):
     show = show_of(test.facts)
     if show is None:
         return asked
-    written = {(core, one.register) for core, program in enumerate(test.programs) for one in program if one.register}
+    written = {(core, name) for core, program in enumerate(test.programs) for one in program for name in one.written()}
     found = written | {place for place in asked if not isinstance(place, str)}
     locations = [name for name in test.locations() if show == "all" or name in asked]
     return sorted(found, key=lambda place: (place[0], REGISTERS.index(place[1]))) + locations
@@ -182,7 +216,8 @@ def beyond_limits(test):
 
 # ---- reading
 
-TOKEN = re.compile(r"\s*(?:(\d+)|([A-Za-z_]\w*)|(/\\|\\/|[=;:\[\]{}|,$~()])|(\S))")
+TOKEN = re.compile(r"\s*(?:(0[xX][0-9A-Fa-f]+|\d+)|([A-Za-z_]\w*)|(/\\|\\/|[=;:\[\]{}|,$~()-])|(\S))")
+NUMBER = re.compile(r"(0[xX])?0*([0-9A-Fa-f]+)")
 HEADER = re.compile(r"X86[ \t]+([^\n]*)(?:\n|$)")
 FACT = re.compile(r'"[^"]*"|[A-Za-z][\w \t-]*=[^\n]*')
 LIST = re.compile(r"\blocations\s*\[")
@@ -235,11 +270,17 @@ class Reader:
         return token
 
     def number(self):
+        is_negative = self.peek() == "-"
+        if is_negative:
+            self.take()
         token = self.take()
-        digits = token.lstrip("0")[:len(str(WORD)) + 1] or "0"
-        if not token.isdecimal() or int(digits) >= WORD:
+        if not starts_number(token):
+            raise BadTest("%r is no number" % token)
+        is_hexadecimal, digits = NUMBER.fullmatch(token).groups()
+        value = int(digits[:len(str(WORD)) + 1], 16 if is_hexadecimal else 10)
+        if value > (WORD // 2 if is_negative else WORD - 1):
             raise BadTest("%r is no number of 32 bits" % token)
-        return int(digits)
+        return -value % WORD if is_negative else value
 
     def register(self, token):
         if token.upper() not in REGISTERS:
@@ -304,24 +345,25 @@ class Reader:
 
     def instruction(self):
         word = self.take().upper()
-        if word == "LOCK":
+        is_locked = word == "LOCK"
+        if is_locked:
             word = self.take().upper()
-            if word not in ("XCHG", "XADD"):
+        if word == "MFENCE" or word in NOTHING:
+            if is_locked:
                 raise BadTest("LOCK %s" % word)
-        if word == "MFENCE":
-            return Instruction("fence")
-        if word not in ("MOV", "XCHG", "XADD"):
+            return Instruction("fence" if word == "MFENCE" else "nop")
+        if word not in ("MOV", "XCHG", "XADD", "CMPXCHG", "NEG", *SHORT, *OPERATORS):
             raise BadTest("%s is no instruction that is read" % word)
         first = self.operand()
+        if word == "NEG" or word in SHORT:
+            return changed(word, is_locked, first)
         self.take(",")
         second = self.operand()
-        if word == "MOV":
+        if word in OPERATORS:
+            return combined(word, is_locked, first, second)
+        if word == "MOV" and not is_locked:
             return move(first, second)
-        if first[0] == "register":
-            first, second = second, first
-        if (first[0], second[0]) != ("location", "register"):
-            raise BadTest("%s of such operands" % word)
-        return Instruction(word.lower(), location=first[1], register=second[1])
+        return exchange(word, is_locked, first, second)
 
     def operand(self):
         if self.peek() == "[":
@@ -329,7 +371,7 @@ class Reader:
         if self.peek() == "$":
             self.take()
             return "number", self.number()
-        if self.peek().isdecimal():
+        if self.peek() == "-" or starts_number(self.peek()):
             return "number", self.number()
         return "register", self.register(self.take())
 
@@ -376,6 +418,39 @@ class Reader:
             claim = "not", self.unit()
         self.nested -= 1
         return claim
+
+
+def starts_number(token):
+    return NUMBER.fullmatch(token) is not None and token[0].isdecimal()
+
+
+def changed(word, is_locked, operand):
+    """The instruction of one operand."""
+    if operand[0] != ("location" if is_locked else "register"):
+        raise BadTest("%s of such an operand" % word)
+    if word != "NEG":
+        return combined(SHORT[word][0], is_locked, operand, ("number", SHORT[word][1]))
+    return Instruction("lockedneg", location=operand[1]) if is_locked else Instruction("neg", register=operand[1])
+
+
+def combined(word, is_locked, first, second):
+    """The operator with two operands."""
+    if (first[0], second[0] == "location") != ("location" if is_locked else "register", False):
+        raise BadTest("%s of such operands" % word)
+    if is_locked:
+        return Instruction("locked", location=first[1], operand=second[1], operator=word)
+    return Instruction("combine", register=first[1], operand=second[1], operator=word)
+
+
+def exchange(word, is_locked, first, second):
+    """XCHG, XADD or CMPXCHG of two operands."""
+    if (word, is_locked, first[0], second[0]) == ("XCHG", False, "register", "register"):
+        return Instruction("swap", register=first[1], operand=second[1])
+    if first[0] == "register" and word != "CMPXCHG":
+        first, second = second, first
+    if (first[0], second[0]) != ("location", "register") or word not in ("XCHG", "XADD", "CMPXCHG") or word == "CMPXCHG" and not is_locked:
+        raise BadTest("%s of such operands" % word)
+    return Instruction(word.lower(), location=first[1], register=second[1])
 
 
 def move(first, second):

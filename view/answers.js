@@ -9,10 +9,11 @@ class Tso {
   static BUSES = ['atomic', 'split'];
   static MODELS = ['tso', 'sc'];
   static SHOWN = ['condition', 'registers', 'all'];
+  static INSTRUCTIONS = ['basic', 'all'];
   static DEFAULTS = {
     command: 'run', protocol: 'msi', bus: 'atomic', depth: 4, sets: 1, ways: 2, words: 1, json: false,
     from: 0, seeds: 10, length: 1000, states: 1000000, cases: 100000, model: 'tso',
-    show: 'condition', assert: false,
+    show: 'condition', assert: false, instructions: 'all',
   };
   static STATUS = { good: 0, refused: 1, nothingAsked: 2, unended: 3, invalid: 4, noMemory: 5 };
 
@@ -31,8 +32,8 @@ class Tso {
   }
 
   /**
-   * The answer to an input (bytes or a text) under these options, the others having the program's defaults: its text, the hint
-   * beside it, and the command's exit status; 2 where an option is outside its limits, 5 where memory was refused. Throws
+   * The answer to an input (bytes or a text) under these options, the others having the program's defaults, but that all instructions
+   * are read (an older module reads those of the grammar alone, whatever it is asked): its text, the hint beside it, and the command's exit status; 2 where an option is outside its limits, 5 where memory was refused. Throws
    * where the module trapped.
    */
   answer(options, input) {
@@ -71,7 +72,7 @@ class Tso {
 
   writeAsked(place, options) {
     const view = new DataView(this.exports.memory.buffer, place, 32);
-    const { command, protocol, bus, depth, sets, ways, words, json, from, seeds, length, states, cases, model, show, assert } = options;
+    const { command, protocol, bus, depth, sets, ways, words, json, from, seeds, length, states, cases, model, show, assert, instructions } = options;
     const small = [Tso.COMMANDS.indexOf(command), Tso.PROTOCOLS.indexOf(protocol), Tso.BUSES.indexOf(bus), depth, sets, ways, words];
     small.forEach((number, at) => view.setUint8(at, Number.isInteger(number) && number >= 0 && number < 255 ? number : 255));
     view.setUint8(7, json ? 1 : 0);
@@ -79,6 +80,7 @@ class Tso {
     view.setUint8(28, Tso.MODELS.indexOf(model) & 255);
     view.setUint8(29, Tso.SHOWN.indexOf(show) & 255);
     view.setUint8(30, assert ? 1 : 0);
+    view.setUint8(31, Tso.INSTRUCTIONS.indexOf(instructions) & 255);
   }
 
   readTold(place) {

@@ -5,8 +5,9 @@
 /**
  * The module and what it was made of, a long task while it runs, and the answer that is shown with its command; null while a machine
  * is driven on from it. `tracing` is what the module tells of steps: `step` alone and the whole trace, the whole `trace`, or null.
+ * `hasLargerSet` is whether it has the larger set of instructions.
  */
-const bench = { tso: null, bytes: null, task: null, answer: null, tracing: null };
+const bench = { tso: null, bytes: null, task: null, answer: null, tracing: null, hasLargerSet: false };
 
 const LONG = ['outcomes', 'sweep', 'counts', 'why'];
 
@@ -339,6 +340,7 @@ async function makeBench() {
   const tso = await Tso.of(bench.bytes);
   bench.tracing = tracingOf(tso);
   bench.tso = tso;
+  bench.hasLargerSet = hasLargerSet(tso);
   for (const [command, tells] of [['why', tellsWhy], ['counts', tellsCounts]]) {
     if (!tells(tso)) for (const part of document.querySelectorAll(`[data-for=${command}]`)) part.remove();
   }

@@ -10,7 +10,7 @@ function showDrive() {
   showPicture();
   const step = history.steps[count - 1];
   const before = step && history.machineAfter(count - 1);
-  byId('sentence').textContent = step ? `${step.choice}: ${stepSentences(step, before, isPlain).join(' ')}` : count === 0 ? startSentence(history) : 'The first machine\'s test has ended.';
+  byId('sentence').textContent = step ? `${step.choice}: ${stepSentences(step, before, history.programs, isPlain).join(' ')}` : count === 0 ? startSentence(history) : 'The first machine\'s test has ended.';
   byId('count').textContent = `${count} ${count === 1 ? 'choice' : 'choices'} made`;
   showMoves();
   showBranches();

@@ -38,7 +38,7 @@ function growRows(rows, order, count, add, take) {
 
 /** How many entries a run of these programs makes. */
 function mostRows(programs) {
-  return programs.flat().reduce((sum, text) => sum + (/^(LOCK|XCHG|XADD)/i.test(text) ? 2 : 1), 0);
+  return programs.flat().reduce((sum, text) => sum + (isLocked(text) ? 2 : 1), 0);
 }
 
 /** What the strip says of a core: the stores that wait, the oldest first. */

@@ -39,8 +39,17 @@ function seenWords({ after }, core, location, isPlain) {
   return isKept ? `each core sees it from now on. P${core}'s cache has the word, and memory itself still has the old one.` : 'memory has seen it.';
 }
 
-/** What was committed, in one sentence. Where no caches are shown (`isPlain`), a word that isn't in its own buffer is in memory. */
-function committedSentence(step, isPlain) {
+/** What a compare and exchange read, compared and wrote, in one sentence; `eax` is what EAX was. */
+function comparedSentence(core, read, written, eax, from) {
+  const found = `P${core}'s compare and exchange read ${read.location}=${read.value}${from}. EAX was ${eax}`;
+  const isEqual = eax === read.value;
+  if (!written) return `${found}${isEqual ? ' too' : ''}: it ${isEqual ? 'will write the new word' : 'will write the old word back'}, and keeps the bus until then.`;
+  return isEqual ? `${found} too, so it wrote ${written.location}=${written.value}, in one step.`
+    : `${found}, so it wrote the old word back, and memory is as before.`;
+}
+
+/** What was committed, in one sentence; `eax` is what EAX was before a compare and exchange, else null. Where no caches are shown (`isPlain`), a word that isn't in its own buffer is in memory. */
+function committedSentence(step, isPlain, eax) {
   const { choice, entries } = step, supplied = isPlain && step.supplied !== 'buffer' ? step.supplied && 'memory' : step.supplied;
   const from = supplied ? ` from ${sourceName(supplied)}` : '';
   const [first, second] = entries.map(entryOf), core = coreOfChoice(choice), is = `${first.location}=${first.value}`;
@@ -48,19 +57,20 @@ function committedSentence(step, isPlain) {
     case 'F': return `P${core}'s fence is done: memory has seen all its earlier stores.`;
     case 'R': return `P${core} read ${is}${from}.`;
     case 'LW': return `P${core}'s locked instruction wrote ${is}, and the bus is free again.`;
-    case 'LR': return `P${core}'s locked instruction read ${is}${from}` +
+    case 'LR': return eax !== null ? comparedSentence(core, first, second, eax, from) : `P${core}'s locked instruction read ${is}${from}` +
       (second ? ` and wrote ${second.location}=${second.value}, in one step.` : '. It keeps the bus until it has written.');
     default: return `${isDrain(choice) ? `P${core}'s oldest store ${is} left its buffer` : `P${core} stored ${is}`}: ${seenWords(step, core, first.location, isPlain)}`;
   }
 }
 
-/** What a step did, in sentences; `before` is the machine before it. Where no caches are shown (`isPlain`), nothing speaks of them. */
-function stepSentences(step, before, isPlain = false) {
-  const core = coreOfChoice(step.choice);
+/** What a step of these programs did, in sentences; `before` is the machine before it. Where no caches are shown (`isPlain`), nothing speaks of them. */
+function stepSentences(step, before, programs, isPlain = false) {
+  const core = coreOfChoice(step.choice), { place, registers } = before.cores[core];
+  const eax = !isDrain(step.choice) && isComparing(programs[core][place] ?? '') ? registers.EAX : null;
   const said = {
     buffered: () => `P${core}'s store ${step.entries[0].replace(/^\S+ W /, '')} waits in its store buffer.`,
-    committed: () => committedSentence(step, isPlain),
-    moved: () => `P${core} set ${step.moved}.`,
+    committed: () => committedSentence(step, isPlain, eax),
+    moved: () => (step.moved ? `P${core} set ${step.moved}.` : `P${core}'s ${programs[core][place]} changed nothing.`),
     asked: () => `P${core} asked for the bus, and holds it now.${step.supplied ? ` The word is in ${sourceName(step.supplied)}.` : ''}`,
     stalled: () => `Stalled (${step.stall}), and nothing changed: ${STALLS[step.stall](core, before)}`,
   };

@@ -14,10 +14,17 @@ const hidden = text => html('span', { class: 'unshown' }, text);
 
 // Parts of a core.
 
+/** Whether an instruction reads and writes a location in one step. */
+const isLocked = instruction => /^LOCK\b|^XCHG\b.*\[/i.test(instruction);
+
+/** Whether an instruction compares a location with EAX. */
+const isComparing = instruction => /^LOCK\s+CMPXCHG\b/i.test(instruction);
+
 /** The registers that an instruction writes. */
 function writtenBy(instruction) {
-  const [, name, operands] = /^(?:LOCK\s+)?(\S+)\s*(.*)$/i.exec(instruction);
-  const written = /^mov$/i.test(name) ? operands.split(',')[0] : /^(xchg|xadd)$/i.test(name) ? operands : '';
+  if (isComparing(instruction)) return ['EAX'];
+  const [, lock, name, operands] = /^(LOCK\s+)?(\S+)\s*(.*)$/i.exec(instruction);
+  const written = /^(xchg|xadd)$/i.test(name) ? operands : lock ? '' : operands.split(',')[0];
   return REGISTERS.filter(register => new RegExp(`\\b${register}\\b`).test(written.replace(/\[.*?\]/g, '')));
 }
 
@@ -67,7 +74,7 @@ function cacheRows(sets, changes, awaited, supply) {
 
 /** Which of a core's two buttons are known to stall, by the core alone; a bus that is held may make others stall. */
 function knownStalls(program, { place, buffer }, depth) {
-  const next = program[place] ?? '', waits = buffer.length > 0 && /^(MFENCE|LOCK|XCHG|XADD)/i.test(next);
+  const next = program[place] ?? '', waits = buffer.length > 0 && (/^MFENCE/i.test(next) || isLocked(next));
   const isFull = depth > 0 && buffer.length === depth && /^MOV\s+\[/i.test(next);
   return { step: next === '' || waits || isFull, drain: buffer.length === 0 };
 }
@@ -221,7 +228,7 @@ class MachinePanel {
     this.bus.show(history.options.bus, now.bus, last && { transaction: last.transaction, flush: last.flush, write_back: last.write_back }, suppliedBy('bus'));
     const wordsOf = ({ memory, seen }) => ({ memory: isPlain ? seen : memory, seen });
     this.memory.show(wordsOf(now), wordsOf(before), suppliedBy('memory'));
-    putText(this.said, count > history.steps.length ? 'Its test had ended before this choice, which is left over.' : last ? stepSentences(last, before, isPlain).join(' ') : '');
+    putText(this.said, count > history.steps.length ? 'Its test had ended before this choice, which is left over.' : last ? stepSentences(last, before, history.programs, isPlain).join(' ') : '');
   }
 
   offerStall(word) {

@@ -85,12 +85,13 @@ function showTestLine(command) {
   putText(byId('test-line'), `${testName()}: ${[command === 'run' ? '' : command, on].filter(Boolean).join(', ')}`);
 }
 
-/** The words of the command line that asks the same. */
+/** The words of the command line that asks the same. The page reads all instructions, and the program those of the grammar where it isn't told. */
 function commandWords(command) {
   const { options = { command } } = readSettings(command);
   const changed = Object.entries(options).filter(([name, value]) => {
     const usual = command === 'outcomes' && name === 'depth' ? SET_AT_FIRST.searched : Tso.DEFAULTS[name];
     return name !== 'command' && value !== usual;
   });
-  return ['./tso', command, ...changed.flatMap(([name, value]) => ['--' + name, String(value)])].join(' ');
+  const instructions = bench.hasLargerSet && command !== 'tables' ? ['--instructions', 'all'] : [];
+  return ['./tso', command, ...instructions, ...changed.flatMap(([name, value]) => ['--' + name, String(value)])].join(' ');
 }

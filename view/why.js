@@ -14,6 +14,15 @@ function tellsWhy(tso) {
   }
 }
 
+/** Whether a module has the larger set of instructions: an older one doesn't look at what is asked for. */
+function hasLargerSet(tso) {
+  try {
+    return tso.answer({ command: 'check', instructions: 'neither' }, '').status === Tso.STATUS.nothingAsked;
+  } catch {
+    return false;
+  }
+}
+
 /** The programs of an input's test, by its trace without choices, and its condition's text or null. */
 function readTest(input) {
   const { text } = asked({ command: 'trace', json: true }, `${partsOf(input).test}${DIVIDING_LINE}\n`), { programs, proposition } = readTrace(text);

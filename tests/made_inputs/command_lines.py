@@ -120,6 +120,11 @@ BAD_LINES = [line.split() for line in """
     witness --sets 1
     witness --depth 0
     witness --depth 33
+    run --instructions
+    run --instructions more
+    outcomes --instructions=All
+    check --instructions basic --instructions all
+    tables --instructions all
     tables --depth 4
 """.strip().splitlines()] + [[], ["run", ""], ["run", "--protocol", ""]]
 
@@ -213,6 +218,13 @@ def judge(draw, depth=None):
     if depth is None and draw.random() < 0.3:
         return ["witness"]
     return ["witness"] + option(draw, "depth", draw.randint(1, 32) if depth is None else depth)
+
+
+def with_instructions(chance, words, is_all):
+    """A command line that asks for all instructions; or for those of the grammar, which it needn't say."""
+    if not is_all and chance.random() < 0.8:
+        return words
+    return words[:1] + option(chance, "instructions", "all" if is_all else "basic") + words[1:]
 
 
 def tables(draw, turn):

@@ -62,10 +62,11 @@ class Draft:
 
 class Drafter:
     """Draws tests. `speller` spells what a draft holds as tokens already: letters and leading zeros. `round` counts how often all
-    known faults came up before."""
+    known faults came up before. `larger` draws what the larger set of instructions alone has, and is None where a test has that of the
+    grammar."""
 
-    def __init__(self, draw, style=None):
-        self.draw, self.speller, self.round = draw, Speller(draw, style), 0
+    def __init__(self, draw, style=None, larger=None):
+        self.draw, self.speller, self.round, self.larger = draw, Speller(draw, style), 0, larger
         self.registers = draw.choice((REGISTERS, REGISTERS[:2], REGISTERS[:2], REGISTERS[1:4], REGISTERS[4:], REGISTERS[:1]))
         self.values = draw.choice((VALUES, (1, 2, 3), tuple(range(1, 10))))
         self.settings = draw.choice((0.2, 0.5, 0.8))
@@ -132,12 +133,17 @@ class Drafter:
 
     def setting(self, pool, cores, value=None):
         """A setting's tokens, and what it is a setting of."""
-        number = self.speller.number(self.draw.choice(VALUES) if value is None else value)
+        number = self.value(self.draw.choice(VALUES) if value is None else value)
         name, kind = self.draw.choice(pool) if pool else "x", self.draw.random()
         if kind < 0.4:
             core, register = self.draw.randrange(cores), self.draw.choice(self.registers)
-            return [self.speller.number(core), ":", self.speller.letters(register), "=", number], (core, register)
-        return ([name] if kind < 0.8 else ["[", name, "]"]) + ["=", number], name
+            return [self.speller.number(core), ":", self.speller.letters(register), "=", *number], (core, register)
+        return ([name] if kind < 0.8 else ["[", name, "]"]) + ["=", *number], name
+
+    def value(self, value):
+        """The tokens of a value."""
+        text = self.speller.number(value)
+        return [text] if self.larger is None else self.larger.number(text)
 
     def columns(self, cores):
         return " | ".join("P%d" % core for core in range(cores)).split() + [";"]
@@ -160,8 +166,11 @@ class Drafter:
         draw, letters = self.draw, self.speller.letters
         memory = ["[", draw.choice(pool), "]"]
         register, other = letters(draw.choice(self.registers)), letters(draw.choice(self.registers))
-        number = draw.choice(([], ["$"])) + [self.speller.number(draw.choice(self.values))]
+        number = draw.choice(([], ["$"])) + self.value(draw.choice(self.values))
         lock = draw.choice(([], [letters("LOCK")]))
+        instead = kind if self.larger is None else self.larger.instead(kind)
+        if instead != kind:
+            return self.larger.cell(instead, (letters, memory, register, other, number))
         return {
             "store": [letters("MOV")] + memory + [","] + number,
             "store register": [letters("MOV")] + memory + [",", register],

@@ -43,27 +43,31 @@ def gallery_tests():
     return [test for _, test, _ in judging.tests_in(judging.GALLERY)]
 
 
-def test_of(text):
-    """The test that this text spells, or None."""
+def test_of(text, instructions):
+    """The test that this text spells in this set of instructions, or None."""
     try:
-        return read_test(text)
+        return read_test(text, instructions)
     except Refused:
         return None
 
 
 class Maker:
-    """Makes one input. `turn` counts the inputs of its kind; `name` says more of the kind, where there is more to say."""
+    """Makes one input. `turn` counts the inputs of its kind; `name` says more of the kind, where there is more to say. `larger` draws what
+    the larger set of instructions alone has, and is None where a test has that of the grammar."""
 
-    def __init__(self, draw, turn):
-        self.draw, self.turn, self.name = draw, turn, None
+    def __init__(self, draw, turn, larger=None):
+        self.draw, self.turn, self.name, self.larger = draw, turn, None, larger
+
+    def test_of(self, text):
+        return test_of(text, litmus.BASIC if self.larger is None else litmus.ALL)
 
     def test(self, asked=0.4, most=3, few_states=False, bare=False, **how):
         """A test's text, which most often spells one, and that test or None. So often its condition asks for what a run leaves, in so many
         registers at most; a bare one has none."""
-        drafter = Drafter(self.draw)
+        drafter = Drafter(self.draw, larger=self.larger)
         draft = drafter.draft(**how)
         if few_states:
-            small_tests.cut(self.draw, draft, lambda draft: test_of(draft.spelled(drafter.speller)))
+            small_tests.cut(self.draw, draft, lambda draft: self.test_of(draft.spelled(drafter.speller)))
         if bare:
             draft.condition = []
         elif self.draw.random() < asked:
@@ -71,12 +75,12 @@ class Maker:
         text = draft.spelled(drafter.speller)
         if not text.endswith(b"\n"):
             text += b"\n"
-        return text, test_of(text)
+        return text, self.test_of(text)
 
     def ask_what_a_run_leaves(self, drafter, draft, most):
         """Gives the draft a condition on the end of one of its runs."""
         draft.condition = []
-        test = test_of(draft.spelled(drafter.speller))
+        test = self.test_of(draft.spelled(drafter.speller))
         if test is not None:
             run = machine.run(test, Configuration(), self.seeded(test))
             if run.machine is not None:
@@ -205,7 +209,7 @@ class Maker:
     def a_faulty_test(self):
         text, fault = fault_table.faulty(self.draw, Drafter(self.draw), self.turn)
         self.name = "a test: " + fault
-        words = command_lines.any_with_a_test(self.draw, searched=test_of(text) is None)
+        words = command_lines.any_with_a_test(self.draw, searched=self.test_of(text) is None)
         second = self.draw.choice(("", "0s 1s 0d\n", "seed 1 100\n", "Order\nEndorder 0\n"))
         return words, text if self.draw.random() < 0.7 else self.joined(text + b"\n", second)
 

@@ -31,6 +31,13 @@ CELLS = ("MOV memory,$number", "MOV memory,number", "MOV memory,register", "MOV 
          "MOV register,register", "MOV register,memory", "MFENCE", "XCHG memory,register", "XCHG register,memory",
          "LOCK XCHG memory,register", "LOCK XCHG register,memory", "LOCK XADD memory,register")
 
+LARGER_CELLS = tuple(["LOCK CMPXCHG memory,register", "XCHG register,register", "NOP", "PAUSE", "LFENCE", "SFENCE"]
+                     + ["%s %s" % (word, operand) for word in ("INC", "DEC", "NEG", "NOT") for operand in ("register",)]
+                     + ["LOCK %s memory" % word for word in ("INC", "DEC", "NEG", "NOT")]
+                     + [form % word for word in ("ADD", "SUB", "AND", "OR", "XOR")
+                        for form in ("%s register,register", "%s register,$number", "%s register,number", "LOCK %s memory,register",
+                                     "LOCK %s memory,$number", "LOCK %s memory,number")])
+
 # Of a line in a cache, its state before a choice and after it.
 CHANGES = ("I>S", "I>E", "I>M", "S>M", "O>M", "E>M", "M>S", "M>O", "E>S", "M>I", "O>I", "E>I", "S>I", "I>IS_D", "I>IM_D", "S>SM_D",
            "O>SM_D", "IS_D>S", "IS_D>E", "IM_D>M", "SM_D>M")
@@ -39,7 +46,7 @@ LINES = ("no command", "--help", "--version", "help of a command", "unknown comm
          "option of another command", "unknown option", "option twice", "option without its value", "flag with a value",
          "value that is no number", "choices that are given, and seeds", "lines of three words") + tuple(
              "value out of range: " + name for name in
-             ("protocol", "depth", "sets", "ways", "words", "bus", "from", "seeds", "length", "states", "show", "model", "cases"))
+             ("protocol", "depth", "sets", "ways", "words", "bus", "from", "seeds", "length", "states", "show", "model", "cases", "instructions"))
 
 # A refusal is told by every command that reads an input, and each has its own further statuses.
 STATUSES = {"run": (0, 1, 3), "trace": (0, 1, 3), "sweep": (0, 1, 3), "counts": (0, 1, 3), "outcomes": (0, 1, 3, 4), "why": (0, 1, 3, 4),
@@ -130,7 +137,7 @@ def names():
         "condition": ["none"] + ["%s %s" % (quantifier, truth) for quantifier in ("exists", "~exists", "forall")
                                  for truth in ("true", "false")],
         "observation": ("Never", "Sometimes", "Always"),
-        "cell": CELLS,
+        "cell": CELLS + LARGER_CELLS,
         "no location": litmus.NO_LOCATIONS + litmus.KEYWORDS,
         "case of letters": ("capitals", "small letters", "mixed case"),
         "spelling": ["tab after X86", "space after X86", "quotation", "key line", "locations", "empty cell", "negation ~",

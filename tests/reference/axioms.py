@@ -3,7 +3,7 @@ is'; the letters are docs/MESSAGES.md, 'Breaches'.
 
 Each axiom is looked for as it is written there, pair by pair, which is slow and plain.
 """
-from . import litmus, seen
+from . import arithmetic, litmus, seen
 from .orders import FENCE, LOCKED_READ, LOCKED_WRITE, READ, WRITE, Entry
 
 
@@ -11,26 +11,24 @@ def thread(test, core, read_values):
     """A core's entries in program order, and its registers at the end, where each read returns the value that is given for its
     place and kind: DEFINITIONS.md, 'thread'."""
     registers, entries = list(test.registers[core]), []
-    for place, (kind, location, register, source) in enumerate(test.programs[core]):
+    for place, done in enumerate(test.programs[core]):
+        kind, location = done.kind, done.location
         if kind == litmus.FENCE:
             entries.append(Entry(core, place, FENCE))
-        elif kind == litmus.STORE_NUMBER:
-            entries.append(Entry(core, place, WRITE, location, source))
-        elif kind == litmus.STORE_REGISTER:
-            entries.append(Entry(core, place, WRITE, location, registers[source]))
-        elif kind == litmus.SET_NUMBER:
-            registers[register] = source
-        elif kind == litmus.SET_REGISTER:
-            registers[register] = registers[source]
+        elif kind in litmus.STORES:
+            entries.append(Entry(core, place, WRITE, location, arithmetic.operand(done, registers)))
+        elif kind in litmus.MOVES:
+            registers = arithmetic.moved(done, registers)
         elif kind == litmus.LOAD:
             value = read_values.get((core, place, READ), 0)
             entries.append(Entry(core, place, READ, location, value))
-            registers[register] = value
+            registers[done.register] = value
         else:
-            value, operand = read_values.get((core, place, LOCKED_READ), 0), registers[register]
-            written = operand if kind == litmus.EXCHANGE else (value + operand) % 2**32
+            value = read_values.get((core, place, LOCKED_READ), 0)
+            written, taken = arithmetic.updated(done, registers, value), arithmetic.taken_by(done)
             entries += [Entry(core, place, LOCKED_READ, location, value), Entry(core, place, LOCKED_WRITE, location, written)]
-            registers[register] = value
+            if taken is not None:
+                registers[taken] = value
     return entries, registers
 
 

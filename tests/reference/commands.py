@@ -18,6 +18,7 @@ MACHINE_OPTIONS = {
 SWEEP_OPTIONS = {"from": range(2**32), "seeds": range(1, 1001), "length": range(100_001)}
 SEARCH_OPTIONS = {"depth": range(33), "states": range(1, 10_000_001), "show": (printing.CONDITION, printing.REGISTERS, printing.ALL)}
 REASON_OPTIONS = {"model": (candidates.TSO, candidates.SC), "cases": range(1, 1_000_001)}
+READING_OPTIONS = {"instructions": (litmus.BASIC, litmus.ALL)}
 
 # Options without a value.
 ANSWER_FORMS = {"json": None, "assert": None}
@@ -28,11 +29,13 @@ OPTIONS = {
     "run": dict(MACHINE_OPTIONS, json=None), "trace": dict(MACHINE_OPTIONS, json=None), "sweep": dict(MACHINE_OPTIONS, **SWEEP_OPTIONS),
     "counts": dict(MACHINE_OPTIONS, **SWEEP_OPTIONS, **COUNT_FORMS),
     "outcomes": dict(SEARCH_OPTIONS, **ANSWER_FORMS), "why": dict(REASON_OPTIONS, **ANSWER_FORMS), "check": {},
-    "witness": {"depth": range(1, 33)}, "tables": {"protocol": MACHINE_OPTIONS["protocol"]},
+    "witness": {"depth": range(1, 33)},
 }
+OPTIONS = {command: dict(options, **READING_OPTIONS) for command, options in OPTIONS.items()}
+OPTIONS["tables"] = {"protocol": MACHINE_OPTIONS["protocol"]}
 DEFAULTS = {"protocol": "msi", "depth": 4, "sets": 1, "ways": 2, "words": 1, "bus": machine.ATOMIC, "json": False,
             "from": 0, "seeds": 10, "length": 1000, "states": 1_000_000, "model": candidates.TSO, "cases": 100_000,
-            "show": printing.CONDITION, "assert": False, "given": False}
+            "show": printing.CONDITION, "assert": False, "given": False, "instructions": litmus.BASIC}
 OWN_DEFAULTS = {"outcomes": {"depth": 32}}
 
 # Options with so many values that their ends alone are told apart.
@@ -174,7 +177,7 @@ def answer_to_input(command, settings, given, told):
         seen.note("refusal of an input", "TooLarge")
         raise Refused("Refused input TooLarge")
     first, second = parts_of(given)
-    test = read_test(first)
+    test = read_test(first, settings["instructions"])
     if command in ("check", "witness"):
         return (test,) + judged(test, command, settings["depth"], second)
     if command in SEARCHING:

@@ -134,11 +134,14 @@ def read_setting(tokens, first, where, unfit_token):
 
     def number():
         token = tokens.take(where)
+        if token.is_symbol("-"):
+            token = tokens.take(where)
+            return "-" + wanted(token, token.kind == lexing.NUMBER).text
         return wanted(token, token.kind == lexing.NUMBER).text
 
     core = register = location = None
     named = first.place
-    if first.kind == lexing.NUMBER:
+    if first.kind == lexing.NUMBER and first.text.isdigit():
         form, core = "register", first.text
         symbol(":")
         token = tokens.take(where)

@@ -14,6 +14,10 @@ NUMBER, NAME, SYMBOL, END = "number", "name", "symbol", "end"
 # A token after white space alone; what begins a comment is none.
 TOKEN = re.compile(rb"[ \t\r\n]*(?:(?P<number>[0-9]+)|(?P<name>[A-Za-z_][A-Za-z0-9_]*)|(?P<symbol>/\\|\\/|[=;:\[\]{}|,$~)]|\((?!\*)))")
 
+# The same of the larger set: hexadecimal numbers and a sign.
+LARGER_TOKEN = re.compile(rb"[ \t\r\n]*(?:(?P<number>0[xX][0-9A-Fa-f]+|[0-9]+)|(?P<name>[A-Za-z_][A-Za-z0-9_]*)"
+                          rb"|(?P<symbol>/\\|\\/|[=;:\[\]{}|,$~)-]|\((?!\*)))")
+
 # Numbers of more digits than this are beyond every limit; what they say exactly is never asked.
 MANY_DIGITS = 40
 
@@ -57,16 +61,24 @@ def plain_digits(digits):
 
 
 def value_of(digits):
-    """What these digits say; of a number of very many digits, one that is beyond every limit."""
+    """What these digits say; of a number of very many digits, one that is beyond every limit. A negative number, which has a sign before
+    its digits, is the word that it is modulo 2^32; below -2^31 it is beyond every limit."""
+    if digits.startswith("-"):
+        size = value_of(digits[1:])
+        return -size % 2**32 if size <= 2**31 else 10**MANY_DIGITS
+    if digits[:2] in ("0x", "0X"):
+        digits = digits[2:].lstrip("0") or "0"
+        return int(digits, 16) if len(digits) <= MANY_DIGITS else 10**MANY_DIGITS
     digits = plain_digits(digits)
     return int(digits) if len(digits) <= MANY_DIGITS else 10**MANY_DIGITS
 
 
 class Text:
-    """A test's text."""
+    """A test's text, with the set of instructions that it may have."""
 
-    def __init__(self, given):
-        self.bytes = given
+    def __init__(self, given, instructions=litmus.BASIC):
+        self.bytes, self.instructions = given, instructions
+        self.token = TOKEN if instructions == litmus.BASIC else LARGER_TOKEN
 
     def line_of(self, place):
         """1 plus the number of line feeds before this place."""
@@ -114,12 +126,12 @@ class Tokens:
 
     def read(self, where):
         given = self.text.bytes
-        found = TOKEN.match(given, self.place)
+        found = self.text.token.match(given, self.place)
         if found is None:
             place = self.text.gap_end(self.place, where)
             if place == len(given):
                 return Token(END, "", place), place
-            found = TOKEN.match(given, place)
+            found = self.text.token.match(given, place)
             if found is None:
                 raise Fault("BadToken", place, "a byte that begins nothing " + where)
         token = Token(found.lastgroup, found[found.lastgroup].decode(), found.start(found.lastgroup))

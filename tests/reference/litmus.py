@@ -25,24 +25,46 @@ STORE_NUMBER, STORE_REGISTER, LOAD = "store a number", "store a register", "load
 SET_NUMBER, SET_REGISTER, FENCE = "set from a number", "set from a register", "fence"
 EXCHANGE, ADD = "exchange", "locked add"
 
-STORES, LOCKED, MOVES = (STORE_NUMBER, STORE_REGISTER), (EXCHANGE, ADD), (SET_NUMBER, SET_REGISTER)
+# Those of the larger set alone.
+COMPARE_EXCHANGE, LOCKED_NEGATE = "compare and exchange", "locked negate"
+LOCKED_NUMBER, LOCKED_REGISTER = "locked operator with a number", "locked operator with a register"
+COMBINE_NUMBER, COMBINE_REGISTER = "operator with a number", "operator with a register"
+NEGATE, SWAP, NOTHING = "negate", "swap registers", "nothing"
 
-# Those that write their register.
-REGISTER_WRITERS = (LOAD,) + MOVES + LOCKED
+STORES = STORE_NUMBER, STORE_REGISTER
+LOCKED = EXCHANGE, ADD, COMPARE_EXCHANGE, LOCKED_NUMBER, LOCKED_REGISTER, LOCKED_NEGATE
+MOVES = SET_NUMBER, SET_REGISTER, COMBINE_NUMBER, COMBINE_REGISTER, NEGATE, SWAP, NOTHING
+
+# Those whose source is a number, and a register.
+OF_NUMBERS = STORE_NUMBER, SET_NUMBER, COMBINE_NUMBER, LOCKED_NUMBER
+OF_REGISTERS = STORE_REGISTER, SET_REGISTER, COMBINE_REGISTER, LOCKED_REGISTER, SWAP
+
+# The sets of instructions.
+BASIC, ALL = "basic", "all"
 
 
 class Instruction(typing.NamedTuple):
-    """One instruction: its kind, its location and its register (by their numbers), and for a store or a register move the
-    number, or the register, that the value comes from."""
+    """One instruction: its kind, its location and its register (by their numbers), the number, or the register, that a value comes
+    from, and the operator, by its mnemonic."""
     kind: str
     location: typing.Optional[int] = None
     register: typing.Optional[int] = None
     source: typing.Optional[int] = None
+    operator: typing.Optional[str] = None
 
     def registers(self):
         """The registers that it names."""
-        source = self.source if self.kind in (STORE_REGISTER, SET_REGISTER) else None
-        return {self.register, source} - {None}
+        source = self.source if self.kind in OF_REGISTERS else None
+        eax = 0 if self.kind == COMPARE_EXCHANGE else None
+        return {self.register, source, eax} - {None}
+
+    def written(self):
+        """The registers that it writes."""
+        if self.kind == SWAP:
+            return {self.register, self.source}
+        if self.kind == COMPARE_EXCHANGE:
+            return {0}
+        return {self.register} - {None} if self.kind == LOAD or self.kind in MOVES + LOCKED else set()
 
 
 @dataclasses.dataclass
@@ -66,7 +88,7 @@ class Test:
 
     def is_written(self, core, register):
         """Whether an instruction of a core writes this register of it."""
-        return any(done.kind in REGISTER_WRITERS and done.register == register for done in self.programs[core])
+        return any(register in done.written() for done in self.programs[core])
 
     def is_stored(self, location):
         """Whether an instruction writes this location."""

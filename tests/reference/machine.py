@@ -2,7 +2,7 @@
 machine on a split bus'; why a choice stalls is docs/MESSAGES.md, 'Stalls'."""
 import typing
 
-from . import conditions, litmus, seen
+from . import arithmetic, conditions, litmus, seen
 from .caches import FORWARD, Caches
 from .choices import DRAIN, STEP
 from .orders import FENCE, LOCKED_READ, LOCKED_WRITE, READ, WRITE, Entry
@@ -82,21 +82,21 @@ class Machine:
         core = self.cores[number]
         if core.place == len(core.program):
             return DONE
-        kind, location, register, source = core.program[core.place]
+        done = core.program[core.place]
+        kind, location = done.kind, done.location
         if kind in litmus.STORES:
-            value = source if kind == litmus.STORE_NUMBER else core.registers[source]
-            return self.store(number, Pending(core.place, location, value))
+            return self.store(number, Pending(core.place, location, arithmetic.operand(done, core.registers)))
         if kind == litmus.LOAD:
-            return self.load(number, location, register)
+            return self.load(number, location, done.register)
         if kind in litmus.LOCKED:
-            return self.locked(number, kind, location, register)
+            return self.locked(number, done)
         if kind == litmus.FENCE:
             if core.pending:
                 return FENCE_WAITS
             self.commit(number, FENCE)
             core.place += 1
             return COMMITTED
-        core.registers[register] = source if kind == litmus.SET_NUMBER else core.registers[source]
+        core.registers = arithmetic.moved(done, core.registers)
         core.place += 1
         return MOVED
 
@@ -169,35 +169,35 @@ class Machine:
         self.holder = Holder(number, action, location, self.caches.ask(number, location, write))
         return ASKED
 
-    def locked(self, number, kind, location, register):
+    def locked(self, number, done):
         """A locked instruction waits for its own buffer, and on the split bus always asks; there it is made in two parts."""
-        core = self.cores[number]
+        core, location = self.cores[number], done.location
         if core.pending:
             return LOCK_WAITS
         if self.bus == ATOMIC:
             copy = self.caches.access(number, location, True)
-            written = self.read_part(number, kind, location, register, copy)
-            return self.write_part(number, register, copy, written)
+            written = self.read_part(number, done, copy)
+            return self.write_part(number, done, copy, written)
         if not self.holds(number, STEP):
             return self.ask(number, STEP, location, True)
         if self.holder.written is None:
             copy = self.caches.complete(number, location, True, self.holder.awaited)
-            written = self.read_part(number, kind, location, register, copy)
+            written = self.read_part(number, done, copy)
             self.holder = self.holder._replace(awaited=None, copy=copy, written=written)
             return COMMITTED
         copy, written, self.holder = self.holder.copy, self.holder.written, None
-        return self.write_part(number, register, copy, written)
+        return self.write_part(number, done, copy, written)
 
-    def read_part(self, number, kind, location, register, copy):
+    def read_part(self, number, done, copy):
         """Commits the load part; answers the store part's entry."""
-        core, old = self.cores[number], self.caches.word_in(copy, location)
-        self.commit(number, LOCKED_READ, location, old)
-        value = core.registers[register] if kind == litmus.EXCHANGE else (old + core.registers[register]) % 2**32
-        return Entry(number, core.place, LOCKED_WRITE, location, value)
+        core, old = self.cores[number], self.caches.word_in(copy, done.location)
+        self.commit(number, LOCKED_READ, done.location, old)
+        return Entry(number, core.place, LOCKED_WRITE, done.location, arithmetic.updated(done, core.registers, old))
 
-    def write_part(self, number, register, copy, written):
-        core = self.cores[number]
-        core.registers[register] = self.caches.word_in(copy, written.location)
+    def write_part(self, number, done, copy, written):
+        core, register = self.cores[number], arithmetic.taken_by(done)
+        if register is not None:
+            core.registers[register] = self.caches.word_in(copy, written.location)
         self.caches.write_in(copy, written.location, written.value)
         self.order.append(written)
         core.place += 1

@@ -1,19 +1,39 @@
 """What facts leave possible of a test: docs/REASONS.md, 'What is printed of reasons', its parts on facts, on what is possible, on
 which write comes first, and on counters.
 
-A register holds a number, or what a read returned; a write writes one of these, or the sum of what its load part returned and one of
-these. Values are a list of numbers, None is any. A source is a write, None is the initial word.
+A register holds a number, what a read returned, or what an instruction made of these; so does a write. Values are a list of numbers, None is
+any. A source is a write, None is the initial word.
 """
 import typing
 
-from . import litmus
+from . import arithmetic, litmus
 from .candidates import events_of
 from .orders import LOCKED_READ, LOCKED_WRITE, READ, WRITE, Entry
 
 # More values than so many count as any.
 MOST_VALUES = 64
 
-NUMBER, RETURNED, SUM = "number", "returned", "sum"
+NUMBER, RETURNED, COMBINED, NEGATED, EXCHANGED = "number", "returned", "combined", "negated", "exchanged"
+
+
+class Told:
+    """What instructions make of what is told of reads."""
+
+    @staticmethod
+    def number(value):
+        return NUMBER, value
+
+    @staticmethod
+    def combined(operator, word, value):
+        return COMBINED, operator, word, value
+
+    @staticmethod
+    def negated(word):
+        return NEGATED, word
+
+    @staticmethod
+    def exchanged(word, eax, new):
+        return EXCHANGED, word, eax, new
 
 
 # ---- facts
@@ -85,10 +105,22 @@ def any_of(each):
     return found
 
 
-def sums(some, more):
+def combined(operator, some, more):
     if some is None or more is None:
         return None
-    return any_of(few([(one + other) % 2**32 for other in more]) for one in some)
+    return any_of(few([arithmetic.Numbers.combined(operator, one, other) for other in more]) for one in some)
+
+
+def negated(some):
+    return None if some is None else [arithmetic.Numbers.negated(one) for one in some]
+
+
+def exchanged(words, eax, new):
+    """What a compare and exchange makes of words: the new value where EAX can be equal, the word where EAX can be another one."""
+    if words is None:
+        return None
+    return any_of(either(new if can_be(eax, fits_number(True, word)) else [], [word] if can_be(eax, fits_number(False, word)) else [])
+                  for word in words)
 
 
 def can_be(values, fits):
@@ -118,17 +150,19 @@ class Programs:
 
     def thread(self, core):
         registers = [(NUMBER, value) for value in self.test.registers[core]]
-        for place, (kind, location, register, source) in enumerate(self.test.programs[core]):
+        for place, done in enumerate(self.test.programs[core]):
+            kind, location = done.kind, done.location
             if kind in litmus.STORES:
-                self.written[Entry(core, place, WRITE, location)] = (NUMBER, source) if kind == litmus.STORE_NUMBER else registers[source]
+                self.written[Entry(core, place, WRITE, location)] = arithmetic.operand(done, registers, Told)
             elif kind in litmus.MOVES:
-                registers[register] = (NUMBER, source) if kind == litmus.SET_NUMBER else registers[source]
+                registers = arithmetic.moved(done, registers, Told)
             elif kind == litmus.LOAD:
-                registers[register] = (RETURNED, Entry(core, place, READ, location))
+                registers[done.register] = (RETURNED, Entry(core, place, READ, location))
             elif kind in litmus.LOCKED:
-                word, operand = (RETURNED, Entry(core, place, LOCKED_READ, location)), registers[register]
-                self.written[Entry(core, place, LOCKED_WRITE, location)] = (SUM, word, operand) if kind == litmus.ADD else operand
-                registers[register] = word
+                word, taken = (RETURNED, Entry(core, place, LOCKED_READ, location)), arithmetic.taken_by(done)
+                self.written[Entry(core, place, LOCKED_WRITE, location)] = arithmetic.updated(done, registers, word, Told)
+                if taken is not None:
+                    registers[taken] = word
         return registers
 
     def writes_to(self, location):
@@ -144,7 +178,10 @@ class Programs:
     def addend(self, write):
         """The number that a write adds to what its load part returns; None where it isn't a number, or another thing is written."""
         form, *parts = self.written[write]
-        return parts[1][1] if form == SUM and parts[1][0] == NUMBER else None
+        own = RETURNED, write._replace(kind=LOCKED_READ)
+        if form != COMBINED or parts[1] != own or parts[2][0] != NUMBER or parts[0] not in ("ADD", "SUB"):
+            return None
+        return parts[2][1] if parts[0] == "ADD" else arithmetic.Numbers.negated(parts[2][1])
 
     def is_counter(self, location):
         return self.is_written_locked(location) and all(self.addend(write) is not None for write in self.writes_to(location))
@@ -216,7 +253,11 @@ class Board:
         form, *parts = expression
         if form == NUMBER:
             return parts
-        return self.values(parts[0]) if form == RETURNED else sums(*map(self.values_of, parts))
+        if form == RETURNED:
+            return self.values(parts[0])
+        if form == COMBINED:
+            return combined(parts[0], *map(self.values_of, parts[1:]))
+        return negated(self.values_of(parts[0])) if form == NEGATED else exchanged(*map(self.values_of, parts))
 
     def written(self, write):
         return self.values_of(self.programs.written[write])
@@ -292,7 +333,7 @@ class Board:
         for write in self.programs.writes_to(location):
             if write == own or self.comes_before(own, write):
                 continue
-            more = sums(words, [self.programs.addend(write)])
+            more = combined("ADD", words, [self.programs.addend(write)])
             words = more if self.comes_before(write, own) else either(words, more)
         return words
 

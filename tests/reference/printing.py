@@ -105,8 +105,7 @@ class Looked:
 
 def registers_written(test):
     """The registers that an instruction of their core writes, as pairs of core and register."""
-    return {(core, done.register) for core, program in enumerate(test.programs) for done in program
-            if done.kind in litmus.REGISTER_WRITERS}
+    return {(core, register) for core, program in enumerate(test.programs) for done in program for register in done.written()}
 
 
 def machine_json(configuration):

@@ -22,10 +22,10 @@ class Refused(Exception):
         self.line = line
 
 
-def read_test(given):
-    """The test that these bytes spell; raises `Refused` where they spell none. Nobody changes it: who makes an input and who answers it may
-    have the same."""
-    test, refusal, counts = read_once(given)
+def read_test(given, instructions=litmus.BASIC):
+    """The test that these bytes spell, with instructions of this set; raises `Refused` where they spell none. Nobody changes it: who makes
+    an input and who answers it may have the same."""
+    test, refusal, counts = read_once(given, instructions)
     seen.add(counts)
     if refusal is not None:
         raise Refused(refusal)
@@ -33,9 +33,9 @@ def read_test(given):
 
 
 @functools.lru_cache(16)
-def read_once(given):
+def read_once(given, instructions=litmus.BASIC):
     """The test that these bytes spell or else the line of the refusal, and what comes up in reading them."""
-    text = Text(given)
+    text = Text(given, instructions)
     with seen.apart() as counts:
         try:
             return TestReader(text).test(), None, counts
@@ -223,11 +223,11 @@ class TestReader:
     def cell(self, program, cell):
         """A cell is judged for its form, its number, and then a 17th location or a 33rd instruction."""
         place = cell[0].place
-        form = Cell(cell).form()
+        form = Cell(cell, self.text.instructions).form()
         if form is None:
             raise Fault("BadInstruction", place, "a cell")
-        kind, location, register, source = form
-        if kind in (litmus.STORE_NUMBER, litmus.SET_NUMBER):
+        kind, location, register, source, operator = form + (None,) * (5 - len(form))
+        if kind in litmus.OF_NUMBERS:
             source = lexing.value_of(source)
             if source > litmus.GREATEST_WORD:
                 raise Fault("BadNumber", place, "of a row")
@@ -237,7 +237,7 @@ class TestReader:
                 raise Fault("TooLarge", place, "a 17th location in the rows")
         if len(program) == litmus.MOST_INSTRUCTIONS:
             raise Fault("TooLarge", place, "a 33rd instruction")
-        program.append(Instruction(kind, location, register, source))
+        program.append(Instruction(kind, location, register, source, operator))
 
     # Locations, condition and end: INPUT.md, 'Locations', 'Condition'.
 
@@ -301,20 +301,21 @@ class TestReader:
 class Cell:
     """The tokens of one cell, and what they spell: INPUT.md, 'Rows' and 'The grammar'."""
 
-    def __init__(self, tokens):
+    def __init__(self, tokens, instructions=litmus.BASIC):
         self.tokens = tokens
+        self.forms, self.words = FORMS[instructions], WORDS[instructions]
 
     def form(self):
-        """Kind, location's name, register and source (digits of a number, or a register), or None where nothing is spelled."""
+        """Kind, location's name, register, source (digits of a number, or a register) and operator, or None where nothing is spelled."""
         words, rest = [], list(self.tokens)
-        while rest and rest[0].kind == lexing.NAME and rest[0].text.upper() in ("MOV", "MFENCE", "XCHG", "LOCK", "XADD"):
+        while rest and rest[0].kind == lexing.NAME and rest[0].text.upper() in self.words:
             words.append(rest.pop(0).text.upper())
             if words[-1] != "LOCK":
                 break
         operands = self.operands(rest)
         if operands is None:
             return None
-        found = FORMS.get((tuple(words), tuple(kind for kind, _ in operands)))
+        found = self.forms.get((tuple(words), tuple(kind for kind, _ in operands)))
         if found is None:
             return None
         seen.note("cell", " ".join(words + [",".join(kind for kind, _ in operands)]).strip())
@@ -340,10 +341,10 @@ class Cell:
 def operand_of(tokens):
     if len(tokens) == 3 and tokens[0].is_symbol("[") and tokens[1].is_location() and tokens[2].is_symbol("]"):
         return "memory", tokens[1].text
-    if len(tokens) == 2 and tokens[0].is_symbol("$") and tokens[1].kind == lexing.NUMBER:
-        return "$number", tokens[1].text
-    if len(tokens) == 1 and tokens[0].kind == lexing.NUMBER:
-        return "number", tokens[0].text
+    kind, number = ("$number", tokens[1:]) if tokens and tokens[0].is_symbol("$") else ("number", tokens)
+    sign, digits = ("-", number[1:]) if number and number[0].is_symbol("-") else ("", number)
+    if len(digits) == 1 and digits[0].kind == lexing.NUMBER:
+        return kind, sign + digits[0].text
     if len(tokens) == 1 and tokens[0].is_register():
         return "register", litmus.register_of(tokens[0].text)
     return None
@@ -367,4 +368,31 @@ def _forms():
     return forms
 
 
-FORMS = _forms()
+def _larger_forms():
+    """Those of the larger set."""
+    forms = _forms()
+    forms[("LOCK", "CMPXCHG"), ("memory", "register")] = lambda v: (litmus.COMPARE_EXCHANGE, v[0], v[1], None)
+    forms[("LOCK", "NEG"), ("memory",)] = lambda v: (litmus.LOCKED_NEGATE, v[0], None, None)
+    forms[("NEG",), ("register",)] = lambda v: (litmus.NEGATE, None, v[0], None)
+    forms[("XCHG",), ("register", "register")] = lambda v: (litmus.SWAP, None, v[0], v[1])
+    for word in NOTHINGS:
+        forms[(word,), ()] = lambda v: (litmus.NOTHING, None, None, None)
+    for word in OPERATORS:
+        for number in ("number", "$number"):
+            forms[("LOCK", word), ("memory", number)] = lambda v, word=word: (litmus.LOCKED_NUMBER, v[0], None, v[1], word)
+            forms[(word,), ("register", number)] = lambda v, word=word: (litmus.COMBINE_NUMBER, None, v[0], v[1], word)
+        forms[("LOCK", word), ("memory", "register")] = lambda v, word=word: (litmus.LOCKED_REGISTER, v[0], None, v[1], word)
+        forms[(word,), ("register", "register")] = lambda v, word=word: (litmus.COMBINE_REGISTER, None, v[0], v[1], word)
+    for word, (operator, number) in STEPS.items():
+        forms[("LOCK", word), ("memory",)] = lambda v, o=operator, n=number: (litmus.LOCKED_NUMBER, v[0], None, n, o)
+        forms[(word,), ("register",)] = lambda v, o=operator, n=number: (litmus.COMBINE_NUMBER, None, v[0], n, o)
+    return forms
+
+
+NOTHINGS = ("NOP", "PAUSE", "LFENCE", "SFENCE")
+OPERATORS = ("ADD", "SUB", "AND", "OR", "XOR")
+STEPS = {"INC": ("ADD", "1"), "DEC": ("SUB", "1"), "NOT": ("XOR", "4294967295")}
+
+FORMS = {litmus.BASIC: _forms(), litmus.ALL: _larger_forms()}
+BASIC_WORDS = ("MOV", "MFENCE", "XCHG", "LOCK", "XADD")
+WORDS = {litmus.BASIC: BASIC_WORDS, litmus.ALL: BASIC_WORDS + NOTHINGS + OPERATORS + tuple(STEPS) + ("NEG", "CMPXCHG")}

@@ -6,7 +6,7 @@ answers, and what follows from them of values.
 """
 import typing
 
-from . import litmus
+from . import arithmetic, litmus
 from .candidates import GLOBAL, UNIPROC, Relations, events_of
 from .orders import LOCKED_READ, LOCKED_WRITE, READ, WRITE, Entry
 
@@ -104,20 +104,19 @@ class Known:
     def thread(self, core, known):
         """A core's writes with their values, those that are known, and its last registers; None for one that isn't."""
         registers, writes = list(self.test.registers[core]), {}
-        for place, (kind, location, register, source) in enumerate(self.test.programs[core]):
+        for place, done in enumerate(self.test.programs[core]):
+            kind, location = done.kind, done.location
             if kind in litmus.STORES:
-                value = source if kind == litmus.STORE_NUMBER else registers[source]
-                writes[Entry(core, place, WRITE, location)] = value
+                writes[Entry(core, place, WRITE, location)] = arithmetic.operand(done, registers, arithmetic.Known)
             elif kind in litmus.MOVES:
-                registers[register] = source if kind == litmus.SET_NUMBER else registers[source]
+                registers = arithmetic.moved(done, registers, arithmetic.Known)
             elif kind == litmus.LOAD:
-                registers[register] = self.returned(Entry(core, place, READ, location), known)
+                registers[done.register] = self.returned(Entry(core, place, READ, location), known)
             elif kind in litmus.LOCKED:
-                word, value = self.returned(Entry(core, place, LOCKED_READ, location), known), registers[register]
-                if kind == litmus.ADD:
-                    value = None if word is None or value is None else (word + value) % 2**32
-                writes[Entry(core, place, LOCKED_WRITE, location)] = value
-                registers[register] = word
+                word, taken = self.returned(Entry(core, place, LOCKED_READ, location), known), arithmetic.taken_by(done)
+                writes[Entry(core, place, LOCKED_WRITE, location)] = arithmetic.updated(done, registers, word, arithmetic.Known)
+                if taken is not None:
+                    registers[taken] = word
         return {write: value for write, value in writes.items() if value is not None}, registers
 
     def value(self, event):

@@ -3,7 +3,7 @@
 The flat machine is said here once more, apart from machine.py: one memory, and of each core its place, its registers and its pending
 stores. Every choice of every core is made in every state, and two states count as one where they are the same in all of it.
 """
-from . import litmus
+from . import arithmetic, litmus
 
 
 class Numbered:
@@ -68,11 +68,12 @@ def step(program, depth, core, words):
     place, registers, pending = core
     if place == len(program):
         return None
-    kind, location, register, source = program[place]
+    done = program[place]
+    kind, location, register = done.kind, done.location, done.register
     if pending and (kind == litmus.FENCE or kind in litmus.LOCKED):
         return None
     if kind in litmus.STORES:
-        value = source if kind == litmus.STORE_NUMBER else registers[source]
+        value = arithmetic.operand(done, registers)
         if depth == 0:
             words = put(words, location, value)
         elif len(pending) == depth:
@@ -83,11 +84,11 @@ def step(program, depth, core, words):
         own = [value for stored, value in pending if stored == location]
         registers = put(registers, register, own[-1] if own else words[location])
     elif kind in litmus.LOCKED:
-        old, operand = words[location], registers[register]
-        words = put(words, location, operand if kind == litmus.EXCHANGE else (old + operand) % 2**32)
-        registers = put(registers, register, old)
+        old, taken = words[location], arithmetic.taken_by(done)
+        words = put(words, location, arithmetic.updated(done, registers, old))
+        registers = registers if taken is None else put(registers, taken, old)
     elif kind in litmus.MOVES:
-        registers = put(registers, register, source if kind == litmus.SET_NUMBER else registers[source])
+        registers = tuple(arithmetic.moved(done, registers))
     return (place + 1, registers, pending), words
 
 

@@ -76,8 +76,9 @@ class TracedMachine(Machine):
         """The register that a move set, and its value."""
         if action != STEP or core.program[place].kind not in litmus.MOVES:
             return None
-        register = core.program[place].register
-        return "%s=%d" % (litmus.REGISTERS[register], core.registers[register])
+        done = core.program[place]
+        given = [register for register in (done.register, done.source if done.kind == litmus.SWAP else None) if register is not None]
+        return " ".join("%s=%d" % (litmus.REGISTERS[register], core.registers[register]) for register in given) or None
 
     def states(self):
         """Of each core, of each line, its state; I where there is no copy; of a line that the core awaits its transient."""
@@ -171,8 +172,13 @@ def instruction_text(test, done):
         return "MOV %s,$%d" % (register, done.source)
     if done.kind == litmus.SET_REGISTER:
         return "MOV %s,%s" % (register, litmus.REGISTERS[done.source])
-    return {litmus.FENCE: "MFENCE", litmus.EXCHANGE: "XCHG %s,%s", litmus.ADD: "LOCK XADD %s,%s"}[done.kind] % (
-        () if done.kind == litmus.FENCE else (place, register))
+    source = "" if done.source is None else litmus.REGISTERS[done.source] if done.kind in litmus.OF_REGISTERS else "$%d" % done.source
+    return {litmus.FENCE: "MFENCE", litmus.EXCHANGE: "XCHG {place},{register}", litmus.ADD: "LOCK XADD {place},{register}",
+            litmus.COMPARE_EXCHANGE: "LOCK CMPXCHG {place},{register}", litmus.LOCKED_NEGATE: "LOCK NEG {place}",
+            litmus.LOCKED_NUMBER: "LOCK {operator} {place},{source}", litmus.LOCKED_REGISTER: "LOCK {operator} {place},{source}",
+            litmus.COMBINE_NUMBER: "{operator} {register},{source}", litmus.COMBINE_REGISTER: "{operator} {register},{source}",
+            litmus.NEGATE: "NEG {register}", litmus.SWAP: "XCHG {register},{source}", litmus.NOTHING: "NOP"}[done.kind].format(
+                place=place, register=register, source=source, operator=done.operator)
 
 
 def proposition_text(test, proposition):

@@ -6,7 +6,8 @@
     print(found.observation.word, [state.values for state in found.states])
 
 A test is its text, or an object whose method `text` gives that. What stands behind a line ==== in it is read by commands that read
-choices or an order, where these aren't given. Options are the command's own, with their defaults: `depth=1`, `show="all"`.
+choices or an order, where these aren't given. Options are the command's own, with their defaults: `depth=1`, `show="all"`; but of
+instructions all are read, those of the larger set too, where `instructions="basic"` doesn't ask for the grammar's own alone.
 Members of answers have the names of docs/schemas/, but for `from`, which is `from_` here. Texts are ASCII.
 
 Each function takes `program`, a path or a command's name (else `find()` says which), `limit`, after how many seconds it gives up, and
@@ -38,6 +39,9 @@ TOLD_WITHIN = 10
 
 # The program that a call without `program` asks: its path, once it was looked for.
 default = []
+
+# Of each program that was asked, whether it has the larger set of instructions.
+known = {}
 
 
 # ---- the program
@@ -109,10 +113,21 @@ def options(command, program=None):
     return re.findall(r"^ +(?:-\w, )?--([\w-]+)", help_of([command], program), re.M)
 
 
-def help_of(words, program):
+def has_larger_set(program=None):
+    """Whether the program has the larger set of instructions: older ones read those of the grammar alone."""
+    path = chosen(program)
+    if path not in known:
+        try:
+            known[path] = "instructions" in re.findall(r"--([\w-]+)", help_of(["run"], path, TOLD_WITHIN))
+        except (NoProgram, subprocess.TimeoutExpired):
+            return False
+    return known[path]
+
+
+def help_of(words, program, limit=None):
     """What the program says of itself, or of a command."""
     try:
-        done = processes.answered([chosen(program), *words, "--help"])
+        done = processes.answered([chosen(program), *words, "--help"], limit=limit)
     except OSError as fault:
         raise NoProgram(str(fault)) from None
     return (done.stdout + done.stderr).decode("latin-1")
@@ -180,9 +195,12 @@ def order_text(order):
 
 
 def question(command, given, how):
-    """What a command is asked of an input. `how` has options, and program, limit and further words."""
+    """What a command is asked of an input. `how` has options, and program, limit and further words. All instructions are read where the
+    program has them, and nothing else is asked for."""
     how = dict(how)
     program, limit, further = how.pop("program", None), how.pop("limit", None), how.pop("further", ())
+    if not any(str(word).split("=")[0] == "--instructions" for word in further) and has_larger_set(program):
+        how.setdefault("instructions", "all")
     words = [command] + ["--json"] * (command in PRINT_JSON)
     words += [word for name, value in how.items() if value is not None for word in ("--" + name.rstrip("_"), value)]
     return Question(words + list(further), given, program, limit, lambda said, status: answer_in(command, said, status))

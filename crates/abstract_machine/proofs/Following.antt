@@ -1,4 +1,5 @@
 -- A choice of the flat machine is followed by a run of the abstract machine.
+use Rattle.tso_terms.specs.Thread.{with_taken}
 use Rattle.abstract_machine.proofs.Vocabulary.{◌≡◌, ◌<◌, ℕ, ◌+◌, suc, Bool, true, false, List, [], ◌∷◌, ◌++◌, length, map, Option, None, Some, slice_get, slice_set, slice_index, slice_index_or, arith, ap, sym, ◌∙◌, refl, inl, inr, subst, if◌then◌else◌, nat_lt, slice_get-get_or, Litmus, action_of, entry, fence, value_in, value_of, with_value, updated, is_write, CoreState, State, Effect, is_none_pending, stalled, effect_by, step_of, drain_of, idle, program_of, core_of, chosen, effect_of, memory_after, applied, after_choice, Reg, Loc, Instr, Update, Action, Store, Load, Move, Fence, Lock, Entry, W, LR, LW, Choice, Stall, Buffered, NotLocked, HasBegun, HasRead, HasWritten, HardwareThread, Machine, with_thread, with_write, with_buffer, from_memory, read, write, flush, move, mfence, lock, locked_read, locked_write, unlock, Runs, rests, goes_on, Each, each-append, each-at, map-set, set-set, length-set, length-map}
 use Rattle.tso_terms.specs.declared.choice.Choice.TheVariants as choice
 use Rattle.tso_terms.specs.declared.choice.Stall.TheVariants as stall
@@ -32,18 +33,18 @@ stays t state p s why g =
 
 -- ---- a locked instruction, from its lock to its unlock
 
-locked-runs : (t : Litmus) (p place : ℕ) (registers memory : List ℕ) (threads : List HardwareThread) (loc : Loc) (reg : Reg)
+locked-runs : (t : Litmus) (p place : ℕ) (registers memory : List ℕ) (threads : List HardwareThread) (loc : Loc) (reg : Option Reg)
     (update : Update) (i : Instr)
     → slice_get threads p ≡ Some (record { place = place; registers = registers; buffer = []; progress = NotLocked })
     → p < length threads → slice_get (slice_index_or t.programs p []) place ≡ Some i → action_of i ≡ Lock loc reg update
     → Runs t (record { memory = memory; threads = threads; lock = None })
     (entry p place LR loc (slice_index memory loc.0)
-    ∷ (entry p place LW loc (updated update (slice_index memory loc.0) (value_in registers reg)) ∷ []))
+    ∷ (entry p place LW loc (updated update registers (slice_index memory loc.0)) ∷ []))
     (record {
-      memory = slice_set memory loc.0 (updated update (slice_index memory loc.0) (value_in registers reg));
+      memory = slice_set memory loc.0 (updated update registers (slice_index memory loc.0));
       threads = slice_set threads p (record {
         place = place + 1;
-        registers = with_value registers reg (slice_index memory loc.0);
+        registers = with_taken registers reg (slice_index memory loc.0);
         buffer = [];
         progress = NotLocked;
       });
@@ -67,7 +68,7 @@ locked-runs t p place registers memory threads loc reg update i g l is does =
     e = entry p place LR loc v
 
     w : Entry
-    w = entry p place LW loc (updated update v (value_in registers reg))
+    w = entry p place LW loc (updated update registers v)
 
     h0 : HardwareThread
     h0 = record { place = place; registers = registers; buffer = []; progress = NotLocked }
@@ -79,13 +80,13 @@ locked-runs t p place registers memory threads loc reg update i g l is does =
     h2 = record { place = place; registers = registers; buffer = []; progress = HasRead v }
 
     h3 : HardwareThread
-    h3 = record { place = place; registers = with_value registers reg v; buffer = w ∷ []; progress = HasWritten }
+    h3 = record { place = place; registers = with_taken registers reg v; buffer = w ∷ []; progress = HasWritten }
 
     h4 : HardwareThread
-    h4 = record { place = place; registers = with_value registers reg v; buffer = []; progress = HasWritten }
+    h4 = record { place = place; registers = with_taken registers reg v; buffer = []; progress = HasWritten }
 
     h5 : HardwareThread
-    h5 = record { place = place + 1; registers = with_value registers reg v; buffer = []; progress = NotLocked }
+    h5 = record { place = place + 1; registers = with_taken registers reg v; buffer = []; progress = NotLocked }
 
     m0 : Machine
     m0 = record { memory = memory; threads = threads; lock = None }
@@ -156,11 +157,11 @@ by-action t n state p place registers pending i (Load reg loc) l g is does =
     (goes_on (lifted state) _ _ p (thread s) (_ ∷ []) [] (map-get thread state.cores p s g)
     (read reg loc _ (record { instruction = i; is = is; does = does; so_far = refl }) (inl refl)
     (can-read (lifted state) (thread s) loc.0)) (rests _))
-by-action t n state p place registers pending i (Move reg operand) l g is does =
+by-action t n state p place registers pending i (Move change) l g is does =
     let s : CoreState = record { place = place; registers = registers; pending = pending } in
-    to-target t state p (effect_by (suc n) state.memory p (Move reg operand) s)
+    to-target t state p (effect_by (suc n) state.memory p (Move change) s)
     (goes_on (lifted state) _ _ p (thread s) [] [] (map-get thread state.cores p s g)
-    (move reg operand (record { instruction = i; is = is; does = does; so_far = refl })) (rests _))
+    (move change (record { instruction = i; is = is; does = does; so_far = refl })) (rests _))
 by-action t n state p place registers [] i Fence l g is does =
     let s : CoreState = record { place = place; registers = registers; pending = [] } in
     to-target t state p (effect_by (suc n) state.memory p Fence s)
@@ -219,7 +220,7 @@ writes-by n memory p (Store loc operand) s h =
     writes-waiting (nat_lt (length s.pending) (suc n)) stall.Full s _ h
     (each-append (λ e. is_write e ≡ true) s.pending (e ∷ []) h (refl, tt))
 writes-by n memory p (Load reg loc) s h = h
-writes-by n memory p (Move reg operand) s h = h
+writes-by n memory p (Move change) s h = h
 writes-by n memory p Fence s h = writes-waiting (is_none_pending s.pending) stall.Fence s _ h h
 writes-by n memory p (Lock loc reg update) s h = writes-waiting (is_none_pending s.pending) stall.Lock s _ h h
 

@@ -1,4 +1,5 @@
 -- The steps of the thread that holds the lock, by how far it is with its locked instruction.
+use Rattle.tso_terms.specs.FlatMachine.{advanced_taking}
 use Rattle.abstract_machine.proofs.Vocabulary.{◌≡◌, ◌<◌, ℕ, ◌+◌, suc, List, [], ◌∷◌, ◌++◌, length, map, Some, None, slice_get, slice_set, slice_index, arith, ap, sym, ◌∙◌, refl, subst, Litmus, action_of, CoreState, State, Effect, advanced_with, effect_by, load_value, memory_after, applied, Lock, Entry, Committed, NotLocked, HasBegun, HasRead, HardwareThread, Machine, with_thread, with_write, with_buffer, with_progress, ThreadStep, read, write, flush, move, mfence, lock, locked_read, locked_write, unlock, each-at, append-nil, map-set, set-set}
 use Rattle.abstract_machine.proofs.Lists.{map-get, set-get, set-same, not-empty, within}
 use Rattle.abstract_machine.proofs.Reading.{was-read, flush-leaves}
@@ -56,7 +57,7 @@ begun-step : Nexts → (t : Litmus) (n : ℕ) (given : List Entry) (state : Stat
     → Tracks t n (given ++ es) o
 begun-step next t n given state commits p s _ _ b g k j (read reg loc v st free can) = absurd (let q = st.so_far in let z : ⊥ = cc in z)
 begun-step next t n given state commits p s _ _ b g k j (write loc operand st) = absurd (let q = st.so_far in let z : ⊥ = cc in z)
-begun-step next t n given state commits p s _ _ b g k j (move reg operand st) = absurd (let q = st.so_far in let z : ⊥ = cc in z)
+begun-step next t n given state commits p s _ _ b g k j (move change st) = absurd (let q = st.so_far in let z : ⊥ = cc in z)
 begun-step next t n given state commits p s _ _ b g k j (mfence st none) = absurd (let q = st.so_far in let z : ⊥ = cc in z)
 begun-step next t n given state commits p s _ _ b g k j (lock loc reg update st free) = absurd (let q = st.so_far in let z : ⊥ = cc in z)
 begun-step next t n given state commits p s _ _ b g k j (locked_write loc reg update v st) =
@@ -84,7 +85,7 @@ read-step : Nexts → (t : Litmus) (n : ℕ) (given : List Entry) (state : State
     → Tracks t n (given ++ es) o
 read-step next t n given state commits p s k v _ _ b g e j (read reg loc u st free can) = absurd (let q = st.so_far in let z : ⊥ = cc in z)
 read-step next t n given state commits p s k v _ _ b g e j (write loc operand st) = absurd (let q = st.so_far in let z : ⊥ = cc in z)
-read-step next t n given state commits p s k v _ _ b g e j (move reg operand st) = absurd (let q = st.so_far in let z : ⊥ = cc in z)
+read-step next t n given state commits p s k v _ _ b g e j (move change st) = absurd (let q = st.so_far in let z : ⊥ = cc in z)
 read-step next t n given state commits p s k v _ _ b g e j (mfence st none) = absurd (let q = st.so_far in let z : ⊥ = cc in z)
 read-step next t n given state commits p s k v _ _ b g e j (lock loc reg update st free) = absurd (let q = st.so_far in let z : ⊥ = cc in z)
 read-step next t n given state commits p s k v _ _ b g e j (locked_read loc reg update u st free can) =
@@ -130,7 +131,7 @@ own-leaves next t n given state commits p s k v b g e j none =
     (pair-joins given commits (load_part t p s k v) (store_part t p s k v) j (record { core = refl; place = refl; kind = refl })))
   where
     after : CoreState
-    after = advanced_with s k.reg v
+    after = advanced_taking s k.reg v
 
     f : Effect
     f = record { outcome = Committed; after = after; commits = load_part t p s k v ∷ (store_part t p s k v ∷ []) }
@@ -154,7 +155,7 @@ written-step : Nexts → (t : Litmus) (n : ℕ) (given : List Entry) (state : St
 written-step next t n given state commits p s k v _ _ b g e j (read reg loc u st free can) =
     absurd (let q = st.so_far in let z : ⊥ = cc in z)
 written-step next t n given state commits p s k v _ _ b g e j (write loc operand st) = absurd (let q = st.so_far in let z : ⊥ = cc in z)
-written-step next t n given state commits p s k v _ _ b g e j (move reg operand st) = absurd (let q = st.so_far in let z : ⊥ = cc in z)
+written-step next t n given state commits p s k v _ _ b g e j (move change st) = absurd (let q = st.so_far in let z : ⊥ = cc in z)
 written-step next t n given state commits p s k v _ _ b g e j (mfence st none) = absurd (let q = st.so_far in let z : ⊥ = cc in z)
 written-step next t n given state commits p s k v _ _ b g e j (lock loc reg update st free) =
     absurd (let q = st.so_far in let z : ⊥ = cc in z)
@@ -197,7 +198,7 @@ left-step : (t : Litmus) (n : ℕ) (given : List Entry) (state : State) (commits
     → Tracks t n (given ++ es) o
 left-step t n given state commits p s place _ _ b g a c j (read reg loc v st free can) = absurd (let q = st.so_far in let z : ⊥ = cc in z)
 left-step t n given state commits p s place _ _ b g a c j (write loc operand st) = absurd (let q = st.so_far in let z : ⊥ = cc in z)
-left-step t n given state commits p s place _ _ b g a c j (move reg operand st) = absurd (let q = st.so_far in let z : ⊥ = cc in z)
+left-step t n given state commits p s place _ _ b g a c j (move change st) = absurd (let q = st.so_far in let z : ⊥ = cc in z)
 left-step t n given state commits p s place _ _ b g a c j (mfence st none) = absurd (let q = st.so_far in let z : ⊥ = cc in z)
 left-step t n given state commits p s place _ _ b g a c j (lock loc reg update st free) = absurd (let q = st.so_far in let z : ⊥ = cc in z)
 left-step t n given state commits p s place _ _ b g a c j (locked_read loc reg update v st free can) =

@@ -26,7 +26,7 @@ blocked-waits t m p h _ _ b (read reg loc v st free can) = absurd (blocked-not m
 blocked-waits t m p h _ _ b (write loc operand st) =
     record { given = inl refl; memory = refl; buffer = silent m p h _ (_, refl); lock = refl }
 blocked-waits t m p h _ _ b (flush w rest free is) = absurd (blocked-not m p b free)
-blocked-waits t m p h _ _ b (move reg operand st) =
+blocked-waits t m p h _ _ b (move change st) =
     record { given = inl refl; memory = refl; buffer = silent m p h _ (keeps h.buffer); lock = refl }
 blocked-waits t m p h _ _ b (mfence st none) =
     record { given = inr refl; memory = refl; buffer = silent m p h _ (keeps h.buffer); lock = refl }
@@ -41,7 +41,7 @@ pub held-stays : (t : Litmus) (m : Machine) (p : ℕ) (h : HardwareThread) (es :
 held-stays t m p h _ _ q (read reg loc v st free can) is = inl is
 held-stays t m p h _ _ q (write loc operand st) is = inl is
 held-stays t m p h _ _ q (flush w rest free e) is = inl is
-held-stays t m p h _ _ q (move reg operand st) is = inl is
+held-stays t m p h _ _ q (move change st) is = inl is
 held-stays t m p h _ _ q (mfence st none) is = inl is
 held-stays t m p h _ _ q (lock loc reg update st free) is = absurd (let z : ⊥ = cc in z)
 held-stays t m p h _ _ q (locked_read loc reg update v st free can) is = inl is
@@ -53,7 +53,7 @@ pub free-stays : (t : Litmus) (m : Machine) (p : ℕ) (h : HardwareThread) (es :
 free-stays t m p h _ _ (read reg loc v st free can) is = inl is
 free-stays t m p h _ _ (write loc operand st) is = inl is
 free-stays t m p h _ _ (flush w rest free e) is = inl is
-free-stays t m p h _ _ (move reg operand st) is = inl is
+free-stays t m p h _ _ (move change st) is = inl is
 free-stays t m p h _ _ (mfence st none) is = inl is
 free-stays t m p h _ _ (lock loc reg update st free) is = inr refl
 free-stays t m p h _ _ (locked_read loc reg update v st free can) is = inl is
@@ -67,7 +67,7 @@ end-unlocks t m p h _ _ after (write loc operand st) is at ends = absurd (let q 
 end-unlocks t m p h _ _ after (flush w rest free e) is at ends =
     absurd (let q : with_buffer h rest ≡ after = put m.threads p (with_buffer h rest) after at in
     let r : h.progress ≡ after.progress = ap (λ (z : HardwareThread). z.progress) q in let z : ⊥ = cc in z)
-end-unlocks t m p h _ _ after (move reg operand st) is at ends = absurd (let q = st.so_far in let z : ⊥ = cc in z)
+end-unlocks t m p h _ _ after (move change st) is at ends = absurd (let q = st.so_far in let z : ⊥ = cc in z)
 end-unlocks t m p h _ _ after (mfence st none) is at ends = absurd (let q = st.so_far in let z : ⊥ = cc in z)
 end-unlocks t m p h _ _ after (lock loc reg update st free) is at ends = absurd (let q = st.so_far in let z : ⊥ = cc in z)
 end-unlocks t m p h _ _ after (locked_read loc reg update v st free can) is at ends = absurd (let q = st.so_far in let z : ⊥ = cc in z)

@@ -1,5 +1,6 @@
 -- How far a run of the flat machine has come where the abstract machine stands: a locked instruction is made when its write
 -- leaves the buffer.
+use Rattle.tso_terms.specs.Thread.{with_taken}
 use Rattle.abstract_machine.proofs.Vocabulary.{◌≡◌, ◌≢◌, ℕ, ◌+◌, List, [], ◌∷◌, ◌++◌, map, Option, Some, None, slice_get, slice_set, ap, sym, ◌∙◌, refl, inl, inr, subst, Litmus, action_of, entry, value_in, with_value, updated, CoreState, State, load_value, program_of, memory_after, applied, Reg, Loc, Instr, Update, Lock, Entry, LR, LW, HasBegun, HasRead, HasWritten, HardwareThread, Machine, IsNotBlocked, with_progress, ThreadStep, read, write, flush, move, mfence, lock, locked_read, locked_write, unlock, append-nil, map-set, set_comm}
 use Rattle.abstract_machine.proofs.Lists.{get-map, get-other}
 use Rattle.abstract_machine.proofs.States.{thread, lifted}
@@ -12,13 +13,13 @@ use Rattle.abstract_machine.proofs.Unlocked.{Does, acts, locks, thread-does}
 -- the locked instruction at a place of its program
 pub record InLock (t : Litmus) (p place : ℕ) : Type 0 where
   pub loc : Loc
-  pub reg : Reg
+  pub reg : Option Reg
   pub update : Update
   pub instruction : Instr
   pub is : slice_get (program_of t p) place ≡ Some instruction
   pub does : action_of instruction ≡ Lock loc reg update
 
-abbrev pub in_lock : (t : Litmus) (p place : ℕ) (loc : Loc) (reg : Reg) (update : Update) (i : Instr)
+abbrev pub in_lock : (t : Litmus) (p place : ℕ) (loc : Loc) (reg : Option Reg) (update : Update) (i : Instr)
     → slice_get (program_of t p) place ≡ Some i → action_of i ≡ Lock loc reg update → InLock t p place
 in_lock t p place loc reg update i is does = record { loc = loc; reg = reg; update = update; instruction = i; is = is; does = does }
 
@@ -27,13 +28,13 @@ abbrev pub load_part : (t : Litmus) (p : ℕ) (s : CoreState) → InLock t p s.p
 load_part t p s k v = entry p s.place LR k.loc v
 
 abbrev pub store_part : (t : Litmus) (p : ℕ) (s : CoreState) → InLock t p s.place → ℕ → Entry
-store_part t p s k v = entry p s.place LW k.loc (updated k.update v (value_in s.registers k.reg))
+store_part t p s k v = entry p s.place LW k.loc (updated k.update s.registers v)
 
 -- the thread when it has written, and when its write has left the buffer
 abbrev pub writer : (t : Litmus) (p : ℕ) (s : CoreState) → InLock t p s.place → ℕ → HardwareThread
 writer t p s k v = record {
   place = s.place;
-  registers = with_value s.registers k.reg v;
+  registers = with_taken s.registers k.reg v;
   buffer = s.pending ++ (store_part t p s k v ∷ []);
   progress = HasWritten;
 }
@@ -96,7 +97,7 @@ blocked-keeps : (t : Litmus) (m : Machine) (q : ℕ) (h : HardwareThread) (es : 
 blocked-keeps t m q h _ _ n (read reg loc v st free can) = refl
 blocked-keeps t m q h _ _ n (write loc operand st) = refl
 blocked-keeps t m q h _ _ n (flush w rest free is) = absurd (n free)
-blocked-keeps t m q h _ _ n (move reg operand st) = refl
+blocked-keeps t m q h _ _ n (move change st) = refl
 blocked-keeps t m q h _ _ n (mfence st none) = refl
 blocked-keeps t m q h _ _ n (lock loc reg update st free) = refl
 blocked-keeps t m q h _ _ n (locked_read loc reg update v st free can) = refl

@@ -1,4 +1,7 @@
 -- A step of a thread that isn't in a locked instruction: a choice of the flat machine, or the beginning of one.
+use Rattle.std.specs.Prelude.{Option}
+use Rattle.tso_terms.specs.Thread.{changed}
+use Rattle.tso_terms.specs.FlatMachine.{advanced_to}
 use Rattle.abstract_machine.proofs.Vocabulary.{◌≡◌, ℕ, ◌+◌, List, [], ◌∷◌, ◌++◌, filter, Some, None, slice_get, slice_set, slice_index, arith, ap, sym, ◌∙◌, refl, Litmus, entry, fence, value_of, writes_to, last_value, CoreState, State, Effect, advanced, advanced_with, memory_after, applied, Reg, Loc, Update, Store, Load, Move, Fence, Lock, Entry, R, W, Committed, Buffered, Moved, NotLocked, HasBegun, Machine, with_thread, with_lock, with_progress, StandsAt, ThreadStep, read, write, flush, move, mfence, lock, locked_read, locked_write, unlock, Each, each-append, each-at}
 use Rattle.abstract_machine.proofs.Lists.{append-one}
 use Rattle.abstract_machine.proofs.Reading.{was-read}
@@ -11,7 +14,7 @@ pub data Does (t : Litmus) (n : ℕ) (state : State) (commits : List Entry) (p :
     (es : List Entry) (o : Machine) : Type 0 where
   acts : (f : Effect) → Base t n (applied state p f) (commits ++ es) → Each IsPlain es → memory_after f.commits state.memory ≡ o.memory
       → o.threads ≡ slice_set m.threads p (thread f.after) → o.lock ≡ m.lock → Does t n state commits p s m es o
-  locks : (loc : Loc) (reg : Reg) (update : Update) → StandsAt t p (thread s) NotLocked (Lock loc reg update) → m.lock ≡ None → es ≡ []
+  locks : (loc : Loc) (reg : Option Reg) (update : Update) → StandsAt t p (thread s) NotLocked (Lock loc reg update) → m.lock ≡ None → es ≡ []
       → o ≡ with_lock (with_thread m p (with_progress (thread s) HasBegun)) (Some p) → Does t n state commits p s m es o
 
 pub thread-does : Nexts → (t : Litmus) (n : ℕ) → HasRoom t n → IsKnown t → (state : State) (commits : List Entry) (p : ℕ) (s : CoreState)
@@ -41,10 +44,10 @@ thread-does next t n room known state commits p s m _ _ b g same (flush w rest f
     let k = oldest-store t n state commits p s w rest b g is in
     acts (draining s w rest) (base-drain next t n state commits p s w rest b g is)
     (store-plain w k.0, tt) (rw (k.0, same) refl) refl refl
-thread-does next t n room known state commits p s m _ _ b g same (move reg operand st) =
+thread-does next t n room known state commits p s m _ _ b g same (move change st) =
     let sound = each-at (IsSound t) state.cores p s b.sound g in
-    let f : Effect = record { outcome = Moved; after = advanced_with s reg (value_of s.registers operand); commits = [] } in
-    acts f (base-step next t n state commits p s st.instruction (Move reg operand) b g st.is st.does f refl
+    let f : Effect = record { outcome = Moved; after = advanced_to s (changed change s.registers); commits = [] } in
+    acts f (base-step next t n state commits p s st.instruction (Move change) b g st.is st.does f refl
     (sound.0, let l = sound.1 in omega arith))
     tt (sym same) refl refl
 thread-does next t n room known state commits p s m _ _ b g same (mfence st none) =

@@ -2,7 +2,7 @@
 -- (Sewell, Sarkar, Owens, Zappa Nardelli, Myreen, "x86-TSO", Communications of the ACM, 2010, section 3.)
 use Rattle.std.specs.Prelude.{ℕ, ◌+◌, ◌≡◌, ◌⊎◌, List, [], ◌∷◌, Option, Some, None, slice_index_or, slice_set}
 use Rattle.tso_terms.specs.Litmus.{Litmus}
-use Rattle.tso_terms.specs.Thread.{with_value}
+use Rattle.tso_terms.specs.Thread.{with_value, with_taken}
 use Rattle.basic_laws.specs.Types.{Reg, Instr, Entry}
 
 -- how far a thread is with a locked instruction: it isn't in one; it has begun one; it has read this value; it has written
@@ -48,9 +48,17 @@ abbrev pub passed : HardwareThread → HardwareThread
 passed h = record { place = h.place + 1; registers = h.registers; buffer = h.buffer; progress = NotLocked }
 
 -- this value in the register
+-- the thread with this word in the register, if there is one
+abbrev pub taking : HardwareThread → Option Reg → ℕ → HardwareThread
+taking h target word =
+    record { place = h.place; registers = with_taken h.registers target word; buffer = h.buffer; progress = h.progress }
+
 abbrev pub with_register : HardwareThread → Reg → ℕ → HardwareThread
 with_register h reg value =
     record { place = h.place; registers = with_value h.registers reg value; buffer = h.buffer; progress = h.progress }
+
+abbrev pub with_registers : HardwareThread → List ℕ → HardwareThread
+with_registers h registers = record { place = h.place; registers = registers; buffer = h.buffer; progress = h.progress }
 
 abbrev pub with_buffer : HardwareThread → List Entry → HardwareThread
 with_buffer h buffer = record { place = h.place; registers = h.registers; buffer = buffer; progress = h.progress }

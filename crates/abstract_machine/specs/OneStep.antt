@@ -1,10 +1,10 @@
 -- What one step can do in any machine, whether a run leads to it or not: the lock keeps other threads out.
 -- (Sewell and others, "x86-TSO", Communications of the ACM, 2010, section 3, the machine's transitions: R and τ have "the thread
 -- is not blocked" as their condition, L "the lock is not held", and U "the thread holds the lock, and its buffer is empty".)
-use Rattle.std.specs.Prelude.{ℕ, ◌≡◌, ◌≢◌, ◌⊎◌, List, [], ◌∷◌, ◌++◌, Some, None, slice_get}
+use Rattle.std.specs.Prelude.{ℕ, ◌≡◌, ◌≢◌, ◌⊎◌, List, [], ◌∷◌, ◌++◌, Option, Some, None, slice_get}
 use Rattle.tso_terms.specs.Litmus.{Litmus}
 use Rattle.tso_terms.specs.Thread.{fence}
-use Rattle.basic_laws.specs.Types.{Reg, Loc, Operand, Update, Entry}
+use Rattle.basic_laws.specs.Types.{Reg, Loc, Operand, Update, Change, Entry}
 use Rattle.tso_terms.specs.declared.action.Action.TheVariants.{Store, Move, Lock}
 use Rattle.abstract_machine.specs.Machine.{NotLocked, HasRead, HasWritten, HardwareThread, Machine}
 use Rattle.abstract_machine.specs.Steps.{StandsAt, ThreadStep}
@@ -59,15 +59,15 @@ CanGoOn t m p h = (o : Machine) × ThreadStep t m p h [] o × (o.memory ≡ m.me
 pub record StoresAndMovesAreMadeAtAnyTime : Type 0 where
   pub store : (t : Litmus) (m : Machine) (p : ℕ) (h : HardwareThread) (loc : Loc) (operand : Operand)
       → StandsAt t p h NotLocked (Store loc operand) → CanGoOn t m p h
-  pub locked_write : (t : Litmus) (m : Machine) (p : ℕ) (h : HardwareThread) (loc : Loc) (reg : Reg) (update : Update) (v : ℕ)
+  pub locked_write : (t : Litmus) (m : Machine) (p : ℕ) (h : HardwareThread) (loc : Loc) (reg : Option Reg) (update : Update) (v : ℕ)
       → StandsAt t p h (HasRead v) (Lock loc reg update) → CanGoOn t m p h
-  pub move : (t : Litmus) (m : Machine) (p : ℕ) (h : HardwareThread) (reg : Reg) (operand : Operand)
-      → StandsAt t p h NotLocked (Move reg operand) → CanGoOn t m p h
+  pub move : (t : Litmus) (m : Machine) (p : ℕ) (h : HardwareThread) (change : Change)
+      → StandsAt t p h NotLocked (Move change) → CanGoOn t m p h
 
 -- L: a locked instruction begins where nobody holds the lock, whatever the buffer has; memory stays as it was, and the thread holds
 -- the lock
 abbrev pub LockedInstructionsBeginWhateverTheBufferHas : Type 0
 LockedInstructionsBeginWhateverTheBufferHas =
-    (t : Litmus) (m : Machine) (p : ℕ) (h : HardwareThread) (loc : Loc) (reg : Reg) (update : Update)
+    (t : Litmus) (m : Machine) (p : ℕ) (h : HardwareThread) (loc : Loc) (reg : Option Reg) (update : Update)
     → StandsAt t p h NotLocked (Lock loc reg update) → m.lock ≡ None
     → (o : Machine) × ThreadStep t m p h [] o × (o.memory ≡ m.memory) × (o.lock ≡ Some p)

@@ -1,7 +1,7 @@
 -- What waits until nothing is pending, and drains, with the pending stores told apart from the core.
-use Rattle.std.proofs.Common.{ℕ, List, [], ◌∷◌, take, drop, if◌then◌else◌}
+use Rattle.std.proofs.Common.{ℕ, Option, List, [], ◌∷◌, take, drop, if◌then◌else◌}
 use Rattle.tso_terms.specs.Thread.{entry, fence}
-use Rattle.tso_terms.specs.FlatMachine.{CoreState, Effect, is_none_pending, stalled, advanced, advanced_with}
+use Rattle.tso_terms.specs.FlatMachine.{CoreState, Effect, is_none_pending, stalled, advanced, advanced_taking}
 use Rattle.basic_laws.specs.Types.{Reg, Loc, Entry, LR, LW, Committed}
 use Rattle.tso_terms.specs.declared.choice.Stall.TheVariants as stall
 
@@ -9,12 +9,12 @@ abbrev pub fenced_with : ℕ → CoreState → List Entry → Effect
 fenced_with core s pending =
     if is_none_pending pending then record { outcome = Committed; after = advanced s; commits = fence core s.place ∷ [] } else stalled stall.Fence s
 
-abbrev pub locked_with : ℕ → CoreState → Loc → Reg → ℕ → ℕ → List Entry → Effect
+abbrev pub locked_with : ℕ → CoreState → Loc → Option Reg → ℕ → ℕ → List Entry → Effect
 locked_with core s loc reg word value pending =
     if is_none_pending pending
     then record {
       outcome = Committed;
-      after = advanced_with s reg word;
+      after = advanced_taking s reg word;
       commits = entry core s.place LR loc word ∷ (entry core s.place LW loc value ∷ []);
     }
     else stalled stall.Lock s

@@ -3,7 +3,11 @@ pub use Rattle.tso_terms.specs.declared.action.Action.{Action}
 pub use Rattle.tso_terms.specs.declared.action.Operand.{Operand}
 pub use Rattle.tso_terms.specs.declared.action.Operand.TheVariants.{Held, Number}
 pub use Rattle.tso_terms.specs.declared.action.Update.{Update}
-pub use Rattle.tso_terms.specs.declared.action.Update.TheVariants.{Add, Exchange}
+pub use Rattle.tso_terms.specs.declared.action.Update.TheVariants.{CompareExchange, Negate, Replace}
+pub use Rattle.tso_terms.specs.declared.action.Change.{Change}
+pub use Rattle.tso_terms.specs.declared.action.Change.TheVariants.{Keep, Set, Swap}
+pub use Rattle.tso_terms.specs.declared.action.Operator.{Operator}
+pub use Rattle.tso_terms.specs.declared.action.Operator.TheVariants.{Add, And, Or, Subtract, Xor}
 pub use Rattle.tso_terms.specs.declared.choice.Bus.{Bus}
 pub use Rattle.tso_terms.specs.declared.choice.Bus.TheVariants.{Atomic, Split}
 pub use Rattle.tso_terms.specs.declared.choice.Choice.{Choice}

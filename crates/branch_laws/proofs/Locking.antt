@@ -1,5 +1,5 @@
 -- What the two instructions of a locked change do: a move of its number into a register, and the exchange or the addition.
-use Rattle.std.proofs.Common.{◌≡◌, ℕ, ◌+◌, List, ◌∷◌, ap, ◌∙◌, refl, slice_index, drop}
+use Rattle.std.proofs.Common.{◌≡◌, ℕ, ◌+◌, List, ◌∷◌, Some, ap, ◌∙◌, refl, slice_index, drop}
 use Rattle.tso_terms.specs.Actions.{action_of}
 use Rattle.tso_terms.specs.Thread.{entry, entries_of, registers_after, with_value, value_in, sum_of}
 use Rattle.tso_terms.specs.ProgramEntries.{read_value, read_values}
@@ -19,17 +19,17 @@ left-by-operand (Adds n) word = refl
 -- the machine's step at the locked instruction
 pub locking-any : (d : ℕ) (memory : List ℕ) (c : ℕ) (change : Change) (loc : Loc) (reg : Reg) (f : CoreState)
     → effect_by d memory c (action_of (locking change loc reg)) f
-    ≡ locked c f loc reg (slice_index memory loc.0) (left_by change (slice_index memory loc.0) (value_in f.registers reg))
+    ≡ locked c f loc (Some reg) (slice_index memory loc.0) (left_by change (slice_index memory loc.0) (value_in f.registers reg))
 locking-any d memory c (Writes update) loc reg f = refl
 locking-any d memory c (Adds n) loc reg f = refl
 
 -- the same, where its register holds the number of the change
 pub locking-step : (d : ℕ) (memory : List ℕ) (c : ℕ) (change : Change) (loc : Loc) (reg : Reg) (f : CoreState)
     → value_in f.registers reg ≡ operand change (slice_index memory loc.0)
-    → effect_by d memory c (action_of (locking change loc reg)) f ≡ locked c f loc reg (slice_index memory loc.0) (written change (slice_index memory loc.0))
+    → effect_by d memory c (action_of (locking change loc reg)) f ≡ locked c f loc (Some reg) (slice_index memory loc.0) (written change (slice_index memory loc.0))
 locking-step d memory c change loc reg f h =
     locking-any d memory c change loc reg f
-    ∙ ap (λ z. locked c f loc reg (slice_index memory loc.0) z) (ap (λ z. left_by change (slice_index memory loc.0) z) h ∙ left-by-operand change (slice_index memory loc.0))
+    ∙ ap (λ z. locked c f loc (Some reg) (slice_index memory loc.0) z) (ap (λ z. left_by change (slice_index memory loc.0) z) h ∙ left-by-operand change (slice_index memory loc.0))
 
 -- the entries of both
 pub locking-entries : (c k : ℕ) (change : Change) (loc : Loc) (reg : Reg) (rest : List Instr) (regs rv : List ℕ) (number : ℕ)

@@ -1,3 +1,4 @@
 pub mod Search
 pub mod Explanation
 pub mod Limits
+pub mod Instructions

@@ -1,14 +1,16 @@
 //! What the words of a command line ask for. Numbers are judged a second time after the library read them: by that test
 //! alone the settings are known to be within their limits.
 
-ghost use Rattle.std.specs.Prelude.{IfOk, IfSome};
+ghost use Rattle.std.specs.Prelude.{◌≡◌, IfOk, IfSome};
 ghost use Rattle.command_line.specs.Limits.{IsWithinLimits, HasDepth};
+ghost use Rattle.command_line.specs.Instructions.{instructions_of};
 
 use crate::explanation::ReasonPlan;
 use crate::options::command_line;
 use crate::search::SearchPlan;
 use clap::ArgMatches;
 use command_table::Subcommand;
+use litmus_tokens::Instructions;
 use machine_core::{Bus, Config, Shape};
 use protocol_tables::ProtocolKind;
 use refutation_laws::Model;
@@ -18,7 +20,7 @@ use thiserror::Error;
 use tso_report::Show;
 use tso_terms::limits::{MAX_DEPTH, MIN_DEPTH};
 
-/// What a command line asks for.
+/// What a command line asks for, and which instructions a test may have.
 #[derive(Clone, Copy)]
 pub enum Settings {
     /// Run a test under choices, on a machine of this protocol and configuration, and report it, as
@@ -26,6 +28,7 @@ pub enum Settings {
     Run {
         protocol: ProtocolKind,
         config: Config,
+        instructions: Instructions,
         json: bool,
     },
     /// Run a test under choices, on such a machine, and report it with what each choice did to buffers,
@@ -33,6 +36,7 @@ pub enum Settings {
     Trace {
         protocol: ProtocolKind,
         config: Config,
+        instructions: Instructions,
         json: bool,
     },
     /// Run a test under the choices of each seed of a plan, on such a machine, and tell which final
@@ -40,6 +44,7 @@ pub enum Settings {
     Sweep {
         protocol: ProtocolKind,
         config: Config,
+        instructions: Instructions,
         plan: SweepPlan,
     },
     /// Run a test under the choices of each seed of a plan, or where there is none under choices that are given, on such a
@@ -47,6 +52,7 @@ pub enum Settings {
     Counts {
         protocol: ProtocolKind,
         config: Config,
+        instructions: Instructions,
         plan: Option<SweepPlan>,
         json: bool,
     },
@@ -54,6 +60,7 @@ pub enum Settings {
     /// is asked for. Whether the status is to say that the test's condition isn't as it claims.
     Outcomes {
         search: SearchPlan,
+        instructions: Instructions,
         json: bool,
         assert: bool,
     },
@@ -61,20 +68,41 @@ pub enum Settings {
     /// Whether the status is to say that the test's condition isn't as it claims.
     Why {
         plan: ReasonPlan,
+        instructions: Instructions,
         json: bool,
         assert: bool,
     },
     /// Check an order of a test against the axioms.
-    Check,
+    Check {
+        instructions: Instructions,
+    },
     /// Find choices that reach an order of a test, with store buffers of this depth (1 to 32).
     Witness {
         depth: u8,
+        instructions: Instructions,
     },
     /// Print a protocol's table.
     Tables(ProtocolKind),
 }
 
 impl Settings {
+    /// Which instructions a test may have; of `tables`, which reads none, the grammar's own.
+    pub fn instructions(&self) -> Instructions
+        ensures { result ≡ instructions_of self.now }
+    {
+        match self {
+            Settings::Run { instructions, .. }
+            | Settings::Trace { instructions, .. }
+            | Settings::Sweep { instructions, .. }
+            | Settings::Counts { instructions, .. }
+            | Settings::Outcomes { instructions, .. }
+            | Settings::Why { instructions, .. }
+            | Settings::Check { instructions }
+            | Settings::Witness { instructions, .. } => *instructions,
+            Settings::Tables(_) => Instructions::Basic,
+        }
+    }
+
     /// Does nothing: from the call on it is known that the settings are within their limits. A
     /// configuration, a plan and each search always are; the depth of a witness has to be.
     pub fn know_limits(&self)
@@ -111,7 +139,7 @@ impl Settings {
             Settings::Why { plan, .. } => {
                 let _cases = plan.cases();
             }
-            Settings::Check | Settings::Witness { .. } | Settings::Tables(_) => {}
+            Settings::Check { .. } | Settings::Witness { .. } | Settings::Tables(_) => {}
         }
     }
 }
@@ -162,15 +190,25 @@ fn settings_named(name: &str, matches: &ArgMatches<'_>) -> Option<Settings>
         Some(Subcommand::Counts) => counts_settings(matches),
         Some(Subcommand::Outcomes) => outcomes_settings(matches),
         Some(Subcommand::Why) => why_settings(matches),
-        Some(Subcommand::Check) => Some(Settings::Check),
-        Some(Subcommand::Witness) => match matches.get_one::<u8>("depth") {
-            Some(depth) if (MIN_DEPTH..=MAX_DEPTH).contains(&depth) => {
-                Some(Settings::Witness { depth })
-            }
-            _ => None,
-        },
+        Some(Subcommand::Check) => Some(Settings::Check {
+            instructions: instructions_in(matches)?,
+        }),
+        Some(Subcommand::Witness) => witness_settings(matches),
         Some(Subcommand::Tables) => Some(Settings::Tables(protocol_in(matches)?)),
         None => None,
+    }
+}
+
+fn witness_settings(matches: &ArgMatches<'_>) -> Option<Settings>
+    ensures { IfSome result HasDepth }
+{
+    let instructions = instructions_in(matches)?;
+    match matches.get_one::<u8>("depth") {
+        Some(depth) if (MIN_DEPTH..=MAX_DEPTH).contains(&depth) => Some(Settings::Witness {
+            depth,
+            instructions,
+        }),
+        _ => None,
     }
 }
 
@@ -181,17 +219,20 @@ fn run_settings(matches: &ArgMatches<'_>, is_traced: bool) -> Option<Settings>
     let (Some(protocol), Some(config)) = (protocol_in(matches), config_in(matches)) else {
         return None;
     };
+    let instructions = instructions_in(matches)?;
     let json = matches.get_flag("json");
     Some(if is_traced {
         Settings::Trace {
             protocol,
             config,
+            instructions,
             json,
         }
     } else {
         Settings::Run {
             protocol,
             config,
+            instructions,
             json,
         }
     })
@@ -207,9 +248,11 @@ fn sweep_settings(matches: &ArgMatches<'_>) -> Option<Settings>
     ) else {
         return None;
     };
+    let instructions = instructions_in(matches)?;
     Some(Settings::Sweep {
         protocol,
         config,
+        instructions,
         plan,
     })
 }
@@ -229,10 +272,12 @@ fn counts_settings(matches: &ArgMatches<'_>) -> Option<Settings>
     } else {
         Some(plan)
     };
+    let instructions = instructions_in(matches)?;
     let json = matches.get_flag("json");
     Some(Settings::Counts {
         protocol,
         config,
+        instructions,
         plan,
         json,
     })
@@ -265,10 +310,12 @@ fn outcomes_settings(matches: &ArgMatches<'_>) -> Option<Settings>
         return None;
     };
     let search = SearchPlan::new(depth, states, show)?;
+    let instructions = instructions_in(matches)?;
     let json = matches.get_flag("json");
     let assert = matches.get_flag("assert");
     Some(Settings::Outcomes {
         search,
+        instructions,
         json,
         assert,
     })
@@ -283,9 +330,15 @@ fn why_settings(matches: &ArgMatches<'_>) -> Option<Settings>
         _ => return None,
     };
     let plan = ReasonPlan::new(model, matches.get_one::<u32>("cases")?)?;
+    let instructions = instructions_in(matches)?;
     let json = matches.get_flag("json");
     let assert = matches.get_flag("assert");
-    Some(Settings::Why { plan, json, assert })
+    Some(Settings::Why {
+        plan,
+        instructions,
+        json,
+        assert,
+    })
 }
 
 fn config_in(matches: &ArgMatches<'_>) -> Option<Config> {
@@ -303,6 +356,14 @@ fn config_in(matches: &ArgMatches<'_>) -> Option<Config> {
         return None;
     };
     Config::new(depth, Shape::new(sets, ways, words)?, bus)
+}
+
+fn instructions_in(matches: &ArgMatches<'_>) -> Option<Instructions> {
+    match matches.get_str("instructions") {
+        Some("basic") => Some(Instructions::Basic),
+        Some("all") => Some(Instructions::All),
+        _ => None,
+    }
 }
 
 fn protocol_in(matches: &ArgMatches<'_>) -> Option<ProtocolKind> {

@@ -133,7 +133,20 @@ const SHOWN: &[&str] = &["condition", "registers", "all"];
 /// The models of memory as a command line names them.
 const MODELS: &[&str] = &["tso", "sc"];
 
-/// The options that a machine is built by.
+/// The sets of instructions as a command line names them.
+const INSTRUCTION_SETS: &[&str] = &["basic", "all"];
+
+/// Which instructions a test may have.
+const INSTRUCTIONS: DeclaredOption = DeclaredOption {
+    name: "instructions",
+    help: "Which instructions a test may have: those of the grammar (basic), or more of x86 (all)",
+    value: Value::Named("SET", INSTRUCTION_SETS, "basic"),
+};
+
+/// The option of a command that reads a test and an order.
+const READING: &[DeclaredOption] = &[INSTRUCTIONS];
+
+/// The options that a machine is built by, and a test is read by.
 const MACHINE: &[DeclaredOption] = &[
     DeclaredOption {
         name: "protocol",
@@ -165,6 +178,7 @@ const MACHINE: &[DeclaredOption] = &[
         help: "Whether the bus answers at once (atomic) or later (split)",
         value: Value::Named("KIND", BUSES, "atomic"),
     },
+    INSTRUCTIONS,
 ];
 
 /// The first seed of many runs.
@@ -221,6 +235,7 @@ const SEARCH: &[DeclaredOption] = &[
         help: "Which values to show: what the condition names; also written registers; also all locations",
         value: Value::Named("WHAT", SHOWN, "condition"),
     },
+    INSTRUCTIONS,
 ];
 
 /// The options that say of which model a reason is looked for.
@@ -235,14 +250,18 @@ const REASON: &[DeclaredOption] = &[
         help: "How many cases may be told apart, 1 to 1000000",
         value: Value::Number(1, 1000000, "100000"),
     },
+    INSTRUCTIONS,
 ];
 
-/// The option of a witness.
-const DEPTH: &[DeclaredOption] = &[DeclaredOption {
-    name: "depth",
-    help: "How many stores each core's buffer holds, 1 to 32",
-    value: Value::Number(1, 32, "4"),
-}];
+/// The options of a witness.
+const DEPTH: &[DeclaredOption] = &[
+    DeclaredOption {
+        name: "depth",
+        help: "How many stores each core's buffer holds, 1 to 32",
+        value: Value::Number(1, 32, "4"),
+    },
+    INSTRUCTIONS,
+];
 
 /// The option of a table.
 const PROTOCOL: &[DeclaredOption] = &[DeclaredOption {
@@ -323,7 +342,7 @@ static CHECK: DeclaredCommand = DeclaredCommand {
     name: "check",
     about: "Judges an order of a test by the axioms of TSO",
     help: help::CHECK,
-    options: &[],
+    options: READING,
     further_options: &[],
 };
 

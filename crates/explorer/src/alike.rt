@@ -6,13 +6,38 @@ ghost use Rattle.tso_laws.specs.Exchanged.{AreAllAlike};
 
 use crate::plan::hidden_of;
 use std::alloc::Global;
-use tso_terms::{Core, Instr, NoMemory, Reg, Test};
+use tso_terms::{Core, Instr, NoMemory, Operand, Operator, Reg, Test};
 
 /// Whether two registers are the same.
 fn is_same_register(reg: Reg, other: Reg) -> bool
     ensures { result ≡ true → reg ≡ other }
 {
     reg.index() == other.index()
+}
+
+/// Whether two operators are the same.
+fn is_same_operator(operator: Operator, other: Operator) -> bool
+    ensures { result ≡ true → operator ≡ other }
+{
+    matches!(
+        (operator, other),
+        (Operator::Add, Operator::Add)
+            | (Operator::Subtract, Operator::Subtract)
+            | (Operator::And, Operator::And)
+            | (Operator::Or, Operator::Or)
+            | (Operator::Xor, Operator::Xor)
+    )
+}
+
+/// Whether two operands are the same.
+fn is_same_operand(operand: Operand, other: Operand) -> bool
+    ensures { result ≡ true → operand ≡ other }
+{
+    match (operand, other) {
+        (Operand::Number(value), Operand::Number(number)) => value == number,
+        (Operand::Held(reg), Operand::Held(held)) => is_same_register(reg, held),
+        _ => false,
+    }
 }
 
 /// Whether two instructions are the same.
@@ -42,6 +67,23 @@ fn is_same_instr(instr: Instr, other: Instr) -> bool
         (Instr::Xadd(loc, reg), Instr::Xadd(at, held)) => {
             loc.0 == at.0 && is_same_register(reg, held)
         }
+        (Instr::CompareExchange(loc, reg), Instr::CompareExchange(at, held)) => {
+            loc.0 == at.0 && is_same_register(reg, held)
+        }
+        (Instr::LockedCombine(loc, by, operand), Instr::LockedCombine(at, operator, other)) => {
+            loc.0 == at.0 && is_same_operator(by, operator) && is_same_operand(operand, other)
+        }
+        (Instr::Combine(reg, by, operand), Instr::Combine(held, operator, other)) => {
+            is_same_register(reg, held)
+                && is_same_operator(by, operator)
+                && is_same_operand(operand, other)
+        }
+        (Instr::LockedNegate(loc), Instr::LockedNegate(at)) => loc.0 == at.0,
+        (Instr::Negate(reg), Instr::Negate(held)) => is_same_register(reg, held),
+        (Instr::Swap(reg, with), Instr::Swap(held, other)) => {
+            is_same_register(reg, held) && is_same_register(with, other)
+        }
+        (Instr::Nop, Instr::Nop) => true,
         _ => false,
     }
 }

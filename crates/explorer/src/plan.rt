@@ -7,7 +7,7 @@ ghost use Rattle.explorer.specs.inner.Planned.{AreDead, IsPlan};
 
 use crate::alike::alike_pairs;
 use std::alloc::Global;
-use tso_terms::{Action, Core, Instr, NoMemory, Operand, Test};
+use tso_terms::{Action, Change, Core, Instr, NoMemory, Operand, Reg, Test, Update};
 
 /// What a search goes by.
 #[derive(Drop)]
@@ -34,6 +34,50 @@ fn unless_read(operand: Operand, dead: [bool; 6]) -> [bool; 6]
     before
 }
 
+/// A register that the update reads, beside the word that it changes, isn't dead.
+fn unless_used(update: Update, dead: [bool; 6]) -> [bool; 6]
+    ensures { result ≡ Rattle.tso_laws.specs.Dead.unless_used update dead }
+{
+    match update {
+        Update::Replace(operand) | Update::Combine(_, operand) => unless_read(operand, dead),
+        Update::Negate => dead,
+        Update::CompareExchange(reg) => unless_read(
+            Operand::Held(Reg::Eax),
+            unless_read(Operand::Held(reg), dead),
+        ),
+    }
+}
+
+/// Which registers are dead before a move, where these are dead after it.
+fn before_change(change: Change, dead: [bool; 6]) -> [bool; 6]
+    ensures { result ≡ Rattle.tso_laws.specs.Dead.before_change change dead }
+{
+    let mut before = dead;
+    match change {
+        Change::Keep => dead,
+        Change::Set(reg, update) => {
+            before[reg.index()] = matches!(update, Update::Replace(_));
+            unless_used(update, before)
+        }
+        Change::Swap(reg, other) => {
+            before[reg.index()] = false;
+            before[other.index()] = false;
+            before
+        }
+    }
+}
+
+/// The register that gets the word that a locked instruction reads, if there is one, is dead before.
+fn before_taking(target: Option<Reg>, dead: [bool; 6]) -> [bool; 6]
+    ensures { result ≡ Rattle.tso_laws.specs.Dead.before_taking target dead }
+{
+    let mut before = dead;
+    if let Some(reg) = target {
+        before[reg.index()] = true;
+    }
+    before
+}
+
 /// Which registers are dead before an action, where these are dead after it.
 fn dead_before(action: Action, dead: [bool; 6]) -> [bool; 6]
     ensures { result ≡ Rattle.tso_laws.specs.Dead.dead_before action dead }
@@ -45,15 +89,9 @@ fn dead_before(action: Action, dead: [bool; 6]) -> [bool; 6]
             before[reg.index()] = true;
             before
         }
-        Action::Move(reg, operand) => {
-            before[reg.index()] = true;
-            unless_read(operand, before)
-        }
+        Action::Move(change) => before_change(change, dead),
         Action::Fence => dead,
-        Action::Lock(_, reg, _) => {
-            before[reg.index()] = false;
-            before
-        }
+        Action::Lock(_, target, update) => unless_used(update, before_taking(target, dead)),
     }
 }
 

@@ -5,7 +5,7 @@ ghost use Rattle.std.specs.Prelude.{slice_get, slice_set, slice_index, Some, fil
 ghost use Rattle.tso_terms.specs.Limits.{most_instructions};
 ghost use Rattle.tso_terms.specs.ProgramOrder.{writes_to};
 ghost use Rattle.tso_terms.specs.Axioms.{last_value};
-ghost use Rattle.tso_terms.specs.Thread.{entry, fence, value_of, with_value, updated, value_in};
+ghost use Rattle.tso_terms.specs.Thread.{entry, fence, value_of, with_value, with_taken, updated, value_in};
 ghost use Rattle.tso_terms.specs.FlatMachine.{effect_of, after_choice, effect_by, drain_of, memory_after, chosen, is_none_pending};
 ghost use Rattle.tso_terms.specs.FlatMachine.{load_value, loaded, stored, moved, fenced, locked};
 ghost use Rattle.tso_terms.specs.Runs.{stall_count};
@@ -14,6 +14,7 @@ ghost use Rattle.flat_machine.specs.State.{state_of_snapshot, core_of_processor}
 use crate::snapshot::{Processor, Snapshot};
 use tso_terms::{
     Action, Choice, Core, Entry, Kind, Loc, NoMemory, Operand, Outcome, Reg, Stall, Test, Update,
+    take,
 };
 
 /// The value that a load gets: of the newest pending store to the location, else this word.
@@ -60,6 +61,17 @@ fn advance(processor: &mut Processor, reg: Reg, value: u32)
     processor.place += 1;
 }
 
+/// The core goes on to its next instruction, with this word in the register, if there is one.
+fn advance_taking(processor: &mut Processor, target: Option<Reg>, word: u32)
+    requires { processor.old.place < most_instructions }
+    ensures place { processor.new.place ≡ processor.old.place + 1 }
+    ensures registers { processor.new.registers ≡ with_taken processor.old.registers target word }
+    ensures pending { processor.new.pending ≡ processor.old.pending }
+{
+    take(&mut processor.registers, target, word);
+    processor.place += 1;
+}
+
 fn store(
     processor: &mut Processor,
     memory: &mut Vec<u32>,
@@ -100,24 +112,24 @@ fn lock(
     processor: &mut Processor,
     memory: &mut Vec<u32>,
     loc: Loc,
-    reg: Reg,
+    target: Option<Reg>,
     update: Update,
 ) -> Outcome
     requires { processor.old.place < most_instructions }
     ensures outcome { (depth core : ℕ) → result
-        ≡ (effect_by depth memory.old.items core (Action.Lock loc reg update) (core_of_processor processor.old)).outcome }
+        ≡ (effect_by depth memory.old.items core (Action.Lock loc target update) (core_of_processor processor.old)).outcome }
     ensures after { (depth core : ℕ) → core_of_processor processor.new
-        ≡ (effect_by depth memory.old.items core (Action.Lock loc reg update) (core_of_processor processor.old)).after }
+        ≡ (effect_by depth memory.old.items core (Action.Lock loc target update) (core_of_processor processor.old)).after }
     ensures memory { (depth core : ℕ) → memory.new.items ≡ memory_after
-        (effect_by depth memory.old.items core (Action.Lock loc reg update) (core_of_processor processor.old)).commits memory.old.items }
+        (effect_by depth memory.old.items core (Action.Lock loc target update) (core_of_processor processor.old)).commits memory.old.items }
 {
     if !processor.pending.is_empty() {
         return Outcome::Stalled(Stall::Lock);
     }
     let word = word_at(memory, loc);
-    let value = update.apply(word, processor.registers[reg.index()]);
+    let value = update.apply(&processor.registers, word);
     write(memory, loc, value);
-    advance(processor, reg, word);
+    advance_taking(processor, target, word);
     Outcome::Committed
 }
 
@@ -146,9 +158,9 @@ pub fn step(
             advance(processor, reg, value);
             Ok(Outcome::Committed)
         }
-        Action::Move(reg, operand) => {
-            let value = operand.value(&processor.registers);
-            advance(processor, reg, value);
+        Action::Move(change) => {
+            change.apply(&mut processor.registers);
+            processor.place += 1;
             Ok(Outcome::Moved)
         }
         Action::Fence => {
@@ -158,7 +170,7 @@ pub fn step(
             processor.place += 1;
             Ok(Outcome::Committed)
         }
-        Action::Lock(loc, reg, update) => Ok(lock(processor, memory, loc, reg, update)),
+        Action::Lock(loc, target, update) => Ok(lock(processor, memory, loc, target, update)),
     }
 }
 

@@ -10,7 +10,7 @@ use crate::unended::count_instructions;
 use crate::unused::{first_unused, location_named};
 use crate::unwritten::first_unwritten;
 use litmus_reader::Fault;
-use litmus_tokens::tokens_of;
+use litmus_tokens::{Instructions, tokens_of};
 use order_builder::OrderFault;
 use scheduler::{ChoiceFault, Stalls};
 use std::alloc::Global;
@@ -141,8 +141,8 @@ impl Cause {
             return Ok(None);
         }
         let body = body_of(text);
-        let tokens = tokens_of(alloc, body)?;
-        let ending = tokens_of(alloc, ending_of(body, &tokens))?;
+        let tokens = tokens_of(alloc, Instructions::All, body)?;
+        let ending = tokens_of(alloc, Instructions::All, ending_of(body, &tokens))?;
         match first_unused(test, text, &tokens.items, &ending.items) {
             Some(cause) => Ok(Some(cause)),
             None => Ok(first_unwritten(test, text, &ending.items)),

@@ -15,7 +15,7 @@ use crate::prefixes::said_of_prefix;
 use crate::quotes::{has, last_bytes, token, up_to, up_to_any};
 use crate::registers::{register_of, says_register};
 use crate::tables::{Alike, begins_with_one_of, is_one_of, said_of, said_of_front};
-use litmus_tokens::{Lexeme, Symbol, Token, after_symbol, is_symbol, tokens_of};
+use litmus_tokens::{Instructions, Lexeme, Symbol, Token, after_symbol, is_symbol, tokens_of};
 use std::alloc::Global;
 use tso_terms::names::is_location_name;
 use tso_terms::{NoMemory, Reg};
@@ -76,7 +76,7 @@ pub fn bad_instruction(alloc: Global, line: &mut Line, rest: &[u8]) -> Result<()
         line.say(said);
         return Ok(());
     }
-    let tokens = tokens_of(alloc, cell)?;
+    let tokens = tokens_of(alloc, Instructions::Basic, cell)?;
     if let Some(said) = said_of_cell(&tokens.items) {
         line.say_of(said, token(cell));
         return Ok(());

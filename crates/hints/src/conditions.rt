@@ -21,7 +21,7 @@ use crate::registers::is_register;
 use crate::signs::DIVIDER;
 use crate::tables::{Alike, is_exactly_one_of, is_one_of, said_of};
 use crate::values::{EQUAL, VALUES, said_of_further_value};
-use litmus_tokens::{Symbol, is_symbol, line_of, tokens_of};
+use litmus_tokens::{Instructions, Symbol, is_symbol, line_of, tokens_of};
 use std::alloc::Global;
 use tso_terms::names::is_location_name;
 use tso_terms::{NoMemory, Reg};
@@ -126,8 +126,8 @@ fn says_joint(line: &mut Line, place: &Place<'_>) -> bool {
 /// Errors: out of memory only.
 fn line_of_open_bracket(alloc: Global, place: &Place<'_>) -> Result<Option<usize>, NoMemory> {
     let body = body_of(place.before);
-    let tokens = tokens_of(alloc, body)?;
-    let ending = tokens_of(alloc, ending_of(body, &tokens))?;
+    let tokens = tokens_of(alloc, Instructions::All, body)?;
+    let ending = tokens_of(alloc, Instructions::All, ending_of(body, &tokens))?;
     let mut closed = 0usize;
     for at in (0..ending.items.len()).rev() {
         let token = &ending.items[at];

@@ -10,6 +10,7 @@ use crate::headers::no_header;
 use crate::hinting::NOTHING_KNOWN;
 use crate::items::{bad_init, says_information};
 use crate::keywords::says_no_row;
+use crate::larger_set::says_larger_set;
 use crate::line::Line;
 use crate::numbers::{bad_number, digits_to, number_in};
 use crate::openings::{bad_token, unclosed};
@@ -97,6 +98,9 @@ pub fn say_fault(
         _ => place.line(),
     };
     line.say_number("line {}: ", number);
+    if matches!(why, Why::BadInstruction) && says_larger_set(alloc, line, place)? {
+        return Ok(());
+    }
     if is_no_part(line, place, why) || says_form(line, place, why) {
         return Ok(());
     }

@@ -31,6 +31,7 @@ mod instructions;
 mod items;
 mod keywords;
 mod kinds;
+mod larger_set;
 mod line;
 mod lines;
 mod listed;

@@ -3,7 +3,7 @@
 
 use crate::body::{body_of, is_name};
 use crate::unused::location_named;
-use litmus_tokens::{Lexeme, Symbol, Token, is_symbol, tokens_of, word};
+use litmus_tokens::{Instructions, Lexeme, Symbol, Token, is_symbol, tokens_of, word};
 use std::alloc::Global;
 use tso_terms::{Core, Loc, NoMemory, Reg, Test};
 
@@ -28,7 +28,7 @@ pub enum ListedName {
 ///
 /// Errors: out of memory only.
 pub fn listed_in(alloc: Global, test: &Test, text: &[u8]) -> Result<Vec<Listed>, NoMemory> {
-    let tokens = tokens_of(alloc, body_of(text))?;
+    let tokens = tokens_of(alloc, Instructions::All, body_of(text))?;
     let mut found = Vec::new(alloc);
     let mut core = None;
     for token in after_opening(&tokens.items) {

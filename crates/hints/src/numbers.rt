@@ -3,7 +3,7 @@
 use crate::line::Line;
 use crate::quotes::{first_bytes, is_all_digits, last_bytes};
 use crate::tables::is_one_of;
-use litmus_tokens::{Lexeme, Symbol, is_symbol, tokens_of, word};
+use litmus_tokens::{Instructions, Lexeme, Symbol, is_symbol, numeral_at, tokens_of, word, word_at};
 use std::alloc::Global;
 use tso_terms::NoMemory;
 
@@ -14,22 +14,26 @@ pub const GREATEST: usize = u32::MAX as usize;
 ///
 /// Errors: out of memory only.
 pub fn bad_number(alloc: Global, line: &mut Line, rest: &[u8]) -> Result<(), NoMemory> {
-    let tokens = tokens_of(alloc, rest)?;
-    // The first number that is too great and names no core.
+    let tokens = tokens_of(alloc, Instructions::All, rest)?;
+    // The first number that a word has no room for and that names no core.
     let mut over = None;
-    for token in &tokens.items {
-        if over.is_some() && !is_symbol(Symbol::Colon, token) {
+    for at in 0..tokens.items.len() {
+        if over.is_some() && !is_symbol(Symbol::Colon, &tokens.items[at]) {
             break;
         }
-        over = match token.lexeme {
-            Lexeme::Number(digits) if word(digits).is_none() => Some(digits),
+        let (_, from) = tokens.items.split_at(at);
+        over = match numeral_at(from) {
+            Some((numeral, _)) if matches!(word_at(0, numeral), Err(_)) => Some(numeral),
             _ => None,
         };
     }
     match over {
-        Some(digits) => line.say_of_number(
+        Some(numeral) if numeral.is_negative => {
+            line.say_of("-{} is under -2147483648, the least value", numeral.digits);
+        }
+        Some(numeral) => line.say_of_number(
             "{} is over {}, the greatest value: write that or a smaller one",
-            digits,
+            numeral.digits,
             GREATEST,
         ),
         None => line.say_number("a value is at most {}", GREATEST),

@@ -3,7 +3,7 @@
 
 use crate::body::{body_of, ending_of, is_name};
 use crate::place::Place;
-use litmus_tokens::{Symbol, Token, is_symbol, tokens_of};
+use litmus_tokens::{Instructions, Symbol, Token, is_symbol, tokens_of};
 use std::alloc::Global;
 use tso_terms::NoMemory;
 use tso_terms::limits::{MAX_ATOMS, MAX_INSTRUCTIONS};
@@ -26,8 +26,8 @@ pub enum Limit {
 /// Errors: out of memory only.
 pub fn limit_at(alloc: Global, place: &Place<'_>) -> Result<Limit, NoMemory> {
     let body = body_of(place.before);
-    let tokens = tokens_of(alloc, body)?;
-    let ending = tokens_of(alloc, ending_of(body, &tokens))?;
+    let tokens = tokens_of(alloc, Instructions::All, body)?;
+    let ending = tokens_of(alloc, Instructions::All, ending_of(body, &tokens))?;
     let limit = if !ending.items.is_empty() {
         limit_in_condition(&ending.items)
     } else if let Some(rows) = after_curly(&tokens.items) {

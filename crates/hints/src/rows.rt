@@ -17,7 +17,7 @@ use crate::quotes::{
 use crate::signs::is_core;
 use crate::tables::{is_exactly_one_of, is_one_of};
 use litmus_reader::MAX_TEXT;
-use litmus_tokens::{Symbol, after_gap, is_symbol, tokens_of};
+use litmus_tokens::{Instructions, Symbol, after_gap, is_symbol, tokens_of};
 use std::alloc::Global;
 use tso_terms::NoMemory;
 use tso_terms::limits::{
@@ -198,7 +198,7 @@ pub fn bars_in(row: &[u8]) -> usize {
 ///
 /// Errors: out of memory only.
 fn cores_before(alloc: Global, place: &Place<'_>) -> Result<usize, NoMemory> {
-    let tokens = tokens_of(alloc, body_of(place.before))?;
+    let tokens = tokens_of(alloc, Instructions::All, body_of(place.before))?;
     let mut cores = 1usize;
     for token in after_curly(&tokens.items).unwrap_or(&[]) {
         if is_symbol(Symbol::Semicolon, token) {

@@ -8,8 +8,8 @@ use crate::line::{Line, Piece};
 use crate::place::Place;
 use crate::quotes::first_bytes;
 use crate::unused::location_named;
-use litmus_tokens::{Lexeme, Symbol, Token, is_symbol, word};
-use tso_terms::{Action, Core, Loc, Reg, Test};
+use litmus_tokens::{Lexeme, Symbol, Token, is_symbol, numeral_at, word, word_at};
+use tso_terms::{Action, Change, Core, Loc, Reg, Test};
 
 /// Says that a register, which stands after so many bytes of an input, keeps this value.
 pub fn keeps_register(line: &mut Line, input: &[u8], first: usize, named: (Core, Reg), value: u32) {
@@ -119,9 +119,9 @@ fn name_ending_at<'a>(tokens: &[Token<'a>], at: usize) -> Option<(&'a [u8], usiz
 
 /// Whether the number after this token is this value.
 fn is_asked(tokens: &[Token<'_>], at: usize, value: u32) -> bool {
-    match tokens.get(at.saturating_add(1)) {
-        Some(token) =>
-            matches!(token.lexeme, Lexeme::Number(digits) if word(digits) == Some(value)),
+    let (_, after) = tokens.split_at(at.saturating_add(1).min(tokens.len()));
+    match numeral_at(after) {
+        Some((numeral, _)) => matches!(word_at(0, numeral), Ok(asked) if asked == value),
         None => false,
     }
 }
@@ -132,12 +132,22 @@ fn writes_register(test: &Test, core: Core, reg: Reg) -> bool
 {
     for instr in test.program(core) {
         match instr.action() {
-            Action::Load(other, _) | Action::Move(other, _) | Action::Lock(_, other, _) => {
+            Action::Load(other, _)
+            | Action::Move(Change::Set(other, _))
+            | Action::Lock(_, Some(other), _) => {
                 if other.index() == reg.index() {
                     return true;
                 }
             }
-            Action::Store(..) | Action::Fence => {}
+            Action::Move(Change::Swap(one, other)) => {
+                if one.index() == reg.index() || other.index() == reg.index() {
+                    return true;
+                }
+            }
+            Action::Store(..)
+            | Action::Move(Change::Keep)
+            | Action::Fence
+            | Action::Lock(_, None, _) => {}
         }
     }
     false

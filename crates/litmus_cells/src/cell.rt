@@ -8,9 +8,11 @@ ghost use Rattle.litmus_tokens.specs.Locations.{texts};
 ghost use Rattle.litmus_tokens.specs.inner.Forms.{shape_of};
 ghost use Rattle.litmus_cells.specs.Cells as spec;
 
-use litmus_tokens::{Fault, Form, ReadError, Token, Use, Why, form_of, located, word_at};
-use tso_terms::Instr;
+use litmus_tokens::{
+    Fault, Form, Instructions, ReadError, Token, Use, Why, constant_at, form_of, located,
+};
 use tso_terms::limits::MAX_INSTRUCTIONS;
+use tso_terms::{Instr, Operand};
 
 /// An instruction and the core in whose column it stands.
 #[derive(Clone, Copy)]
@@ -31,13 +33,13 @@ fn instr_of<'a>(
     ensures { GivesNamed (λ i. i) result names.new.items (spec.instr_of remaining (texts names.old.items) (shape_of form.entry)) }
 {
     match form {
-        Form::StoreImm(name, digits) => {
-            let value = word_at(remaining, digits)?;
+        Form::StoreImm(name, value) => {
+            let value = constant_at(remaining, value)?;
             let loc = located(names, remaining, name)?;
             Ok(Instr::StoreImm(loc, value))
         }
-        Form::SetImm(reg, digits) => {
-            let value = word_at(remaining, digits)?;
+        Form::SetImm(reg, value) => {
+            let value = constant_at(remaining, value)?;
             Ok(Instr::SetImm(reg, value))
         }
         Form::SetReg(reg, other) => Ok(Instr::SetReg(reg, other)),
@@ -49,8 +51,32 @@ fn instr_of<'a>(
                 Use::Load => Ok(Instr::Load(reg, loc)),
                 Use::Xchg => Ok(Instr::Xchg(loc, reg)),
                 Use::Xadd => Ok(Instr::Xadd(loc, reg)),
+                Use::CompareExchange => Ok(Instr::CompareExchange(loc, reg)),
             }
         }
+        Form::LockedImm(operator, name, value) => {
+            let value = constant_at(remaining, value)?;
+            let loc = located(names, remaining, name)?;
+            Ok(Instr::LockedCombine(loc, operator, Operand::Number(value)))
+        }
+        Form::LockedReg(operator, name, reg) => {
+            let loc = located(names, remaining, name)?;
+            Ok(Instr::LockedCombine(loc, operator, Operand::Held(reg)))
+        }
+        Form::LockedNegate(name) => {
+            let loc = located(names, remaining, name)?;
+            Ok(Instr::LockedNegate(loc))
+        }
+        Form::CombineImm(operator, reg, value) => {
+            let value = constant_at(remaining, value)?;
+            Ok(Instr::Combine(reg, operator, Operand::Number(value)))
+        }
+        Form::CombineReg(operator, reg, other) => {
+            Ok(Instr::Combine(reg, operator, Operand::Held(other)))
+        }
+        Form::Negate(reg) => Ok(Instr::Negate(reg)),
+        Form::Swap(reg, other) => Ok(Instr::Swap(reg, other)),
+        Form::Nothing => Ok(Instr::Nop),
     }
 }
 
@@ -71,18 +97,19 @@ fn count_of(core: usize, instrs: &[CoreInstr]) -> usize
 /// `BadInstruction`, then `BadNumber`, then `TooLarge`, at the cell's first token.
 #[tactic(auto, unfolding(crate::specs::Cells::cell_in))]
 pub fn read_cell<'a>(
+    set: Instructions,
     core: usize,
     instrs: &mut Vec<CoreInstr>,
     names: &mut Vec<&'a [u8]>,
     cell: &[Token<'a>],
 ) -> Result<(), ReadError>
-    ensures { GivesCells (spec.cell_in core) instrs.old.items names.old.items cell.now result instrs.new.items names.new.items }
+    ensures { GivesCells (spec.cell_in set core) instrs.old.items names.old.items cell.now result instrs.new.items names.new.items }
 {
     let Some(first) = cell.first() else {
         return Ok(());
     };
     let remaining = first.remaining;
-    let Some(form) = form_of(cell) else {
+    let Some(form) = form_of(set, cell) else {
         return Err(ReadError::Fault(Fault {
             why: Why::BadInstruction,
             remaining,

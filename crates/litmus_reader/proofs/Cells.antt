@@ -1,5 +1,5 @@
 -- Cells of a row.
-use Rattle.litmus_reader.proofs.Vocabulary.{◌≡◌, ℕ, Option, IfSome, Bor, ◌+◌, ◌-◌, ◌≤◌, ◌<◌, Bool, true, false, not, cond, suc, ltb, inl, inr, List, [], ◌∷◌, length, map, take, drop, Some, None, Result, Ok, Err, refl, sym, ap, ◌∙◌, arith, position, slice_split, position_or_len, onto_first, length-drop, length-map, take_all, ltb-true, slice_split_first, length-slice_split, Bar, Token, Piece, piece_of, pieces, is_symbol, Fault, ReadError, CoreInstr, Fails, cell_in, cells_in, cells_of}
+use Rattle.litmus_reader.proofs.Vocabulary.{◌≡◌, ℕ, Option, IfSome, Bor, ◌+◌, ◌-◌, ◌≤◌, ◌<◌, Bool, true, false, not, cond, suc, ltb, inl, inr, List, [], ◌∷◌, length, map, take, drop, Some, None, Result, Ok, Err, refl, sym, ap, ◌∙◌, arith, position, slice_split, position_or_len, onto_first, length-drop, length-map, take_all, ltb-true, slice_split_first, length-slice_split, Bar, Token, Piece, piece_of, pieces, is_symbol, Fault, ReadError, CoreInstr, Fails, cell_in, cells_in, cells_of, Instructions}
 use Rattle.std.proofs.Common.{count_by}
 use Rattle.litmus_tokens.specs.declared.fault.ReadError.TheVariants as errors
 use Rattle.litmus_tokens.proofs.Gaps.{chosen}
@@ -9,25 +9,25 @@ use Rattle.litmus_reader.proofs.Maps.{slice_split-map}
 abbrev pub Read : Type 0
 Read = Result (List CoreInstr × List (List ℕ)) Fault
 
-pub cells_go_on : (core : ℕ) (instrs after : List CoreInstr) (names known : List (List ℕ)) (row cell : List Piece) (after_it : List (List Piece)) (total : Read)
-    → cells_of row ≡ cell ∷ after_it → cell_in core instrs names cell ≡ Ok (after, known)
-    → cells_in core instrs names (cells_of row) ≡ total → cells_in (core + 1) after known after_it ≡ total
+pub cells_go_on : (set : Instructions) (core : ℕ) (instrs after : List CoreInstr) (names known : List (List ℕ)) (row cell : List Piece) (after_it : List (List Piece)) (total : Read)
+    → cells_of row ≡ cell ∷ after_it → cell_in set core instrs names cell ≡ Ok (after, known)
+    → cells_in set core instrs names (cells_of row) ≡ total → cells_in set (core + 1) after known after_it ≡ total
 unfolding cells_in
-cells_go_on core instrs after names known row cell after_it total cut is so_far =
-    let one : cells_in core instrs names (cells_of row) ≡ cells_in (core + 1) after known after_it = rw (cut, is) refl in
+cells_go_on set core instrs after names known row cell after_it total cut is so_far =
+    let one : cells_in set core instrs names (cells_of row) ≡ cells_in set (core + 1) after known after_it = rw (cut, is) refl in
     sym one ∙ so_far
 
-pub cells_end : (e : ReadError) (core : ℕ) (instrs : List CoreInstr) (names : List (List ℕ)) (row cell : List Piece) (after_it : List (List Piece)) (total : Read)
-    → cells_of row ≡ cell ∷ after_it → Fails e (cell_in core instrs names cell) → cells_in core instrs names (cells_of row) ≡ total → Fails e total
+pub cells_end : (set : Instructions) (e : ReadError) (core : ℕ) (instrs : List CoreInstr) (names : List (List ℕ)) (row cell : List Piece) (after_it : List (List Piece)) (total : Read)
+    → cells_of row ≡ cell ∷ after_it → Fails e (cell_in set core instrs names cell) → cells_in set core instrs names (cells_of row) ≡ total → Fails e total
 unfolding cells_in
-cells_end errors.NoMemory core instrs names row cell after_it total cut is so_far = tt
-cells_end (errors.Fault f) core instrs names row cell after_it total cut is so_far =
-    let one : cells_in core instrs names (cells_of row) ≡ Err f = rw (cut, is) refl in
+cells_end set errors.NoMemory core instrs names row cell after_it total cut is so_far = tt
+cells_end set (errors.Fault f) core instrs names row cell after_it total cut is so_far =
+    let one : cells_in set core instrs names (cells_of row) ≡ Err f = rw (cut, is) refl in
     sym so_far ∙ one
 
-pub cells_done : (core : ℕ) (instrs : List CoreInstr) (names : List (List ℕ)) (total : Read) → cells_in core instrs names [] ≡ total → total ≡ Ok (instrs, names)
+pub cells_done : (set : Instructions) (core : ℕ) (instrs : List CoreInstr) (names : List (List ℕ)) (total : Read) → cells_in set core instrs names [] ≡ total → total ≡ Ok (instrs, names)
 unfolding cells_in
-cells_done core instrs names total so_far = sym so_far
+cells_done set core instrs names total so_far = sym so_far
 
 -- ---- where the first cell ends
 

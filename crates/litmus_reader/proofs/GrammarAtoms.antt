@@ -134,18 +134,18 @@ pub record IsPlain (ps : List Piece) : Type 0 where
 
 pub setting_plain : (ts back : List Term) (s : Setting) → IsSetting ts s → (ps : List Piece) → terms ps ≡ ts ++ back → IsPlain ps
 unfolding truth_at negation_at word_after name_at symbol_at is_symbol
-setting_plain _ back _ (sets_register core word v reg good) ps e =
-    opened IsPlain ps (number core) (symbol Colon ∷ name word ∷ symbol Equals ∷ number v ∷ back) e (λ p rest is _.
+setting_plain _ back _ (sets_register core word reg v value good is_value) ps e =
+    opened IsPlain ps (number core) (symbol Colon ∷ name word ∷ symbol Equals ∷ v ++ back) e (λ p rest is _.
     record { no_truth = rw is refl; no_negation = rw is refl; no_bracket = rw is refl })
-setting_plain _ back _ (sets_location x v good) ps e =
-    opened IsPlain ps (name x) (symbol Equals ∷ number v ∷ back) e (λ p rest is _.
+setting_plain _ back _ (sets_location x v value good is_value) ps e =
+    opened IsPlain ps (name x) (symbol Equals ∷ v ++ back) e (λ p rest is _.
     record {
       no_truth = rw (is, no_keyword x (codes "true") good refl, no_keyword x (codes "false") good refl) refl;
       no_negation = rw (is, no_keyword x (codes "not") good refl) refl;
       no_bracket = rw is refl;
     })
-setting_plain _ back _ (sets_in_squares x v good) ps e =
-    opened IsPlain ps (symbol OpenSquare) (name x ∷ symbol CloseSquare ∷ symbol Equals ∷ number v ∷ back) e (λ p rest is _.
+setting_plain _ back _ (sets_in_squares x v value good is_value) ps e =
+    opened IsPlain ps (symbol OpenSquare) (name x ∷ symbol CloseSquare ∷ symbol Equals ∷ v ++ back) e (λ p rest is _.
     record { no_truth = rw is refl; no_negation = rw is refl; no_bracket = rw is refl })
 
 -- ---- atoms found

@@ -1,5 +1,5 @@
 -- Units and propositions are read as they are spelled.
-use Rattle.litmus_reader.proofs.Vocabulary.{◌≡◌, ℕ, zero, suc, ◌≤◌, Bool, true, false, List, [], ◌∷◌, ◌++◌, length, Some, None, Ok, Err, refl, sym, ap, subst, ◌∙◌, inl, inr, append_assoc, codes, NotClaim, Stop, OpenRound, CloseRound, And, Or, Tilde, Term, name, symbol, number, Piece, is_symbol, is_symbol_term, symbol_at, name_at, TooLarge, there, or_unfit, word_after, Claimed, claimed, atom_at, Proposition, disjunction, negation_at, opens_unit, bracketed, unit_by, unit_at, proposition_at, terms, IsAtom, says_true, says_false, says_setting, IsProposition, in_brackets, is_negation, IsUnit, IsWithin, fault, remaining_of, Phrase, negation, Symbol, bytes_eq, part_of, BadCondition, ◌>>=◌, ◌||◌}
+use Rattle.litmus_reader.proofs.Vocabulary.{◌≡◌, ℕ, zero, suc, ◌≤◌, Bool, true, false, List, [], ◌∷◌, ◌++◌, length, Some, None, Ok, Err, refl, sym, ap, subst, ◌∙◌, inl, inr, append_assoc, codes, NotClaim, Stop, OpenRound, CloseRound, And, Or, Tilde, Term, name, symbol, number, hexadecimal, Piece, is_symbol, is_symbol_term, symbol_at, name_at, TooLarge, there, or_unfit, word_after, Claimed, claimed, atom_at, Proposition, disjunction, negation_at, opens_unit, bracketed, unit_by, unit_at, proposition_at, terms, IsAtom, says_true, says_false, says_setting, IsProposition, in_brackets, is_negation, IsUnit, IsWithin, fault, remaining_of, Phrase, negation, Symbol, bytes_eq, part_of, BadCondition, ◌>>=◌, ◌||◌}
 use Rattle.litmus_reader.specs.GrammarConditions.{plain, negated as negated_by}
 use Rattle.litmus_reader.proofs.GrammarTokens.{chosen, there_is, some_is, ok_is, bind_ok, or_unfit_ok, front, opened, symbol_takes, word_taken}
 use Rattle.litmus_reader.proofs.GrammarPhrases.{Finds, Takes, spelled_as, Anything, proposition_takes, proposition_finds, begins_with}
@@ -58,6 +58,7 @@ negation_there p rest e = by_term p.term refl e
 
     by_term : (t : Term) → p.term ≡ t → is_negation t ≡ true → negation_at (p ∷ rest) ≡ Some rest
     by_term (number d) is h = absurd cc
+    by_term (hexadecimal d) is h = absurd cc
     by_term (name x) is h = by_word x is (bytes_eq x (codes "not")) refl h
     by_term (symbol s) is h = by_symbol s is (is_symbol_term Tilde (symbol s)) refl h
 

@@ -4,6 +4,7 @@ use Rattle.litmus_reader.specs.GrammarInitial.{empty, given}
 use Rattle.litmus_reader.proofs.ItemSteps.{ReadItems, ItemsAfter, items_start, items_done, items_further}
 use Rattle.litmus_reader.proofs.SectionSteps.{Lacks, ends_with, section_found, section_terms, section_last, section_parts}
 use Rattle.litmus_reader.proofs.GrammarTokens.{there_is, there_some, some_is, bind_ok, or_unfit_ok, ok_pair, opened, symbol_found, terms_append}
+use Rattle.litmus_reader.proofs.GrammarNumerals.{numeral_lacks}
 use Rattle.litmus_reader.proofs.GrammarItems.{setting_found, setting_taken}
 use Rattle.litmus_reader.proofs.GrammarInitialJudged.{Holds, judged_found, judged_taken}
 use Rattle.litmus_reader.proofs.Readings.{Reads}
@@ -17,9 +18,9 @@ record IsNoEnd (ts : List Term) : Type 0 where
 
 setting_no_end : (ts : List Term) (s : Setting) → IsSetting ts s → IsNoEnd ts
 unfolding item_end symbol_at is_symbol
-setting_no_end _ _ (sets_register core word v reg good) = record { lacks = (refl, (refl, (refl, (refl, (refl, tt))))); before_it = λ back ps e. opened (λ ps. item_end ps ≡ None) ps (number core) _ e (λ p rest is _. rw is refl) }
-setting_no_end _ _ (sets_location x v good) = record { lacks = (refl, (refl, (refl, tt))); before_it = λ back ps e. opened (λ ps. item_end ps ≡ None) ps (name x) _ e (λ p rest is _. rw is refl) }
-setting_no_end _ _ (sets_in_squares x v good) = record { lacks = (refl, (refl, (refl, (refl, (refl, tt))))); before_it = λ back ps e. opened (λ ps. item_end ps ≡ None) ps (symbol OpenSquare) _ e (λ p rest is _. rw is refl) }
+setting_no_end _ _ (sets_register core word reg v value good is_value) = record { lacks = (refl, (refl, (refl, (refl, numeral_lacks (ends_with item_ends) (λ d. refl) (λ d. refl) refl v value is_value)))); before_it = λ back ps e. opened (λ ps. item_end ps ≡ None) ps (number core) _ e (λ p rest is _. rw is refl) }
+setting_no_end _ _ (sets_location x v value good is_value) = record { lacks = (refl, (refl, numeral_lacks (ends_with item_ends) (λ d. refl) (λ d. refl) refl v value is_value)); before_it = λ back ps e. opened (λ ps. item_end ps ≡ None) ps (name x) _ e (λ p rest is _. rw is refl) }
+setting_no_end _ _ (sets_in_squares x v value good is_value) = record { lacks = (refl, (refl, (refl, (refl, numeral_lacks (ends_with item_ends) (λ d. refl) (λ d. refl) refl v value is_value)))); before_it = λ back ps e. opened (λ ps. item_end ps ≡ None) ps (symbol OpenSquare) _ e (λ p rest is _. rw is refl) }
 
 item_lacks : (ts : List Term) (item : List Setting) → IsInitialItem ts item → Lacks (ends_with item_ends) ts
 item_lacks _ _ empty = tt

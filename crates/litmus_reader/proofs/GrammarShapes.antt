@@ -1,5 +1,8 @@
 -- Instructions keep their locations' numbers as other names appear.
 use Rattle.litmus_reader.proofs.Vocabulary.{◌≡◌, ℕ, List, [], ◌∷◌, refl, ap, ◌∙◌, StoreImm, StoreReg, Load, Xchg, Xadd, CoreInstr, numbered, location, instr_with, location_in, of_core, Shape, store_imm, store_reg, load, set_imm, set_reg, fence, xchg, xadd}
+use Rattle.litmus_tokens.specs.Shapes.{compare_exchange, locked_constant, locked_register, locked_negate, combine_constant, combine_register, negate, swap, nothing}
+use Rattle.tso_terms.specs.declared.instruction.Instr.TheVariants.{CompareExchange, LockedCombine, LockedNegate, Combine, Negate, Swap, Nop}
+use Rattle.basic_laws.specs.Types.{Number, Held}
 use Rattle.litmus_reader.proofs.Placed.{Placed, instrs_with, locations_of}
 use Rattle.litmus_reader.proofs.GrammarNames.{AllKnown, known_parts, number_more}
 
@@ -12,6 +15,15 @@ instr_stays (set_reg reg other) xs names is = refl
 instr_stays fence xs names is = refl
 instr_stays (xchg x reg) xs names is = ap (λ n. Xchg (location n) reg) (number_more xs names x is.0)
 instr_stays (xadd x reg) xs names is = ap (λ n. Xadd (location n) reg) (number_more xs names x is.0)
+instr_stays (compare_exchange x reg) xs names is = ap (λ n. CompareExchange (location n) reg) (number_more xs names x is.0)
+instr_stays (locked_constant operator x v) xs names is = ap (λ n. LockedCombine (location n) operator (Number v)) (number_more xs names x is.0)
+instr_stays (locked_register operator x reg) xs names is = ap (λ n. LockedCombine (location n) operator (Held reg)) (number_more xs names x is.0)
+instr_stays (locked_negate x) xs names is = ap (λ n. LockedNegate (location n)) (number_more xs names x is.0)
+instr_stays (combine_constant operator reg v) xs names is = refl
+instr_stays (combine_register operator reg other) xs names is = refl
+instr_stays (negate reg) xs names is = refl
+instr_stays (swap reg other) xs names is = refl
+instr_stays nothing xs names is = refl
 
 pub instrs_stay : (es : List Placed) (xs names : List (List ℕ)) → AllKnown names (locations_of es) → instrs_with (numbered names xs) es ≡ instrs_with names es
 instrs_stay [] xs names are = refl

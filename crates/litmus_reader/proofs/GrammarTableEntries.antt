@@ -1,5 +1,8 @@
 -- Entries of rows: their instructions and locations, as cells are read one after the other.
-use Rattle.litmus_reader.proofs.Vocabulary.{◌≡◌, ℕ, ◌+◌, ◌≤◌, ◌<◌, Bool, true, false, cond, eqb, eqb-true, eq-eqb, ltb, List, [], ◌∷◌, ◌++◌, length, Option, Some, None, Result, Ok, Err, refl, sym, ap, subst, ◌∙◌, inl, inr, append_assoc, arith, count_by, bytes_eq, ltb-true, lt-ltb, append-nil, map-append, sum_by-append, Loc, Instr, StoreImm, StoreReg, Load, SetImm, SetReg, Fence, Xchg, Xadd, Piece, TooLarge, Fault, CoreInstr, ◌>>=◌, located, word_at, spelled_in, instr_of, count_of, cell_in, of_core, cells_in, numbered, number_of, with_name, location, location_in, instr_with, ValueFits, fault, Shape, store_imm, store_reg, load, set_imm, set_reg, fence, xchg, xadd, or_fault, BadInstruction, at_location}
+use Rattle.litmus_reader.proofs.Vocabulary.{◌≡◌, ℕ, ◌+◌, ◌≤◌, ◌<◌, Bool, true, false, cond, eqb, eqb-true, eq-eqb, ltb, List, [], ◌∷◌, ◌++◌, length, Option, Some, None, Result, Ok, Err, refl, sym, ap, subst, ◌∙◌, inl, inr, append_assoc, arith, count_by, bytes_eq, ltb-true, lt-ltb, append-nil, map-append, sum_by-append, Loc, Instr, StoreImm, StoreReg, Load, SetImm, SetReg, Fence, Xchg, Xadd, Piece, TooLarge, Fault, CoreInstr, ◌>>=◌, located, word_at, spelled_in, instr_of, count_of, cell_in, of_core, cells_in, numbered, number_of, with_name, location, location_in, instr_with, ValueFits, fault, Shape, store_imm, store_reg, load, set_imm, set_reg, fence, xchg, xadd, or_fault, BadInstruction, at_location, Instructions}
+use Rattle.litmus_tokens.specs.Shapes.{compare_exchange, locked_constant, locked_register, locked_negate, combine_constant, combine_register, negate, swap, nothing}
+use Rattle.tso_terms.specs.declared.instruction.Instr.TheVariants.{CompareExchange, LockedCombine, LockedNegate, Combine, Negate, Swap, Nop}
+use Rattle.basic_laws.specs.Types.{Number, Held}
 use Rattle.litmus_reader.proofs.Placed.{Placed, placed, placed_from, locations_of, instrs_with, ValuesFit, EntriesWithin}
 use Rattle.litmus_reader.proofs.GrammarTokens.{chosen, ok_is, ok_pair, bind_ok, or_fault_ok}
 use Rattle.litmus_reader.proofs.GrammarNames.{place_below, known_with, number_with, numbered_append, grows, all_known}
@@ -103,6 +106,15 @@ instr_found remaining names (set_reg reg other) fits room = refl
 instr_found remaining names fence fits room = refl
 instr_found remaining names (xchg x reg) fits room = rw (located_found remaining names x room) refl
 instr_found remaining names (xadd x reg) fits room = rw (located_found remaining names x room) refl
+instr_found remaining names (compare_exchange x reg) fits room = rw (located_found remaining names x room) refl
+instr_found remaining names (locked_constant operator x v) fits room = rw (word_is remaining v fits, located_found remaining names x room) refl
+instr_found remaining names (locked_register operator x reg) fits room = rw (located_found remaining names x room) refl
+instr_found remaining names (locked_negate x) fits room = rw (located_found remaining names x room) refl
+instr_found remaining names (combine_constant operator reg v) fits room = rw (word_is remaining v fits) refl
+instr_found remaining names (combine_register operator reg other) fits room = refl
+instr_found remaining names (negate reg) fits room = refl
+instr_found remaining names (swap reg other) fits room = refl
+instr_found remaining names nothing fits room = refl
 
 -- what was read of a shape
 record InstrTaken (names : List (List ℕ)) (shape : Shape) (r : Instr × List (List ℕ)) : Type 0 where
@@ -155,25 +167,40 @@ instr_taken remaining names (set_reg reg other) r e = kept_taken names (set_reg 
 instr_taken remaining names fence r e = kept_taken names fence Fence r refl refl tt e
 instr_taken remaining names (xchg x reg) r e = located_taken remaining names x (λ loc. Xchg loc reg) (xchg x reg) r refl (λ known. refl) tt e
 instr_taken remaining names (xadd x reg) r e = located_taken remaining names x (λ loc. Xadd loc reg) (xadd x reg) r refl (λ known. refl) tt e
+instr_taken remaining names (compare_exchange x reg) r e = located_taken remaining names x (λ loc. CompareExchange loc reg) (compare_exchange x reg) r refl (λ known. refl) tt e
+instr_taken remaining names (locked_constant operator x v) r e =
+    let a = bind_ok (word_at remaining v) _ r e in
+    let word = word_ok remaining v a.0 a.1 in
+    located_taken remaining names x (λ loc. LockedCombine loc operator (Number a.0)) (locked_constant operator x v) r refl (λ known. ap (λ (n : ℕ). LockedCombine (location (number_of known x)) operator (Number n)) word.0) word.1 a.2
+instr_taken remaining names (locked_register operator x reg) r e = located_taken remaining names x (λ loc. LockedCombine loc operator (Held reg)) (locked_register operator x reg) r refl (λ known. refl) tt e
+instr_taken remaining names (locked_negate x) r e = located_taken remaining names x (λ loc. LockedNegate loc) (locked_negate x) r refl (λ known. refl) tt e
+instr_taken remaining names (combine_constant operator reg v) r e =
+    let a = bind_ok (word_at remaining v) _ r e in
+    let word = word_ok remaining v a.0 a.1 in
+    kept_taken names (combine_constant operator reg v) (Combine reg operator (Number a.0)) r refl (ap (λ (n : ℕ). Combine reg operator (Number n)) word.0) word.1 a.2
+instr_taken remaining names (combine_register operator reg other) r e = kept_taken names (combine_register operator reg other) (Combine reg operator (Held other)) r refl refl tt e
+instr_taken remaining names (negate reg) r e = kept_taken names (negate reg) (Negate reg) r refl refl tt e
+instr_taken remaining names (swap reg other) r e = kept_taken names (swap reg other) (Swap reg other) r refl refl tt e
+instr_taken remaining names nothing r e = kept_taken names nothing Nop r refl refl tt e
 
 -- ---- cells
 
-pub cell_found : (core : ℕ) (names : List (List ℕ)) (done : List Placed) (p : Piece) (ps : List Piece) (shape : Shape) → spelled_in (p ∷ ps) ≡ Some shape → EntriesWithin names (done ++ placed core shape ∷ [])
-    → cell_in core (instrs_of names done) (names_of names done) (p ∷ ps) ≡ Ok (read_of names (done ++ placed core shape ∷ []))
+pub cell_found : (set : Instructions) (core : ℕ) (names : List (List ℕ)) (done : List Placed) (p : Piece) (ps : List Piece) (shape : Shape) → spelled_in set (p ∷ ps) ≡ Some shape → EntriesWithin names (done ++ placed core shape ∷ [])
+    → cell_in set core (instrs_of names done) (names_of names done) (p ∷ ps) ≡ Ok (read_of names (done ++ placed core shape ∷ []))
 unfolding cell_in
-cell_found core names done p ps shape is h =
+cell_found set core names done p ps shape is h =
     let value = (values-parts done (placed core shape ∷ []) h.values).1.0 in
     let room : length (numbered (names_of names done) (location_in shape)) ≤ 16 = subst (λ (l : List (List ℕ)). length l ≤ 16) (names-push names done core shape) h.room in
     let one : count_in core (placed core shape ∷ []) ≡ 1 = rw (eq-eqb core core refl) refl in
     let few : count_of core (instrs_of names done) < 32 = omega (arith, h.few core, count-append core done (placed core shape ∷ []), one, count-instrs core (names_of names done) done) in
-    let read : cell_in core (instrs_of names done) (names_of names done) (p ∷ ps) ≡ Ok (pushed names done core shape) =
+    let read : cell_in set core (instrs_of names done) (names_of names done) (p ∷ ps) ≡ Ok (pushed names done core shape) =
     rw (is, instr_found p.remaining (names_of names done) shape value room, lt-ltb (count_of core (instrs_of names done)) 32 few) refl in
     read ∙ ap (λ (r : Read). Ok r) (read-push names done core shape)
 
 -- what was read of a cell that isn't empty
-pub record CellTaken (core : ℕ) (names : List (List ℕ)) (done : List Placed) (ps : List Piece) (r : Read) : Type 0 where
+pub record CellTaken (set : Instructions) (core : ℕ) (names : List (List ℕ)) (done : List Placed) (ps : List Piece) (r : Read) : Type 0 where
   pub shape : Shape
-  pub is : spelled_in ps ≡ Some shape
+  pub is : spelled_in set ps ≡ Some shape
   pub within : EntriesWithin names (done ++ placed core shape ∷ [])
   pub given : r ≡ read_of names (done ++ placed core shape ∷ [])
 
@@ -198,12 +225,12 @@ within_push core names done shape h fits room few = record {
   room = subst (λ (l : List (List ℕ)). length l ≤ 16) (sym (names-push names done core shape)) few;
 }
 
-pub cell_taken : (core : ℕ) (names : List (List ℕ)) (done : List Placed) (p : Piece) (ps : List Piece) (r : Read) → EntriesWithin names done
-    → cell_in core (instrs_of names done) (names_of names done) (p ∷ ps) ≡ Ok r → CellTaken core names done (p ∷ ps) r
+pub cell_taken : (set : Instructions) (core : ℕ) (names : List (List ℕ)) (done : List Placed) (p : Piece) (ps : List Piece) (r : Read) → EntriesWithin names done
+    → cell_in set core (instrs_of names done) (names_of names done) (p ∷ ps) ≡ Ok r → CellTaken set core names done (p ∷ ps) r
 unfolding cell_in
-cell_taken core names done p ps r h e =
+cell_taken set core names done p ps r h e =
     let before = names_of names done in
-    let s = bind_ok (or_fault (spelled_in (p ∷ ps)) (fault BadInstruction p.remaining)) _ r e in
+    let s = bind_ok (or_fault (spelled_in set (p ∷ ps)) (fault BadInstruction p.remaining)) _ r e in
     let i = bind_ok (instr_of p.remaining before s.0) _ r s.2 in
     let t = instr_taken p.remaining before s.0 i.0 i.1 in
     elim (chosen (ltb (count_of core (instrs_of names done)) 32) (Ok (instrs_of names done ++ of_core core i.0.0 ∷ [], i.0.1)) (Err (fault TooLarge p.remaining)) (Ok r) i.2) [
@@ -212,7 +239,7 @@ cell_taken core names done p ps r h e =
           let room : count_in core done < 32 = omega (arith, below, count-instrs core before done) in
           record {
             shape = s.0;
-            is = or_fault_ok (spelled_in (p ∷ ps)) _ s.0 s.1;
+            is = or_fault_ok (spelled_in set (p ∷ ps)) _ s.0 s.1;
             within = within_push core names done s.0 h t.fits room (t.room h.room);
             given = sym (ok_is (instrs_of names done ++ of_core core i.0.0 ∷ [], i.0.1) r hit.1)
                 ∙ ap (λ (n : Instr). (let r : Read = (instrs_of names done ++ of_core core n ∷ [], i.0.1) in r)) t.instr_is
@@ -224,36 +251,36 @@ cell_taken core names done p ps r h e =
 
 -- ---- cells one after the other
 
-pub cells_found : (parts : List (List Piece)) (cells : List (Option Shape)) → AreReadAs parts cells → (core : ℕ) (names : List (List ℕ)) (done : List Placed) → EntriesWithin names (done ++ placed_from core cells)
-    → cells_in core (instrs_of names done) (names_of names done) parts ≡ Ok (read_of names (done ++ placed_from core cells))
+pub cells_found : (set : Instructions) (parts : List (List Piece)) (cells : List (Option Shape)) → AreReadAs set parts cells → (core : ℕ) (names : List (List ℕ)) (done : List Placed) → EntriesWithin names (done ++ placed_from core cells)
+    → cells_in set core (instrs_of names done) (names_of names done) parts ≡ Ok (read_of names (done ++ placed_from core cells))
 unfolding cells_in cell_in
-cells_found [] [] are core names done h = ap (λ (l : List Placed). Ok (read_of names l)) (sym (append-nil done))
-cells_found [] (c ∷ cs) are core names done h = absurd are
-cells_found (ps ∷ rest) [] are core names done h = absurd are
-cells_found ([] ∷ rest) (None ∷ cs) are core names done h = cells_found rest cs are.1 (core + 1) names done h
-cells_found ([] ∷ rest) (Some shape ∷ cs) are core names done h = absurd are.0
-cells_found ((p ∷ ps) ∷ rest) (None ∷ cs) are core names done h = absurd are.0
-cells_found ((p ∷ ps) ∷ rest) (Some shape ∷ cs) are core names done h =
+cells_found set [] [] are core names done h = ap (λ (l : List Placed). Ok (read_of names l)) (sym (append-nil done))
+cells_found set [] (c ∷ cs) are core names done h = absurd are
+cells_found set (ps ∷ rest) [] are core names done h = absurd are
+cells_found set ([] ∷ rest) (None ∷ cs) are core names done h = cells_found set rest cs are.1 (core + 1) names done h
+cells_found set ([] ∷ rest) (Some shape ∷ cs) are core names done h = absurd are.0
+cells_found set ((p ∷ ps) ∷ rest) (None ∷ cs) are core names done h = absurd are.0
+cells_found set ((p ∷ ps) ∷ rest) (Some shape ∷ cs) are core names done h =
     let e = placed core shape in
     let others = placed_from (core + 1) cs in
     let regroup : (done ++ e ∷ []) ++ others ≡ done ++ e ∷ others = append_assoc done (e ∷ []) others in
     let whole : EntriesWithin names ((done ++ e ∷ []) ++ others) = subst (λ (l : List Placed). EntriesWithin names l) (sym regroup) h in
-    let first = cell_found core names done p ps shape are.0 (within_first names (done ++ e ∷ []) others whole) in
-    ap (λ (r : Result Read Fault). r >>= λ read. cells_in (core + 1) read.0 read.1 rest) first
-    ∙ cells_found rest cs are.1 (core + 1) names (done ++ e ∷ []) whole
+    let first = cell_found set core names done p ps shape are.0 (within_first names (done ++ e ∷ []) others whole) in
+    ap (λ (r : Result Read Fault). r >>= λ read. cells_in set (core + 1) read.0 read.1 rest) first
+    ∙ cells_found set rest cs are.1 (core + 1) names (done ++ e ∷ []) whole
     ∙ ap (λ (l : List Placed). Ok (read_of names l)) regroup
 
 -- what was read of cells
-pub record CellsTaken (core : ℕ) (names : List (List ℕ)) (done : List Placed) (parts : List (List Piece)) (r : Read) : Type 0 where
+pub record CellsTaken (set : Instructions) (core : ℕ) (names : List (List ℕ)) (done : List Placed) (parts : List (List Piece)) (r : Read) : Type 0 where
   pub cells : List (Option Shape)
-  pub are : AreReadAs parts cells
+  pub are : AreReadAs set parts cells
   pub within : EntriesWithin names (done ++ placed_from core cells)
   pub given : r ≡ read_of names (done ++ placed_from core cells)
 
-pub cells_taken : (parts : List (List Piece)) (core : ℕ) (names : List (List ℕ)) (done : List Placed) (r : Read) → EntriesWithin names done
-    → cells_in core (instrs_of names done) (names_of names done) parts ≡ Ok r → CellsTaken core names done parts r
+pub cells_taken : (set : Instructions) (parts : List (List Piece)) (core : ℕ) (names : List (List ℕ)) (done : List Placed) (r : Read) → EntriesWithin names done
+    → cells_in set core (instrs_of names done) (names_of names done) parts ≡ Ok r → CellsTaken set core names done parts r
 unfolding cells_in cell_in
-cells_taken [] core names done r h e =
+cells_taken set [] core names done r h e =
     let same = append-nil done in
     record {
       cells = [];
@@ -261,16 +288,16 @@ cells_taken [] core names done r h e =
       within = subst (λ (l : List Placed). EntriesWithin names l) (sym same) h;
       given = sym (ok_is (read_of names done) r e) ∙ ap (λ (l : List Placed). read_of names l) (sym same);
     }
-cells_taken ([] ∷ rest) core names done r h e =
-    let t = cells_taken rest (core + 1) names done r h e in
+cells_taken set ([] ∷ rest) core names done r h e =
+    let t = cells_taken set rest (core + 1) names done r h e in
     record { cells = None ∷ t.cells; are = (tt, t.are); within = t.within; given = t.given }
-cells_taken ((p ∷ ps) ∷ rest) core names done r h e =
-    let c = bind_ok (cell_in core (instrs_of names done) (names_of names done) (p ∷ ps)) (λ read. cells_in (core + 1) read.0 read.1 rest) r e in
-    let first = cell_taken core names done p ps c.0 h c.1 in
+cells_taken set ((p ∷ ps) ∷ rest) core names done r h e =
+    let c = bind_ok (cell_in set core (instrs_of names done) (names_of names done) (p ∷ ps)) (λ read. cells_in set (core + 1) read.0 read.1 rest) r e in
+    let first = cell_taken set core names done p ps c.0 h c.1 in
     let one = placed core first.shape in
-    let further : cells_in (core + 1) (instrs_of names (done ++ one ∷ [])) (names_of names (done ++ one ∷ [])) rest ≡ Ok r =
-    ap (λ (read : Read). cells_in (core + 1) read.0 read.1 rest) (sym first.given) ∙ c.2 in
-    let t = cells_taken rest (core + 1) names (done ++ one ∷ []) r first.within further in
+    let further : cells_in set (core + 1) (instrs_of names (done ++ one ∷ [])) (names_of names (done ++ one ∷ [])) rest ≡ Ok r =
+    ap (λ (read : Read). cells_in set (core + 1) read.0 read.1 rest) (sym first.given) ∙ c.2 in
+    let t = cells_taken set rest (core + 1) names (done ++ one ∷ []) r first.within further in
     let regroup : (done ++ one ∷ []) ++ placed_from (core + 1) t.cells ≡ done ++ one ∷ placed_from (core + 1) t.cells = append_assoc done (one ∷ []) (placed_from (core + 1) t.cells) in
     record {
       cells = Some first.shape ∷ t.cells;

@@ -1,5 +1,5 @@
 -- Tokens at the front, found and taken.
-use Rattle.litmus_reader.proofs.Vocabulary.{◌≡◌, ℕ, true, List, [], ◌∷◌, Option, Some, None, Result, Ok, Err, refl, sym, ap, ◌∙◌, ◌⊎◌, inl, inr, bytes_eq, bytes_eq-Decides, Symbol, Term, number, name, symbol, spelling_of, Piece, is_symbol_term, is_symbol, symbol_at, name_then, name_at, number_then, number_at, Fault, Part, ◌>>=◌, there, or_unfit, terms, or_fault, word_after, ◌++◌}
+use Rattle.litmus_reader.proofs.Vocabulary.{◌≡◌, ℕ, true, List, [], ◌∷◌, Option, Some, None, Result, Ok, Err, refl, sym, ap, ◌∙◌, ◌⊎◌, inl, inr, bytes_eq, bytes_eq-Decides, Symbol, Term, number, name, symbol, spelling_of, Piece, is_symbol_term, is_symbol, symbol_at, name_then, name_at, number_then, number_at, hexadecimal, Fault, Part, ◌>>=◌, there, or_unfit, terms, or_fault, word_after, ◌++◌}
 use Rattle.litmus_tokens.proofs.Symbols.{spelling_tells}
 pub use Rattle.litmus_tokens.proofs.Gaps.{chosen}
 
@@ -78,6 +78,7 @@ number_found (p ∷ ps) rest digits e = by_term p.term refl e
   where
     by_term : (t : Term) → p.term ≡ t → number_then t ps ≡ Some (digits, rest) → Takes (number digits) (p ∷ ps) rest
     by_term (number d) is h = let same = pair_is d digits ps rest h in (p, ap (λ l. p ∷ l) same.1, is ∙ ap (λ d. number d) same.0)
+    by_term (hexadecimal d) is h = absurd cc
     by_term (name x) is h = absurd cc
     by_term (symbol s) is h = absurd cc
 
@@ -88,6 +89,7 @@ name_found (p ∷ ps) rest x e = by_term p.term refl e
   where
     by_term : (t : Term) → p.term ≡ t → name_then t ps ≡ Some (x, rest) → Takes (name x) (p ∷ ps) rest
     by_term (number d) is h = absurd cc
+    by_term (hexadecimal d) is h = absurd cc
     by_term (name y) is h = let same = pair_is y x ps rest h in (p, ap (λ l. p ∷ l) same.1, is ∙ ap (λ y. name y) same.0)
     by_term (symbol s) is h = absurd cc
 
@@ -103,6 +105,7 @@ symbol_is s p e = by_term p.term refl e
   where
     by_term : (t : Term) → p.term ≡ t → is_symbol_term s t ≡ true → p.term ≡ symbol s
     by_term (number n) is h = absurd cc
+    by_term (hexadecimal n) is h = absurd cc
     by_term (name x) is h = absurd cc
     by_term (symbol t) is h = is ∙ ap (λ (u : Symbol). symbol u) (sym (spelling_tells s t ((bytes_eq-Decides (spelling_of s) (spelling_of t)).0 h)))
 

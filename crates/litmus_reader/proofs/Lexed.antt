@@ -1,5 +1,6 @@
 -- All tokens of a text: those from a place on are those of the bytes that stand there.
-use Rattle.litmus_reader.proofs.Vocabulary.{◌≡◌, ℕ, zero, suc, ◌≤◌, ◌<◌, List, [], ◌∷◌, length, None, Result, Ok, Err, refl, sym, ap, ◌∙◌, arith, Stop, End, gap_end, Term, term_at, Piece, piece_at, onto, pieces_within, pieces_of, Bool, true, ltb, ltb-true, and_parts, list_all, inl, inr, drop, prefix_len, length-drop, Option, Some, Symbol, symbol, spelling_of, symbol_among, symbols, starts_with, nat_eq, is_ascii_digit, begins_name, continues_name, longest_name, run_of, symbol_or_bad, symbol_of, ◌+◌}
+use Rattle.litmus_reader.proofs.Vocabulary.{◌≡◌, ℕ, zero, suc, ◌≤◌, ◌<◌, List, [], ◌∷◌, length, None, Result, Ok, Err, refl, sym, ap, ◌∙◌, arith, Stop, End, gap_end, Term, term_at, Piece, piece_at, onto, pieces_within, pieces_of, Bool, true, ltb, ltb-true, and_parts, list_all, inl, inr, drop, prefix_len, length-drop, Option, Some, Symbol, symbol, spelling_of, symbol_among, symbols, starts_with, nat_eq, is_ascii_digit, begins_name, continues_name, longest_name, run_of, symbol_or_bad, symbol_of, ◌+◌, Instructions, is_hexadecimal, is_minus, Minus}
+use Rattle.std.specs.Char.{is_ascii_hexdigit}
 use Rattle.litmus_tokens.proofs.Pieces.{begins_in_name}
 use Rattle.litmus_reader.proofs.GrammarTokens.{chosen, some_is}
 use Rattle.litmus_reader.proofs.GrammarGaps.{gap_within}
@@ -29,18 +30,26 @@ symbol_shorter (x ∷ others) bytes found all e some =
       | inr miss ↦ symbol_shorter others bytes found long.1 miss.1 some
     ]
 
-term_shorter : (bytes : List ℕ) (t : Term) (after : List ℕ) → term_at bytes ≡ Ok (t, after) → length after < length bytes
+term_shorter : (set : Instructions) (bytes : List ℕ) (t : Term) (after : List ℕ) → term_at set bytes ≡ Ok (t, after) → length after < length bytes
 unfolding term_at symbol_of symbols
-term_shorter [] t after e = absurd cc
-term_shorter (b ∷ bs) t after e =
+term_shorter set [] t after e = absurd cc
+term_shorter set (b ∷ bs) t after e =
     elim (chosen (is_ascii_digit b) _ _ (Ok (t, after)) e) [
-      | inl digit ↦ run_shorter is_ascii_digit b bs after digit.0 (ok_both _ t _ after digit.1).1
+      | inl digit ↦ elim (chosen (is_hexadecimal set (b ∷ bs)) _ _ (Ok (t, after)) digit.1) [
+        | inl sixteen ↦
+            let rest = (ok_both _ t _ after sixteen.1).1 in
+            omega (arith, ap (λ (l : List ℕ). length l) rest, length-drop (prefix_len is_ascii_hexdigit (drop 2 (b ∷ bs))) (drop 2 (b ∷ bs)), length-drop 2 (b ∷ bs))
+        | inr ten ↦ run_shorter is_ascii_digit b bs after digit.0 (ok_both _ t _ after ten.1).1
+      ]
       | inr none ↦ elim (chosen (begins_name b) _ _ (Ok (t, after)) none.1) [
         | inl begins ↦ elim (chosen (ltb longest_name (length (run_of continues_name (b ∷ bs)).0)) _ _ (Ok (t, after)) begins.1) [
           | inl long ↦ absurd cc
           | inr short ↦ run_shorter continues_name b bs after (begins_in_name b begins.0) (ok_both _ t _ after short.1).1
         ]
-        | inr neither ↦ by_symbol (symbol_among symbols (b ∷ bs)) refl neither.1
+        | inr neither ↦ elim (chosen (is_minus set b) (Ok (symbol Minus, bs)) _ (Ok (t, after)) neither.1) [
+          | inl minus ↦ omega (arith, ap (λ (l : List ℕ). length l) (ok_both (symbol Minus) t bs after minus.1).1)
+          | inr no_minus ↦ by_symbol (symbol_among symbols (b ∷ bs)) refl no_minus.1
+        ]
       ]
     ]
   where
@@ -50,19 +59,19 @@ term_shorter (b ∷ bs) t after e =
         let shorter = symbol_shorter symbols (b ∷ bs) (s, rest) refl found (omega arith) in
         omega (arith, shorter, ap (λ (l : List ℕ). length l) (ok_both (symbol s) t rest after h).1)
 
-piece_shorter : (bytes : List ℕ) (p : Piece) (after : List ℕ) → piece_at bytes ≡ Ok (p, after) → length after < length bytes
+piece_shorter : (set : Instructions) (bytes : List ℕ) (p : Piece) (after : List ℕ) → piece_at set bytes ≡ Ok (p, after) → length after < length bytes
 unfolding piece_at
-piece_shorter bytes p after e = by_gap (gap_end None bytes) refl
+piece_shorter set bytes p after e = by_gap (gap_end None bytes) refl
   where
-    by_term : (at : List ℕ) → gap_end None bytes ≡ Ok at → (r : Result (Term × List ℕ) Stop) → term_at at ≡ r → length after < length bytes
+    by_term : (at : List ℕ) → gap_end None bytes ≡ Ok at → (r : Result (Term × List ℕ) Stop) → term_at set at ≡ r → length after < length bytes
     by_term at gap (Err stop) is = let h : (let q : Result (Piece × List ℕ) Stop = Err stop in q) ≡ Ok (p, after) = rw (gap, is) at e in absurd cc
     by_term at gap (Ok (t, rest)) is =
         let h : (let q : Result (Piece × List ℕ) Stop = Ok (record { remaining = length at; term = t }, rest) in q) ≡ Ok (p, after) = rw (gap, is) at e in
         let same = ok_both (record { remaining = length at; term = t }) p rest after h in
-        omega (arith, term_shorter at t rest is, gap_within None bytes at gap, ap (λ (l : List ℕ). length l) same.1)
+        omega (arith, term_shorter set at t rest is, gap_within None bytes at gap, ap (λ (l : List ℕ). length l) same.1)
 
     by_gap : (r : Result (List ℕ) Stop) → gap_end None bytes ≡ r → length after < length bytes
-    by_gap (Ok at) is = by_term at is (term_at at) refl
+    by_gap (Ok at) is = by_term at is (term_at set at) refl
     by_gap (Err stop) is = let h : (let q : Result (Piece × List ℕ) Stop = Err stop in q) ≡ Ok (p, after) = rw is at e in absurd cc
 
 piece_stop : (x y : Stop) → (let q : Result (Piece × List ℕ) Stop = Err x in q) ≡ Err y → x ≡ y
@@ -74,47 +83,47 @@ abbrev onward : (List ℕ → List Piece × Stop) → Result (Piece × List ℕ)
 onward further (Ok found) = onto found.0 (further found.1)
 onward further (Err stop) = ([], stop)
 
-one_step : (n : ℕ) (bytes : List ℕ) → pieces_within (suc n) bytes ≡ onward (pieces_within n) (piece_at bytes)
+one_step : (set : Instructions) (n : ℕ) (bytes : List ℕ) → pieces_within set (suc n) bytes ≡ onward (pieces_within set n) (piece_at set bytes)
 unfolding pieces_within
-one_step n bytes = by_piece (piece_at bytes)
+one_step set n bytes = by_piece (piece_at set bytes)
   where
-    by_piece : (r : Result (Piece × List ℕ) Stop) → elim r [ Ok found ↦ onto found.0 (pieces_within n found.1) | Err stop ↦ ([], stop) ] ≡ onward (pieces_within n) r
+    by_piece : (r : Result (Piece × List ℕ) Stop) → elim r [ Ok found ↦ onto found.0 (pieces_within set n found.1) | Err stop ↦ ([], stop) ] ≡ onward (pieces_within set n) r
     by_piece (Ok found) = refl
     by_piece (Err stop) = refl
 
-nothing_there : piece_at [] ≡ Err End
+nothing_there : (set : Instructions) → piece_at set [] ≡ Err End
 unfolding piece_at gap_end term_at
-nothing_there = refl
+nothing_there set = refl
 
-no_bytes : (n : ℕ) → pieces_within n [] ≡ ([], End)
+no_bytes : (set : Instructions) (n : ℕ) → pieces_within set n [] ≡ ([], End)
 unfolding pieces_within
-no_bytes zero = refl
-no_bytes (suc n) = one_step n [] ∙ ap (onward (pieces_within n)) nothing_there
+no_bytes set zero = refl
+no_bytes set (suc n) = one_step set n [] ∙ ap (onward (pieces_within set n)) (nothing_there set)
 
 -- more steps than there are bytes find no more
-pub pieces_same : (n m : ℕ) (bytes : List ℕ) → length bytes ≤ n → length bytes ≤ m → pieces_within n bytes ≡ pieces_within m bytes
-pieces_same n m [] le le' = no_bytes n ∙ sym (no_bytes m)
-pieces_same zero m (b ∷ bs) le le' = absurd (omega arith)
-pieces_same (suc n) zero (b ∷ bs) le le' = absurd (omega arith)
-pieces_same (suc n) (suc m) (b ∷ bs) le le' = one_step n (b ∷ bs) ∙ by_piece (piece_at (b ∷ bs)) refl (λ rest le le'. pieces_same n m rest le le') ∙ sym (one_step m (b ∷ bs))
+pub pieces_same : (set : Instructions) (n m : ℕ) (bytes : List ℕ) → length bytes ≤ n → length bytes ≤ m → pieces_within set n bytes ≡ pieces_within set m bytes
+pieces_same set n m [] le le' = no_bytes set n ∙ sym (no_bytes set m)
+pieces_same set zero m (b ∷ bs) le le' = absurd (omega arith)
+pieces_same set (suc n) zero (b ∷ bs) le le' = absurd (omega arith)
+pieces_same set (suc n) (suc m) (b ∷ bs) le le' = one_step set n (b ∷ bs) ∙ by_piece (piece_at set (b ∷ bs)) refl (λ rest le le'. pieces_same set n m rest le le') ∙ sym (one_step set m (b ∷ bs))
   where
-    by_piece : (r : Result (Piece × List ℕ) Stop) → piece_at (b ∷ bs) ≡ r
-        → ((rest : List ℕ) → length rest ≤ n → length rest ≤ m → pieces_within n rest ≡ pieces_within m rest) → onward (pieces_within n) r ≡ onward (pieces_within m) r
+    by_piece : (r : Result (Piece × List ℕ) Stop) → piece_at set (b ∷ bs) ≡ r
+        → ((rest : List ℕ) → length rest ≤ n → length rest ≤ m → pieces_within set n rest ≡ pieces_within set m rest) → onward (pieces_within set n) r ≡ onward (pieces_within set m) r
     by_piece (Err stop) is same = refl
     by_piece (Ok (p, after)) is same =
-        let shorter = piece_shorter (b ∷ bs) p after is in
+        let shorter = piece_shorter set (b ∷ bs) p after is in
         ap (onto p) (same after (omega (arith, shorter)) (omega (arith, shorter)))
 
 -- and the other way round
-pub first_again : (bytes : List ℕ) (p : Piece) (ps : List Piece) (stop : Stop) (after : List ℕ) → piece_at bytes ≡ Ok (p, after) → (ps, stop) ≡ pieces_of after → (p ∷ ps, stop) ≡ pieces_of bytes
+pub first_again : (set : Instructions) (bytes : List ℕ) (p : Piece) (ps : List Piece) (stop : Stop) (after : List ℕ) → piece_at set bytes ≡ Ok (p, after) → (ps, stop) ≡ pieces_of set after → (p ∷ ps, stop) ≡ pieces_of set bytes
 unfolding pieces_of
-first_again [] p ps stop after is e = let never : (let q : Result (Piece × List ℕ) Stop = Err End in q) ≡ Ok (p, after) = sym nothing_there ∙ is in absurd cc
-first_again (b ∷ bs) p ps stop after is e =
-    let shorter = piece_shorter (b ∷ bs) p after is in
-    ap (onto p) (e ∙ pieces_same (length after) (length bs) after (omega arith) (omega (arith, shorter))) ∙ sym (one_step (length bs) (b ∷ bs) ∙ ap (onward (pieces_within (length bs))) is)
+first_again set [] p ps stop after is e = let never : (let q : Result (Piece × List ℕ) Stop = Err End in q) ≡ Ok (p, after) = sym (nothing_there set) ∙ is in absurd cc
+first_again set (b ∷ bs) p ps stop after is e =
+    let shorter = piece_shorter set (b ∷ bs) p after is in
+    ap (onto p) (e ∙ pieces_same set (length after) (length bs) after (omega arith) (omega (arith, shorter))) ∙ sym (one_step set (length bs) (b ∷ bs) ∙ ap (onward (pieces_within set (length bs))) is)
 
 -- where no token stands at the front, there are none
-pub none_again : (bytes : List ℕ) (stop : Stop) → piece_at bytes ≡ Err stop → ([], stop) ≡ pieces_of bytes
+pub none_again : (set : Instructions) (bytes : List ℕ) (stop : Stop) → piece_at set bytes ≡ Err stop → ([], stop) ≡ pieces_of set bytes
 unfolding pieces_of
-none_again [] stop is = let same : (let q : Result (Piece × List ℕ) Stop = Err End in q) ≡ Err stop = sym nothing_there ∙ is in ap (λ (s : Stop). ([], s)) (sym (piece_stop End stop same)) ∙ sym (no_bytes zero)
-none_again (b ∷ bs) stop is = sym (one_step (length bs) (b ∷ bs) ∙ ap (onward (pieces_within (length bs))) is)
+none_again set [] stop is = let same : (let q : Result (Piece × List ℕ) Stop = Err End in q) ≡ Err stop = sym (nothing_there set) ∙ is in ap (λ (s : Stop). ([], s)) (sym (piece_stop End stop same)) ∙ sym (no_bytes set zero)
+none_again set (b ∷ bs) stop is = sym (one_step set (length bs) (b ∷ bs) ∙ ap (onward (pieces_within set (length bs))) is)

@@ -19,6 +19,7 @@ pub mod NamesSpelled
 pub mod Within
 pub mod Readings
 pub mod GrammarTokens
+pub mod GrammarNumerals
 pub mod GrammarCells
 pub mod GrammarItems
 pub mod GrammarColumns

@@ -1,5 +1,5 @@
 -- What the grammar has as a location's name is one that a location may have.
-use Rattle.litmus_reader.proofs.Vocabulary.{◌≡◌, ℕ, true, false, not, List, [], ◌∷◌, ◌++◌, Option, refl, sym, ap, ◌∙◌, list_any, list_all, bytes_eq, and_parts, and_from, or_parts, not-true, list_all-append, flat_map, is_location_name, is_among, are_distinct, Term, numbered, with_name, IsSetting, sets_register, sets_location, sets_in_squares, IsInitialItem, AreInitialItems, IsInitialState, in_braces, names_in, IsOperand, IsCall, IsMove, IsExchange, IsCell, IsField, empty, full, AreFields, IsRow, row, AreRows, in_field, in_rows, location_in, Shape, ArgumentTerm, in_memory, in_register, constant, Setting, IsAddition, IsLocked}
+use Rattle.litmus_reader.proofs.Vocabulary.{◌≡◌, ℕ, true, false, not, List, [], ◌∷◌, ◌++◌, Option, refl, sym, ap, ◌∙◌, list_any, list_all, bytes_eq, and_parts, and_from, or_parts, not-true, list_all-append, flat_map, is_location_name, is_among, are_distinct, Term, numbered, with_name, IsSetting, sets_register, sets_location, sets_in_squares, IsInitialItem, AreInitialItems, IsInitialState, in_braces, names_in, IsOperand, IsCall, IsMove, IsExchange, IsCell, IsField, empty, full, AreFields, IsRow, row, AreRows, in_field, in_rows, location_in, Shape, ArgumentTerm, in_memory, in_register, constant, Setting, IsAddition, IsLocked, Instructions, IsCallOfOne, IsLockedMore, IsCellMore}
 use Rattle.litmus_reader.specs.GrammarInitial as initial
 use Rattle.litmus_reader.specs.GrammarCells as cells
 use Rattle.litmus_reader.specs.GrammarRows as rows
@@ -46,9 +46,9 @@ names_numbered (x ∷ xs) names h are =
 -- ---- those of the grammar
 
 pub setting_spelled : (ts : List Term) (s : Setting) → IsSetting ts s → Spelled (names_in (s ∷ []))
-setting_spelled _ _ (sets_register core word v reg good) = refl
-setting_spelled _ _ (sets_location x v good) = and_from (is_location_name x) true good refl
-setting_spelled _ _ (sets_in_squares x v good) = and_from (is_location_name x) true good refl
+setting_spelled _ _ (sets_register core word reg v value good is_value) = refl
+setting_spelled _ _ (sets_location x v value good is_value) = and_from (is_location_name x) true good refl
+setting_spelled _ _ (sets_in_squares x v value good is_value) = and_from (is_location_name x) true good refl
 
 item_spelled : (ts : List Term) (item : List Setting) → IsInitialItem ts item → Spelled (names_in item)
 item_spelled _ _ initial.empty = refl
@@ -95,15 +95,35 @@ exchange_spelled _ _ _ (cells.register_first r x) h k = k
 addition_spelled : (a b : ArgumentTerm) (shape : Shape) → IsAddition a b shape → OperandSpelled a → ShapeSpelled shape
 addition_spelled _ _ _ (cells.adds x r) h = h
 
-locked_spelled : (ts : List Term) (shape : Shape) → IsLocked ts shape → ShapeSpelled shape
-locked_spelled _ _ (cells.locked_exchange ts a b shape is made) = let both = call_spelled _ ts a b is in exchange_spelled a b shape made both.0 both.1
-locked_spelled _ _ (cells.locked_addition ts a b shape is made) = addition_spelled a b shape made (call_spelled _ ts a b is).0
+call_of_one_spelled : (word : List ℕ) (ts : List Term) (a : ArgumentTerm) → IsCallOfOne word ts a → OperandSpelled a
+call_of_one_spelled word _ _ (cells.call_of_one letters a only is f) = operand_spelled a only f
 
-cell_spelled : (ts : List Term) (shape : Shape) → IsCell ts shape → ShapeSpelled shape
-cell_spelled _ _ (cells.moves ts a b shape is made) = let both = call_spelled _ ts a b is in move_spelled a b shape made both.0 both.1
-cell_spelled _ _ (cells.fences letters is) = refl
-cell_spelled _ _ (cells.exchanges ts a b shape is made) = let both = call_spelled _ ts a b is in exchange_spelled a b shape made both.0 both.1
-cell_spelled _ _ (cells.locks letters ts shape is locked) = locked_spelled ts shape locked
+locked_more_spelled : (ts : List Term) (shape : Shape) → IsLockedMore ts shape → ShapeSpelled shape
+locked_more_spelled _ _ (cells.compares ts x r is) = (call_spelled _ ts (in_memory x) (in_register r) is).0
+locked_more_spelled _ _ (cells.combines_constant word o ts x v of is) = (call_spelled word ts (in_memory x) (constant v) is).0
+locked_more_spelled _ _ (cells.combines_register word o ts x r of is) = (call_spelled word ts (in_memory x) (in_register r) is).0
+locked_more_spelled _ _ (cells.steps word o v ts x of is) = call_of_one_spelled word ts (in_memory x) is
+locked_more_spelled _ _ (cells.negates ts x is) = call_of_one_spelled _ ts (in_memory x) is
+
+cell_more_spelled : (ts : List Term) (shape : Shape) → IsCellMore ts shape → ShapeSpelled shape
+cell_more_spelled _ _ (cells.adds_constant word o ts r v of is) = refl
+cell_more_spelled _ _ (cells.adds_register word o ts r s of is) = refl
+cell_more_spelled _ _ (cells.steps_register word o v ts r of is) = refl
+cell_more_spelled _ _ (cells.negates_register ts r is) = refl
+cell_more_spelled _ _ (cells.swaps ts r s is) = refl
+cell_more_spelled _ _ (cells.does_nothing letters word of is) = refl
+
+locked_spelled : (set : Instructions) (ts : List Term) (shape : Shape) → IsLocked set ts shape → ShapeSpelled shape
+locked_spelled set _ _ (cells.locked_exchange ts a b shape is made) = let both = call_spelled _ ts a b is in exchange_spelled a b shape made both.0 both.1
+locked_spelled set _ _ (cells.locked_addition ts a b shape is made) = addition_spelled a b shape made (call_spelled _ ts a b is).0
+locked_spelled set _ _ (cells.locked_more ts shape all is) = locked_more_spelled ts shape is
+
+cell_spelled : (set : Instructions) (ts : List Term) (shape : Shape) → IsCell set ts shape → ShapeSpelled shape
+cell_spelled set _ _ (cells.moves ts a b shape is made) = let both = call_spelled _ ts a b is in move_spelled a b shape made both.0 both.1
+cell_spelled set _ _ (cells.fences letters is) = refl
+cell_spelled set _ _ (cells.exchanges ts a b shape is made) = let both = call_spelled _ ts a b is in exchange_spelled a b shape made both.0 both.1
+cell_spelled set _ _ (cells.locks letters ts shape is locked) = locked_spelled set ts shape locked
+cell_spelled set _ _ (cells.more ts shape all is) = cell_more_spelled ts shape is
 
 abbrev Named : List Shape → Type 0
 Named shapes = Spelled (flat_map location_in shapes)
@@ -114,17 +134,17 @@ named_both (x ∷ xs) ys h k =
     let parts = and_parts (list_all is_location_name (location_in x)) (list_all is_location_name (flat_map location_in xs)) (sym (list_all-append is_location_name (location_in x) (flat_map location_in xs)) ∙ h) in
     spelled_both (location_in x) (flat_map location_in (xs ++ ys)) parts.0 (named_both xs ys parts.1 k)
 
-field_named : (ts : List Term) (c : Option Shape) → IsField ts c → Named (in_field c)
-field_named _ _ empty = refl
-field_named _ _ (full ts shape is) = spelled_both (location_in shape) [] (cell_spelled ts shape is) refl
+field_named : (set : Instructions) (ts : List Term) (c : Option Shape) → IsField set ts c → Named (in_field c)
+field_named set _ _ empty = refl
+field_named set _ _ (full ts shape is) = spelled_both (location_in shape) [] (cell_spelled set ts shape is) refl
 
-fields_named : (ts : List Term) (fields : List (Option Shape)) → AreFields ts fields → Named (flat_map in_field fields)
-fields_named _ _ (rows.last ts c is) = named_both (in_field c) [] (field_named ts c is) refl
-fields_named _ _ (rows.more ts us c cs is are) = named_both (in_field c) (flat_map in_field cs) (field_named ts c is) (fields_named us cs are)
+fields_named : (set : Instructions) (ts : List Term) (fields : List (Option Shape)) → AreFields set ts fields → Named (flat_map in_field fields)
+fields_named set _ _ (rows.last ts c is) = named_both (in_field c) [] (field_named set ts c is) refl
+fields_named set _ _ (rows.more ts us c cs is are) = named_both (in_field c) (flat_map in_field cs) (field_named set ts c is) (fields_named set us cs are)
 
-row_named : (cores : ℕ) (ts : List Term) (fields : List (Option Shape)) → IsRow cores ts fields → Named (flat_map in_field fields)
-row_named cores _ _ (row ts fields are count) = fields_named ts fields are
+row_named : (set : Instructions) (cores : ℕ) (ts : List Term) (fields : List (Option Shape)) → IsRow set cores ts fields → Named (flat_map in_field fields)
+row_named set cores _ _ (row ts fields are count) = fields_named set ts fields are
 
-pub rows_named : (cores : ℕ) (ts : List Term) (all : List (List (Option Shape))) → AreRows cores ts all → Named (in_rows all)
-rows_named cores _ _ table.none = refl
-rows_named cores _ _ (table.more ts us one others is are) = named_both (flat_map in_field one) (in_rows others) (row_named cores ts one is) (rows_named cores us others are)
+pub rows_named : (set : Instructions) (cores : ℕ) (ts : List Term) (all : List (List (Option Shape))) → AreRows set cores ts all → Named (in_rows all)
+rows_named set cores _ _ table.none = refl
+rows_named set cores _ _ (table.more ts us one others is are) = named_both (flat_map in_field one) (in_rows others) (row_named set cores ts one is) (rows_named set cores us others are)

@@ -1,6 +1,6 @@
 -- What readings give, as proofs speak of it.
 use Rattle.std.specs.Prelude.{◌≡◌, List, ◌++◌, Result, Ok, ℕ, true, [], ◌∷◌, length, IsTrue, Option, Some, None, ◌+◌, Bool, ◌||◌}
-use Rattle.litmus_reader.proofs.Vocabulary.{row_ends, section_of, Section, Term, Piece, Passes, Fault, Initial, words_of, registers_of, numbered, Stop, row_at, Rows, rows, terms, spelled_in, Claimed, claimed, Proposition, Conditioned, conditioned, Quantifier, AreRows, ends_rows, ends_rows_term, IsCondition, IsWithin, locations_in, atoms_of, claim_by, has_cores, names_in, first_words, first_registers, Shape, Setting, Phrase, cells_of, is_symbol_term, Tilde}
+use Rattle.litmus_reader.proofs.Vocabulary.{row_ends, section_of, Section, Term, Piece, Passes, Fault, Initial, words_of, registers_of, numbered, Stop, row_at, Rows, rows, terms, spelled_in, Claimed, claimed, Proposition, Conditioned, conditioned, Quantifier, AreRows, ends_rows, ends_rows_term, IsCondition, IsWithin, locations_in, atoms_of, claim_by, has_cores, names_in, first_words, first_registers, Shape, Setting, Phrase, cells_of, is_symbol_term, Tilde, Instructions}
 use Rattle.litmus_reader.proofs.Placed.{Placed, placed_in, instrs_with, locations_of, EntriesWithin}
 
 -- nothing stands there, or a token with which no row begins
@@ -23,26 +23,26 @@ pub record Says (settings : List Setting) (i : Initial) : Type 0 where
   pub cores : (cores : ℕ) (registers : List (List ℕ)) → registers_of cores i.registers ≡ Ok registers → IsTrue (has_cores cores settings)
 
 -- a cell is read as nothing, or as this instruction
-abbrev pub IsReadAs : List Piece → Option Shape → Type 0
-IsReadAs [] None = Unit {0}
-IsReadAs [] (Some shape) = ⊥
-IsReadAs (p ∷ ps) None = ⊥
-IsReadAs (p ∷ ps) (Some shape) = spelled_in (p ∷ ps) ≡ Some shape
+abbrev pub IsReadAs : Instructions → List Piece → Option Shape → Type 0
+IsReadAs set [] None = Unit {0}
+IsReadAs set [] (Some shape) = ⊥
+IsReadAs set (p ∷ ps) None = ⊥
+IsReadAs set (p ∷ ps) (Some shape) = spelled_in set (p ∷ ps) ≡ Some shape
 
 -- cells are read so, one by one
-abbrev pub AreReadAs : List (List Piece) → List (Option Shape) → Type 0
-AreReadAs [] [] = Unit {0}
-AreReadAs [] (c ∷ cs) = ⊥
-AreReadAs (ps ∷ rest) [] = ⊥
-AreReadAs (ps ∷ rest) (c ∷ cs) = IsReadAs ps c × AreReadAs rest cs
+abbrev pub AreReadAs : Instructions → List (List Piece) → List (Option Shape) → Type 0
+AreReadAs set [] [] = Unit {0}
+AreReadAs set [] (c ∷ cs) = ⊥
+AreReadAs set (ps ∷ rest) [] = ⊥
+AreReadAs set (ps ∷ rest) (c ∷ cs) = IsReadAs set ps c × AreReadAs set rest cs
 
 -- a reading parts such a row from these tokens
-pub record ReadsRow (stop : Stop) (ps : List Piece) (cells : List (Option Shape)) (back : List Term) : Type 0 where
+pub record ReadsRow (set : Instructions) (stop : Stop) (ps : List Piece) (cells : List (Option Shape)) (back : List Term) : Type 0 where
   pub s : Section
   pub at : section_of row_ends stop ps ≡ s
   pub row : List Piece
   pub is : row_at s.stop s.tokens ≡ Ok row
-  pub cells_are : AreReadAs (cells_of row) cells
+  pub cells_are : AreReadAs set (cells_of row) cells
   pub after_it : terms s.rest ≡ back
 
 -- what is read of entries after these names, where this stands after them
@@ -56,9 +56,9 @@ pub record ReadsPlaced (reading : Result Rows Fault) (names : List (List ℕ)) (
   pub after_it : terms rest ≡ back
 
 -- what was read are rows within the limits that the tokens at the front spell, and no row stands after them
-pub record SpellsRows (cores : ℕ) (names : List (List ℕ)) (ps : List Piece) (r : Rows) : Type 0 where
+pub record SpellsRows (set : Instructions) (cores : ℕ) (names : List (List ℕ)) (ps : List Piece) (r : Rows) : Type 0 where
   pub table : List (List (Option Shape))
-  pub spelled : Passes (λ ts. AreRows cores ts table) ps r.rest
+  pub spelled : Passes (λ ts. AreRows set cores ts table) ps r.rest
   pub within : EntriesWithin names (placed_in table)
   pub given : r ≡ rows_by names (placed_in table) r.rest
   pub ended : ends_rows r.rest ≡ true

@@ -1,5 +1,5 @@
 -- Sections of a text, one token after the other.
-use Rattle.litmus_reader.proofs.Vocabulary.{◌≡◌, ℕ, ◌+◌, ◌≤◌, ◌<◌, Bool, true, false, cond, List, [], ◌∷◌, ◌++◌, length, Some, None, Ok, Err, refl, sym, ap, ◌∙◌, append_assoc, append-nil, arith, length-append, list_any, Stop, End, Symbol, Tilde, Term, number, name, symbol, terms, Piece, piece_at, is_symbol_term, is_symbol, symbol_at, name_then, name_at, Why, there, is_one_of, Section, onto_section, section_of, section, IsSection, tokens_in, stop_of, opened, fault, at_stop, remaining_of, bytes_eq, ends_rows_term, ends_rows, is_word, word_after, ◌||◌}
+use Rattle.litmus_reader.proofs.Vocabulary.{◌≡◌, ℕ, ◌+◌, ◌≤◌, ◌<◌, Bool, true, false, cond, List, [], ◌∷◌, ◌++◌, length, Some, None, Ok, Err, refl, sym, ap, ◌∙◌, append_assoc, append-nil, arith, length-append, list_any, Stop, End, Symbol, Tilde, Term, number, hexadecimal, name, symbol, terms, Piece, piece_at, is_symbol_term, is_symbol, symbol_at, name_then, name_at, Why, there, is_one_of, Section, onto_section, section_of, section, IsSection, tokens_in, stop_of, opened, fault, at_stop, remaining_of, bytes_eq, ends_rows_term, ends_rows, is_word, word_after, ◌||◌, Instructions}
 use Rattle.litmus_tokens.specs.declared.fault.Why.TheVariants.{BadToken}
 use Rattle.litmus_reader.proofs.Lexed.{first_again, none_again}
 use Rattle.litmus_reader.proofs.GrammarTokens.{terms_append}
@@ -94,104 +94,105 @@ section_taken ends stop ps front back end t e is one =
 -- ---- sections of texts
 
 -- a section as far as it has been read
-pub record SoFar (ends : List Symbol) (text : List ℕ) (ps : List Piece) (rest : List ℕ) : Type 0 where
-  pub is : section_of ends (stop_of text) (tokens_in text) ≡ after_these ps (section_of ends (stop_of text) (tokens_in rest))
-  pub stop_kept : stop_of text ≡ stop_of rest
+pub record SoFar (set : Instructions) (ends : List Symbol) (text : List ℕ) (ps : List Piece) (rest : List ℕ) : Type 0 where
+  pub is : section_of ends (stop_of set text) (tokens_in set text) ≡ after_these ps (section_of ends (stop_of set text) (tokens_in set rest))
+  pub stop_kept : stop_of set text ≡ stop_of set rest
   pub within : length ps + length rest ≤ length text
 
 -- the tokens from one on
-pub record Token (text : List ℕ) (p : Piece) (after : List ℕ) : Type 0 where
-  pub tokens : tokens_in text ≡ p ∷ tokens_in after
-  pub stop_kept : stop_of text ≡ stop_of after
+pub record Token (set : Instructions) (text : List ℕ) (p : Piece) (after : List ℕ) : Type 0 where
+  pub tokens : tokens_in set text ≡ p ∷ tokens_in set after
+  pub stop_kept : stop_of set text ≡ stop_of set after
 
-pub token_there : (text after : List ℕ) (p : Piece) → Ok (p, after) ≡ piece_at text → Token text p after
-token_there text after p e =
-    let all = first_again text p (tokens_in after) (stop_of after) after (sym e) refl in
+pub token_there : (set : Instructions) (text after : List ℕ) (p : Piece) → Ok (p, after) ≡ piece_at set text → Token set text p after
+token_there set text after p e =
+    let all = first_again set text p (tokens_in set after) (stop_of set after) after (sym e) refl in
     record { tokens = sym (ap (λ (x : List Piece × Stop). x.0) all); stop_kept = sym (ap (λ (x : List Piece × Stop). x.1) all) }
 
-pub record NoToken (text : List ℕ) (stop : Stop) : Type 0 where
-  pub tokens : tokens_in text ≡ []
-  pub stop_kept : stop_of text ≡ stop
+pub record NoToken (set : Instructions) (text : List ℕ) (stop : Stop) : Type 0 where
+  pub tokens : tokens_in set text ≡ []
+  pub stop_kept : stop_of set text ≡ stop
 
-pub token_missing : (text : List ℕ) (stop : Stop) → Err stop ≡ piece_at text → NoToken text stop
-token_missing text stop e =
-    let all = none_again text stop (sym e) in
+pub token_missing : (set : Instructions) (text : List ℕ) (stop : Stop) → Err stop ≡ piece_at set text → NoToken set text stop
+token_missing set text stop e =
+    let all = none_again set text stop (sym e) in
     record { tokens = sym (ap (λ (x : List Piece × Stop). x.0) all); stop_kept = sym (ap (λ (x : List Piece × Stop). x.1) all) }
 
-pub so_far_start : (ends : List Symbol) (text : List ℕ) → SoFar ends text [] text
-so_far_start ends text = record { is = refl; stop_kept = refl; within = omega arith }
+pub so_far_start : (set : Instructions) (ends : List Symbol) (text : List ℕ) → SoFar set ends text [] text
+so_far_start set ends text = record { is = refl; stop_kept = refl; within = omega arith }
 
-pub so_far_more : (ends : List Symbol) (text rest after : List ℕ) (ps : List Piece) (p : Piece) → Ok (p, after) ≡ piece_at rest → length after < length rest → is_one_of ends p ≡ false
-    → SoFar ends text ps rest → SoFar ends text (ps ++ p ∷ []) after
+pub so_far_more : (set : Instructions) (ends : List Symbol) (text rest after : List ℕ) (ps : List Piece) (p : Piece) → Ok (p, after) ≡ piece_at set rest → length after < length rest → is_one_of ends p ≡ false
+    → SoFar set ends text ps rest → SoFar set ends text (ps ++ p ∷ []) after
 unfolding section_of
-so_far_more ends text rest after ps p e shorter other s =
-    let t = token_there rest after p e in
-    let last = section_of ends (stop_of text) (tokens_in after) in
-    let one : section_of ends (stop_of text) (tokens_in rest) ≡ onto_section p last = rw (t.tokens, other) refl in
+so_far_more set ends text rest after ps p e shorter other s =
+    let t = token_there set rest after p e in
+    let last = section_of ends (stop_of set text) (tokens_in set after) in
+    let one : section_of ends (stop_of set text) (tokens_in set rest) ≡ onto_section p last = rw (t.tokens, other) refl in
     record {
       is = s.is ∙ ap (after_these ps) one ∙ ap (λ (l : List Piece). section l last.stop last.rest) (sym (append_assoc ps (p ∷ []) last.tokens));
       stop_kept = s.stop_kept ∙ t.stop_kept;
       within = omega (arith, s.within, shorter, length-append ps (p ∷ []));
     }
 
-pub section_ends : (ends : List Symbol) (text rest after : List ℕ) (ps : List Piece) (p : Piece) → Ok (p, after) ≡ piece_at rest → is_one_of ends p ≡ true
-    → SoFar ends text ps rest → IsSection ends text (ps ++ p ∷ []) after End
+pub section_ends : (set : Instructions) (ends : List Symbol) (text rest after : List ℕ) (ps : List Piece) (p : Piece) → Ok (p, after) ≡ piece_at set rest → is_one_of ends p ≡ true
+    → SoFar set ends text ps rest → IsSection set ends text (ps ++ p ∷ []) after End
 unfolding section_of
-section_ends ends text rest after ps p e is s =
-    let t = token_there rest after p e in
-    let one : section_of ends (stop_of text) (tokens_in rest) ≡ section (p ∷ []) End (tokens_in after) = rw (t.tokens, is) refl in
+section_ends set ends text rest after ps p e is s =
+    let t = token_there set rest after p e in
+    let one : section_of ends (stop_of set text) (tokens_in set rest) ≡ section (p ∷ []) End (tokens_in set after) = rw (t.tokens, is) refl in
     record { is = s.is ∙ ap (after_these ps) one; stop_kept = s.stop_kept ∙ t.stop_kept }
 
-pub section_stops : (ends : List Symbol) (text rest : List ℕ) (ps : List Piece) (stop : Stop) → Err stop ≡ piece_at rest → SoFar ends text ps rest → IsSection ends text ps rest stop
+pub section_stops : (set : Instructions) (ends : List Symbol) (text rest : List ℕ) (ps : List Piece) (stop : Stop) → Err stop ≡ piece_at set rest → SoFar set ends text ps rest → IsSection set ends text ps rest stop
 unfolding section_of
-section_stops ends text rest ps stop e s =
-    let t = token_missing rest stop e in
-    let none : section_of ends (stop_of text) (tokens_in rest) ≡ section [] stop (tokens_in rest) = rw (t.tokens, s.stop_kept, t.stop_kept) refl in
-    record { is = s.is ∙ ap (after_these ps) none ∙ ap (λ (l : List Piece). section l stop (tokens_in rest)) (append-nil ps); stop_kept = s.stop_kept }
+section_stops set ends text rest ps stop e s =
+    let t = token_missing set rest stop e in
+    let none : section_of ends (stop_of set text) (tokens_in set rest) ≡ section [] stop (tokens_in set rest) = rw (t.tokens, s.stop_kept, t.stop_kept) refl in
+    record { is = s.is ∙ ap (after_these ps) none ∙ ap (λ (l : List Piece). section l stop (tokens_in set rest)) (append-nil ps); stop_kept = s.stop_kept }
 
 -- ---- the token at the front
 
-pub opened_there : (s : Symbol) (why : Why) (text after : List ℕ) (p : Piece) → Ok (p, after) ≡ piece_at text → is_symbol s p ≡ true → Ok (tokens_in after) ≡ opened s why text
+pub opened_there : (set : Instructions) (s : Symbol) (why : Why) (text after : List ℕ) (p : Piece) → Ok (p, after) ≡ piece_at set text → is_symbol s p ≡ true → Ok (tokens_in set after) ≡ opened set s why text
 unfolding symbol_at
-opened_there s why text after p e is = let t = token_there text after p e in rw (t.tokens, is) refl
+opened_there set s why text after p e is = let t = token_there set text after p e in rw (t.tokens, is) refl
 
-pub opened_other : (s : Symbol) (why : Why) (text after : List ℕ) (p : Piece) → Ok (p, after) ≡ piece_at text → is_symbol s p ≡ false → Err (fault BadToken p.remaining) ≡ opened s why text
+pub opened_other : (set : Instructions) (s : Symbol) (why : Why) (text after : List ℕ) (p : Piece) → Ok (p, after) ≡ piece_at set text → is_symbol s p ≡ false → Err (fault BadToken p.remaining) ≡ opened set s why text
 unfolding symbol_at
-opened_other s why text after p e is = let t = token_there text after p e in rw (t.tokens, is) refl
+opened_other set s why text after p e is = let t = token_there set text after p e in rw (t.tokens, is) refl
 
-pub opened_missing : (s : Symbol) (why : Why) (text : List ℕ) (stop : Stop) → Err stop ≡ piece_at text → Err (at_stop (fault why 0) stop) ≡ opened s why text
+pub opened_missing : (set : Instructions) (s : Symbol) (why : Why) (text : List ℕ) (stop : Stop) → Err stop ≡ piece_at set text → Err (at_stop (fault why 0) stop) ≡ opened set s why text
 unfolding symbol_at
-opened_missing s why text stop e = let t = token_missing text stop e in rw (t.tokens, t.stop_kept) refl
+opened_missing set s why text stop e = let t = token_missing set text stop e in rw (t.tokens, t.stop_kept) refl
 
-pub place_there : (text after : List ℕ) (p : Piece) → Ok (p, after) ≡ piece_at text → p.remaining ≡ remaining_of (tokens_in text)
-place_there text after p e = let t = token_there text after p e in rw t.tokens refl
+pub place_there : (set : Instructions) (text after : List ℕ) (p : Piece) → Ok (p, after) ≡ piece_at set text → p.remaining ≡ remaining_of (tokens_in set text)
+place_there set text after p e = let t = token_there set text after p e in rw t.tokens refl
 
-pub ends_rows_there : (text after : List ℕ) (p : Piece) → Ok (p, after) ≡ piece_at text → ends_rows (tokens_in text) ≡ (ends_rows_term p.term || is_symbol Tilde p)
+pub ends_rows_there : (set : Instructions) (text after : List ℕ) (p : Piece) → Ok (p, after) ≡ piece_at set text → ends_rows (tokens_in set text) ≡ (ends_rows_term p.term || is_symbol Tilde p)
 unfolding ends_rows
-ends_rows_there text after p e = let t = token_there text after p e in rw t.tokens refl
+ends_rows_there set text after p e = let t = token_there set text after p e in rw t.tokens refl
 
-pub ends_rows_missing : (text : List ℕ) (stop : Stop) → Err stop ≡ piece_at text → ends_rows (tokens_in text) ≡ true
+pub ends_rows_missing : (set : Instructions) (text : List ℕ) (stop : Stop) → Err stop ≡ piece_at set text → ends_rows (tokens_in set text) ≡ true
 unfolding ends_rows
-ends_rows_missing text stop e = let t = token_missing text stop e in rw t.tokens refl
+ends_rows_missing set text stop e = let t = token_missing set text stop e in rw t.tokens refl
 
-pub word_there : (word text after : List ℕ) (p : Piece) → Ok (p, after) ≡ piece_at text → word_after word (tokens_in text) ≡ cond (is_word word p.term) (Some (tokens_in after)) None
+pub word_there : (set : Instructions) (word text after : List ℕ) (p : Piece) → Ok (p, after) ≡ piece_at set text → word_after word (tokens_in set text) ≡ cond (is_word word p.term) (Some (tokens_in set after)) None
 unfolding word_after name_at
-word_there word text after p e = let t = token_there text after p e in rw t.tokens (by_term p.term)
+word_there set word text after p e = let t = token_there set text after p e in rw t.tokens (by_term p.term)
   where
-    by_term : (t : Term) → there (name_then t (tokens_in after)) (λ x. cond (bytes_eq x.0 word) (Some x.1) None) None ≡ cond (is_word word t) (Some (tokens_in after)) None
+    by_term : (t : Term) → there (name_then t (tokens_in set after)) (λ x. cond (bytes_eq x.0 word) (Some x.1) None) None ≡ cond (is_word word t) (Some (tokens_in set after)) None
     by_term (name x) = refl
     by_term (number d) = refl
+    by_term (hexadecimal d) = refl
     by_term (symbol s) = refl
 
-pub stop_there : (text after : List ℕ) (p : Piece) → Ok (p, after) ≡ piece_at text → stop_of after ≡ stop_of text
-stop_there text after p e = sym (token_there text after p e).stop_kept
+pub stop_there : (set : Instructions) (text after : List ℕ) (p : Piece) → Ok (p, after) ≡ piece_at set text → stop_of set after ≡ stop_of set text
+stop_there set text after p e = sym (token_there set text after p e).stop_kept
 
-pub word_missing : (word text : List ℕ) (stop : Stop) → Err stop ≡ piece_at text → word_after word (tokens_in text) ≡ None
+pub word_missing : (set : Instructions) (word text : List ℕ) (stop : Stop) → Err stop ≡ piece_at set text → word_after word (tokens_in set text) ≡ None
 unfolding word_after name_at
-word_missing word text stop e = let t = token_missing text stop e in rw t.tokens refl
+word_missing set word text stop e = let t = token_missing set text stop e in rw t.tokens refl
 
-pub word_begins : (word text after : List ℕ) (p : Piece) → Ok (p, after) ≡ piece_at text → is_word word p.term ≡ true → Some (tokens_in after) ≡ word_after word (tokens_in text)
-word_begins word text after p e is = sym (word_there word text after p e ∙ rw is refl)
+pub word_begins : (set : Instructions) (word text after : List ℕ) (p : Piece) → Ok (p, after) ≡ piece_at set text → is_word word p.term ≡ true → Some (tokens_in set after) ≡ word_after word (tokens_in set text)
+word_begins set word text after p e is = sym (word_there set word text after p e ∙ rw is refl)
 
-pub word_differs : (word text after : List ℕ) (p : Piece) → Ok (p, after) ≡ piece_at text → is_word word p.term ≡ false → None ≡ word_after word (tokens_in text)
-word_differs word text after p e is = sym (word_there word text after p e ∙ rw is refl)
+pub word_differs : (set : Instructions) (word text after : List ℕ) (p : Piece) → Ok (p, after) ≡ piece_at set text → is_word word p.term ≡ false → None ≡ word_after word (tokens_in set text)
+word_differs set word text after p e is = sym (word_there set word text after p e ∙ rw is refl)

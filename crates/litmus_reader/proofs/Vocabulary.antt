@@ -13,13 +13,15 @@ pub use Rattle.litmus_tokens.specs.declared.fault.Fault.{Fault}
 pub use Rattle.litmus_reader.specs.Header.{from_gap, sized}
 unfoldable pub use Rattle.litmus_reader.specs.Header.{header_at}
 unfoldable pub use Rattle.litmus_reader.specs.Information.{information_end, begins_initial, braces_within, braces_at, quotation_end, key_value, key_line_end}
+pub use Rattle.litmus_tokens.specs.declared.instructions.Instructions.{Instructions}
+pub use Rattle.litmus_tokens.specs.declared.instructions.Instructions.TheVariants.{All, Basic}
 pub use Rattle.litmus_tokens.specs.declared.token.Stop.{Stop}
 pub use Rattle.litmus_tokens.specs.declared.token.Symbol.{Symbol}
-pub use Rattle.litmus_tokens.specs.declared.token.Symbol.TheVariants.{CloseCurly, Bar, Semicolon, Colon, OpenSquare, CloseSquare, Comma, Dollar, OpenCurly, OpenRound, CloseRound, And, Or, Tilde, Equals}
+pub use Rattle.litmus_tokens.specs.declared.token.Symbol.TheVariants.{CloseCurly, Bar, Semicolon, Colon, OpenSquare, CloseSquare, Comma, Dollar, OpenCurly, OpenRound, CloseRound, And, Or, Tilde, Equals, Minus}
 pub use Rattle.litmus_tokens.specs.Pieces.{Piece, onto}
 unfoldable pub use Rattle.litmus_tokens.specs.Pieces.{pieces_of, piece_at, pieces_within}
-pub use Rattle.litmus_tokens.specs.Front.{is_symbol_term, name_then, number_then}
-unfoldable pub use Rattle.litmus_tokens.specs.Front.{symbol_at, name_at, number_at, is_symbol}
+pub use Rattle.litmus_tokens.specs.Front.{is_symbol_term, name_then, number_then, unsigned_then}
+unfoldable pub use Rattle.litmus_tokens.specs.Front.{symbol_at, name_at, number_at, unsigned_at, numeral_at, is_symbol}
 pub use Rattle.litmus_reader.specs.declared.fault.Part.{Part}
 pub use Rattle.litmus_tokens.specs.declared.fault.ReadError.{ReadError}
 pub use Rattle.litmus_tokens.specs.Faults.{Fails, Gives, ◌>>=◌, or_fault, there}
@@ -33,7 +35,7 @@ pub use Rattle.std.specs.Str.{bytes_eq, IsUtf8}
 pub use Rattle.tso_terms.specs.Registers.{index_of, IsWord, same_letters, AreRegisters, register_named}
 pub use Rattle.basic_laws.specs.Types.{Reg, Instr, Loc, StoreImm, StoreReg, Load, SetImm, SetReg, Fence, Xchg, Xadd, Quantifier, Exists, NotExists, Forall, Eax, Ebx, Ecx, Edx, Esi, Edi}
 pub use Rattle.litmus_tokens.specs.declared.fault.Why.TheVariants.{TwiceInit, TooLarge, Unclosed, NoSuchCore, WrongCells, BadHeaderRow, BadCondition, BadInstruction, BadNumber, NoMemory}
-pub use Rattle.litmus_tokens.specs.Numbers.{word_at}
+pub use Rattle.litmus_tokens.specs.Numbers.{word_at, hexadecimal_value, negative}
 pub use Rattle.litmus_reader.specs.inner.Initial.{given, initial, given_of, named_by_key, named_by_word, KnowsGiven, with_register, items_at, words_of}
 pub use Rattle.litmus_reader.specs.inner.Sections.{before_opening, tokens_in, stop_of, section, onto_section, is_one_of, item_ends, row_ends, IsSection, opened}
 pub use Rattle.litmus_reader.specs.Sections.{Section}
@@ -69,9 +71,9 @@ pub use Rattle.litmus_reader.specs.Reading.{program_of, test_of, refusal}
 unfoldable pub use Rattle.litmus_reader.specs.Reading.{end_at, tail_at, body_of, reading_of}
 pub use Rattle.tso_terms.specs.Decimals.{decimal_value}
 pub use Rattle.tso_terms.specs.Names.{is_location_name, is_among, is_name, is_register_word, is_test_name, is_printable, begins_name, continues_name, last_byte, is_keyword}
-pub use Rattle.litmus_tokens.specs.Arguments.{ArgumentTerm, in_memory, in_register, constant, as_constant, memory_at, if_last}
-unfoldable pub use Rattle.litmus_tokens.specs.Arguments.{argument_at, two_arguments}
-pub use Rattle.litmus_tokens.specs.Forms.{mov_of, xchg_of, xadd_of, no_more, locked_by, by_mnemonic}
+pub use Rattle.litmus_tokens.specs.Arguments.{ArgumentTerm, in_memory, in_register, constant, as_constant, memory_at, if_last, if_alone}
+unfoldable pub use Rattle.litmus_tokens.specs.Arguments.{argument_at, one_argument, two_arguments}
+pub use Rattle.litmus_tokens.specs.Forms.{mov_of, xchg_of, xadd_of, no_more, if_all, swap_of, cmpxchg_of, operator_named, step_named, locked_of, combine_of, locked_step, combine_step, locked_neg, neg_of, locked_more, is_no_operation, more_by, exchange_of, locked_by, by_mnemonic}
 unfoldable pub use Rattle.litmus_tokens.specs.Forms.{locked_at, spelled_in}
 pub use Rattle.litmus_tokens.specs.Shapes.{Shape, store_imm, store_reg, load, set_imm, set_reg, fence, xchg, xadd}
 pub use Rattle.std.proofs.lemmas.List.Elements.{All-nil, All-head, All-tail, All-weaker, All-map, All-cons}
@@ -82,14 +84,15 @@ pub use Rattle.tso_terms.specs.Thread.{with_value}
 pub use Rattle.litmus_reader.specs.Keywords.{is_word}
 unfoldable pub use Rattle.litmus_reader.specs.Keywords.{word_after}
 pub use Rattle.std.proofs.lemmas.Bool.Decides.{nat_tests}
-pub use Rattle.litmus_tokens.specs.Terms.{Term, number, name, symbol, spelling_of, symbol_among, run_of, symbol_or_bad}
+pub use Rattle.litmus_tokens.specs.Terms.{Term, number, hexadecimal, name, symbol, is_hexadecimal, is_minus, numeral_term, spelling_of, symbol_among, run_of, symbol_or_bad}
 unfoldable pub use Rattle.litmus_tokens.specs.Terms.{symbols, symbol_of, term_at}
 pub use Rattle.litmus_reader.specs.Grammar.{terms, Passes}
 pub use Rattle.litmus_reader.specs.GrammarConditions.{IsCondition, IsWithin, locations_in, atoms_of, claim_by, AreJoined, one, IsConjunction, IsProposition, settings_in, PhraseFits, IsAtom, says_true, says_false, says_setting, in_brackets, is_negation, IsUnit, IsQuantifier, says_exists, says_forall, says_not_exists, condition}
 pub use Rattle.litmus_reader.specs.GrammarInitial.{has_cores, names_in, first_words, first_registers, is_allowed, given_value, same_place, each_once, Fits, IsInitialItem, AreInitialItems, last, more, IsInitialState, in_braces, has_core, value_in, names_register, first_registers_of}
 pub use Rattle.std.proofs.lemmas.Slice.Eq.{bytes_eq-Decides}
 pub use Rattle.std.specs.Char.{to_ascii_lowercase, is_ascii_alphabetic, is_ascii_digit}
-pub use Rattle.litmus_reader.specs.GrammarCells.{IsOperand, IsCall, IsMove, IsExchange, IsCell, IsAddition, IsLocked}
+pub use Rattle.litmus_reader.specs.GrammarNumerals.{IsUnsigned, IsNumeral}
+pub use Rattle.litmus_reader.specs.GrammarCells.{IsOperand, IsCall, IsMove, IsExchange, IsCell, IsAddition, IsLocked, IsCallOfOne, IsOperator, IsStep, DoesNothing, IsLockedMore, IsCellMore}
 pub use Rattle.litmus_reader.specs.GrammarItems.{IsSetting, sets_register, sets_location, sets_in_squares}
 pub use Rattle.litmus_reader.specs.GrammarColumns.{IsHeaderRow, core_name}
 pub use Rattle.std.proofs.lemmas.List.Folds.{list_all-append, list_any-append}

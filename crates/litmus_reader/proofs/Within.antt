@@ -1,5 +1,7 @@
 -- What a text spells is within the limits of a test, for what is written keeps them.
-use Rattle.litmus_reader.proofs.Vocabulary.{◌≡◌, ℕ, zero, suc, ◌≤◌, ◌<◌, ◌^◌, Bool, true, false, cond, not, eqb, ltb, ◌&&◌, List, [], ◌∷◌, ◌++◌, length, map, All, Option, Some, None, Ok, refl, sym, ap, subst, ◌∙◌, arith, list_all, bytes_eq, IsUtf8, and_parts, and_from, ltb-true, nat_tests, AllPass-from_list_all, All-weaker, All-nil, All-cons, All-head, All-tail, All-map, length-map, length-map-range_with_len, range_with_len, flat_map, Litmus, IsTest, KnownLocation, ConstantIsWord, IsProgram, IsWord, AreRegisters, NamesExist, atoms_in, negations_in, Condition, is_name, is_location_name, is_register_word, is_test_name, is_printable, begins_name, continues_name, last_byte, Term, And, Or, Symbol, Stop, Piece, header_at, Initial, initial_at, Table, table_at, tail_at, test_of, body_of, reading_of, numbered, Fits, first_registers, first_registers_of, value_in, given_value, names_in, in_field, in_rows, column, location_in, instr_with, ValueFits, Shape, store_imm, store_reg, load, set_imm, set_reg, fence, xchg, xadd, IsAtom, says_true, says_false, says_setting, AreJoined, IsConjunction, IsProposition, IsUnit, in_brackets, condition, MayAsk, nothing, a_condition, IsEnding, at_once, after_locations, names_asked, IsAskedWithin, settings_in, locations_in, atoms_of, PhraseFits, claim_by, Setting, of_register, of_location, Phrase, truth, atom, negation, both, either, WrittenCondition, Written, tokens_in, stop_of, condition_of, AreWithin, Instr, slice_index_or, Eax, Ebx, Ecx, Edx, Esi, Edi}
+use Rattle.litmus_reader.proofs.Vocabulary.{◌≡◌, ℕ, zero, suc, ◌≤◌, ◌<◌, ◌^◌, Bool, true, false, cond, not, eqb, ltb, ◌&&◌, List, [], ◌∷◌, ◌++◌, length, map, All, Option, Some, None, Ok, refl, sym, ap, subst, ◌∙◌, arith, list_all, bytes_eq, IsUtf8, and_parts, and_from, ltb-true, nat_tests, AllPass-from_list_all, All-weaker, All-nil, All-cons, All-head, All-tail, All-map, length-map, length-map-range_with_len, range_with_len, flat_map, Litmus, IsTest, KnownLocation, ConstantIsWord, IsProgram, IsWord, AreRegisters, NamesExist, atoms_in, negations_in, Condition, is_name, is_location_name, is_register_word, is_test_name, is_printable, begins_name, continues_name, last_byte, Term, And, Or, Symbol, Stop, Piece, header_at, Initial, initial_at, Table, table_at, tail_at, test_of, body_of, reading_of, numbered, Fits, first_registers, first_registers_of, value_in, given_value, names_in, in_field, in_rows, column, location_in, instr_with, ValueFits, Shape, store_imm, store_reg, load, set_imm, set_reg, fence, xchg, xadd, IsAtom, says_true, says_false, says_setting, AreJoined, IsConjunction, IsProposition, IsUnit, in_brackets, condition, MayAsk, nothing, a_condition, IsEnding, at_once, after_locations, names_asked, IsAskedWithin, settings_in, locations_in, atoms_of, PhraseFits, claim_by, Setting, of_register, of_location, Phrase, truth, atom, negation, both, either, WrittenCondition, Written, tokens_in, stop_of, condition_of, AreWithin, Instr, slice_index_or, Eax, Ebx, Ecx, Edx, Esi, Edi, Instructions}
+use Rattle.litmus_tokens.specs.Shapes.{compare_exchange, locked_constant, locked_register, locked_negate, combine_constant, combine_register, negate, swap}
+use Rattle.litmus_tokens.specs.Shapes as shapes
 use Rattle.std.proofs.lemmas.Str.{IsUtf8-from_ascii}
 use Rattle.std.proofs.lemmas.Str.Ascii.{IsAscii-from_all}
 use Rattle.std.specs.Option.{ForSome}
@@ -116,19 +118,19 @@ may_keep : (ts : List Term) (c : Option WrittenCondition) → MayAsk ts c → As
 may_keep _ _ nothing = tt
 may_keep _ _ (a_condition _ _ _ (condition ts us q p is_quantifier is)) = proposition_keeps (IsUnit 64) 64 (unit_keeps 64) us p is
 
-ending_keeps : (text : List ℕ) (stop : Stop) (ps : List Piece) (c : Option WrittenCondition) → IsEnding text stop ps c → AskedKeeps c
-ending_keeps text stop _ _ (at_once ps c ended is) = may_keep _ c is
-ending_keeps text stop _ _ (after_locations w o ps bytes c is_word is_open closes ended is) = may_keep _ c is
+ending_keeps : (set : Instructions) (text : List ℕ) (stop : Stop) (ps : List Piece) (c : Option WrittenCondition) → IsEnding set text stop ps c → AskedKeeps c
+ending_keeps set text stop _ _ (at_once ps c ended is) = may_keep _ c is
+ending_keeps set text stop _ _ (after_locations w o ps bytes c is_word is_open closes ended is) = may_keep _ c is
 
 asked_spelled : (c : Option WrittenCondition) → AskedKeeps c → Spelled (names_asked c)
 asked_spelled None k = refl
 asked_spelled (Some c) k = k.spelled
 
-body_names : (braces : List ℕ) (w : Written) → IsBody braces w → AreNames (located w)
-body_names braces w b =
+body_names : (set : Instructions) (braces : List ℕ) (w : Written) → IsBody set braces w → AreNames (located w)
+body_names set braces w b =
     let first = names_numbered (names_in w.settings) [] (record { spelled = refl; differ = refl }) (state_spelled _ w.settings b.head.initial.is) in
-    let further = names_numbered (flat_map location_in (in_rows w.table)) (first_names w) first (rows_named w.cores _ w.table b.are_rows.is) in
-    names_numbered (names_asked w.asked) (located_in_rows w) further (asked_spelled w.asked (ending_keeps braces _ _ w.asked b.is_ending))
+    let further = names_numbered (flat_map location_in (in_rows w.table)) (first_names w) first (rows_named set w.cores _ w.table b.are_rows.is) in
+    names_numbered (names_asked w.asked) (located_in_rows w) further (asked_spelled w.asked (ending_keeps set braces _ _ w.asked b.is_ending))
 
 -- ---- words and registers
 
@@ -199,6 +201,15 @@ location_known names (set_reg reg other) k = tt
 location_known names fence k = tt
 location_known names (xchg x reg) k = place_below (bytes_eq x) names k.0
 location_known names (xadd x reg) k = place_below (bytes_eq x) names k.0
+location_known names (compare_exchange x reg) k = place_below (bytes_eq x) names k.0
+location_known names (locked_constant operator x v) k = place_below (bytes_eq x) names k.0
+location_known names (locked_register operator x reg) k = place_below (bytes_eq x) names k.0
+location_known names (locked_negate x) k = place_below (bytes_eq x) names k.0
+location_known names (combine_constant operator reg v) k = tt
+location_known names (combine_register operator reg other) k = tt
+location_known names (negate reg) k = tt
+location_known names (swap reg other) k = tt
+location_known names shapes.nothing k = tt
 
 constant_word : (names : List (List ℕ)) (shape : Shape) → ValueFits shape → ConstantIsWord (instr_with names shape)
 constant_word names (store_imm x v) f = f
@@ -209,6 +220,15 @@ constant_word names (set_reg reg other) f = tt
 constant_word names fence f = tt
 constant_word names (xchg x reg) f = tt
 constant_word names (xadd x reg) f = tt
+constant_word names (compare_exchange x reg) f = tt
+constant_word names (locked_constant operator x v) f = f
+constant_word names (locked_register operator x reg) f = tt
+constant_word names (locked_negate x) f = tt
+constant_word names (combine_constant operator reg v) f = f
+constant_word names (combine_register operator reg other) f = tt
+constant_word names (negate reg) f = tt
+constant_word names (swap reg other) f = tt
+constant_word names shapes.nothing f = tt
 
 -- ---- the test
 
@@ -243,11 +263,11 @@ column_fits w core h =
       locations_known = each_all Knows (KnownLocation (length all)) (instr_with all) (location_known all) (column core w.table) (in_one_column Knows core w.table known);
     }
 
-written_is_test : (text : List ℕ) (w : Written) → IsText text w → KeepsLimits w → IsTest (test_written w)
-written_is_test text w is limits =
-    let names = body_names is.braces w is.body in
+written_is_test : (set : Instructions) (text : List ℕ) (w : Written) → IsText set text w → KeepsLimits w → IsTest (test_written w)
+written_is_test set text w is limits =
+    let names = body_names set is.braces w is.body in
     let all = located w in
-    let asked = ending_keeps is.braces _ _ w.asked is.body.is_ending in
+    let asked = ending_keeps set is.braces _ _ w.asked is.body.is_ending in
     let some = grow 0 _ w.cores is.body.head.header_row.is.columns in
     let few = is.body.head.header_row.is.few in
     let many : length (test_written w).programs ≡ w.cores = length-map-range_with_len _ 0 w.cores in
@@ -271,17 +291,17 @@ written_is_test text w is limits =
       condition_fits = rw many (condition_fits w.cores (located_in_rows w) w.asked asked limits.condition);
     }
 
-pub spelled_is_test : (text : List ℕ) (t : Litmus) → reading_of text ≡ Ok t → IsTest t
-spelled_is_test text t e = let f = text_takes text t e in subst IsTest (sym f.says) (written_is_test text f.written f.is f.limits)
+pub spelled_is_test : (set : Instructions) (text : List ℕ) (t : Litmus) → reading_of set text ≡ Ok t → IsTest t
+spelled_is_test set text t e = let f = text_takes set text t e in subst IsTest (sym f.says) (written_is_test set text f.written f.is f.limits)
 
 pub name_is_text : (text called rest : List ℕ) → Ok (called, rest) ≡ header_at text → IsUtf8 called
 name_is_text text called rest at = test_text called (header_takes text called rest (sym at)).good
 
-pub names_are_text : (text : List ℕ) (rest : List Piece) (i : Initial) (t : Table) (asked : Option Condition) (names : List (List ℕ)) → initial_at (stop_of text) [] (tokens_in text) ≡ Ok (i, rest)
-    → table_at (stop_of text) i.registers i.names rest ≡ Ok t → tail_at text (stop_of text) t.cores t.rows.names t.rows.rest ≡ Ok (asked, names) → All (λ x. IsUtf8 x) names
+pub names_are_text : (set : Instructions) (text : List ℕ) (rest : List Piece) (i : Initial) (t : Table) (asked : Option Condition) (names : List (List ℕ)) → initial_at (stop_of set text) [] (tokens_in set text) ≡ Ok (i, rest)
+    → table_at set (stop_of set text) i.registers i.names rest ≡ Ok t → tail_at set text (stop_of set text) t.cores t.rows.names t.rows.rest ≡ Ok (asked, names) → All (λ x. IsUtf8 x) names
 unfolding body_of
-names_are_text text rest i t asked names first further ending =
-    let read : body_of [] text (stop_of text) (tokens_in text) ≡ Ok (test_of [] names i.words t.registers t.rows.instrs asked) = rw (first, further, ending) refl in
-    let k = body_taken [] text _ read in
+names_are_text set text rest i t asked names first further ending =
+    let read : body_of set [] text (stop_of set text) (tokens_in set text) ≡ Ok (test_of [] names i.words t.registers t.rows.instrs asked) = rw (first, further, ending) refl in
+    let k = body_taken set [] text _ read in
     let same : names ≡ located k.w = ap (λ (t : Litmus). t.locations) k.says in
-    All-weaker (λ x. is_location_name x ≡ true) (λ x. IsUtf8 x) location_text names (AllPass-from_list_all is_location_name names (rw same (body_names text k.w k.body).spelled))
+    All-weaker (λ x. is_location_name x ≡ true) (λ x. IsUtf8 x) location_text names (AllPass-from_list_all is_location_name names (rw same (body_names set text k.w k.body).spelled))

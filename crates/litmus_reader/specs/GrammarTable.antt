@@ -1,17 +1,18 @@
 -- Which tokens spell which rows, and the instructions that these say: a core's program is its column, from top to bottom.
 use Rattle.std.specs.Prelude.{◌<◌, ◌≤◌, ℕ, ◌^◌, Bool, true, List, [], ◌∷◌, ◌++◌, length, All, IfSome, Option, Some, None, ◌||◌, false, codes, slice_index_or}
-use Rattle.litmus_reader.specs.Vocabulary.{fence, Instr, is_symbol, load, location, most_instructions, most_locations, number_of, numbered, Piece, set_imm, set_reg, Shape, store_imm, store_reg, Tilde, xadd, xchg}
-use Rattle.tso_terms.specs.declared.instruction.Instr.TheVariants.{StoreImm, StoreReg, Load, SetImm, SetReg, Fence, Xchg, Xadd}
+use Rattle.litmus_reader.specs.Vocabulary.{combine_constant, combine_register, compare_exchange, fence, Instr, Instructions, is_symbol, load, location, locked_constant, locked_negate, locked_register, most_instructions, most_locations, negate, nothing, number_of, numbered, Piece, set_imm, set_reg, Shape, store_imm, store_reg, swap, Tilde, xadd, xchg}
+use Rattle.tso_terms.specs.declared.instruction.Instr.TheVariants.{StoreImm, StoreReg, Load, SetImm, SetReg, Fence, Xchg, Xadd, CompareExchange, LockedCombine, LockedNegate, Combine, Negate, Swap, Nop}
+use Rattle.basic_laws.specs.Types.{Number, Held}
 use Rattle.litmus_tokens.specs.Terms.{Term, name}
 use Rattle.litmus_reader.specs.GrammarRows.{IsRow}
 use Rattle.std.specs.Str.{bytes_eq}
 use Rattle.std.specs.List.{flat_map}
 
 -- rows one after the other
-pub data AreRows (cores : ℕ) : List Term → List (List (Option Shape)) → Type 0 where
-  none : AreRows cores [] []
+pub data AreRows (set : Instructions) (cores : ℕ) : List Term → List (List (Option Shape)) → Type 0 where
+  none : AreRows set cores [] []
   more : (ts us : List Term) (row : List (Option Shape)) (others : List (List (Option Shape)))
-      → IsRow cores ts row → AreRows cores us others → AreRows cores (ts ++ us) (row ∷ others)
+      → IsRow set cores ts row → AreRows set cores us others → AreRows set cores (ts ++ us) (row ∷ others)
 
 -- `locations`, `exists` and `forall`
 abbrev pub ends_rows_term : Term → Bool
@@ -44,12 +45,18 @@ location_in (store_reg x reg) = x ∷ []
 location_in (load reg x) = x ∷ []
 location_in (xchg x reg) = x ∷ []
 location_in (xadd x reg) = x ∷ []
+location_in (compare_exchange x reg) = x ∷ []
+location_in (locked_constant operator x v) = x ∷ []
+location_in (locked_register operator x reg) = x ∷ []
+location_in (locked_negate x) = x ∷ []
 location_in others = []
 
 -- the number that an instruction has, if it has one
 abbrev pub number_in : Shape → Option ℕ
 number_in (store_imm x v) = Some v
 number_in (set_imm reg v) = Some v
+number_in (locked_constant operator x v) = Some v
+number_in (combine_constant operator reg v) = Some v
 number_in others = None
 
 -- the locations that the rows name, in their order
@@ -66,6 +73,15 @@ instr_with names (set_reg reg other) = SetReg reg other
 instr_with names fence = Fence
 instr_with names (xchg x reg) = Xchg (location (number_of names x)) reg
 instr_with names (xadd x reg) = Xadd (location (number_of names x)) reg
+instr_with names (compare_exchange x reg) = CompareExchange (location (number_of names x)) reg
+instr_with names (locked_constant operator x v) = LockedCombine (location (number_of names x)) operator (Number v)
+instr_with names (locked_register operator x reg) = LockedCombine (location (number_of names x)) operator (Held reg)
+instr_with names (locked_negate x) = LockedNegate (location (number_of names x))
+instr_with names (combine_constant operator reg v) = Combine reg operator (Number v)
+instr_with names (combine_register operator reg other) = Combine reg operator (Held other)
+instr_with names (negate reg) = Negate reg
+instr_with names (swap reg other) = Swap reg other
+instr_with names nothing = Nop
 
 -- ---- what fits
 

@@ -2,7 +2,7 @@
 -- so that a slip of the reader can't change the meaning.
 use Rattle.std.specs.Prelude.{◌≡◌, ◌≤◌, ℕ, List, [], length, IsTrue, map}
 use Rattle.std.specs.List.{range_with_len}
-use Rattle.litmus_reader.specs.Vocabulary.{Litmus, numbered, Piece, pieces_of}
+use Rattle.litmus_reader.specs.Vocabulary.{Instructions, Litmus, numbered, Piece, pieces_of}
 use Rattle.litmus_reader.specs.Limits.{longest_text}
 use Rattle.litmus_reader.specs.Grammar.{Passes}
 use Rattle.litmus_reader.specs.GrammarText.{IsHeaderLine, AreInformationLines}
@@ -21,21 +21,21 @@ pub record HasColumns (w : Written) (ps rest : List Piece) : Type 0 where
   pub header_row : Passes (λ ts. IsHeaderRow ts w.cores) columns rest
 
 -- from the initial state's `{` on the tokens are the initial state, the header row, the rows, and what ends a text
-pub record IsBody (braces : List ℕ) (w : Written) : Type 0 where
+pub record IsBody (set : Instructions) (braces : List ℕ) (w : Written) : Type 0 where
   pub rows : List Piece
   pub ending : List Piece
-  pub head : HasColumns w (pieces_of braces).0 rows
-  pub are_rows : Passes (λ ts. AreRows w.cores ts w.table) rows ending
-  pub is_ending : IsEnding braces (pieces_of braces).1 ending w.asked
+  pub head : HasColumns w (pieces_of set braces).0 rows
+  pub are_rows : Passes (λ ts. AreRows set w.cores ts w.table) rows ending
+  pub is_ending : IsEnding set braces (pieces_of set braces).1 ending w.asked
 
 -- a text is a header line, information lines and a body
-pub record IsText (text : List ℕ) (w : Written) : Type 0 where
+pub record IsText (set : Instructions) (text : List ℕ) (w : Written) : Type 0 where
   pub small : length text ≤ longest_text
   pub after : List ℕ
   pub braces : List ℕ
   pub header : IsHeaderLine text w.name after
   pub information : AreInformationLines after braces
-  pub body : IsBody braces w
+  pub body : IsBody set braces w
 
 -- ---- the test
 
@@ -69,9 +69,9 @@ pub record KeepsLimits (w : Written) : Type 0 where
   pub rows : AreWithin (first_names w) w.table
   pub condition : IsAskedWithin w.cores (located_in_rows w) w.asked
 
--- the text follows the grammar, within the limits, and says this test
-pub record FollowsGrammar (text : List ℕ) (t : Litmus) : Type 0 where
+-- the text follows the grammar of a set of instructions, within the limits, and says this test
+pub record FollowsGrammar (set : Instructions) (text : List ℕ) (t : Litmus) : Type 0 where
   pub written : Written
-  pub is : IsText text written
+  pub is : IsText set text written
   pub limits : KeepsLimits written
   pub says : t ≡ test_written written

@@ -4,6 +4,7 @@ pub mod Written
 pub mod Places
 pub mod Reading
 pub mod Grammar
+pub mod GrammarNumerals
 pub mod GrammarCells
 pub mod GrammarItems
 pub mod GrammarColumns

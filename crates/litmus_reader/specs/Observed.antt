@@ -1,6 +1,6 @@
 -- `locations [..]`, which is read and has no effect: any bytes may stand in the brackets, so tokens begin anew after them.
 use Rattle.std.specs.Prelude.{ℕ, zero, suc, List, [], ◌∷◌, length, codes, None, Result, Ok, Err, ◌==◌, if◌then◌else◌}
-use Rattle.litmus_reader.specs.Vocabulary.{BadToken, Fault, fault, gap_end, OpenSquare, Piece, pieces_of, Stop, symbol_at, there, Unclosed, ◌>>=◌}
+use Rattle.litmus_reader.specs.Vocabulary.{BadToken, Fault, fault, gap_end, Instructions, OpenSquare, Piece, pieces_of, Stop, symbol_at, there, Unclosed, ◌>>=◌}
 use Rattle.litmus_reader.specs.Faults.{or_unfit}
 use Rattle.litmus_reader.specs.Header.{from_gap}
 use Rattle.litmus_reader.specs.Keywords.{word_after}
@@ -27,6 +27,6 @@ brackets_end text stop ps = do
   square_end (remaining_of ps) (from_place text (remaining_of ps))
 
 -- the tokens after `locations [..]`, if it stands here, and else those from here on
-unfoldable pub ending_tokens : List ℕ → Stop → List Piece → Result (List Piece × Stop) Fault
-ending_tokens text stop ps =
-    there (word_after (codes "locations") ps) (λ rest. brackets_end text stop rest >>= λ bytes. Ok (pieces_of bytes)) (Ok (ps, stop))
+unfoldable pub ending_tokens : Instructions → List ℕ → Stop → List Piece → Result (List Piece × Stop) Fault
+ending_tokens set text stop ps =
+    there (word_after (codes "locations") ps) (λ rest. brackets_end text stop rest >>= λ bytes. Ok (pieces_of set bytes)) (Ok (ps, stop))

@@ -2,7 +2,7 @@
 -- refusal with a line at the end, where lines are counted.
 use Rattle.std.specs.Prelude.{ℕ, ◌-◌, List, [], ◌∷◌, ◌++◌, map, filter, replicate, ◌==◌, length, Option, Result, Ok, Err}
 use Rattle.std.specs.List.{range_with_len}
-use Rattle.litmus_reader.specs.Vocabulary.{BadToken, Condition, CoreInstr, Fault, fault, Instr, line_of, Litmus, Piece, pieces_of, Stop, Trailing, Unclosed, ◌>>=◌}
+use Rattle.litmus_reader.specs.Vocabulary.{BadToken, Condition, CoreInstr, Fault, fault, Instr, Instructions, line_of, Litmus, Piece, pieces_of, Stop, Trailing, Unclosed, ◌>>=◌}
 use Rattle.litmus_reader.specs.declared.fault.TextFault.{TextFault}
 use Rattle.litmus_reader.specs.Header.{sized, header_at}
 use Rattle.litmus_reader.specs.Information.{braces_at}
@@ -39,25 +39,25 @@ test_of name names words registers instrs condition = record {
 }
 
 -- what stands after the rows: the condition, and then the end
-unfoldable pub tail_at : List ℕ → Stop → ℕ → List (List ℕ) → List Piece → Result (Option Condition × List (List ℕ)) Fault
-tail_at text stop cores names ps = do
-  rest ← ending_tokens text stop ps
+unfoldable pub tail_at : Instructions → List ℕ → Stop → ℕ → List (List ℕ) → List Piece → Result (Option Condition × List (List ℕ)) Fault
+tail_at set text stop cores names ps = do
+  rest ← ending_tokens set text stop ps
   c ← condition_at rest.1 cores names rest.0
   end ← end_at rest.1 c.rest
   Ok (c.condition, c.names)
 
 -- the initial state, the table and what stands after it; the tokens are those of this end of the text
-unfoldable pub body_of : List ℕ → List ℕ → Stop → List Piece → Result Litmus Fault
-body_of name text stop ps = do
+unfoldable pub body_of : Instructions → List ℕ → List ℕ → Stop → List Piece → Result Litmus Fault
+body_of set name text stop ps = do
   initial ← initial_at stop [] ps
-  table ← table_at stop initial.0.registers initial.0.names initial.1
-  ending ← tail_at text stop table.cores table.rows.names table.rows.rest
+  table ← table_at set stop initial.0.registers initial.0.names initial.1
+  ending ← tail_at set text stop table.cores table.rows.names table.rows.rest
   Ok (test_of name ending.1 initial.0.words table.registers table.rows.instrs ending.0)
 
--- the test, or the first fault in the order of the text
-unfoldable pub reading_of : List ℕ → Result Litmus Fault
-reading_of text = do
+-- the test that a text spells in a set of instructions, or the first fault in the order of the text
+unfoldable pub reading_of : Instructions → List ℕ → Result Litmus Fault
+reading_of set text = do
   bytes ← sized text
   header ← header_at bytes
   braces ← braces_at header.1
-  body_of header.0 braces (pieces_of braces).1 (pieces_of braces).0
+  body_of set header.0 braces (pieces_of set braces).1 (pieces_of set braces).0

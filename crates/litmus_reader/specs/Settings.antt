@@ -1,6 +1,6 @@
 -- `c:REG=v`, `x=v` and `[x]=v`, as they stand in the initial state and in conditions.
 use Rattle.std.specs.Prelude.{ℕ, List, Result, Ok, Err, nat_lt, if◌then◌else◌}
-use Rattle.litmus_reader.specs.Vocabulary.{CloseSquare, Colon, decimal_value, Equals, Fault, fault, NoSuchCore, number_at, OpenSquare, Piece, symbol_at, there, ◌>>=◌}
+use Rattle.litmus_reader.specs.Vocabulary.{CloseSquare, Colon, decimal_value, Equals, Fault, fault, NoSuchCore, number_at, numeral_at, OpenSquare, Piece, symbol_at, there, ◌>>=◌}
 use Rattle.litmus_tokens.specs.Names.{location_at, register_at}
 use Rattle.litmus_reader.specs.declared.fault.Part.{Part}
 use Rattle.litmus_reader.specs.Faults.{or_unfit}
@@ -10,8 +10,7 @@ use Rattle.litmus_reader.specs.Written.{Setting, of_register, of_location}
 unfoldable pub value_at : Part → List Piece → Result (ℕ × List Piece) Fault
 value_at part ps = do
   rest ← or_unfit part ps (symbol_at Equals ps)
-  digits ← or_unfit part rest (number_at rest)
-  Ok (decimal_value digits.0, digits.1)
+  or_unfit part rest (numeral_at rest)
 
 -- `:REG=v`, after its core
 unfoldable pub register_setting : Part → List ℕ → List Piece → Result (Setting × List Piece) Fault

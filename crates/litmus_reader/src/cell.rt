@@ -10,7 +10,7 @@ ghost use Rattle.litmus_reader.specs.inner.Cells.{cells_after};
 ghost use Rattle.litmus_reader.specs.Cells.{cells_of};
 
 use litmus_cells::{CoreInstr, ReadError, read_cell};
-use litmus_tokens::{Symbol, Token, is_symbol};
+use litmus_tokens::{Instructions, Symbol, Token, is_symbol};
 
 /// Where the first of this symbol stands, if it is there.
 pub fn argument_of(symbol: Symbol, tokens: &[Token<'_>]) -> Option<usize>
@@ -37,17 +37,18 @@ fn first_cell<'a, 'b>(row: &'b [Token<'a>]) -> (&'b [Token<'a>], Option<&'b [Tok
 
 /// Reads the cells of a row from left to right.
 pub fn read_cells<'a>(
+    set: Instructions,
     instrs: &mut Vec<CoreInstr>,
     names: &mut Vec<&'a [u8]>,
     row: &[Token<'a>],
 ) -> Result<(), ReadError>
-    ensures { GivesCells spec.row_cells instrs.old.items names.old.items row.now result instrs.new.items names.new.items }
+    ensures { GivesCells (spec.row_cells set) instrs.old.items names.old.items row.now result instrs.new.items names.new.items }
 {
     let mut core = 0;
     let mut remaining = Some(row);
     'cells: while let Some(cells) = remaining {
         let (cell, after) = first_cell(cells);
-        read_cell(core, instrs, names, cell)?;
+        read_cell(set, core, instrs, names, cell)?;
         core += 1;
         remaining = after;
     }

@@ -18,7 +18,7 @@ use crate::section::{after_opening, read_item_tokens};
 use crate::setting::{SpelledSetting, core_of, setting_at};
 use indexmap::IndexSet;
 use litmus_cells::{Fault, ReadError, Why, located, word_at};
-use litmus_tokens::{Stop, Symbol, Token, after_symbol};
+use litmus_tokens::{Instructions, Stop, Symbol, Token, after_symbol};
 use std::alloc::Global;
 use tso_terms::{NoMemory, Reg};
 
@@ -62,8 +62,8 @@ fn note_item<'a>(
         remaining,
     };
     match item {
-        SpelledSetting::Register(core, reg, digits) => {
-            let value = word_at(remaining, digits)?;
+        SpelledSetting::Register(core, reg, numeral) => {
+            let value = word_at(remaining, numeral)?;
             let is_first = state.given.insert((core, reg.index()))?;
             if !is_first {
                 return Err(ReadError::Fault(twice));
@@ -75,8 +75,8 @@ fn note_item<'a>(
                 value,
             })?;
         }
-        SpelledSetting::Location(name, digits) => {
-            let value = word_at(remaining, digits)?;
+        SpelledSetting::Location(name, numeral) => {
+            let value = word_at(remaining, numeral)?;
             let loc = located(names, remaining, name)?;
             if (loc.0 as usize) < state.words.len() {
                 return Err(ReadError::Fault(twice));
@@ -154,6 +154,7 @@ pub fn nothing_given<'a>(alloc: Global) -> Initial<'a>
 /// `;` or `}` stands there, at the item's first token, `BadNumber`, `TooLarge` for a location too
 /// many, and `TwiceInit`.
 pub fn read_initial<'a>(
+    set: Instructions,
     tokens: &mut Vec<Token<'a>>,
     state: &mut Initial<'a>,
     names: &mut Vec<&'a [u8]>,
@@ -162,12 +163,12 @@ pub fn read_initial<'a>(
     requires words { state.old.words.items ≡ [] }
     requires registers { state.old.registers.items ≡ [] }
     requires knows { KnowsGiven state.old }
-    ensures value { GivesInitial result names.new.items state.new (inner.initial_at (stop_of text.now) (texts names.old.items) (tokens_in text.now)) }
-    ensures stop { IfOk result (λ x. stop_of x.now ≡ stop_of text.now) }
+    ensures value { GivesInitial set result names.new.items state.new (inner.initial_at (stop_of set text.now) (texts names.old.items) (tokens_in set text.now)) }
+    ensures stop { IfOk result (λ x. stop_of set x.now ≡ stop_of set text.now) }
 {
-    let (remaining, mut rest) = after_opening(Symbol::OpenCurly, Why::Unclosed, text)?;
+    let (remaining, mut rest) = after_opening(set, Symbol::OpenCurly, Why::Unclosed, text)?;
     'items: loop {
-        let onward = read_item_tokens(tokens, rest)?;
+        let onward = read_item_tokens(set, tokens, rest)?;
         let is_last = read_item(remaining, onward.stop, state, names, tokens.as_slice())?;
         rest = onward.rest;
         if is_last {

@@ -28,5 +28,6 @@ pub use header::header_at;
 pub use information::braces_at;
 pub use limits::{MAX_OPEN, MAX_TEST_NAME, MAX_TEXT, limits_are_as_defined};
 pub use litmus_cells::{Fault, ReadError, Why};
-pub use reader::{read_test, refusal_for, test_or_fault};
+pub use litmus_tokens::Instructions;
+pub use reader::{read_test, read_test_in, refusal_for, test_or_fault, test_or_fault_in};
 pub use test_texts::texts_are_decided;

@@ -13,7 +13,7 @@ ghost use Rattle.litmus_reader.specs.inner.Sections.{tokens_in, stop_of};
 use crate::header::past_gap;
 use crate::section::after_opening;
 use litmus_cells::{Fault, Why};
-use litmus_tokens::{Lexeme, Symbol, token_at};
+use litmus_tokens::{Instructions, Lexeme, Symbol, token_at};
 
 /// What stands after the next `]`, comments passed over; without it, `Unclosed` at `remaining`.
 #[tactic(auto, using(crate::proofs::Squares::square_start, crate::proofs::Squares::square_further))]
@@ -38,10 +38,10 @@ fn after_square(remaining: usize, bytes: &[u8]) -> Result<&[u8], Fault>
 
 /// What stands after the brackets with which `rest` has to begin.
 #[tactic(auto, unfolding(crate::specs::Observed::brackets_end))]
-fn after_brackets<'a>(text: &'a [u8], rest: &[u8]) -> Result<&'a [u8], Fault>
-    ensures { mapped (λ x. x.now) result ≡ spec.brackets_end text.now (stop_of rest.now) (tokens_in rest.now) }
+fn after_brackets<'a>(set: Instructions, text: &'a [u8], rest: &[u8]) -> Result<&'a [u8], Fault>
+    ensures { mapped (λ x. x.now) result ≡ spec.brackets_end text.now (stop_of set rest.now) (tokens_in set rest.now) }
 {
-    let (remaining, _) = after_opening(Symbol::OpenSquare, Why::BadToken, rest)?;
+    let (remaining, _) = after_opening(set, Symbol::OpenSquare, Why::BadToken, rest)?;
     let (_, from_square) = text.split_at(text.len().saturating_sub(remaining));
     after_square(remaining, from_square)
 }
@@ -57,11 +57,11 @@ fn is_locations(lexeme: Lexeme<'_>) -> bool
 
 /// What stands after the word `locations`, if a text begins with it.
 #[tactic(auto, using(crate::proofs::SectionSteps::word_missing, crate::proofs::SectionSteps::stop_there))]
-fn after_locations(text: &[u8]) -> Option<&[u8]>
-    ensures value { option_map (λ x. tokens_in x.now) result ≡ keywords.word_after (codes "locations") (tokens_in text.now) }
-    ensures stop { IfSome result (λ x. stop_of x.now ≡ stop_of text.now) }
+fn after_locations(set: Instructions, text: &[u8]) -> Option<&[u8]>
+    ensures value { option_map (λ x. tokens_in set x.now) result ≡ keywords.word_after (codes "locations") (tokens_in set text.now) }
+    ensures stop { IfSome result (λ x. stop_of set x.now ≡ stop_of set text.now) }
 {
-    match token_at(text) {
+    match token_at(set, text) {
         Ok((first, rest)) => {
             if is_locations(first.lexeme) {
                 Some(rest)
@@ -79,11 +79,15 @@ fn after_locations(text: &[u8]) -> Option<&[u8]>
 /// `BadToken` where no `[` stands after the word, `Unclosed` at a `[` that doesn't end and at a
 /// comment that doesn't.
 #[tactic(auto, unfolding(crate::specs::Observed::ending_tokens))]
-pub fn after_observed<'a>(text: &'a [u8], rest: &'a [u8]) -> Result<&'a [u8], Fault>
-    ensures { mapped (λ x. pieces_of x.now) result ≡ spec.ending_tokens text.now (stop_of rest.now) (tokens_in rest.now) }
+pub fn after_observed<'a>(
+    set: Instructions,
+    text: &'a [u8],
+    rest: &'a [u8],
+) -> Result<&'a [u8], Fault>
+    ensures { mapped (λ x. pieces_of set x.now) result ≡ spec.ending_tokens set text.now (stop_of set rest.now) (tokens_in set rest.now) }
 {
-    match after_locations(rest) {
-        Some(after) => after_brackets(text, after),
+    match after_locations(set, rest) {
+        Some(after) => after_brackets(set, text, after),
         None => Ok(rest),
     }
 }

@@ -21,6 +21,7 @@ ghost use Rattle.litmus_reader.specs.inner.Sections.{tokens_in, stop_of};
 ghost use Rattle.litmus_reader.specs.inner.Initial.{KnowsGiven};
 ghost use Rattle.litmus_reader.specs.inner.Returned.{GivesEnding, IsUnlessMemory};
 ghost use Rattle.litmus_reader.specs.Spelling.{SpellsTest, IsFault, IsRefused};
+ghost use Rattle.litmus_tokens.specs.declared.instructions.Instructions.TheVariants.{Basic};
 
 use crate::assembling::parts_of;
 use crate::condition::condition_at;
@@ -32,7 +33,7 @@ use crate::limits::MAX_TEXT;
 use crate::observed::after_observed;
 use crate::row::{Table, read_table};
 use litmus_cells::{Fault, ReadError, Why};
-use litmus_tokens::{Stop, Token, line_of, tokens_of};
+use litmus_tokens::{Instructions, Stop, Token, line_of, tokens_of};
 use std::alloc::Global;
 use tso_terms::{Cond, NoMemory, Test, TestParts};
 
@@ -64,16 +65,17 @@ fn end_at(stop: Stop, tokens: &[Token<'_>]) -> Result<(), Fault>
 #[tactic(auto, unfolding(crate::specs::Reading::tail_at))]
 fn tail_at<'a>(
     alloc: Global,
+    set: Instructions,
     text: &'a [u8],
     cores: usize,
     names: &mut Vec<&'a [u8]>,
     rest: &'a [u8],
 ) -> Result<Option<Cond>, ReadError>
     requires cores { cores ≤ most_cores }
-    ensures { GivesEnding result names.new.items (inner.tail_at text.now (stop_of rest.now) cores (texts names.old.items) (tokens_in rest.now)) }
+    ensures { GivesEnding result names.new.items (inner.tail_at set text.now (stop_of set rest.now) cores (texts names.old.items) (tokens_in set rest.now)) }
 {
-    let bytes = after_observed(text, rest)?;
-    let tokens = tokens_of(alloc, bytes)?;
+    let bytes = after_observed(set, text, rest)?;
+    let tokens = tokens_of(alloc, set, bytes)?;
     let (cond, rest) = condition_at(alloc, tokens.stop, cores, names, &tokens.items)?;
     end_at(tokens.stop, rest)?;
     Ok(cond)
@@ -84,6 +86,7 @@ fn tail_at<'a>(
 #[tactic(auto, unfolding(crate::specs::Reading::body_of))]
 fn body_with<'a>(
     alloc: Global,
+    set: Instructions,
     name: &[u8],
     text: &'a [u8],
     tokens: &mut Vec<Token<'a>>,
@@ -97,19 +100,24 @@ fn body_with<'a>(
     requires registers { initial.old.registers.items ≡ [] }
     requires knows { KnowsGiven initial.old }
     requires instrs { table.old.instrs.items ≡ [] }
-    ensures { Gives (λ parts. litmus_of parts) result (inner.body_of name.now text.now (stop_of text.now) (tokens_in text.now)) }
+    ensures { Gives (λ parts. litmus_of parts) result (inner.body_of set name.now text.now (stop_of set text.now) (tokens_in set text.now)) }
 {
-    let rest = read_initial(tokens, initial, names, text)?;
-    let rest = read_table(alloc, tokens, &initial.registers, names, table, rest)?;
-    let mut cond = tail_at(alloc, text, table.cores, names, rest)?;
+    let rest = read_initial(set, tokens, initial, names, text)?;
+    let rest = read_table(alloc, set, tokens, &initial.registers, names, table, rest)?;
+    let mut cond = tail_at(alloc, set, text, table.cores, names, rest)?;
     let words = &mut initial.words;
     parts_of(alloc, name, names.as_slice(), words, table, &mut cond)
 }
 
 /// The test without its header and its information lines.
-fn body_of(alloc: Global, name: &[u8], text: &[u8]) -> Result<TestParts, ReadError>
+fn body_of(
+    alloc: Global,
+    set: Instructions,
+    name: &[u8],
+    text: &[u8],
+) -> Result<TestParts, ReadError>
     requires { IsUtf8 name.now }
-    ensures { Gives (λ parts. litmus_of parts) result (inner.body_of name.now text.now (stop_of text.now) (tokens_in text.now)) }
+    ensures { Gives (λ parts. litmus_of parts) result (inner.body_of set name.now text.now (stop_of set text.now) (tokens_in set text.now)) }
 {
     let mut tokens = Vec::new(alloc);
     let mut names = Vec::new(alloc);
@@ -121,6 +129,7 @@ fn body_of(alloc: Global, name: &[u8], text: &[u8]) -> Result<TestParts, ReadErr
     };
     body_with(
         alloc,
+        set,
         name,
         text,
         &mut tokens,
@@ -136,35 +145,57 @@ fn body_of(alloc: Global, name: &[u8], text: &[u8]) -> Result<TestParts, ReadErr
 /// fault, with that place's line, and no other text is refused.
 pub fn read_test(alloc: Global, text: &[u8]) -> Result<Test, TextFault>
     // What is answered is what the text spells, and a text that spells a test is answered with it.
-    ensures found { IfOk result (λ test. SpellsTest text.now test) }
-    ensures only { (t : Litmus) → SpellsTest text.now t → MatchResult result (λ test. test ≡ t) (λ f. f.why ≡ Why.NoMemory) }
+    ensures found { IfOk result (λ test. SpellsTest Basic text.now test) }
+    ensures only { (t : Litmus) → SpellsTest Basic text.now t → MatchResult result (λ test. test ≡ t) (λ f. f.why ≡ Why.NoMemory) }
 
     // A refusal is the one that the text gets, and a text that gets one is answered with it.
-    ensures refused { IfErr result (λ f. f.why ≢ Why.NoMemory → IsRefused text.now f) }
-    ensures refuses { (fault : TextFault) → IsRefused text.now fault → MatchResult result (λ _. ⊥) (λ f. f.why ≢ Why.NoMemory → f ≡ fault) }
+    ensures refused { IfErr result (λ f. f.why ≢ Why.NoMemory → IsRefused Basic text.now f) }
+    ensures refuses { (fault : TextFault) → IsRefused Basic text.now fault → MatchResult result (λ _. ⊥) (λ f. f.why ≢ Why.NoMemory → f ≡ fault) }
     // Out of memory stands at no line.
     ensures no_memory { IfErr result (λ f. f.why ≡ Why.NoMemory → f.line ≡ 0) }
 {
-    with_line(text, read_whole(alloc, text))
+    read_test_in(alloc, Instructions::Basic, text)
+}
+
+/// What [`read_test`] answers, where a text may spell these instructions.
+pub fn read_test_in(alloc: Global, set: Instructions, text: &[u8]) -> Result<Test, TextFault>
+    ensures found { IfOk result (λ test. SpellsTest set text.now test) }
+    ensures only { (t : Litmus) → SpellsTest set text.now t → MatchResult result (λ test. test ≡ t) (λ f. f.why ≡ Why.NoMemory) }
+    ensures refused { IfErr result (λ f. f.why ≢ Why.NoMemory → IsRefused set text.now f) }
+    ensures refuses { (fault : TextFault) → IsRefused set text.now fault → MatchResult result (λ _. ⊥) (λ f. f.why ≢ Why.NoMemory → f ≡ fault) }
+    ensures no_memory { IfErr result (λ f. f.why ≡ Why.NoMemory → f.line ≡ 0) }
+{
+    with_line(set, text, read_whole(alloc, set, text))
 }
 
 /// The test that a text spells, or the first thing in it that is at fault, with its place.
 ///
 /// Out of memory aside, a text that spells no test is refused, and no other text is.
 pub fn test_or_fault(alloc: Global, text: &[u8]) -> Result<Test, ReadError>
-    ensures found { IfOk result (λ test. SpellsTest text.now test) }
-    ensures only { (t : Litmus) → SpellsTest text.now t → MatchResult result (λ test. test ≡ t) (λ e. e ≡ ReadError.NoMemory) }
+    ensures found { IfOk result (λ test. SpellsTest Basic text.now test) }
+    ensures only { (t : Litmus) → SpellsTest Basic text.now t → MatchResult result (λ test. test ≡ t) (λ e. e ≡ ReadError.NoMemory) }
     // What is answered is at fault, and a text in which something is at fault is answered with it.
-    ensures fault { (fault : Fault) → result ≡ Err (ReadError.Fault fault) → IsFault text.now fault }
-    ensures faults { (fault : Fault) → IsFault text.now fault
+    ensures fault { (fault : Fault) → result ≡ Err (ReadError.Fault fault) → IsFault Basic text.now fault }
+    ensures faults { (fault : Fault) → IsFault Basic text.now fault
         → MatchResult result (λ _. ⊥) (λ e. e ≢ ReadError.NoMemory → e ≡ ReadError.Fault fault) }
 {
-    read_whole(alloc, text)
+    test_or_fault_in(alloc, Instructions::Basic, text)
+}
+
+/// What [`test_or_fault`] answers, where a text may spell these instructions.
+pub fn test_or_fault_in(alloc: Global, set: Instructions, text: &[u8]) -> Result<Test, ReadError>
+    ensures found { IfOk result (λ test. SpellsTest set text.now test) }
+    ensures only { (t : Litmus) → SpellsTest set text.now t → MatchResult result (λ test. test ≡ t) (λ e. e ≡ ReadError.NoMemory) }
+    ensures fault { (fault : Fault) → result ≡ Err (ReadError.Fault fault) → IsFault set text.now fault }
+    ensures faults { (fault : Fault) → IsFault set text.now fault
+        → MatchResult result (λ _. ⊥) (λ e. e ≢ ReadError.NoMemory → e ≡ ReadError.Fault fault) }
+{
+    read_whole(alloc, set, text)
 }
 
 #[tactic(auto, using(crate::proofs::Within::name_is_text, crate::proofs::Within::spelled_is_test), unfolding(crate::specs::Reading::reading_of))]
-fn read_whole(alloc: Global, text: &[u8]) -> Result<Test, ReadError>
-    ensures { Gives (λ test. test) result (inner.reading_of text.now) }
+fn read_whole(alloc: Global, set: Instructions, text: &[u8]) -> Result<Test, ReadError>
+    ensures { Gives (λ test. test) result (inner.reading_of set text.now) }
 {
     // No time is spent on a text that is too large.
     if text.len() > MAX_TEXT {
@@ -175,18 +206,22 @@ fn read_whole(alloc: Global, text: &[u8]) -> Result<Test, ReadError>
     }
     let (name, rest) = header_at(text)?;
     let rest = braces_at(rest)?;
-    let parts = body_of(alloc, name, rest)?;
+    let parts = body_of(alloc, set, name, rest)?;
     Ok(Test::from_valid_parts(parts))
 }
 
 /// What a reading of a text answers, with the line of a refusal.
 #[tactic(auto, unfolding(crate::specs::inner::Reading::refusal_of))]
-fn with_line(text: &[u8], read: Result<Test, ReadError>) -> Result<Test, TextFault>
-    requires { Gives (λ test. test) read (inner.reading_of text.now) }
-    ensures found { IfOk result (λ test. inner.reading_of text.now ≡ Ok test) }
-    ensures only { (t : Litmus) → inner.reading_of text.now ≡ Ok t → MatchResult result (λ test. test ≡ t) (λ f. f.why ≡ Why.NoMemory) }
-    ensures refused { IfErr result (λ f. f.why ≢ Why.NoMemory → spec.refusal_of text.now ≡ Some f) }
-    ensures refuses { (fault : TextFault) → spec.refusal_of text.now ≡ Some fault → MatchResult result (λ _. ⊥) (IsUnlessMemory fault) }
+fn with_line(
+    set: Instructions,
+    text: &[u8],
+    read: Result<Test, ReadError>,
+) -> Result<Test, TextFault>
+    requires { Gives (λ test. test) read (inner.reading_of set text.now) }
+    ensures found { IfOk result (λ test. inner.reading_of set text.now ≡ Ok test) }
+    ensures only { (t : Litmus) → inner.reading_of set text.now ≡ Ok t → MatchResult result (λ test. test ≡ t) (λ f. f.why ≡ Why.NoMemory) }
+    ensures refused { IfErr result (λ f. f.why ≢ Why.NoMemory → spec.refusal_of set text.now ≡ Some f) }
+    ensures refuses { (fault : TextFault) → spec.refusal_of set text.now ≡ Some fault → MatchResult result (λ _. ⊥) (IsUnlessMemory fault) }
     ensures no_memory { IfErr result (λ f. f.why ≡ Why.NoMemory → f.line ≡ 0) }
 {
     match read {

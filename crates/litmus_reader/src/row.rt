@@ -22,7 +22,7 @@ use crate::fault::{at_stop, remaining_of};
 use crate::initial::{RegisterWord, registers_of};
 use crate::section::read_row_tokens;
 use litmus_cells::{CoreInstr, Fault, ReadError, Why};
-use litmus_tokens::{Lexeme, Stop, Symbol, Token, is_symbol, token_at};
+use litmus_tokens::{Instructions, Lexeme, Stop, Symbol, Token, is_symbol, token_at};
 use std::alloc::Global;
 
 /// A row without its `;`.
@@ -61,13 +61,14 @@ fn cell_count(row: &[Token<'_>]) -> usize
 /// and then what its cells refuse.
 #[tactic(auto, unfolding(crate::specs::Rows::row_in))]
 fn read_row<'a>(
+    set: Instructions,
     cores: usize,
     stop: Stop,
     instrs: &mut Vec<CoreInstr>,
     names: &mut Vec<&'a [u8]>,
     tokens: &[Token<'a>],
 ) -> Result<(), ReadError>
-    ensures { GivesCells (spec.row_in cores stop) instrs.old.items names.old.items tokens.now result instrs.new.items names.new.items }
+    ensures { GivesCells (spec.row_in set cores stop) instrs.old.items names.old.items tokens.now result instrs.new.items names.new.items }
 {
     let row = row_at(stop, tokens)?;
     if cell_count(row) != cores {
@@ -76,7 +77,7 @@ fn read_row<'a>(
             remaining: remaining_of(tokens),
         }));
     }
-    read_cells(instrs, names, row)
+    read_cells(set, instrs, names, row)
 }
 
 fn ends_rows_term(lexeme: Lexeme<'_>) -> bool
@@ -94,10 +95,10 @@ fn ends_rows_term(lexeme: Lexeme<'_>) -> bool
 
 /// Whether a text begins with a token with which no row begins, or has no token.
 #[tactic(auto, using(crate::proofs::SectionSteps::ends_rows_there, crate::proofs::SectionSteps::ends_rows_missing))]
-fn ends_rows(text: &[u8]) -> bool
-    ensures { result ≡ grammar.ends_rows (tokens_in text.now) }
+fn ends_rows(set: Instructions, text: &[u8]) -> bool
+    ensures { result ≡ grammar.ends_rows (tokens_in set text.now) }
 {
-    match token_at(text) {
+    match token_at(set, text) {
         Ok((first, _)) => ends_rows_term(first.lexeme) || is_symbol(Symbol::Tilde, &first),
         Err(_) => true,
     }
@@ -121,6 +122,7 @@ pub struct Table {
 /// its cells are counted, then they are read.
 pub fn read_table<'a>(
     alloc: Global,
+    set: Instructions,
     tokens: &mut Vec<Token<'a>>,
     given: &[RegisterWord<'a>],
     names: &mut Vec<&'a [u8]>,
@@ -128,19 +130,20 @@ pub fn read_table<'a>(
     text: &'a [u8],
 ) -> Result<&'a [u8], ReadError>
     requires { table.old.instrs.items ≡ [] }
-    ensures value { GivesTable (spec.table_at (stop_of text.now) (map given_of given.now)) names.old.items text.now result names.new.items table.new }
+    ensures value { GivesTable set (spec.table_at set (stop_of set text.now) (map given_of given.now)) names.old.items text.now result names.new.items table.new }
     ensures cores { OnOk result (table.new.cores ≤ most_cores) }
-    ensures stop { IfOk result (λ x. stop_of x.now ≡ stop_of text.now) }
+    ensures stop { IfOk result (λ x. stop_of set x.now ≡ stop_of set text.now) }
 {
-    let header = read_row_tokens(tokens, text)?;
+    let header = read_row_tokens(set, tokens, text)?;
     let cores = columns_at(header.stop, tokens.as_slice())?;
     let registers = registers_of(alloc, cores, given)?;
     table.cores = cores;
     table.registers = registers;
     let mut rest = header.rest;
-    'rows: while !ends_rows(rest) {
-        let onward = read_row_tokens(tokens, rest)?;
+    'rows: while !ends_rows(set, rest) {
+        let onward = read_row_tokens(set, tokens, rest)?;
         read_row(
+            set,
             cores,
             onward.stop,
             &mut table.instrs,

@@ -11,7 +11,7 @@ ghost use Rattle.litmus_reader.specs.Places as places;
 
 use crate::fault::at_stop;
 use litmus_cells::{Fault, Why};
-use litmus_tokens::{Stop, Symbol, Token, is_symbol, token_at};
+use litmus_tokens::{Instructions, Stop, Symbol, Token, is_symbol, token_at};
 use tso_terms::NoMemory;
 
 /// What stands after a section.
@@ -39,17 +39,18 @@ fn is_one_of(ends: &[Symbol], token: &Token<'_>) -> bool
 /// Errors: out of memory only.
 #[inline(always)]
 fn read_section<'a>(
+    set: Instructions,
     tokens: &mut Vec<Token<'a>>,
     ends: &[Symbol],
     text: &'a [u8],
 ) -> Result<Onward<'a>, NoMemory>
-    ensures value { IfOk result (λ x. IsSection ends.now text.now (pieces tokens.new.items) x.rest.now x.stop) }
+    ensures value { IfOk result (λ x. IsSection set ends.now text.now (pieces tokens.new.items) x.rest.now x.stop) }
     ensures shorter { IfOk result (λ x. 0 < length tokens.new.items → length x.rest.now < length text.now) }
 {
     tokens.clear();
     let mut rest = text;
     'tokens: loop {
-        match token_at(rest) {
+        match token_at(set, rest) {
             Ok((token, after)) => {
                 tokens.push(token)?;
                 rest = after;
@@ -67,37 +68,44 @@ fn read_section<'a>(
 ///
 /// Errors: out of memory only.
 pub fn read_item_tokens<'a>(
+    set: Instructions,
     tokens: &mut Vec<Token<'a>>,
     text: &'a [u8],
 ) -> Result<Onward<'a>, NoMemory>
-    ensures value { IfOk result (λ x. IsSection item_ends text.now (pieces tokens.new.items) x.rest.now x.stop) }
+    ensures value { IfOk result (λ x. IsSection set item_ends text.now (pieces tokens.new.items) x.rest.now x.stop) }
     ensures shorter { IfOk result (λ x. 0 < length tokens.new.items → length x.rest.now < length text.now) }
 {
-    read_section(tokens, &[Symbol::Semicolon, Symbol::CloseCurly], text)
+    read_section(set, tokens, &[Symbol::Semicolon, Symbol::CloseCurly], text)
 }
 
 /// Puts the tokens up to the next `;` in place of those in `tokens`, or all where it isn't there.
 ///
 /// Errors: out of memory only.
 pub fn read_row_tokens<'a>(
+    set: Instructions,
     tokens: &mut Vec<Token<'a>>,
     text: &'a [u8],
 ) -> Result<Onward<'a>, NoMemory>
-    ensures value { IfOk result (λ x. IsSection row_ends text.now (pieces tokens.new.items) x.rest.now x.stop) }
+    ensures value { IfOk result (λ x. IsSection set row_ends text.now (pieces tokens.new.items) x.rest.now x.stop) }
     ensures shorter { IfOk result (λ x. 0 < length tokens.new.items → length x.rest.now < length text.now) }
 {
-    read_section(tokens, &[Symbol::Semicolon], text)
+    read_section(set, tokens, &[Symbol::Semicolon], text)
 }
 
 /// The place of the symbol with which a text has to begin, and what stands after it.
 ///
 /// `BadToken` at another token, and at the end of the text `end`.
-pub fn after_opening(symbol: Symbol, end: Why, text: &[u8]) -> Result<(usize, &[u8]), Fault>
-    ensures value { mapped (λ x. tokens_in x.1.now) result ≡ spec.opened symbol end text.now }
-    ensures place { IfOk result (λ x. x.0 ≡ places.remaining_of (tokens_in text.now)) }
-    ensures stop { IfOk result (λ x. stop_of x.1.now ≡ stop_of text.now) }
+pub fn after_opening(
+    set: Instructions,
+    symbol: Symbol,
+    end: Why,
+    text: &[u8],
+) -> Result<(usize, &[u8]), Fault>
+    ensures value { mapped (λ x. tokens_in set x.1.now) result ≡ spec.opened set symbol end text.now }
+    ensures place { IfOk result (λ x. x.0 ≡ places.remaining_of (tokens_in set text.now)) }
+    ensures stop { IfOk result (λ x. stop_of set x.1.now ≡ stop_of set text.now) }
 {
-    match token_at(text) {
+    match token_at(set, text) {
         Ok((first, rest)) => {
             let remaining = first.remaining;
             if is_symbol(symbol, &first) {

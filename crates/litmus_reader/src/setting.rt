@@ -3,7 +3,7 @@
 
 ghost use Rattle.std.specs.Prelude.{◌≡◌, ◌<◌, ◌≤◌, if◌then◌else◌, length, IfOk};
 ghost use Rattle.tso_terms.specs.Limits.{most_cores};
-ghost use Rattle.tso_terms.specs.Decimals.{decimal_value};
+ghost use Rattle.litmus_tokens.specs.inner.Numerals.{numeral_of};
 ghost use Rattle.litmus_tokens.specs.inner.Pieces.{pieces};
 ghost use Rattle.litmus_tokens.specs.inner.Mapped.{mapped};
 ghost use Rattle.litmus_reader.specs.Settings as spec;
@@ -11,30 +11,30 @@ ghost use Rattle.litmus_reader.specs.inner.Settings.{setting_of};
 
 use crate::fault::Part;
 use litmus_cells::{Fault, Why, location_at, register_at};
-use litmus_tokens::{Symbol, Token, after_symbol, number_at, word};
+use litmus_tokens::{Numeral, Symbol, Token, after_symbol, number_at, numeral_at, word};
 use tso_terms::{Core, Reg};
 
-/// A value of a register or a location, as the initial state and conditions spell it. Cores and
-/// values are digits, of any length.
+/// A value of a register or a location, as the initial state and conditions spell it. Cores are
+/// digits, of any length.
 #[derive(Clone, Copy)]
 pub enum SpelledSetting<'a> {
-    Register(&'a [u8], Reg, &'a [u8]),
-    Location(&'a [u8], &'a [u8]),
+    Register(&'a [u8], Reg, Numeral<'a>),
+    Location(&'a [u8], Numeral<'a>),
 }
 
-/// `=v`: the digits of the value, and the tokens after them.
+/// `=v`: the value, and the tokens after it.
 #[tactic(auto, unfolding(crate::specs::Settings::value_at))]
 fn value_at<'a, 'b>(
     part: Part,
     tokens: &'b [Token<'a>],
-) -> Result<(&'a [u8], &'b [Token<'a>]), Fault>
-    ensures value { mapped (λ x. (decimal_value x.0.now, pieces x.1.now)) result ≡ spec.value_at part (pieces tokens.now) }
+) -> Result<(Numeral<'a>, &'b [Token<'a>]), Fault>
+    ensures value { mapped (λ x. (numeral_of x.0, pieces x.1.now)) result ≡ spec.value_at part (pieces tokens.now) }
     ensures shorter { IfOk result (λ x. length x.1.now < length tokens.now) }
 {
     let Some(rest) = after_symbol(Symbol::Equals, tokens) else {
         return Err(part.unfit(tokens));
     };
-    let Some(found) = number_at(rest) else {
+    let Some(found) = numeral_at(rest) else {
         return Err(part.unfit(rest));
     };
     Ok(found)

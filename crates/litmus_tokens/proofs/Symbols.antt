@@ -5,7 +5,7 @@ use Rattle.std.proofs.lemmas.Bool.{eqb-true, eq-eqb, ne_eqb}
 use Rattle.std.proofs.lemmas.Bool.Decides.{nat_tests, same_from_decides, eqb_tells}
 use Rattle.std.proofs.lemmas.Slice.Eq.{bytes_eq-Decides}
 use Rattle.litmus_tokens.specs.declared.token.Symbol.{Symbol}
-use Rattle.litmus_tokens.specs.declared.token.Symbol.TheVariants.{Equals, Semicolon, Colon, OpenSquare, CloseSquare, OpenCurly, CloseCurly, Bar, Comma, Dollar, Tilde, OpenRound, CloseRound, And, Or}
+use Rattle.litmus_tokens.specs.declared.token.Symbol.TheVariants.{Equals, Semicolon, Colon, OpenSquare, CloseSquare, OpenCurly, CloseCurly, Bar, Comma, Dollar, Tilde, OpenRound, CloseRound, And, Or, Minus}
 use Rattle.litmus_tokens.specs.Terms.{spelling_of, symbols, symbol_among, symbol_of}
 use Rattle.litmus_tokens.specs.inner.SymbolSteps.{single, wedge_at, single_or}
 
@@ -40,6 +40,7 @@ code_of OpenRound = 11
 code_of CloseRound = 12
 code_of And = 13
 code_of Or = 14
+code_of Minus = 15
 
 -- the symbol of a code
 abbrev symbol_with : ℕ → Symbol
@@ -58,7 +59,8 @@ symbol_with n =
     else if eqb n 11 then OpenRound
     else if eqb n 12 then CloseRound
     else if eqb n 13 then And
-    else Or
+    else if eqb n 14 then Or
+    else Minus
 
 with_code : (s : Symbol) → symbol_with (code_of s) ≡ s
 with_code Equals = refl
@@ -76,12 +78,17 @@ with_code OpenRound = refl
 with_code CloseRound = refl
 with_code And = refl
 with_code Or = refl
+with_code Minus = refl
 
 code_tells : (s t : Symbol) → eqb (code_of s) (code_of t) ≡ true → s ≡ t
 code_tells s t h = sym (with_code s) ∙ ap symbol_with (eqb-true _ _ h) ∙ with_code t
 
-found_again : (s : Symbol) → symbol_of (spelling_of s) ≡ Some (s, [])
-unfolding symbol_of symbols
+-- among all symbols, of both sets
+abbrev found_among : List ℕ → Option (Symbol × List ℕ)
+found_among bytes = symbol_among (Minus ∷ symbols) bytes
+
+found_again : (s : Symbol) → found_among (spelling_of s) ≡ Some (s, [])
+unfolding symbols
 found_again Equals = refl
 found_again Semicolon = refl
 found_again Colon = refl
@@ -97,6 +104,7 @@ found_again OpenRound = refl
 found_again CloseRound = refl
 found_again And = refl
 found_again Or = refl
+found_again Minus = refl
 
 abbrev first_or : Symbol → Option (Symbol × List ℕ) → Symbol
 first_or s (Some found) = found.0
@@ -104,7 +112,7 @@ first_or s None = s
 
 -- no two symbols have one spelling
 pub spelling_tells : (s t : Symbol) → spelling_of s ≡ spelling_of t → s ≡ t
-spelling_tells s t e = ap (first_or s) (sym (found_again s) ∙ ap symbol_of e ∙ found_again t)
+spelling_tells s t e = ap (first_or s) (sym (found_again s) ∙ ap found_among e ∙ found_again t)
 
 pub spelled_so : (s : Symbol) → bytes_eq (spelling_of s) (spelling_of s) ≡ true
 spelled_so s = (bytes_eq-Decides (spelling_of s) (spelling_of s)).1 refl

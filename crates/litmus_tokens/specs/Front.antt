@@ -2,7 +2,11 @@
 use Rattle.std.specs.Prelude.{Bool, false, ℕ, List, [], ◌∷◌, Option, Some, None, if◌then◌else◌}
 use Rattle.std.specs.Str.{bytes_eq}
 use Rattle.litmus_tokens.specs.declared.token.Symbol.{Symbol}
-use Rattle.litmus_tokens.specs.Terms.{Term, symbol, spelling_of, number, name}
+use Rattle.litmus_tokens.specs.declared.token.Symbol.TheVariants.{Minus}
+use Rattle.litmus_tokens.specs.Terms.{Term, symbol, spelling_of, number, hexadecimal, name}
+use Rattle.litmus_tokens.specs.Numbers.{hexadecimal_value, negative}
+use Rattle.litmus_tokens.specs.Faults.{there}
+use Rattle.tso_terms.specs.Decimals.{decimal_value}
 use Rattle.litmus_tokens.specs.Pieces.{Piece}
 
 abbrev pub is_symbol_term : Symbol → Term → Bool
@@ -35,3 +39,19 @@ number_then other ps = None
 unfoldable pub number_at : List Piece → Option (List ℕ × List Piece)
 number_at [] = None
 number_at (p ∷ ps) = number_then p.term ps
+
+abbrev pub unsigned_then : Term → List Piece → Option (ℕ × List Piece)
+unsigned_then (number digits) ps = Some (decimal_value digits, ps)
+unsigned_then (hexadecimal digits) ps = Some (hexadecimal_value digits, ps)
+unsigned_then other ps = None
+
+-- the number without a sign at the front, of any size, and what stands after it
+unfoldable pub unsigned_at : List Piece → Option (ℕ × List Piece)
+unsigned_at [] = None
+unsigned_at (p ∷ ps) = unsigned_then p.term ps
+
+-- the number at the front, perhaps with a sign
+unfoldable pub numeral_at : List Piece → Option (ℕ × List Piece)
+numeral_at ps =
+    there (unsigned_at ps) (λ found. Some found)
+    (there (symbol_at Minus ps) (λ rest. there (unsigned_at rest) (λ found. Some (negative found.0, found.1)) None) None)

@@ -3,6 +3,7 @@
 use Rattle.std.specs.Prelude.{ℕ, zero, suc, List, [], ◌∷◌, length, None, Result, Ok, Err}
 use Rattle.litmus_tokens.specs.declared.token.Stop.{Stop}
 use Rattle.litmus_tokens.specs.declared.token.Stop.TheVariants.{End}
+use Rattle.litmus_tokens.specs.declared.instructions.Instructions.{Instructions}
 use Rattle.litmus_tokens.specs.Gap.{gap_end}
 use Rattle.litmus_tokens.specs.Terms.{Term, term_at}
 
@@ -17,20 +18,20 @@ abbrev pub ◌>>=◌ : {A B : Type 0} → Result A Stop → (A → Result B Stop
 (Err e) >>= f = Err e
 
 -- the next token after white space and comments, and what stands after it
-unfoldable pub piece_at : List ℕ → Result (Piece × List ℕ) Stop
-piece_at bytes = do
+unfoldable pub piece_at : Instructions → List ℕ → Result (Piece × List ℕ) Stop
+piece_at set bytes = do
   rest ← gap_end None bytes
-  found ← term_at rest
+  found ← term_at set rest
   Ok (record { remaining = length rest; term = found.0 }, found.1)
 
 abbrev pub onto : Piece → List Piece × Stop → List Piece × Stop
 onto p more = (p ∷ more.0, more.1)
 
 -- at most n tokens
-unfoldable pub pieces_within : ℕ → List ℕ → List Piece × Stop
-pieces_within zero bytes = ([], End)
-pieces_within (suc n) bytes = elim (piece_at bytes) [ Ok found ↦ onto found.0 (pieces_within n found.1) | Err stop ↦ ([], stop) ]
+unfoldable pub pieces_within : Instructions → ℕ → List ℕ → List Piece × Stop
+pieces_within set zero bytes = ([], End)
+pieces_within set (suc n) bytes = elim (piece_at set bytes) [ Ok found ↦ onto found.0 (pieces_within set n found.1) | Err stop ↦ ([], stop) ]
 
 -- all tokens, and why there are no more; a token takes a byte or more
-unfoldable pub pieces_of : List ℕ → List Piece × Stop
-pieces_of bytes = pieces_within (length bytes) bytes
+unfoldable pub pieces_of : Instructions → List ℕ → List Piece × Stop
+pieces_of set bytes = pieces_within set (length bytes) bytes

@@ -1,6 +1,7 @@
 -- Words of contracts inside the project.
 pub mod Gap
 pub mod Mapped
+pub mod Numerals
 pub mod Pieces
 pub mod SymbolSteps
 pub mod Terms

@@ -6,17 +6,18 @@ ghost use Rattle.litmus_tokens.specs.inner.Pieces.{pieces};
 ghost use Rattle.litmus_tokens.specs.Arguments as spec;
 ghost use Rattle.litmus_tokens.specs.inner.Arguments.{argument_of};
 
-use crate::front::{after_symbol, number_at};
+use crate::front::after_symbol;
 use crate::names::{location_at, register_at};
+use crate::numeral::{Numeral, numeral_at};
 use crate::token::{Symbol, Token};
 use tso_terms::Reg;
 
-/// What an instruction works on. A number is its digits.
+/// What an instruction works on.
 #[derive(Clone, Copy)]
 pub enum Argument<'a> {
     Location(&'a [u8]),
     Register(Reg),
-    Number(&'a [u8]),
+    Number(Numeral<'a>),
 }
 
 /// The operand at the front, and the tokens after it.
@@ -24,12 +25,12 @@ pub enum Argument<'a> {
 pub fn argument_at<'a, 'b>(tokens: &'b [Token<'a>]) -> Option<(Argument<'a>, &'b [Token<'a>])>
     ensures { option_map (λ x. (argument_of x.0, pieces x.1.now)) result ≡ spec.argument_at (pieces tokens.now) }
 {
-    if let Some((digits, rest)) = number_at(tokens) {
-        return Some((Argument::Number(digits), rest));
+    if let Some((numeral, rest)) = numeral_at(tokens) {
+        return Some((Argument::Number(numeral), rest));
     }
     if let Some(rest) = after_symbol(Symbol::Dollar, tokens) {
-        if let Some((digits, rest)) = number_at(rest) {
-            return Some((Argument::Number(digits), rest));
+        if let Some((numeral, rest)) = numeral_at(rest) {
+            return Some((Argument::Number(numeral), rest));
         }
         return None;
     }
@@ -43,6 +44,17 @@ pub fn argument_at<'a, 'b>(tokens: &'b [Token<'a>]) -> Option<(Argument<'a>, &'b
     }
     if let Some((reg, rest)) = register_at(tokens) {
         return Some((Argument::Register(reg), rest));
+    }
+    None
+}
+
+/// One operand, and nothing more.
+#[tactic(auto, unfolding(crate::specs::Arguments::one_argument))]
+pub fn one_argument<'a>(tokens: &[Token<'a>]) -> Option<Argument<'a>>
+    ensures { option_map argument_of result ≡ spec.one_argument (pieces tokens.now) }
+{
+    if let Some((only, [])) = argument_at(tokens) {
+        return Some(only);
     }
     None
 }

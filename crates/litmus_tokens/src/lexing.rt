@@ -1,7 +1,7 @@
 //! Bytes to tokens, one after the other. A byte that begins no token stops the list and fails nothing: it is a fault only
 //! if the readers come that far, so the first fault of a text stays the first.
 
-ghost use Rattle.std.specs.Prelude.{◌≡◌, ◌≤◌, ◌<◌, ◌==◌, length, IfOk, IfSome, true, slice_index};
+ghost use Rattle.std.specs.Prelude.{◌≡◌, ◌≤◌, ◌<◌, ◌==◌, length, IfOk, IfSome, Ok, true, drop, slice_index};
 ghost use Rattle.std.specs.Option.{option_map};
 ghost use Rattle.std.specs.List.{prefix_len};
 ghost use Rattle.std.specs.Char as char;
@@ -18,6 +18,7 @@ ghost use Rattle.litmus_tokens.specs.Pieces.{pieces_of};
 ghost use Rattle.litmus_tokens.specs.inner.Pieces.{piece_of, pieces};
 
 use crate::gap::after_gap;
+use crate::instructions::Instructions;
 use crate::token::{Lexeme, Stop, Symbol, Token, Tokens};
 use std::alloc::Global;
 use tso_terms::NoMemory;
@@ -157,18 +158,103 @@ fn symbol_of(bytes: &[u8]) -> Option<(Symbol, &[u8])>
     }
 }
 
+/// Whether these begin with `0x` and a hexadecimal digit.
+fn begins_hexadecimal(bytes: &[u8]) -> bool
+    ensures { result ≡ terms.begins_hexadecimal bytes.now }
+{
+    let Some((zero, rest)) = bytes.split_first() else {
+        return false;
+    };
+    let Some((sign, rest)) = rest.split_first() else {
+        return false;
+    };
+    let Some((digit, _)) = rest.split_first() else {
+        return false;
+    };
+    *zero == b'0' && (*sign == b'x' || *sign == b'X') && digit.is_ascii_hexdigit()
+}
+
+/// How many hexadecimal digits the bytes begin with.
+fn hexadecimal_len(bytes: &[u8]) -> usize
+    ensures value { result ≡ prefix_len char.is_ascii_hexdigit bytes.now }
+    ensures within { result ≤ length bytes.now }
+{
+    for at in 0..bytes.len() {
+        if !bytes[at].is_ascii_hexdigit() {
+            return at;
+        }
+    }
+    bytes.len()
+}
+
+/// Whether these begin with a hexadecimal number.
+fn is_hexadecimal(set: Instructions, bytes: &[u8]) -> bool
+    ensures { result ≡ terms.is_hexadecimal set bytes.now }
+{
+    match set {
+        Instructions::Basic => false,
+        Instructions::All => begins_hexadecimal(bytes),
+    }
+}
+
+/// The hexadecimal number with which the bytes begin, and what stands after it.
+fn hexadecimal_at(bytes: &[u8]) -> (Lexeme<'_>, &[u8])
+    requires { terms.begins_hexadecimal bytes.now ≡ true }
+    ensures value { Ok (term_of result.0, result.1.now)
+        ≡ terms.hexadecimal_term (terms.run_of char.is_ascii_hexdigit (drop 2 bytes.now)) }
+    ensures shorter { length result.1.now < length bytes.now }
+{
+    let (_, digits) = bytes.split_at(2);
+    let (digits, rest) = digits.split_at(hexadecimal_len(digits));
+    (Lexeme::Hexadecimal(digits), rest)
+}
+
+/// The decimal number with which the bytes begin, and what stands after it.
+fn decimal_at(bytes: &[u8]) -> (Lexeme<'_>, &[u8])
+    requires some { 0 < length bytes.now }
+    requires begins { char.is_ascii_digit (slice_index bytes.now 0) ≡ true }
+    ensures value { Ok (term_of result.0, result.1.now) ≡ terms.number_term (terms.run_of char.is_ascii_digit bytes.now) }
+    ensures shorter { length result.1.now < length bytes.now }
+{
+    let (digits, rest) = bytes.split_at(digits_len(bytes));
+    (Lexeme::Number(without_zeros(digits)), rest)
+}
+
+/// The number with which the bytes begin, and what stands after it.
+fn number_at_front(set: Instructions, bytes: &[u8]) -> (Lexeme<'_>, &[u8])
+    requires some { 0 < length bytes.now }
+    requires begins { char.is_ascii_digit (slice_index bytes.now 0) ≡ true }
+    ensures value { Ok (term_of result.0, result.1.now) ≡ terms.numeral_term set bytes.now }
+    ensures shorter { length result.1.now < length bytes.now }
+{
+    if is_hexadecimal(set, bytes) {
+        hexadecimal_at(bytes)
+    } else {
+        decimal_at(bytes)
+    }
+}
+
+/// Whether this is a sign.
+fn is_minus(set: Instructions, byte: u8) -> bool
+    ensures { result ≡ terms.is_minus set byte }
+{
+    match set {
+        Instructions::Basic => false,
+        Instructions::All => byte == b'-',
+    }
+}
+
 /// The token at the very front, and what stands after it.
 #[inline(always)]
-fn lexeme_at(bytes: &[u8]) -> Result<(Lexeme<'_>, &[u8]), Stop>
-    ensures value { mapped (λ x. (term_of x.0, x.1.now)) result ≡ terms.term_at bytes.now }
+fn lexeme_at(set: Instructions, bytes: &[u8]) -> Result<(Lexeme<'_>, &[u8]), Stop>
+    ensures value { mapped (λ x. (term_of x.0, x.1.now)) result ≡ terms.term_at set bytes.now }
     ensures shorter { IfOk result (λ x. length x.1.now < length bytes.now) }
 {
     let Some(first) = bytes.first() else {
         return Err(Stop::End);
     };
     if first.is_ascii_digit() {
-        let (digits, rest) = bytes.split_at(digits_len(bytes));
-        return Ok((Lexeme::Number(without_zeros(digits)), rest));
+        return Ok(number_at_front(set, bytes));
     }
     if begins(*first) {
         let (name, rest) = bytes.split_at(name_len(bytes));
@@ -176,6 +262,10 @@ fn lexeme_at(bytes: &[u8]) -> Result<(Lexeme<'_>, &[u8]), Stop>
             return Err(Stop::BadToken(bytes.len()));
         }
         return Ok((Lexeme::Name(name), rest));
+    }
+    if is_minus(set, *first) {
+        let (_, past) = bytes.split_at(1);
+        return Ok((Lexeme::Symbol(Symbol::Minus), past));
     }
     match symbol_of(bytes) {
         Some((symbol, rest)) => Ok((Lexeme::Symbol(symbol), rest)),
@@ -188,12 +278,12 @@ fn lexeme_at(bytes: &[u8]) -> Result<(Lexeme<'_>, &[u8]), Stop>
 /// The stop says why no token stands there.
 #[inline(always)]
 #[tactic(auto, unfolding(crate::specs::Pieces::piece_at))]
-pub fn token_at(bytes: &[u8]) -> Result<(Token<'_>, &[u8]), Stop>
-    ensures value { mapped (λ x. (piece_of x.0, x.1.now)) result ≡ spec.piece_at bytes.now }
+pub fn token_at(set: Instructions, bytes: &[u8]) -> Result<(Token<'_>, &[u8]), Stop>
+    ensures value { mapped (λ x. (piece_of x.0, x.1.now)) result ≡ spec.piece_at set bytes.now }
     ensures shorter { IfOk result (λ x. length x.1.now < length bytes.now) }
 {
     let rest = after_gap(bytes)?;
-    let (lexeme, after) = lexeme_at(rest)?;
+    let (lexeme, after) = lexeme_at(set, rest)?;
     let remaining = rest.len();
     Ok((Token { remaining, lexeme }, after))
 }
@@ -202,13 +292,13 @@ pub fn token_at(bytes: &[u8]) -> Result<(Token<'_>, &[u8]), Stop>
 ///
 /// Errors: out of memory only. A lexical fault ends the list, and counts where a reader wants a token
 /// more.
-pub fn tokens_of(alloc: Global, bytes: &[u8]) -> Result<Tokens<'_>, NoMemory>
-    ensures { IfOk result (λ found. (pieces found.items.items, found.stop) ≡ pieces_of bytes.now) }
+pub fn tokens_of(alloc: Global, set: Instructions, bytes: &[u8]) -> Result<Tokens<'_>, NoMemory>
+    ensures { IfOk result (λ found. (pieces found.items.items, found.stop) ≡ pieces_of set bytes.now) }
 {
     let mut items = Vec::new(alloc);
     let mut rest = bytes;
     loop {
-        match token_at(rest) {
+        match token_at(set, rest) {
             Ok((token, after)) => {
                 items.push(token)?;
                 rest = after;

@@ -37,6 +37,8 @@ pub enum Symbol {
     And,
     /// `\/`.
     Or,
+    /// `-`, of the larger set alone.
+    Minus,
 }
 
 /// A token without its place.
@@ -45,6 +47,8 @@ pub enum Lexeme<'a> {
     /// Decimal digits without the leading zeros, so that equal numbers have equal digits, and 0 has
     /// none; [`word`](crate::word) is their value.
     Number(&'a [u8]),
+    /// Hexadecimal digits after `0x`, of the larger set alone.
+    Hexadecimal(&'a [u8]),
     /// A letter or an underscore, then letters, digits and underscores; 32 bytes at most.
     Name(&'a [u8]),
     Symbol(Symbol),

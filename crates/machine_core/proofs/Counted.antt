@@ -25,7 +25,7 @@ fenced-use : (c : Caches) (pending : List Entry) (core : ℕ) (s : CoreState) (q
 fenced-use c pending core s [] = inl refl
 fenced-use c pending core s (p ∷ ps) = inl refl
 
-locked-use : (c : Caches) (pending : List Entry) (core : ℕ) (s : CoreState) (loc : Loc) (reg : Reg) (word value : ℕ) (q : List Entry)
+locked-use : (c : Caches) (pending : List Entry) (core : ℕ) (s : CoreState) (loc : Loc) (reg : Option Reg) (word value : ℕ) (q : List Entry)
     → IsUseFor c core (locked_access loc q) (use_of c pending (locked_with core s loc reg word value q).commits)
 locked-use c pending core s loc reg word value [] = refl
 locked-use c pending core s loc reg word value (p ∷ ps) = inl refl
@@ -52,7 +52,7 @@ step-use c depth memory core (Some i) s = by_action (action_of i)
     by_action : (a : Action) → IsUseFor c core (access_by depth a s.pending) (use_of c s.pending (effect_by depth memory core a s).commits)
     by_action (Store loc operand) = stored-use c s.pending core depth _ loc s
     by_action (Load reg loc) = answered c s.pending core loc
-    by_action (Move reg operand) = inl refl
+    by_action (Move change) = inl refl
     by_action Fence = fenced-use c s.pending core s s.pending
     by_action (Lock loc reg update) = locked-use c s.pending core s loc reg _ _ s.pending
 

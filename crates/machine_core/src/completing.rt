@@ -17,7 +17,7 @@ use crate::split::access_of;
 use multiprocessor::accesses::{CacheUse, MemoryAccess};
 use multiprocessor::entries::entry;
 use multiprocessor::locked::read_first;
-use multiprocessor::processor::{Processor, advance};
+use multiprocessor::processor::{Processor, advance_taking};
 use multiprocessor::turn::{Way, core_of};
 use protocol_tables::Protocol;
 use tso_terms::{Action, Choice, Entry, Kind, NoMemory, Outcome, Test};
@@ -82,11 +82,11 @@ pub fn write_last<P: Protocol>(
     let Action::Lock(_, reg, update) = instr.action() else {
         unreachable!()
     };
-    let value = update.apply(read.value, processor.register(reg));
+    let value = update.apply(&processor.registers, read.value);
     hardware
         .commits
         .note(entry(core, read.place, Kind::LW, read.loc, value))?;
     hardware.bus.complete_write(core, read.loc, value);
-    advance(processor, reg, read.value);
+    advance_taking(processor, reg, read.value);
     Ok((Outcome::Committed, CacheUse::Unused))
 }

@@ -47,12 +47,12 @@ pub fences : (b : BusModel) (pending : List Entry) (core : ℕ) (s : CoreState) 
 fences b pending core s waiting =
     subst (λ u. HasUsed u b Unused) (sym (fenced-uses (caches_of b) pending core s waiting)) (record { how_is = refl; caches = refl })
 
-locked-uses : (c : Caches) (pending : List Entry) (core : ℕ) (s : CoreState) (loc : Loc) (reg : Reg) (word value : ℕ) (items : List Pending) → items ≡ []
+locked-uses : (c : Caches) (pending : List Entry) (core : ℕ) (s : CoreState) (loc : Loc) (reg : Option Reg) (word value : ℕ) (items : List Pending) → items ≡ []
     → use_of c pending (locked_with core s loc reg word value (map (store_of core) items)).commits ≡ whole_by c core loc.0 true
 locked-uses c pending core s loc reg word value [] h = refl
 locked-uses c pending core s loc reg word value (p ∷ ps) h = absurd (let z : ⊥ = cc in z)
 
-pub locks : (core : ℕ) (p : Processor) (old new : BusModel) (loc : Loc) (reg : Reg) (update : Update) (word : ℕ) (report : AccessReport) → p.stores.items ≡ []
+pub locks : (core : ℕ) (p : Processor) (old new : BusModel) (loc : Loc) (reg : Option Reg) (update : Update) (word : ℕ) (report : AccessReport) → p.stores.items ≡ []
     → WritesAt old new core loc.0 word report → IsSameMachine old new
     → HasUsed (use_of (caches_of old) (pending_in core p) (effect_of_lock loc reg update core p (words_of old)).commits) new (Through report)
 locks core p old new loc reg update word report h done machine =

@@ -43,12 +43,12 @@ pub fenced-waits : (core : ℕ) (s : CoreState) (items : List Pending) → (item
 fenced-waits core s [] h = absurd (h refl)
 fenced-waits core s (p ∷ ps) h = refl
 
-locked-waits : (core : ℕ) (s : CoreState) (loc : Loc) (reg : Reg) (word value : ℕ) (items : List Pending) → (items ≡ [] → ⊥)
+locked-waits : (core : ℕ) (s : CoreState) (loc : Loc) (reg : Option Reg) (word value : ℕ) (items : List Pending) → (items ≡ [] → ⊥)
     → locked_with core s loc reg word value (map (store_of core) items) ≡ stalled stall.Lock s
 locked-waits core s loc reg word value [] h = absurd (h refl)
 locked-waits core s loc reg word value (p ∷ ps) h = refl
 
-pub lock-waits : (core : ℕ) (p : Processor) (words : List ℕ) (loc : Loc) (reg : Reg) (update : Update) (b : Bool) → (p.stores.items ≡ [] → IsTrue b) → b ≡ false
+pub lock-waits : (core : ℕ) (p : Processor) (words : List ℕ) (loc : Loc) (reg : Option Reg) (update : Update) (b : Bool) → (p.stores.items ≡ [] → IsTrue b) → b ≡ false
     → stalled stall.Lock (core_state core p) ≡ effect_of_lock loc reg update core p words
 lock-waits core p words loc reg update b f h = sym (locked-waits core (core_state core p) loc reg _ _ p.stores.items (holds_some b p.stores.items f h))
 

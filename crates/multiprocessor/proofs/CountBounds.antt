@@ -1,4 +1,5 @@
 -- Why counting never overflows: no count is larger than the number of instructions that the cores are done with.
+use Rattle.tso_terms.specs.Thread.{with_taken}
 use Rattle.snoop_bus.specs.declared.access.Access.{Access}
 use Rattle.multiprocessor.proofs.Vocabulary.{◌≡◌, ◌≤◌, ◌<◌, ◌+◌, ◌-◌, ◌⊎◌, inl, inr, ℕ, zero, suc, Bool, true, false, nat_lt, if◌then◌else◌, List, [], ◌∷◌, ◌++◌, length, length-append, length-set, slice_get, slice_index, slice_index_or, Option, Some, None, All, refl, ap, ◌∙◌, arith, All-set, most_instructions, Litmus, IsTest, action_of, entry, value_in, with_value, value_of, updated, CoreState, State, Effect, stalled, stored, effect_by, step_of, effect_of, chosen, core_of, program_of, Reg, Core, Loc, Instr, Action, Store, Fence, Lock, Entry, W, Choice, Step, Drain, Outcome, Buffered, Stalled, Counts, CacheUse, Unused, Forwarded, Asked, Through, no_counts, with_access, with_write_back, with_forward, with_flush, counts_at_core, flush_counted, with_use_counted, IsAtMost, HasIssuedItsStores, done_by, drain_with, fenced_with, locked_with, All-head, All-tail, All-weaker}
 use Rattle.tso_terms.specs.declared.choice.Stall.TheVariants as stall
@@ -133,9 +134,9 @@ fenced-advances : (core : ℕ) (s : CoreState) (pending : List Entry) → HasIss
 fenced-advances core s [] i h = goes_on s _ s.registers _ i h
 fenced-advances core s (p ∷ ps) i h = rests s (Stalled stall.Fence) i
 
-locked-advances : (core : ℕ) (s : CoreState) (loc : Loc) (reg : Reg) (word value : ℕ) (pending : List Entry) → HasIssuedItsStores s → s.place < most_instructions
+locked-advances : (core : ℕ) (s : CoreState) (loc : Loc) (reg : Option Reg) (word value : ℕ) (pending : List Entry) → HasIssuedItsStores s → s.place < most_instructions
     → Advances s (locked_with core s loc reg word value pending)
-locked-advances core s loc reg word value [] i h = goes_on s _ (with_value s.registers reg word) _ i h
+locked-advances core s loc reg word value [] i h = goes_on s _ (with_taken s.registers reg word) _ i h
 locked-advances core s loc reg word value (p ∷ ps) i h = rests s (Stalled stall.Lock) i
 
 got-below : (xs : List Instr) (i : ℕ) (x : Instr) → slice_get xs i ≡ Some x → i < length xs
@@ -148,7 +149,7 @@ action-advances : (depth : ℕ) (memory : List ℕ) (core : ℕ) (a : Action) (s
 action-advances depth memory core (Store loc operand) s i h = stored-advances depth s (entry core s.place W loc (value_of s.registers operand)) i h
 action-advances depth memory core Fence s i h = fenced-advances core s s.pending i h
 action-advances depth memory core (Lock loc reg update) s i h =
-    locked-advances core s loc reg (slice_index memory loc.0) (updated update (slice_index memory loc.0) (value_in s.registers reg)) s.pending i h
+    locked-advances core s loc reg (slice_index memory loc.0) (updated update s.registers (slice_index memory loc.0)) s.pending i h
 action-advances depth memory core _ s i h = goes_on s _ _ _ i h
 
 step-advances : (depth : ℕ) (memory : List ℕ) (core : ℕ) (program : List Instr) (o : Option Instr) (s : CoreState) → slice_get program s.place ≡ o

@@ -1,21 +1,24 @@
 -- A locked instruction made whole, from what the calls in it say.
-use Rattle.multiprocessor.proofs.Vocabulary.{◌≡◌, ◌++◌, ◌∷◌, inl, inr, ℕ, true, None, Result, List, [], map, slice_index, refl, sym, ap, ◌∙◌, subst, append_assoc, entry, value_in, with_value, updated, locked_access, Locks, CoreState, Effect, advanced_with, Core, Loc, NoMemory, Reg, Update, Entry, LR, LW, Committed, Pending, Noted, AccessReport, BusModel, words_of, IsSameMachine, IsCurrentWord, WritesAt, CompletesAt, awaited_of, MayGoOn, Processor, Through, Whole, store_of, core_state, pending_in, effect_of_lock, both_parts, at_next, word_on_bus, caches_of, completion_by, HasUsed, whole, MayMake, Acts, HasActed, SucceedsUnlessCommitting, Notes, locked_with}
+use Rattle.multiprocessor.proofs.Vocabulary.{◌≡◌, ◌++◌, ◌∷◌, inl, inr, ℕ, true, None, Result, List, [], map, slice_index, refl, sym, ap, ◌∙◌, subst, append_assoc, entry, updated, locked_access, Locks, CoreState, Effect, Core, Loc, NoMemory, Reg, Update, Entry, LR, LW, Committed, Pending, Noted, AccessReport, BusModel, words_of, IsSameMachine, IsCurrentWord, WritesAt, CompletesAt, awaited_of, MayGoOn, Processor, Through, Whole, store_of, core_state, pending_in, effect_of_lock, both_parts, at_next, word_on_bus, caches_of, completion_by, HasUsed, whole, MayMake, Acts, HasActed, SucceedsUnlessCommitting, Notes, locked_with}
+use Rattle.std.specs.Prelude.{Option}
+use Rattle.tso_terms.specs.Thread.{with_taken}
+use Rattle.tso_terms.specs.FlatMachine.{advanced_taking}
 use Rattle.snoop_bus.specs.declared.access.Updated.{Updated}
 use Rattle.multiprocessor.proofs.CoreLemmas.{index-got}
 use Rattle.multiprocessor.proofs.CacheUses.{writes}
 
-abbrev made : ℕ → CoreState → Loc → Reg → ℕ → ℕ → Effect
-made core s loc reg word value = record { outcome = Committed; after = advanced_with s reg word; commits = both_parts core s.place loc word value }
+abbrev made : ℕ → CoreState → Loc → Option Reg → ℕ → ℕ → Effect
+made core s loc reg word value = record { outcome = Committed; after = advanced_taking s reg word; commits = both_parts core s.place loc word value }
 
-locked-made : (core : ℕ) (s : CoreState) (loc : Loc) (reg : Reg) (word value : ℕ) (items : List Pending) → items ≡ [] → locked_with core s loc reg word value (map (store_of core) items) ≡ made core s loc reg word value
+locked-made : (core : ℕ) (s : CoreState) (loc : Loc) (reg : Option Reg) (word value : ℕ) (items : List Pending) → items ≡ [] → locked_with core s loc reg word value (map (store_of core) items) ≡ made core s loc reg word value
 locked-made core s loc reg word value [] h = refl
 locked-made core s loc reg word value (p ∷ ps) h = absurd (let z : ⊥ = cc in z)
 
-pub acts-locks : (core : Core) (loc : Loc) (reg : Reg) (update : Update) (p q : Processor) (b b' : BusModel) (value : ℕ) (u : Updated) → p.stores.items ≡ [] → value ≡ value_in p.registers reg
-    → IsCurrentWord b loc.0 u.before → u.after ≡ updated update u.before value → WritesAt b b' core.0 loc.0 u.after u.report → IsSameMachine b b'
+pub acts-locks : (core : Core) (loc : Loc) (reg : Option Reg) (update : Update) (p q : Processor) (b b' : BusModel) (u : Updated) → p.stores.items ≡ []
+    → IsCurrentWord b loc.0 u.before → u.after ≡ updated update p.registers u.before → WritesAt b b' core.0 loc.0 u.after u.report → IsSameMachine b b'
     → (noted mid noted' : Noted) → mid.entries ≡ noted.entries → noted'.entries ≡ mid.entries ++ both_parts core.0 p.place loc u.before u.after
-    → q ≡ at_next p (with_value p.registers reg u.before) → Acts (whole core) (locked_access loc (pending_in core.0 p)) (effect_of_lock loc reg update) p q b b' noted noted' (Committed, Through u.report)
-acts-locks core loc reg update p q b b' value u none value_is before after done machine noted mid noted' room notes next =
+    → q ≡ at_next p (with_taken p.registers reg u.before) → Acts (whole core) (locked_access loc (pending_in core.0 p)) (effect_of_lock loc reg update) p q b b' noted noted' (Committed, Through u.report)
+acts-locks core loc reg update p q b b' u none before after done machine noted mid noted' room notes next =
     subst (λ f. HasActed Whole (locked_access loc (pending_in core.0 p)) core.0 p q b b' noted noted' f (Committed, Through u.report)) (sym effect) (record {
       outcome = refl;
       after = rw next refl;
@@ -28,12 +31,12 @@ acts-locks core loc reg update p q b b' value u none value_is before after done 
     word : slice_index (words_of b) loc.0 ≡ u.before
     word = index-got (words_of b) loc.0 u.before before
 
-    written : updated update (slice_index (words_of b) loc.0) (value_in p.registers reg) ≡ u.after
-    written = rw (word, ← value_is) (sym after)
+    written : updated update p.registers (slice_index (words_of b) loc.0) ≡ u.after
+    written = rw word (sym after)
 
     effect : effect_of_lock loc reg update core.0 p (words_of b) ≡ made core.0 (core_state core.0 p) loc reg u.before u.after
     effect = locked-made core.0 (core_state core.0 p) loc reg _ _ p.stores.items none
-        ∙ ap (λ w. made core.0 (core_state core.0 p) loc reg w (updated update (slice_index (words_of b) loc.0) (value_in p.registers reg))) word
+        ∙ ap (λ w. made core.0 (core_state core.0 p) loc reg w (updated update p.registers (slice_index (words_of b) loc.0))) word
         ∙ ap (λ v. made core.0 (core_state core.0 p) loc reg u.before v) written
 
 -- both its parts are noted, one after the other
@@ -42,7 +45,7 @@ pub both-noted : (core place : ℕ) (loc : Loc) (word value : ℕ) (noted mid no
 both-noted core place loc word value noted mid noted' load store is_load is_store first second = rw (second, first, is_load, is_store) (append_assoc noted.entries _ _)
 
 -- it commits where nothing is pending, so memory may be refused then alone
-pub lock-commits : {A : Type 0} (r : Result A NoMemory) (core : ℕ) (loc : Loc) (reg : Reg) (update : Update) (p : Processor) (words : List ℕ) → p.stores.items ≡ [] → SucceedsUnlessCommitting r (effect_of_lock loc reg update core p words)
+pub lock-commits : {A : Type 0} (r : Result A NoMemory) (core : ℕ) (loc : Loc) (reg : Option Reg) (update : Update) (p : Processor) (words : List ℕ) → p.stores.items ≡ [] → SucceedsUnlessCommitting r (effect_of_lock loc reg update core p words)
 lock-commits r core loc reg update p words none = λ other. absurd (other (ap (λ f. f.outcome) (locked-made core (core_state core p) loc reg _ _ p.stores.items none)))
 
 -- its access may be made whole

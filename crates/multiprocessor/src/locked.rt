@@ -16,23 +16,24 @@ ghost use Rattle.multiprocessor.specs.inner.OneCore.{Acts, SucceedsUnlessCommitt
 
 use crate::accesses::{CacheUse, Next};
 use crate::entries::entry;
-use crate::processor::{Processor, advance};
+use crate::processor::{Processor, advance_taking};
 use commit_order::Commits;
 use protocol_tables::Protocol;
 use snoop_bus::holding::Stage;
 use snoop_bus::{AccessReport, SnoopBus};
 use tso_terms::{Core, Kind, Loc, NoMemory, Outcome, Reg, Stall, Update};
 
-/// A locked instruction: the location that it reads and writes, its register, and what it makes of the word.
+/// A locked instruction: the location that it reads and writes, the register that gets the word, if there is one, and what it
+/// makes of the word.
 #[derive(Clone, Copy)]
 pub struct Locked {
     pub loc: Loc,
-    pub reg: Reg,
+    pub reg: Option<Reg>,
     pub update: Update,
 }
 
 /// A locked instruction waits until nothing is pending. Then it reads the word into the register and
-/// writes what the update makes of the word and the register's value, both at once.
+/// writes what the update makes of the word, both at once.
 #[inline(always)]
 pub fn read_and_write<P: Protocol>(
     processor: &mut Processor,
@@ -55,15 +56,14 @@ pub fn read_and_write<P: Protocol>(
     }
     let Locked { loc, reg, update } = locked;
     let place = processor.place;
-    let value = processor.register(reg);
     commits.make_room(2)?;
-    let updated = bus.update(core, loc, update, value);
+    let updated = bus.update(core, loc, update, &processor.registers);
     // There is room for both parts.
     let load_part = entry(core, place, Kind::LR, loc, updated.before);
     commits.note(load_part).unwrap();
     let store_part = entry(core, place, Kind::LW, loc, updated.after);
     commits.note(store_part).unwrap();
-    advance(processor, reg, updated.before);
+    advance_taking(processor, reg, updated.before);
     Ok((Outcome::Committed, CacheUse::Through(updated.report)))
 }
 

@@ -7,7 +7,7 @@ ghost use Rattle.tso_terms.specs.Limits.{most_instructions};
 ghost use Rattle.tso_terms.specs.Actions.{action_of};
 ghost use Rattle.tso_terms.specs.Litmus.{KnownLocation};
 ghost use Rattle.tso_terms.specs.ProgramOrder.{writes_to};
-ghost use Rattle.tso_terms.specs.Thread.{value_in, with_value};
+ghost use Rattle.tso_terms.specs.Thread.{value_in, with_taken, with_value};
 ghost use Rattle.tso_terms.specs.MemoryAccess.{NoAccess, Reads, Writes, store_access, load_access, drain_access};
 ghost use Rattle.snoop_bus.specs.Bus.{BusModel, words_of, cores_of, holder_of};
 ghost use Rattle.snoop_bus.specs.Accesses.{IsCurrentWord};
@@ -29,7 +29,7 @@ use commit_order::Commits;
 use protocol_tables::Protocol;
 use snoop_bus::{AccessReport, SnoopBus};
 use store_buffer::Pending;
-use tso_terms::{Action, Core, Entry, Instr, Kind, Loc, NoMemory, Outcome, Reg, Stall};
+use tso_terms::{Action, Core, Entry, Instr, Kind, Loc, NoMemory, Outcome, Reg, Stall, take};
 
 /// A core: the place in its program, its registers, and the stores that it has issued and that
 /// have not reached memory.
@@ -120,9 +120,9 @@ pub fn step<P: Protocol>(
             store(processor, turn, loc, value, bus, commits)
         }
         Action::Load(reg, loc) => load(processor, turn, reg, loc, bus, commits),
-        Action::Move(reg, operand) => {
-            let value = operand.value(&processor.registers);
-            advance(processor, reg, value);
+        Action::Move(change) => {
+            change.apply(&mut processor.registers);
+            processor.place += 1;
             Ok((Outcome::Moved, CacheUse::Unused))
         }
         Action::Fence => fence(processor, turn.core, commits),
@@ -278,6 +278,16 @@ pub fn advance(processor: &mut Processor, reg: Reg, value: u32)
     ensures { processor.new ≡ at_next processor.old (with_value processor.old.registers reg value) }
 {
     processor.registers[reg.index()] = value;
+    processor.place += 1;
+}
+
+/// The core goes on to its next instruction, with this word in the register, if there is one.
+#[inline(always)]
+pub fn advance_taking(processor: &mut Processor, target: Option<Reg>, word: u32)
+    requires { processor.old.place < most_instructions }
+    ensures { processor.new ≡ at_next processor.old (with_taken processor.old.registers target word) }
+{
+    take(&mut processor.registers, target, word);
     processor.place += 1;
 }
 

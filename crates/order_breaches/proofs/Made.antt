@@ -19,7 +19,7 @@ all_reads core (p ∷ ps) order = read_values core 0 p order ++ all_reads (core 
 count-first : (core place : ℕ) (a : Action) (values : List ℕ) (order : List Entry) (n : ℕ) → length values ≡ n → length (values_by core place a order ++ values) ≡ (if is_reading a then suc n else n)
 count-first core place (Store loc operand) values order n h = h
 count-first core place (Load reg loc) values order n h = ap suc h
-count-first core place (Move reg operand) values order n h = h
+count-first core place (Move change) values order n h = h
 count-first core place Fence values order n h = h
 count-first core place (Lock loc reg update) values order n h = ap suc h
 
@@ -68,7 +68,7 @@ rise-by : (core place : ℕ) (a : Action) (registers : List ℕ) (word : ℕ) (e
     → RisesFrom core (place + place + 0) ((entries_by core place a registers word ++ es) ++ ys)
 rise-by core place (Store loc operand) registers word es ys h = λ c low r. (r, h core _ (inr (refl, omega arith)))
 rise-by core place (Load reg loc) registers word es ys h = λ c low r. (r, h core _ (inr (refl, omega arith)))
-rise-by core place (Move reg operand) registers word es ys h = λ c low r. h c low (elim r [ inl l ↦ inl l | inr p ↦ inr (p.0, let l = p.1 in omega arith) ])
+rise-by core place (Move change) registers word es ys h = λ c low r. h c low (elim r [ inl l ↦ inl l | inr p ↦ inr (p.0, let l = p.1 in omega arith) ])
 rise-by core place Fence registers word es ys h = λ c low r. (r, h core _ (inr (refl, omega arith)))
 rise-by core place (Lock loc reg update) registers word es ys h = λ c low r. (r, (inr (refl, omega arith), h core _ (inr (refl, omega arith))))
 
@@ -125,7 +125,7 @@ made-once t order i j x y l e f s = let q = one-at (made t order) (made-ascends 
 within-by : (cores n core place : ℕ) (a : Action) (registers : List ℕ) (word : ℕ) → core < cores → place < most_instructions → IfSome (location_of a) (λ loc. loc.0 < n) → Each (IsEntryWithin cores n) (entries_by core place a registers word)
 within-by cores n core place (Store loc operand) registers word c p l = (record { core = c; fits = omega arith; known = λ _. l }, tt)
 within-by cores n core place (Load reg loc) registers word c p l = (record { core = c; fits = omega arith; known = λ w. absurd (let z : ⊥ = cc in z) }, tt)
-within-by cores n core place (Move reg operand) registers word c p l = tt
+within-by cores n core place (Move change) registers word c p l = tt
 within-by cores n core place Fence registers word c p l = (record { core = c; fits = omega arith; known = λ w. absurd (let z : ⊥ = cc in z) }, tt)
 within-by cores n core place (Lock loc reg update) registers word c p l =
     (record { core = c; fits = omega arith; known = λ w. absurd (let z : ⊥ = cc in z) }, (record { core = c; fits = omega arith; known = λ _. l }, tt))

@@ -12,10 +12,10 @@ read-by : (core place : ℕ) (a : Action) (rest : List Instr) (registers values 
     ++ entries_of core (place + 1) rest (registers_by a registers (slice_index (values_by core place a order ++ values) 0)) (values_after a (values_by core place a order ++ values)))
 read-by core place (Store loc operand) rest registers values order h = (no_read order (entry core place W loc (value_of registers operand)) refl, h _)
 read-by core place (Load reg loc) rest registers values order h = (λ _. refl, h _)
-read-by core place (Move reg operand) rest registers values order h = h _
+read-by core place (Move change) rest registers values order h = h _
 read-by core place Fence rest registers values order h = (no_read order (fence core place) refl, h _)
 read-by core place (Lock loc reg update) rest registers values order h =
-    (λ _. refl, (no_read order (entry core place LW loc (updated update (read_value core place LR order) (value_in registers reg))) refl, h _))
+    (λ _. refl, (no_read order (entry core place LW loc (updated update registers (read_value core place LR order))) refl, h _))
 
 entries-read : (core place : ℕ) (program : List Instr) (registers : List ℕ) (order : List Entry) → Each (ReadsOwn order) (entries_of core place program registers (read_values core place program order))
 entries-read core place [] registers order = tt

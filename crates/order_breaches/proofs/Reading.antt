@@ -30,7 +30,7 @@ reads-first : (core place : ℕ) (a : Action) (registers : List ℕ) (word : ℕ
     → reads_by (own_value order) (entries_by core place a registers word ++ es) ≡ values_by core place a order ++ reads_by (own_value order) es
 reads-first core place (Store loc operand) registers word es order = refl
 reads-first core place (Load reg loc) registers word es order = refl
-reads-first core place (Move reg operand) registers word es order = refl
+reads-first core place (Move change) registers word es order = refl
 reads-first core place Fence registers word es order = refl
 reads-first core place (Lock loc reg update) registers word es order = refl
 

@@ -45,7 +45,7 @@ alike-at (x ∷ xs) (y ∷ ys) h (suc k) z e = alike-at xs ys (let r : map blank
 blank-by : (core place : ℕ) (a : Action) (r s : List ℕ) (v w : ℕ) → AreAlike (entries_by core place a r v) (entries_by core place a s w)
 blank-by core place (Store loc operand) r s v w = refl
 blank-by core place (Load reg loc) r s v w = refl
-blank-by core place (Move reg operand) r s v w = refl
+blank-by core place (Move change) r s v w = refl
 blank-by core place Fence r s v w = refl
 blank-by core place (Lock loc reg update) r s v w = refl
 

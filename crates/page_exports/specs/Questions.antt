@@ -7,6 +7,8 @@ use Rattle.protocol_tables.specs.declared.kind.ProtocolKind.{ProtocolKind}
 use Rattle.refutation_laws.specs.declared.model.Model.{Model}
 use Rattle.tso_terms.specs.Limits.{most_depth}
 use Rattle.multiprocessor.specs.Configuration.{Configuration}
+use Rattle.litmus_tokens.specs.declared.instructions.Instructions.{Instructions}
+use Rattle.litmus_tokens.specs.declared.instructions.Instructions.TheVariants as sets
 use Rattle.command_line.specs.Limits.{IsDepth}
 use Rattle.scheduler.specs.Plan.{IsPlanWithinLimits}
 use Rattle.command_line.specs.Search.{most_states}
@@ -43,6 +45,10 @@ abbrev pub model_number : Model → ℕ
 model_number models.Tso = 0
 model_number models.Sequential = 1
 
+abbrev pub set_number : Instructions → ℕ
+set_number sets.Basic = 0
+set_number sets.All = 1
+
 abbrev pub show_number : Show → ℕ
 show_number shows.Condition = 0
 show_number shows.Registers = 1
@@ -64,53 +70,60 @@ IsMachineOf a kind config =
 
 -- the settings of the command that the numbers ask for: these are one at most
 abbrev pub Asks : Numbers → Settings → Type 0
-Asks a (settings.Run kind config json) = (a.command ≡ 0) × IsMachineOf a kind config × (json ≡ a.json)
-Asks a (settings.Sweep kind config plan) =
-    (a.command ≡ 1) × IsMachineOf a kind config × (plan ≡ record { from = a.from; seeds = a.seeds; length = a.length })
-Asks a (settings.Counts kind config (Some plan) json) =
-    (a.command ≡ 9) × IsMachineOf a kind config × (plan ≡ record { from = a.from; seeds = a.seeds; length = a.length }) × (json ≡ a.json)
-Asks a (settings.Counts kind config None json) = (a.command ≡ 10) × IsMachineOf a kind config × (json ≡ a.json)
-Asks a settings.Check = a.command ≡ 2
-Asks a (settings.Witness depth) = (a.command ≡ 3) × (depth ≡ a.depth)
+Asks a (settings.Run kind config set json) = (a.command ≡ 0) × IsMachineOf a kind config × (set_number set ≡ a.instructions) × (json ≡ a.json)
+Asks a (settings.Sweep kind config set plan) =
+    (a.command ≡ 1) × IsMachineOf a kind config × (set_number set ≡ a.instructions) × (plan ≡ record { from = a.from; seeds = a.seeds; length = a.length })
+Asks a (settings.Counts kind config set (Some plan) json) =
+    (a.command ≡ 9) × IsMachineOf a kind config × (set_number set ≡ a.instructions)
+    × (plan ≡ record { from = a.from; seeds = a.seeds; length = a.length }) × (json ≡ a.json)
+Asks a (settings.Counts kind config set None json) =
+    (a.command ≡ 10) × IsMachineOf a kind config × (set_number set ≡ a.instructions) × (json ≡ a.json)
+Asks a (settings.Check set) = (a.command ≡ 2) × (set_number set ≡ a.instructions)
+Asks a (settings.Witness depth set) = (a.command ≡ 3) × (depth ≡ a.depth) × (set_number set ≡ a.instructions)
 Asks a (settings.Tables kind) = (a.command ≡ 4) × (kind_number kind ≡ a.protocol)
-Asks a (settings.Outcomes search json assert) =
-    (a.command ≡ 5) × (search.depth ≡ a.depth) × (search.states ≡ a.states) × (show_number search.show ≡ a.show) × (json ≡ a.json)
+Asks a (settings.Outcomes search set json assert) =
+    (a.command ≡ 5) × (search.depth ≡ a.depth) × (search.states ≡ a.states) × (show_number search.show ≡ a.show)
+    × (set_number set ≡ a.instructions) × (json ≡ a.json) × (assert ≡ a.assert)
+Asks a (settings.Trace kind config set json) = (a.command ≡ 6) × IsMachineOf a kind config × (set_number set ≡ a.instructions) × (json ≡ a.json)
+Asks a (settings.Why plan set json assert) =
+    (a.command ≡ 8) × (model_number plan.model ≡ a.model) × (plan.cases ≡ a.cases) × (set_number set ≡ a.instructions) × (json ≡ a.json)
     × (assert ≡ a.assert)
-Asks a (settings.Trace kind config json) = (a.command ≡ 6) × IsMachineOf a kind config × (json ≡ a.json)
-Asks a (settings.Why plan json assert) =
-    (a.command ≡ 8) × (model_number plan.model ≡ a.model) × (plan.cases ≡ a.cases) × (json ≡ a.json) × (assert ≡ a.assert)
 
 -- the question that the numbers ask: a command's, or for the last step of a trace
 abbrev pub AsksQuestion : Numbers → Question → Type 0
 AsksQuestion a (questions.Command settings) = Asks a settings
-AsksQuestion a (questions.Step kind config) = (a.command ≡ 7) × IsMachineOf a kind config
+AsksQuestion a (questions.Step kind config set) = (a.command ≡ 7) × IsMachineOf a kind config × (set_number set ≡ a.instructions)
 
 -- a machine that there is
 abbrev pub IsMachineAsked : Numbers → Type 0
 IsMachineAsked a = (a.protocol < 4) × (a.bus < 2) × (a.depth ≤ most_depth) × IsShapeWithinLimits (geometry a.sets a.ways a.words)
 
+-- a set of instructions that there is
+abbrev pub IsSetAsked : Numbers → Type 0
+IsSetAsked a = a.instructions < 2
+
 -- a command that there is, with all that it looks at within its limits
 abbrev pub IsCommandAskable : Numbers → Type 0
 IsCommandAskable a =
-    ((a.command ≡ 0) × IsMachineAsked a)
-    ⊎ ((a.command ≡ 1) × IsMachineAsked a × IsPlanWithinLimits (record { from = a.from; seeds = a.seeds; length = a.length }))
-    ⊎ (a.command ≡ 2)
-    ⊎ ((a.command ≡ 3) × IsDepth a.depth)
+    ((a.command ≡ 0) × IsMachineAsked a × IsSetAsked a)
+    ⊎ ((a.command ≡ 1) × IsMachineAsked a × IsPlanWithinLimits (record { from = a.from; seeds = a.seeds; length = a.length }) × IsSetAsked a)
+    ⊎ ((a.command ≡ 2) × IsSetAsked a)
+    ⊎ ((a.command ≡ 3) × IsDepth a.depth × IsSetAsked a)
     ⊎ ((a.command ≡ 4) × (a.protocol < 4))
-    ⊎ ((a.command ≡ 5) × (a.show < 3) × (a.depth ≤ most_depth) × (1 ≤ a.states) × (a.states ≤ most_states))
-    ⊎ ((a.command ≡ 6) × IsMachineAsked a)
-    ⊎ ((a.command ≡ 8) × (a.model < 2) × (1 ≤ a.cases) × (a.cases ≤ most_told_apart))
-    ⊎ ((a.command ≡ 9) × IsMachineAsked a × IsPlanWithinLimits (record { from = a.from; seeds = a.seeds; length = a.length }))
-    ⊎ ((a.command ≡ 10) × IsMachineAsked a)
+    ⊎ ((a.command ≡ 5) × (a.show < 3) × (a.depth ≤ most_depth) × (1 ≤ a.states) × (a.states ≤ most_states) × IsSetAsked a)
+    ⊎ ((a.command ≡ 6) × IsMachineAsked a × IsSetAsked a)
+    ⊎ ((a.command ≡ 8) × (a.model < 2) × (1 ≤ a.cases) × (a.cases ≤ most_told_apart) × IsSetAsked a)
+    ⊎ ((a.command ≡ 9) × IsMachineAsked a × IsPlanWithinLimits (record { from = a.from; seeds = a.seeds; length = a.length }) × IsSetAsked a)
+    ⊎ ((a.command ≡ 10) × IsMachineAsked a × IsSetAsked a)
 
 -- the same of a question
 abbrev pub IsAskable : Numbers → Type 0
-IsAskable a = IsCommandAskable a ⊎ ((a.command ≡ 7) × IsMachineAsked a)
+IsAskable a = IsCommandAskable a ⊎ ((a.command ≡ 7) × IsMachineAsked a × IsSetAsked a)
 
 -- the settings of the command whose hints stand beside the answer: of a step, those of the trace that it is of
 abbrev pub settings_of : Question → Settings
 settings_of (questions.Command command) = command
-settings_of (questions.Step kind config) = settings.Trace kind config true
+settings_of (questions.Step kind config set) = settings.Trace kind config set true
 
 -- the answer of a command under settings, of which the headline is true
 pub record IsCommandAnswer (settings : Settings) (input out : List ℕ) (status : Status) : Type 0 where
@@ -120,7 +133,7 @@ pub record IsCommandAnswer (settings : Settings) (input out : List ℕ) (status 
 -- the answer to a question about an input
 abbrev pub IsAnswerToQuestion : Question → List ℕ → List ℕ → Status → Type 0
 IsAnswerToQuestion (questions.Command settings) input out status = IsCommandAnswer settings input out status
-IsAnswerToQuestion (questions.Step kind config) input out status = IsStepAnswer kind config input out status
+IsAnswerToQuestion (questions.Step kind config set) input out status = IsStepAnswer kind config set input out status
 
 -- these bytes are the answer to the question, with its exit status, and the others are the hint beside such an answer
 pub record Answers (question : Question) (input out hint : List ℕ) (number : ℕ) : Type 0 where

@@ -91,7 +91,11 @@ fn answer_of(alloc: Global, question: &Question, input: &[u8]) -> Result<Answer,
 {
     match question {
         Question::Command(settings) => answer_to(alloc, settings, input),
-        Question::Step { protocol, config } => step_answer(alloc, *protocol, *config, input),
+        Question::Step {
+            protocol,
+            config,
+            instructions,
+        } => step_answer(alloc, *protocol, *config, *instructions, input),
     }
 }
 

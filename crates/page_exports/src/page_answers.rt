@@ -7,7 +7,7 @@ ghost use Rattle.page_exports.specs.inner.Laws.{SevenAsksForAStep, NoHintStandsB
 use crate::{AnswerLengths, Numbers, page_answer};
 use std::alloc::Global;
 
-/// The number 7 asks for the last step of a trace, wherever there is a machine that the numbers ask for, and for nothing
+/// The number 7 asks for the last step of a trace, wherever there are a machine and a set of instructions that the numbers ask for, and for nothing
 /// else.
 pub fn seven_asks_for_a_step()
     ensures { SevenAsksForAStep }

@@ -5,7 +5,7 @@ ghost use Rattle.std.specs.Prelude.{◌≡◌, ◌≢◌, ◌<◌, ◌↔◌, Is
 ghost use Rattle.command_line.specs.Limits.{HasDepth};
 ghost use Rattle.page_exports.specs.Questions.{AsksQuestion, IsAskable, Asks, IsCommandAskable, IsMachineAsked, IsMachineOf, settings_of};
 ghost use Rattle.page_exports.specs.inner.Questions.{HasDepthFor};
-ghost use Rattle.page_exports.specs.Questions.{kind_number, bus_number, model_number, show_number, number_of_status};
+ghost use Rattle.page_exports.specs.Questions.{kind_number, bus_number, model_number, set_number, show_number, number_of_status};
 
 use command_line::{ReasonPlan, SearchPlan, Show};
 use machine_core::Config;
@@ -13,7 +13,7 @@ use protocol_tables::ProtocolKind;
 use refutation_laws::Model;
 use scheduler::SweepPlan;
 use snoop_bus::Shape;
-use tso_cli::{Settings, Status};
+use tso_cli::{Instructions, Settings, Status};
 use tso_terms::Bus;
 use tso_terms::limits::{MAX_DEPTH, MIN_DEPTH};
 
@@ -54,6 +54,8 @@ pub struct Numbers {
     pub show: u8,
     /// Whether the status of either search tells where the verdict is `No`.
     pub assert: bool,
+    /// Which instructions a test may have: 0 those of the grammar alone, 1 all.
+    pub instructions: u8,
 }
 
 /// What numbers ask for.
@@ -65,6 +67,7 @@ pub enum Question {
     Step {
         protocol: ProtocolKind,
         config: Config,
+        instructions: Instructions,
     },
 }
 
@@ -75,9 +78,14 @@ impl Question {
     {
         match self {
             Question::Command(settings) => *settings,
-            Question::Step { protocol, config } => Settings::Trace {
+            Question::Step {
+                protocol,
+                config,
+                instructions,
+            } => Settings::Trace {
                 protocol: *protocol,
                 config: *config,
+                instructions: *instructions,
                 json: true,
             },
         }
@@ -92,7 +100,11 @@ pub fn question_of(asked: &Numbers) -> Option<Question>
 {
     if asked.command == 7 {
         let (protocol, config) = machine_of(asked)?;
-        Some(Question::Step { protocol, config })
+        Some(Question::Step {
+            protocol,
+            config,
+            instructions: set_of(asked.instructions)?,
+        })
     } else {
         Some(Question::Command(command_of(asked)?))
     }
@@ -110,6 +122,7 @@ fn command_of(asked: &Numbers) -> Option<Settings>
             Some(Settings::Run {
                 protocol,
                 config,
+                instructions: set_of(asked.instructions)?,
                 json: asked.json,
             })
         }
@@ -119,13 +132,19 @@ fn command_of(asked: &Numbers) -> Option<Settings>
             Some(Settings::Sweep {
                 protocol,
                 config,
+                instructions: set_of(asked.instructions)?,
                 plan,
             })
         }
-        2 => Some(Settings::Check),
+        2 => Some(Settings::Check {
+            instructions: set_of(asked.instructions)?,
+        }),
         3 => {
             if (MIN_DEPTH..=MAX_DEPTH).contains(&asked.depth) {
-                Some(Settings::Witness { depth: asked.depth })
+                Some(Settings::Witness {
+                    depth: asked.depth,
+                    instructions: set_of(asked.instructions)?,
+                })
             } else {
                 None
             }
@@ -135,6 +154,7 @@ fn command_of(asked: &Numbers) -> Option<Settings>
             let search = SearchPlan::new(asked.depth, asked.states, show_of(asked.show)?)?;
             Some(Settings::Outcomes {
                 search,
+                instructions: set_of(asked.instructions)?,
                 json: asked.json,
                 assert: asked.assert,
             })
@@ -144,6 +164,7 @@ fn command_of(asked: &Numbers) -> Option<Settings>
             Some(Settings::Trace {
                 protocol,
                 config,
+                instructions: set_of(asked.instructions)?,
                 json: asked.json,
             })
         }
@@ -151,6 +172,7 @@ fn command_of(asked: &Numbers) -> Option<Settings>
             let plan = ReasonPlan::new(model_of(asked.model)?, asked.cases)?;
             Some(Settings::Why {
                 plan,
+                instructions: set_of(asked.instructions)?,
                 json: asked.json,
                 assert: asked.assert,
             })
@@ -161,6 +183,7 @@ fn command_of(asked: &Numbers) -> Option<Settings>
             Some(Settings::Counts {
                 protocol,
                 config,
+                instructions: set_of(asked.instructions)?,
                 plan: Some(plan),
                 json: asked.json,
             })
@@ -170,6 +193,7 @@ fn command_of(asked: &Numbers) -> Option<Settings>
             Some(Settings::Counts {
                 protocol,
                 config,
+                instructions: set_of(asked.instructions)?,
                 plan: None,
                 json: asked.json,
             })
@@ -200,6 +224,17 @@ fn machine_of(asked: &Numbers) -> Option<(ProtocolKind, Config)>
     let shape = Shape::new(asked.sets, asked.ways, asked.words)?;
     let config = Config::new(asked.depth, shape, bus_of(asked.bus)?)?;
     Some((protocol, config))
+}
+
+fn set_of(number: u8) -> Option<Instructions>
+    ensures value { IfSome result (λ s. set_number s ≡ number) }
+    ensures valid { IsSome result ↔ (number < 2) }
+{
+    match number {
+        0 => Some(Instructions::Basic),
+        1 => Some(Instructions::All),
+        _ => None,
+    }
 }
 
 fn bus_of(number: u8) -> Option<Bus>

@@ -1,127 +1,85 @@
--- Where only locked additions of numbers write to a location, each adds its number to what its own load part finds, and the last word
+-- Where only locked additions and subtractions of numbers write to a location, each adds its number to what its own load part finds, and the last word
 -- is the initial one and all of these.
-use Rattle.possible_reads.proofs.Vocabulary.{◌≡◌, ◌&&◌, ◌+◌, ℕ, zero, suc, Bool, true, false, if◌then◌else◌, List, [], ◌∷◌, ◌++◌, arith, refl, sym, ap, ◌∙◌, inl, inr, subst, map, filter, list_any, list_all, slice_index, slice_index_or, slice_set, Entry, LR, LW, R, W, Instr, Operand, Number, Held, Update, Exchange, Add, Action, Store, Load, Move, Fence, Lock, Litmus, action_of, index_of, entry, sum_of, IsIn, in-case, in-none, bare, events_of, same_event, Stands, Candidate, events, is_write, writes_to, same_kind, Sound, and-both, equal-kinds, part_of, writes-at, IsAllowed, ArePair, filter-in}
-use Rattle.std.specs.Prelude.{◌%◌, ◌^◌}
+use Rattle.possible_reads.proofs.Vocabulary.{◌≡◌, ◌&&◌, ◌+◌, ℕ, Bool, true, false, if◌then◌else◌, List, [], ◌∷◌, Some, None, arith, refl, sym, ap, ◌∙◌, inl, inr, subst, map, filter, list_any, list_all, slice_index, Entry, LR, LW, Litmus, entry, sum_of, IsIn, in-case, in-none, bare, events_of, same_event, Stands, Candidate, events, is_write, writes_to, same_kind, Sound, and-both, equal-kinds, part_of, writes-at, IsAllowed, ArePair, filter-in}
+use Rattle.std.specs.Prelude.{◌-◌, ◌%◌, ◌^◌}
+use Rattle.std.proofs.Math.Nat.{mod-add-mod}
+use Rattle.tso_terms.specs.Thread.{difference_of}
+use Rattle.basic_laws.specs.Types.{Add, And, Or, Subtract, Xor}
 use Rattle.relational_model.proofs.Pairs.{coupled, HasStore}
 use Rattle.locked_laws.specs.Turns.{IsLoadPart}
 use Rattle.locked_laws.specs.Sums.{IsAddedTo, word_after_adding, total_of, WordsAddUp}
 use Rattle.locked_laws.proofs.Sums.{adding-is-total}
 use Rattle.refutation_laws.proofs.Tests.{pick, Holds, any-holds}
 use Rattle.refutation_laws.proofs.Standing.{Of, of-event, event-in, same-bare, bare-events}
-use Rattle.possible_reads.specs.Expressions.{Expression, Constant, Returned, Sum, Written, held_in, operand_in, updated_by, written_by, registers_after_action, written_in, first_registers, written_from, written, expression_among, expression_of}
+use Rattle.possible_reads.specs.Expressions.{Expression, Constant, Returned, Combined, Negated, Exchanged, expression_of}
 use Rattle.possible_reads.proofs.Values.{value_of}
-use Rattle.possible_reads.specs.Possible.{addend_in, addend_or_none, addend_of, is_addition, adds_alone, is_counter, word_after, counted}
+use Rattle.possible_reads.specs.Possible.{load_part_of, addend_in, addend_or_none, addend_of, is_addition, adds_alone, is_counter, word_after, counted}
 use Rattle.possible_reads.specs.Laws.{word_in}
 use Rattle.possible_reads.proofs.Programs.{returned_in, returns, writes-value}
 
--- ---- the load part of an addition is its own
-
--- no sum: so is what each register holds
-abbrev pub IsNoSum : Expression → Type 0
-IsNoSum (Constant value) = Unit {0}
-IsNoSum (Returned read) = Unit {0}
-IsNoSum (Sum left right) = ⊥
-
-abbrev pub AreNoSums : List Expression → Type 0
-AreNoSums [] = Unit {0}
-AreNoSums (x ∷ xs) = IsNoSum x × AreNoSums xs
-
-no-sum-at : (os : List Expression) (i : ℕ) → AreNoSums os → IsNoSum (slice_index_or os i (Constant 0))
-no-sum-at [] i h = tt
-no-sum-at (o ∷ os) zero h = h.0
-no-sum-at (o ∷ os) (suc i) h = no-sum-at os i h.1
-
-no-sum-set : (os : List Expression) (i : ℕ) (o : Expression) → AreNoSums os → IsNoSum o → AreNoSums (slice_set os i o)
-no-sum-set [] i o h k = tt
-no-sum-set (p ∷ os) zero o h k = (k, h.1)
-no-sum-set (p ∷ os) (suc i) o h k = (h.0, no-sum-set os i o h.1 k)
-
-no-sum-first : (ns : List ℕ) → AreNoSums (map (λ value. Constant value) ns)
-no-sum-first [] = tt
-no-sum-first (n ∷ ns) = (tt, no-sum-first ns)
-
-no-sum-operand : (os : List Expression) (o : Operand) → AreNoSums os → IsNoSum (operand_in os o)
-no-sum-operand os (Number value) h = tt
-no-sum-operand os (Held reg) h = no-sum-at os (index_of reg) h
-
-no-sum-after : (core place : ℕ) (a : Action) (os : List Expression) → AreNoSums os → AreNoSums (registers_after_action core place a os)
-no-sum-after core place (Store loc o) os h = h
-no-sum-after core place (Load reg loc) os h = no-sum-set os (index_of reg) (Returned (entry core place R loc 0)) h tt
-no-sum-after core place (Move reg o) os h = no-sum-set os (index_of reg) (operand_in os o) h (no-sum-operand os o h)
-no-sum-after core place Fence os h = h
-no-sum-after core place (Lock loc reg u) os h = no-sum-set os (index_of reg) (Returned (entry core place LR loc 0)) h tt
-
--- the load part of the instruction whose store part this is
-abbrev pub load_part : Entry → Entry
-load_part w = entry w.core.0 w.place LR w.loc 0
-
-abbrev pub AddsToOwn : Entry → Expression → Type 0
-AddsToOwn w x = (read : Entry) (addend : ℕ) → x ≡ Sum (Returned read) (Constant addend) → read ≡ load_part w
-
-abbrev pub AddToOwn : List Written → Type 0
-AddToOwn [] = Unit {0}
-AddToOwn (x ∷ xs) = AddsToOwn x.write x.value × AddToOwn xs
-
-own-append : (xs ys : List Written) → AddToOwn xs → AddToOwn ys → AddToOwn (xs ++ ys)
-own-append [] ys h k = k
-own-append (x ∷ xs) ys h k = (h.0, own-append xs ys h.1 k)
-
--- what isn't a sum adds nothing
-adds-nothing : (w : Entry) (x : Expression) → IsNoSum x → AddsToOwn w x
-adds-nothing w (Constant value) h read addend e = let z : ⊥ = cc in absurd z
-adds-nothing w (Returned r) h read addend e = let z : ⊥ = cc in absurd z
-adds-nothing w (Sum left right) h read addend e = absurd h
-
-own-update : (w : Entry) (u : Update) (o : Expression) → IsNoSum o → AddsToOwn w (updated_by u (Returned (load_part w)) o)
-own-update w Exchange o h read addend e = adds-nothing w o h read addend e
-own-update w Add o h read addend e = let s : load_part w ≡ read = cc in sym s
-
-own-by : (core place : ℕ) (a : Action) (os : List Expression) → AreNoSums os → AddToOwn (written_by core place a os)
-own-by core place (Store loc o) os h = (adds-nothing (entry core place W loc 0) (operand_in os o) (no-sum-operand os o h), tt)
-own-by core place (Load reg loc) os h = tt
-own-by core place (Move reg o) os h = tt
-own-by core place Fence os h = tt
-own-by core place (Lock loc reg u) os h = (own-update (entry core place LW loc 0) u (held_in os reg) (no-sum-at os (index_of reg) h), tt)
-
-own-of : (core place : ℕ) (p : List Instr) (os : List Expression) → AreNoSums os → AddToOwn (written_in core place p os)
-own-of core place [] os h = tt
-own-of core place (i ∷ p) os h =
-    own-append (written_by core place (action_of i) os) _ (own-by core place (action_of i) os h)
-    (own-of core (place + 1) p (registers_after_action core place (action_of i) os) (no-sum-after core place (action_of i) os h))
-
-own-from : (core : ℕ) (ps : List (List Instr)) (registers : List (List ℕ)) → AddToOwn (written_from core ps registers)
-own-from core [] registers = tt
-own-from core (p ∷ ps) registers =
-    own-append (written_in core 0 p (first_registers registers core)) _
-    (own-of core 0 p (first_registers registers core) (no-sum-first (slice_index_or registers core []))) (own-from (core + 1) ps registers)
-
-own-among : (xs : List Written) (w : Entry) → AddToOwn xs → AddsToOwn w (expression_among xs w)
-own-among [] w h read addend e = let z : ⊥ = cc in absurd z
-own-among (x ∷ xs) w h read addend e = go (same_event x.write w) refl e (λ q. own-among xs w h.1 read addend q)
-  where
-    go : (b : Bool) → same_event x.write w ≡ b → (if b then x.value else expression_among xs w) ≡ Sum (Returned read) (Constant addend)
-        → (expression_among xs w ≡ Sum (Returned read) (Constant addend) → read ≡ load_part w) → read ≡ load_part w
-    go true q e rest = h.0 read addend e ∙ ap load_part (same-bare x.write w q)
-    go false q e rest = rest e
-
-pub adds-to-own : (t : Litmus) (w : Entry) → AddsToOwn w (expression_of t w)
-adds-to-own t w = own-among (written t) w (own-from 0 t.programs t.registers)
-
 -- ---- a counter
 
--- an addition of a number
-pub record IsSum (x : Expression) : Type 0 where
-  pub read : Entry
-  pub is : x ≡ Sum (Returned read) (Constant (addend_or_none (addend_in x)))
+-- what is subtracted is added as what is left of 2^32
+other-way : (m d k : ℕ) → (m + d) % k ≡ (m + (0 + d) % k) % k
+other-way m d k = sym (ap (λ n. n % k) (turned m ((0 + d) % k)) ∙ (mod-add-mod (0 + d) k m ∙ ap (λ n. n % k) (let e : (0 + d) + m ≡ m + d = omega arith in e)))
+  where
+    turned : (a b : ℕ) → a + b ≡ b + a
+    turned a b = omega arith
 
-is-sum : (x : Expression) → is_addition (addend_in x) ≡ true → IsSum x
-is-sum (Constant value) h = let z : ⊥ = cc in absurd z
-is-sum (Returned read) h = let z : ⊥ = cc in absurd z
-is-sum (Sum (Constant value) right) h = let z : ⊥ = cc in absurd z
-is-sum (Sum (Returned read) (Constant addend)) h = record { read = read; is = refl }
-is-sum (Sum (Returned read) (Returned other)) h = let z : ⊥ = cc in absurd z
-is-sum (Sum (Returned read) (Sum l r)) h = let z : ⊥ = cc in absurd z
-is-sum (Sum (Sum l r) right) h = let z : ⊥ = cc in absurd z
+-- the sum of what this read returns and of a number
+pub record IsSum (own : Entry) (x : Expression) : Type 0 where
+  pub read : Entry
+  pub same : same_event read own ≡ true
+  pub value : (returned : Entry → ℕ) → value_of returned x ≡ sum_of (returned read) (addend_or_none (addend_in own x))
+
+no-addition : {A : Type 0} → is_addition None ≡ true → A
+no-addition h = let z : ⊥ = cc in absurd z
+
+is-sum : (own : Entry) (x : Expression) → is_addition (addend_in own x) ≡ true → IsSum own x
+is-sum own (Constant value) h = no-addition h
+is-sum own (Returned read) h = no-addition h
+is-sum own (Negated inner) h = no-addition h
+is-sum own (Exchanged word eax new) h = no-addition h
+is-sum own (Combined And left right) h = no-addition h
+is-sum own (Combined Or left right) h = no-addition h
+is-sum own (Combined Xor left right) h = no-addition h
+is-sum own (Combined Add (Constant value) right) h = no-addition h
+is-sum own (Combined Add (Negated inner) right) h = no-addition h
+is-sum own (Combined Add (Exchanged word eax new) right) h = no-addition h
+is-sum own (Combined Add (Combined operator left other) right) h = no-addition h
+is-sum own (Combined Add (Returned read) (Returned other)) h = no-addition h
+is-sum own (Combined Add (Returned read) (Negated inner)) h = no-addition h
+is-sum own (Combined Add (Returned read) (Exchanged word eax new)) h = no-addition h
+is-sum own (Combined Add (Returned read) (Combined operator left right)) h = no-addition h
+is-sum own (Combined Add (Returned read) (Constant number)) h = go (same_event read own) refl h
+  where
+    go : (b : Bool) → same_event read own ≡ b → is_addition (if b then Some number else None) ≡ true
+        → IsSum own (Combined Add (Returned read) (Constant number))
+    go false q k = no-addition k
+    go true q k = record {
+      read = read;
+      same = q;
+      value = λ returned. ap (sum_of (returned read)) (sym (ap addend_or_none (pick (same_event read own) (Some number) None q)));
+    }
+is-sum own (Combined Subtract (Constant value) right) h = no-addition h
+is-sum own (Combined Subtract (Negated inner) right) h = no-addition h
+is-sum own (Combined Subtract (Exchanged word eax new) right) h = no-addition h
+is-sum own (Combined Subtract (Combined operator left other) right) h = no-addition h
+is-sum own (Combined Subtract (Returned read) (Returned other)) h = no-addition h
+is-sum own (Combined Subtract (Returned read) (Negated inner)) h = no-addition h
+is-sum own (Combined Subtract (Returned read) (Exchanged word eax new)) h = no-addition h
+is-sum own (Combined Subtract (Returned read) (Combined operator left right)) h = no-addition h
+is-sum own (Combined Subtract (Returned read) (Constant number)) h = go (same_event read own) refl h
+  where
+    go : (b : Bool) → same_event read own ≡ b → is_addition (if b then Some (difference_of 0 number) else None) ≡ true
+        → IsSum own (Combined Subtract (Returned read) (Constant number))
+    go false q k = no-addition k
+    go true q k = record {
+      read = read;
+      same = q;
+      value = λ returned. other-way (returned read) (2 ^ 32 - number) (2 ^ 32)
+          ∙ ap (sum_of (returned read)) (sym (ap addend_or_none (pick (same_event read own) (Some (difference_of 0 number)) None q)));
+    }
 
 pub all-holds : (p : Entry → Bool) (xs : List Entry) (x : Entry) → list_all p xs ≡ true → IsIn xs x → p x ≡ true
 all-holds p [] x h i = absurd (in-none x i)
@@ -146,16 +104,16 @@ module _ (t : Litmus) (c : Candidate) (d : Sound t c) (loc : ℕ) (q : is_counte
 
   record IsAddition (w : Entry) : Type 0 where
     locked : w.kind ≡ LW
-    sum : IsSum (expression_of t (bare w))
+    sum : IsSum (load_part_of w) (expression_of t (bare w))
 
   addition : (w : Entry) → IsIn (events t c) w → writes_to loc w ≡ true → IsAddition w
   addition w i to =
       let all = (and-both (list_any (writes_to loc) (events_of t)) (list_all (adds_alone t loc) (events_of t)) q).1 in
       let h : adds_alone t loc (bare w) ≡ true = all-holds (adds_alone t loc) (events_of t) (bare w) all (event-in t c w i) in
-      let k : (same_kind w.kind LW && is_addition (addend_in (expression_of t (bare w)))) ≡ true =
-      sym (pick (writes_to loc (bare w)) (same_kind w.kind LW && is_addition (addend_in (expression_of t (bare w)))) true to) ∙ h in
+      let k : (same_kind w.kind LW && is_addition (addend_in (load_part_of w) (expression_of t (bare w)))) ≡ true =
+      sym (pick (writes_to loc (bare w)) (same_kind w.kind LW && is_addition (addend_in (load_part_of w) (expression_of t (bare w)))) true to) ∙ h in
       let m = and-both (same_kind w.kind LW) _ k in
-      record { locked = equal-kinds w.kind LW m.0; sum = is-sum (expression_of t (bare w)) m.1 }
+      record { locked = equal-kinds w.kind LW m.0; sum = is-sum (load_part_of w) (expression_of t (bare w)) m.1 }
 
   pub is-added-to : IsAddedTo t c loc adds
   is-added-to = record { locked = λ w i to. (addition w i to).locked; adds = λ r w part i pair. found r w part i pair }
@@ -163,7 +121,7 @@ module _ (t : Litmus) (c : Candidate) (d : Sound t c) (loc : ℕ) (q : is_counte
       found : (r w : Entry) → IsLoadPart t c loc r → IsIn (events t c) w → ArePair r w → w.value ≡ sum_of r.value (adds w)
       found r w part i pair =
           sym (writes-value t c d (bare w) w (record { inside = i; same = refl }) (store-writes w pair.write))
-          ∙ (ap (value_of (returned_in t c d)) s.is ∙ ap (λ n. sum_of n (adds w)) (returns t c d s.read r at))
+          ∙ (s.value (returned_in t c d) ∙ ap (λ n. sum_of n (adds w)) (returns t c d s.read r at))
         where
           store-writes : (w : Entry) → w.kind ≡ LW → is_write w ≡ true
           store-writes w k = grind arith
@@ -178,10 +136,10 @@ module _ (t : Litmus) (c : Candidate) (d : Sound t c) (loc : ℕ) (q : is_counte
           locs : r.loc.0 ≡ w.loc.0
           locs = s-of.location ∙ ap (λ (z : Entry). z.loc.0) (sym same)
 
-          s : IsSum (expression_of t (bare w))
+          s : IsSum (load_part_of w) (expression_of t (bare w))
           s = (addition w i (writes-at loc w (store-writes w pair.write) (sym locs ∙ part.location))).sum
 
-          bares : bare (load_part w) ≡ bare r
+          bares : bare (load_part_of w) ≡ bare r
           bares =
               ap (λ n. entry n w.place LR w.loc 0) (sym pair.core)
               ∙ (ap (λ n. entry r.core.0 n LR w.loc 0) (sym pair.place)
@@ -189,7 +147,7 @@ module _ (t : Litmus) (c : Candidate) (d : Sound t c) (loc : ℕ) (q : is_counte
               ∙ ap (λ n. entry r.core.0 r.place r.kind (record { 0 = n }) 0) (sym locs)))
 
           at : Stands t c s.read r
-          at = record { inside = part.inside; same = ap bare (adds-to-own t (bare w) s.read (addend_of t (bare w)) s.is) ∙ bares }
+          at = record { inside = part.inside; same = same-bare s.read (load_part_of w) s.same ∙ bares }
 
   pub word-after-bare : (ws : List Entry) (word : ℕ) → word_after t (map bare ws) word ≡ word_after_adding adds ws word
   word-after-bare [] word = refl

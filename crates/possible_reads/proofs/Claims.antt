@@ -1,7 +1,7 @@
 -- A proposition's truth gives its facts, and those of one of its cases.
 use Rattle.possible_reads.proofs.Vocabulary.{◌≡◌, ◌&&◌, ◌||◌, ◌==◌, ℕ, Bool, true, false, not, List, [], ◌∷◌, ◌++◌, refl, ap, ◌∙◌, ◌⊎◌, inl, inr, subst, Litmus, Candidate, IsCandidate, Sound, sound, and-both, or-either}
 use Rattle.tso_terms.specs.Condition.{Claim, TruthClaim, RegClaim, LocClaim, NotClaim, AndClaim, OrClaim}
-use Rattle.possible_reads.specs.Expressions.{Expression, Constant, Returned, Sum, register_left}
+use Rattle.possible_reads.specs.Expressions.{Expression, Constant, Returned, Combined, Negated, Exchanged, register_left}
 use Rattle.possible_reads.proofs.Values.{value_of}
 use Rattle.possible_reads.specs.Facts.{Fact, value_facts, given_by, cases_of}
 use Rattle.possible_reads.specs.Laws.{AreMet, IsOneMet, register_in, holds_in}
@@ -36,7 +36,9 @@ module _ (t : Litmus) (c : Candidate) (k : IsCandidate t c) where
   value-met (Constant v) n value truth e h = tt
   value-met (Returned read) n value truth e h =
       ((λ r s. subst (λ m. (m == value) ≡ truth) (e ∙ returns t c d read r s) h), tt)
-  value-met (Sum left right) n value truth e h = tt
+  value-met (Combined operator left right) n value truth e h = tt
+  value-met (Negated inner) n value truth e h = tt
+  value-met (Exchanged word eax new) n value truth e h = tt
 
   pub gives : (claim : Claim) (truth : Bool) → holds_in t c claim ≡ truth → AreMet t c (given_by t claim truth)
   gives (TruthClaim value) truth h = (h, tt)

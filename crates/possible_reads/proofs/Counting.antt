@@ -14,9 +14,10 @@ use Rattle.refutation_laws.proofs.Standing.{of-event, same-bare, one-entry}
 use Rattle.refutation_laws.proofs.Soundness.{bare-same}
 use Rattle.refutation_laws.proofs.Cycles.{carried-one}
 use Rattle.possible_reads.specs.Facts.{Fact}
-use Rattle.possible_reads.specs.Possible.{Values, Reading, sums_of, either_of, comes_before, addend_of, is_counter, store_part, added, added_up, counts}
+use Rattle.possible_reads.specs.Possible.{Values, Reading, combined_values, either_of, comes_before, addend_of, is_counter, store_part, added, added_up, counts}
 use Rattle.possible_reads.specs.Laws.{IsPossible}
-use Rattle.possible_reads.proofs.Values.{itself-possible, sum-possible, either-first, either-second}
+use Rattle.basic_laws.specs.Types.{Add}
+use Rattle.possible_reads.proofs.Values.{itself-possible, combined-possible, either-first, either-second}
 use Rattle.possible_reads.proofs.Coherence.{stands-in}
 use Rattle.possible_reads.proofs.Additions.{adds, is-added-to, writes-bare}
 
@@ -162,10 +163,10 @@ module _ (reads : ReadsAddUp) (t : Litmus) (c : Candidate) (a : IsAllowed t c) (
       (comes_before t facts table w (store_part read)) refl (is_earlier w) refl
     where
       plus : Values
-      plus = sums_of words (Some (addend_of t w ∷ []))
+      plus = combined_values Add words (Some (addend_of t w ∷ []))
 
       more : IsPossible plus (sum_of m (addend_of t w))
-      more = sum-possible words (Some (addend_of t w ∷ [])) m (addend_of t w) h (itself-possible (addend_of t w))
+      more = combined-possible Add words (Some (addend_of t w ∷ [])) m (addend_of t w) h (itself-possible (addend_of t w))
 
       go : (x : Bool) → (same_event w (store_part read) || comes_before t facts table (store_part read) w) ≡ x
           → (z : Bool) → comes_before t facts table w (store_part read) ≡ z → (b : Bool) → is_earlier w ≡ b

@@ -1,9 +1,12 @@
 -- What a candidate's programs write, and leave in their registers, is what its reads return, put into their expressions.
-use Rattle.possible_reads.proofs.Vocabulary.{◌≡◌, ℕ, zero, suc, ◌+◌, Bool, true, false, if◌then◌else◌, List, [], ◌∷◌, ◌++◌, refl, sym, ap, ◌∙◌, ◌⊎◌, inl, inr, subst, map, filter, map-append, filter-append, slice_index, slice_index_or, slice_set, Entry, LR, LW, R, W, Reg, Instr, Operand, Number, Held, Update, Exchange, Add, Action, Store, Load, Move, Fence, Lock, Litmus, action_of, index_of, entry, value_in, updated, entries_by, registers_by, values_after, entries_of, registers_after, IsIn, in-case, in-none, in-first, in-later, in-filter, filter-in, in-left, in-right, bare, same_event, Stands, Candidate, events, events_from, is_read, is_write, Sound}
+use Rattle.possible_reads.proofs.Vocabulary.{◌≡◌, ℕ, zero, suc, ◌+◌, Bool, true, false, if◌then◌else◌, List, [], ◌∷◌, ◌++◌, refl, sym, ap, ◌∙◌, ◌⊎◌, inl, inr, subst, ◌==◌, Option, Some, None, map, filter, map-append, filter-append, slice_index, slice_index_or, slice_set, Entry, LR, LW, R, W, Reg, Instr, Operand, Number, Held, Update, Action, Store, Load, Move, Fence, Lock, Litmus, action_of, index_of, entry, value_in, updated, entries_by, registers_by, values_after, entries_of, registers_after, IsIn, in-case, in-none, in-first, in-later, in-filter, filter-in, in-left, in-right, bare, same_event, Stands, Candidate, events, events_from, is_read, is_write, Sound}
 use Rattle.tso_terms.specs.Thread as thread
+use Rattle.tso_terms.specs.Thread.{combined, difference_of, changed, with_taken}
+use Rattle.basic_laws.specs.Types.{Eax, Replace, Negate, CompareExchange, Change, Keep, Set, Swap}
+use Rattle.tso_terms.specs.declared.action.Update.TheVariants.{Combine}
 use Rattle.refutation_laws.proofs.Standing.{same-bare, one-entry}
 use Rattle.refutation_laws.proofs.Soundness.{bare-same}
-use Rattle.possible_reads.specs.Expressions.{Expression, Constant, Returned, Written, held_in, operand_in, updated_by, written_by, registers_after_action, written_in, registers_at_end, first_registers, written_from, written, expression_among, expression_of}
+use Rattle.possible_reads.specs.Expressions.{Expression, Constant, Returned, Written, held_in, operand_in, updated_by, changed_by, taken_by, written_by, registers_after_action, written_in, registers_at_end, first_registers, written_from, written, expression_among, expression_of}
 use Rattle.possible_reads.proofs.Values.{value_of}
 
 -- ---- lists
@@ -40,11 +43,34 @@ module _ (returned : Entry → ℕ) where
   operand os (Number value) = refl
   operand os (Held reg) = held os reg
 
-  updating : (os : List Expression) (reg : Reg) (u : Update) (read : Entry) (v : ℕ) → returned read ≡ v
-      → value_of returned (updated_by u (Returned read) (held_in os reg)) ≡ updated u v (value_in (now os) reg)
-  updating os reg Exchange read v h = held os reg
-  updating os reg Add read v h =
-      ap (λ n. thread.sum_of n (value_of returned (held_in os reg))) h ∙ ap (λ n. thread.sum_of v n) (held os reg)
+  updating : (os : List Expression) (u : Update) (word : Expression) (v : ℕ) → value_of returned word ≡ v
+      → value_of returned (updated_by u os word) ≡ updated u (now os) v
+  updating os (Replace o) word v h = operand os o
+  updating os (Combine operator o) word v h =
+      ap (λ n. combined operator n (value_of returned (operand_in os o))) h ∙ ap (λ n. combined operator v n) (operand os o)
+  updating os Negate word v h = ap (difference_of 0) h
+  updating os (CompareExchange reg) word v h =
+      ap (λ n. if n == value_of returned (held_in os Eax) then value_of returned (held_in os reg) else n) h
+      ∙ (ap (λ n. if v == n then value_of returned (held_in os reg) else v) (held os Eax)
+      ∙ ap (λ n. if v == value_in (now os) Eax then n else v) (held os reg))
+
+  changing : (os : List Expression) (change : Change) → now (changed_by change os) ≡ changed change (now os)
+  changing os Keep = refl
+  changing os (Set reg u) =
+      set-map (value_of returned) os (index_of reg) (updated_by u os (held_in os reg))
+      ∙ ap (λ n. slice_set (now os) (index_of reg) n) (updating os u (held_in os reg) (value_in (now os) reg) (held os reg))
+  changing os (Swap reg other) =
+      set-map (value_of returned) (slice_set os (index_of reg) (held_in os other)) (index_of other) (held_in os reg)
+      ∙ (ap (λ ns. slice_set ns (index_of other) (value_of returned (held_in os reg)))
+      (set-map (value_of returned) os (index_of reg) (held_in os other))
+      ∙ (ap (λ n. slice_set (slice_set (now os) (index_of reg) n) (index_of other) (value_of returned (held_in os reg))) (held os other)
+      ∙ ap (λ n. slice_set (slice_set (now os) (index_of reg) (value_in (now os) other)) (index_of other) n) (held os reg)))
+
+  taking : (os : List Expression) (target : Option Reg) (read : Entry) (v : ℕ) → returned read ≡ v
+      → now (taken_by os target (Returned read)) ≡ with_taken (now os) target v
+  taking os None read v h = refl
+  taking os (Some reg) read v h =
+      set-map (value_of returned) os (index_of reg) (Returned read) ∙ ap (λ n. slice_set (now os) (index_of reg) n) h
 
   after-by : (core place : ℕ) (a : Action) (os : List Expression) (v : ℕ) → Given returned (entries_by core place a (now os) v)
       → registers_by a (now os) v ≡ now (registers_after_action core place a os)
@@ -52,23 +78,20 @@ module _ (returned : Entry → ℕ) where
   after-by core place (Load reg loc) os v g =
       sym (set-map (value_of returned) os (index_of reg) (Returned (entry core place R loc 0))
       ∙ ap (λ n. slice_set (now os) (index_of reg) n) (g (entry core place R loc v) (0, refl) refl))
-  after-by core place (Move reg o) os v g =
-      sym (set-map (value_of returned) os (index_of reg) (operand_in os o)
-      ∙ ap (λ n. slice_set (now os) (index_of reg) n) (operand os o))
+  after-by core place (Move change) os v g = sym (changing os change)
   after-by core place Fence os v g = refl
-  after-by core place (Lock loc reg u) os v g =
-      sym (set-map (value_of returned) os (index_of reg) (Returned (entry core place LR loc 0))
-      ∙ ap (λ n. slice_set (now os) (index_of reg) n) (g (entry core place LR loc v) (0, refl) refl))
+  after-by core place (Lock loc target u) os v g =
+      sym (taking os target (entry core place LR loc 0) v (g (entry core place LR loc v) (0, refl) refl))
 
   writes-by : (core place : ℕ) (a : Action) (os : List Expression) (v : ℕ) → Given returned (entries_by core place a (now os) v)
       → filter is_write (entries_by core place a (now os) v) ≡ map filled (written_by core place a os)
   writes-by core place (Store loc o) os v g = ap (λ n. entry core place W loc n ∷ []) (sym (operand os o))
   writes-by core place (Load reg loc) os v g = refl
-  writes-by core place (Move reg o) os v g = refl
+  writes-by core place (Move change) os v g = refl
   writes-by core place Fence os v g = refl
-  writes-by core place (Lock loc reg u) os v g =
+  writes-by core place (Lock loc target u) os v g =
       ap (λ n. entry core place LW loc n ∷ [])
-      (sym (updating os reg u (entry core place LR loc 0) v (g (entry core place LR loc v) (0, refl) refl)))
+      (sym (updating os u (Returned (entry core place LR loc 0)) v (g (entry core place LR loc v) (0, refl) refl)))
 
   writes-of : (core place : ℕ) (p : List Instr) (os : List Expression) (values : List ℕ) → Given returned (entries_of core place p (now os) values)
       → filter is_write (entries_of core place p (now os) values) ≡ map filled (written_in core place p os)

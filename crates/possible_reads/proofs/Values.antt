@@ -1,8 +1,10 @@
 -- Values that are possible, put together: what is among some stays among what is made of them.
-use Rattle.possible_reads.proofs.Vocabulary.{◌≡◌, ◌==◌, ℕ, zero, suc, Bool, true, false, if◌then◌else◌, List, [], ◌∷◌, Some, None, refl, sym, ap, ◌⊎◌, inl, inr, subst, map, filter, list_any, length, nat_lt, slice_get, sum_of, Entry, or-either, same-number, number-same}
+use Rattle.possible_reads.proofs.Vocabulary.{◌≡◌, ◌==◌, ℕ, zero, suc, Bool, true, false, if◌then◌else◌, List, [], ◌∷◌, Some, None, refl, sym, ap, ◌∙◌, ◌⊎◌, inl, inr, subst, map, filter, list_any, length, nat_lt, slice_get, sum_of, Entry, or-either, same-number, number-same, is-false, not}
 use Rattle.refutation_laws.proofs.Tests.{or-first, or-second}
-use Rattle.possible_reads.specs.Expressions.{Expression, Constant, Returned, Sum}
-use Rattle.possible_reads.specs.Possible.{Values, is_among, at_most_64, union, either_of, both_of, any_of, sums_of, values_of, can_be, kept}
+use Rattle.tso_terms.specs.Thread.{combined, difference_of}
+use Rattle.basic_laws.specs.Types.{Operator}
+use Rattle.possible_reads.specs.Expressions.{Expression, Constant, Returned, Combined, Negated, Exchanged}
+use Rattle.possible_reads.specs.Possible.{Values, is_among, at_most_64, union, either_of, both_of, any_of, combined_values, negated_values, only_where, same_number, exchanged_word, exchanged_values, values_of, can_be, kept}
 use Rattle.possible_reads.specs.Laws.{IsPossible}
 
 -- ---- lists of numbers
@@ -105,14 +107,59 @@ any-possible f (y ∷ ys) zero x n p h =
     let e : x ≡ y = cc in either-first (f y) (any_of (map f ys)) n (subst (λ z. IsPossible (f z) n) e h)
 any-possible f (y ∷ ys) (suc i) x n p h = either-second (f y) (any_of (map f ys)) n (any-possible f ys i x n p h)
 
-pub sum-possible : (us vs : Values) (m n : ℕ) → IsPossible us m → IsPossible vs n → IsPossible (sums_of us vs) (sum_of m n)
-sum-possible None None m n h k = refl
-sum-possible None (Some vs) m n h k = refl
-sum-possible (Some us) None m n h k = refl
-sum-possible (Some us) (Some vs) m n h k =
+pub combined-possible : (operator : Operator) (us vs : Values) (m n : ℕ) → IsPossible us m → IsPossible vs n
+    → IsPossible (combined_values operator us vs) (combined operator m n)
+combined-possible operator None None m n h k = refl
+combined-possible operator None (Some vs) m n h k = refl
+combined-possible operator (Some us) None m n h k = refl
+combined-possible operator (Some us) (Some vs) m n h k =
     let a = among-at us m h in
-    any-possible (λ u. at_most_64 (map (sum_of u) vs)) us a.0 m (sum_of m n) a.1
-    (at-most (map (sum_of m) vs) (sum_of m n) (among-map (sum_of m) vs n k))
+    any-possible (λ u. at_most_64 (map (combined operator u) vs)) us a.0 m (combined operator m n) a.1
+    (at-most (map (combined operator m) vs) (combined operator m n) (among-map (combined operator m) vs n k))
+
+pub negated-possible : (vs : Values) (n : ℕ) → IsPossible vs n → IsPossible (negated_values vs) (difference_of 0 n)
+negated-possible None n h = refl
+negated-possible (Some vs) n h = among-map (difference_of 0) vs n h
+
+-- where the test is met, nothing is left out
+where-met : (b : Bool) (vs : Values) (n : ℕ) → b ≡ true → IsPossible vs n → IsPossible (only_where b vs) n
+where-met true vs n q h = h
+where-met false vs n q h = let z : ⊥ = cc in absurd z
+
+pub turned : (m e : ℕ) → (e == m) ≡ (m == e)
+turned m e = go (m == e) refl
+  where
+    go : (b : Bool) → (m == e) ≡ b → (e == m) ≡ b
+    go true q = number-same e m (sym (same-number m e q))
+    go false q = is-false (e == m) (λ h.
+        let k : (m == e) ≡ true = number-same m e (sym (same-number e m h)) in
+        let z : ⊥ = cc in z)
+
+-- what a compare and exchange makes of a word is among what it can make of it
+word-possible : (eax new : Values) (m e n : ℕ) → IsPossible eax e → IsPossible new n → IsPossible (exchanged_word eax new m) (if m == e then n else m)
+word-possible eax new m e n h k = go (m == e) refl
+  where
+    equal : Values
+    equal = only_where (can_be eax (same_number true m)) new
+
+    other : Values
+    other = only_where (can_be eax (same_number false m)) (Some (m ∷ []))
+
+    go : (b : Bool) → (m == e) ≡ b → IsPossible (exchanged_word eax new m) (if b then n else m)
+    go true q =
+        either-first equal other n
+        (where-met (can_be eax (same_number true m)) new n (possible-test eax (same_number true m) e h (turned m e ∙ q)) k)
+    go false q =
+        either-second equal other m
+        (where-met (can_be eax (same_number false m)) (Some (m ∷ [])) m
+        (possible-test eax (same_number false m) e h (ap not (turned m e ∙ q))) (itself-possible m))
+
+pub exchanged-possible : (words eax new : Values) (m e n : ℕ) → IsPossible words m → IsPossible eax e → IsPossible new n
+    → IsPossible (exchanged_values words eax new) (if m == e then n else m)
+exchanged-possible None eax new m e n h k l = refl
+exchanged-possible (Some words) eax new m e n h k l =
+    let a = among-at words m h in
+    any-possible (exchanged_word eax new) words a.0 m (if m == e then n else m) a.1 (word-possible eax new m e n k l)
 
 pub kept-possible : (test : ℕ → Bool) (vs : Values) (n : ℕ) → IsPossible vs n → test n ≡ true → IsPossible (kept test vs) n
 kept-possible test None n h q = refl
@@ -122,13 +169,20 @@ kept-possible test (Some vs) n h q = among-filter test vs n h q
 abbrev pub value_of : (Entry → ℕ) → Expression → ℕ
 value_of returned (Constant value) = value
 value_of returned (Returned read) = returned read
-value_of returned (Sum left right) = sum_of (value_of returned left) (value_of returned right)
+value_of returned (Combined operator left right) = combined operator (value_of returned left) (value_of returned right)
+value_of returned (Negated inner) = difference_of 0 (value_of returned inner)
+value_of returned (Exchanged word eax new) = if value_of returned word == value_of returned eax then value_of returned new else value_of returned word
 
 -- it is possible where what its reads return is
 pub value-possible : (reads : Entry → Values) (returned : Entry → ℕ) → ((e : Entry) → IsPossible (reads e) (returned e)) → (x : Expression)
     → IsPossible (values_of reads x) (value_of returned x)
 value-possible reads returned h (Constant value) = itself-possible value
 value-possible reads returned h (Returned read) = h read
-value-possible reads returned h (Sum left right) =
-    sum-possible (values_of reads left) (values_of reads right) (value_of returned left) (value_of returned right)
+value-possible reads returned h (Combined operator left right) =
+    combined-possible operator (values_of reads left) (values_of reads right) (value_of returned left) (value_of returned right)
     (value-possible reads returned h left) (value-possible reads returned h right)
+value-possible reads returned h (Negated inner) =
+    negated-possible (values_of reads inner) (value_of returned inner) (value-possible reads returned h inner)
+value-possible reads returned h (Exchanged word eax new) =
+    exchanged-possible (values_of reads word) (values_of reads eax) (values_of reads new) (value_of returned word) (value_of returned eax)
+    (value_of returned new) (value-possible reads returned h word) (value-possible reads returned h eax) (value-possible reads returned h new)

@@ -1,18 +1,23 @@
--- What a register holds and what a write writes, told by what the reads of their core return: a number, what one read returned,
--- or a sum of two of these.
-use Rattle.std.specs.Prelude.{ℕ, ◌+◌, List, [], ◌∷◌, ◌++◌, map, if◌then◌else◌, slice_index_or, slice_set}
+-- What a register holds and what a write writes, told by what the reads of their core return: numbers, what a read returned, and what
+-- instructions make of these.
+use Rattle.std.specs.Prelude.{ℕ, ◌+◌, List, [], ◌∷◌, ◌++◌, map, if◌then◌else◌, Option, Some, None, slice_index_or, slice_set}
 use Rattle.tso_terms.specs.Litmus.{Litmus}
 use Rattle.tso_terms.specs.Registers.{index_of}
 use Rattle.tso_terms.specs.Actions.{action_of}
 use Rattle.tso_terms.specs.Thread.{entry}
-use Rattle.basic_laws.specs.Types.{Reg, Instr, Operand, Number, Held, Update, Exchange, Add, Action, Entry, R, W, LR, LW}
+use Rattle.basic_laws.specs.Types.{Reg, Eax, Instr, Operand, Number, Held, Operator, Update, Replace, Negate, CompareExchange, Change, Keep, Set, Swap, Action, Entry, R, W, LR, LW}
+use Rattle.tso_terms.specs.declared.action.Update.TheVariants.{Combine}
 use Rattle.tso_terms.specs.declared.action.Action.TheVariants.{Store, Load, Move, Lock}
 use Rattle.refutation_laws.specs.Known.{same_event}
 
 pub data Expression : Type 0 where
   Constant : (value : ℕ) → Expression
   Returned : (read : Entry) → Expression
-  Sum : (left right : Expression) → Expression
+  Combined : (operator : Operator) → (left right : Expression) → Expression
+  -- zero without this, modulo 2^32
+  Negated : (inner : Expression) → Expression
+  -- the new value where the word is what EAX held, else the word
+  Exchanged : (word eax new : Expression) → Expression
 
 -- a write, and what it writes
 pub record Written : Type 0 where
@@ -28,20 +33,31 @@ abbrev pub operand_in : List Expression → Operand → Expression
 operand_in registers (Number value) = Constant value
 operand_in registers (Held reg) = held_in registers reg
 
-abbrev pub updated_by : Update → Expression → Expression → Expression
-updated_by Exchange word value = value
-updated_by Add word value = Sum word value
+abbrev pub updated_by : Update → List Expression → Expression → Expression
+updated_by (Replace operand) registers word = operand_in registers operand
+updated_by (Combine operator operand) registers word = Combined operator word (operand_in registers operand)
+updated_by Negate registers word = Negated word
+updated_by (CompareExchange reg) registers word = Exchanged word (held_in registers Eax) (held_in registers reg)
+
+abbrev pub changed_by : Change → List Expression → List Expression
+changed_by Keep registers = registers
+changed_by (Set reg update) registers = slice_set registers (index_of reg) (updated_by update registers (held_in registers reg))
+changed_by (Swap reg other) registers = slice_set (slice_set registers (index_of reg) (held_in registers other)) (index_of other) (held_in registers reg)
+
+abbrev pub taken_by : List Expression → Option Reg → Expression → List Expression
+taken_by registers None word = registers
+taken_by registers (Some reg) word = slice_set registers (index_of reg) word
 
 abbrev pub written_by : ℕ → ℕ → Action → List Expression → List Written
 written_by core place (Store loc operand) registers = record { write = entry core place W loc 0; value = operand_in registers operand } ∷ []
-written_by core place (Lock loc reg update) registers =
-    record { write = entry core place LW loc 0; value = updated_by update (Returned (entry core place LR loc 0)) (held_in registers reg) } ∷ []
+written_by core place (Lock loc target update) registers =
+    record { write = entry core place LW loc 0; value = updated_by update registers (Returned (entry core place LR loc 0)) } ∷ []
 written_by core place _ registers = []
 
 abbrev pub registers_after_action : ℕ → ℕ → Action → List Expression → List Expression
 registers_after_action core place (Load reg loc) registers = slice_set registers (index_of reg) (Returned (entry core place R loc 0))
-registers_after_action core place (Move reg operand) registers = slice_set registers (index_of reg) (operand_in registers operand)
-registers_after_action core place (Lock loc reg update) registers = slice_set registers (index_of reg) (Returned (entry core place LR loc 0))
+registers_after_action core place (Move change) registers = changed_by change registers
+registers_after_action core place (Lock loc target update) registers = taken_by registers target (Returned (entry core place LR loc 0))
 registers_after_action core place _ registers = registers
 
 -- the writes of a program

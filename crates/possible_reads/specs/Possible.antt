@@ -4,13 +4,13 @@ use Rattle.std.specs.Prelude.{ℕ, zero, suc, ◌==◌, ◌&&◌, ◌||◌, nat_
 use Rattle.std.specs.Prelude.{Option, Some, None, slice_index}
 use Rattle.std.specs.List.{list_any, list_all}
 use Rattle.tso_terms.specs.Litmus.{Litmus}
-use Rattle.tso_terms.specs.Thread.{entry, sum_of}
+use Rattle.tso_terms.specs.Thread.{entry, sum_of, difference_of, combined}
 use Rattle.tso_terms.specs.Condition.{LocClaim}
 use Rattle.tso_terms.specs.ProgramOrder.{is_before, is_read, writes_to, same_kind}
-use Rattle.basic_laws.specs.Types.{Entry, LR, LW}
+use Rattle.basic_laws.specs.Types.{Entry, LR, LW, Operator, Add, Subtract}
 use Rattle.refutation_laws.specs.Known.{events_of, same_event}
 use Rattle.refutation_laws.specs.Refutations.{sources_of}
-use Rattle.possible_reads.specs.Expressions.{Expression, Constant, Returned, Sum, expression_of}
+use Rattle.possible_reads.specs.Expressions.{Expression, Constant, Returned, Combined, Negated, Exchanged, expression_of}
 use Rattle.possible_reads.specs.Facts.{Fact, From, Before, Last, Returns, Holds}
 
 -- ---- values
@@ -44,20 +44,41 @@ abbrev pub any_of : List Values → Values
 any_of [] = Some []
 any_of (vs ∷ rest) = either_of vs (any_of rest)
 
-abbrev pub sums_of : Values → Values → Values
-sums_of (Some us) (Some vs) = any_of (map (λ u. at_most_64 (map (sum_of u) vs)) us)
-sums_of _ _ = None
+-- a number can be one of these
+abbrev pub can_be : Values → (ℕ → Bool) → Bool
+can_be None test = true
+can_be (Some values) test = list_any test values
+
+abbrev pub same_number : Bool → ℕ → ℕ → Bool
+same_number truth value v = if truth then v == value else not (v == value)
+
+abbrev pub combined_values : Operator → Values → Values → Values
+combined_values operator (Some us) (Some vs) = any_of (map (λ u. at_most_64 (map (combined operator u) vs)) us)
+combined_values operator _ _ = None
+
+abbrev pub negated_values : Values → Values
+negated_values None = None
+negated_values (Some vs) = Some (map (difference_of 0) vs)
+
+abbrev pub only_where : Bool → Values → Values
+only_where test vs = if test then vs else Some []
+
+-- what a compare and exchange makes of this word: a new value, where EAX can hold the word; the word, where EAX can hold another one
+abbrev pub exchanged_word : Values → Values → ℕ → Values
+exchanged_word eax new word =
+    either_of (only_where (can_be eax (same_number true word)) new) (only_where (can_be eax (same_number false word)) (Some (word ∷ [])))
+
+abbrev pub exchanged_values : Values → Values → Values → Values
+exchanged_values None eax new = None
+exchanged_values (Some words) eax new = any_of (map (exchanged_word eax new) words)
 
 -- what an expression can be, where this is what each read can return
 abbrev pub values_of : (Entry → Values) → Expression → Values
 values_of reads (Constant value) = Some (value ∷ [])
 values_of reads (Returned read) = reads read
-values_of reads (Sum left right) = sums_of (values_of reads left) (values_of reads right)
-
--- a number can be one of these
-abbrev pub can_be : Values → (ℕ → Bool) → Bool
-can_be None test = true
-can_be (Some values) test = list_any test values
+values_of reads (Combined operator left right) = combined_values operator (values_of reads left) (values_of reads right)
+values_of reads (Negated inner) = negated_values (values_of reads inner)
+values_of reads (Exchanged word eax new) = exchanged_values (values_of reads word) (values_of reads eax) (values_of reads new)
 
 -- ---- what a round leaves
 
@@ -94,9 +115,6 @@ values_from t table read None = Some (slice_index t.words read.loc.0 ∷ [])
 values_from t table read (Some write) = values_written t table write
 
 -- ---- the last write to a location
-
-abbrev pub same_number : Bool → ℕ → ℕ → Bool
-same_number truth value v = if truth then v == value else not (v == value)
 
 abbrev pub fits_word : ℕ → ℕ → Fact → Bool
 fits_word loc word (Holds (LocClaim l value) truth) = if l == loc then same_number truth value word else true
@@ -137,25 +155,31 @@ abbrev pub comes_before : Litmus → List Fact → List Reading → Entry → En
 comes_before t facts table w v =
     is_put_before facts w v || (writes_to w.loc.0 v && not (same_event w v) && is_last t facts table v)
 
--- ---- counters: all writes to the location are locked additions of numbers
+-- ---- counters: all writes to the location are locked additions and subtractions of numbers
 
-abbrev pub addend_in : Expression → Option ℕ
-addend_in (Sum (Returned read) (Constant addend)) = Some addend
-addend_in _ = None
+-- the load part of the locked instruction whose store part this is
+abbrev pub load_part_of : Entry → Entry
+load_part_of write = entry write.core.0 write.place LR write.loc 0
+
+-- the number that is added to what this read returns, modulo 2^32
+abbrev pub addend_in : Entry → Expression → Option ℕ
+addend_in own (Combined Add (Returned read) (Constant number)) = if same_event read own then Some number else None
+addend_in own (Combined Subtract (Returned read) (Constant number)) = if same_event read own then Some (difference_of 0 number) else None
+addend_in own _ = None
 
 abbrev pub addend_or_none : Option ℕ → ℕ
 addend_or_none None = 0
 addend_or_none (Some addend) = addend
 
 abbrev pub addend_of : Litmus → Entry → ℕ
-addend_of t write = addend_or_none (addend_in (expression_of t write))
+addend_of t write = addend_or_none (addend_in (load_part_of write) (expression_of t write))
 
 abbrev pub is_addition : Option ℕ → Bool
 is_addition None = false
 is_addition (Some addend) = true
 
 abbrev pub adds_alone : Litmus → ℕ → Entry → Bool
-adds_alone t loc e = if writes_to loc e then same_kind e.kind LW && is_addition (addend_in (expression_of t e)) else true
+adds_alone t loc e = if writes_to loc e then same_kind e.kind LW && is_addition (addend_in (load_part_of e) (expression_of t e)) else true
 
 abbrev pub is_counter : Litmus → ℕ → Bool
 is_counter t loc = list_any (writes_to loc) (events_of t) && list_all (adds_alone t loc) (events_of t)
@@ -178,8 +202,8 @@ store_part read = entry read.core.0 read.place LW read.loc 0
 abbrev pub added : Litmus → List Fact → List Reading → Entry → Entry → Values → Values
 added t facts table own w words =
     if same_event w own || comes_before t facts table own w then words
-    else if comes_before t facts table w own then sums_of words (Some (addend_of t w ∷ []))
-    else either_of words (sums_of words (Some (addend_of t w ∷ [])))
+    else if comes_before t facts table w own then combined_values Add words (Some (addend_of t w ∷ []))
+    else either_of words (combined_values Add words (Some (addend_of t w ∷ [])))
 
 abbrev pub added_up : Litmus → List Fact → List Reading → Entry → List Entry → Values → Values
 added_up t facts table own [] words = words

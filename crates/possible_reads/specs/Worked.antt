@@ -1,11 +1,12 @@
--- Worked tests: a lock that two cores take by an exchange, a counter to which three cores add by locked additions, store buffering,
--- and a load before its own core's store.
+-- Worked tests: a lock that two cores take by an exchange or by a compare and exchange, a counter to which three cores add by locked
+-- additions, one from which two subtract, store buffering, a load before its own core's store, and a sum that is stored.
 use Rattle.std.specs.Prelude.{ℕ, true, List, [], ◌∷◌, None, codes}
 use Rattle.tso_terms.specs.Litmus.{Litmus}
 use Rattle.tso_terms.specs.Thread.{entry}
 use Rattle.tso_terms.specs.Condition.{Claim, RegClaim, LocClaim, AndClaim}
 use Rattle.tso_terms.specs.Examples.{loc_x, loc_y, zeros}
-use Rattle.basic_laws.specs.Types.{Eax, StoreImm, Load, Xadd, Entry, R, LR, LW}
+use Rattle.basic_laws.specs.Types.{Eax, Ebx, StoreImm, StoreReg, Load, Xadd, Add, Subtract, Number, Instr, Entry, R, W, LR, LW}
+use Rattle.tso_terms.specs.declared.instruction.Instr.TheVariants.{CompareExchange, LockedCombine, Combine}
 use Rattle.relational_model.specs.WorkedCandidates.{one_in_eax}
 use Rattle.possible_reads.specs.Facts.{Fact, From, Last, given_by}
 
@@ -36,6 +37,25 @@ counter_of_three = record {
   condition = None;
 }
 
+-- two cores with these registers, and this instruction each, on x, which begins as `word`
+abbrev pub both_do : List ℕ → ℕ → Instr → Litmus
+both_do registers word instruction = record {
+  name = codes "both";
+  locations = codes "x" ∷ [];
+  words = word ∷ [];
+  registers = registers ∷ (registers ∷ []);
+  programs = (instruction ∷ []) ∷ ((instruction ∷ []) ∷ []);
+  condition = None;
+}
+
+-- a core has the lock if its compare and exchange found 0, and put 1 there
+abbrev pub compared_lock : Litmus
+compared_lock = both_do (0 ∷ (1 ∷ (0 ∷ (0 ∷ (0 ∷ (0 ∷ [])))))) 0 (CompareExchange loc_x Ebx)
+
+-- two references are dropped
+abbrev pub references : Litmus
+references = both_do zeros 2 (LockedCombine loc_x Subtract (Number 1))
+
 -- the first core adds last
 abbrev pub adds_last : List Fact
 adds_last = Last (store_part 0) true ∷ []
@@ -52,6 +72,17 @@ load_of_y = entry 0 1 R loc_y 0
 
 abbrev pub load_of_x : Entry
 load_of_x = entry 1 1 R loc_x 0
+
+-- a core loads x, adds 1, and stores the sum to y
+abbrev pub sum_stored : Litmus
+sum_stored = record {
+  name = codes "sum";
+  locations = codes "x" ∷ (codes "y" ∷ []);
+  words = 4294967295 ∷ (7 ∷ []);
+  registers = zeros ∷ [];
+  programs = (Load Eax loc_x ∷ (Combine Eax Add (Number 1) ∷ (StoreReg loc_y Eax ∷ []))) ∷ [];
+  condition = None;
+}
 
 -- a core loads x and then stores 1 there
 abbrev pub load_then_store : Litmus

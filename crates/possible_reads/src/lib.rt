@@ -7,7 +7,7 @@
 ghost use Rattle.possible_reads.specs.Laws.{ReadingsArePossible, WrittenValuesArePossible, KnownOrderIsRight, SomeWriteComesLast, LastWordsArePossible, LastRegistersArePossible, TruthsAreThoseLeft, ClaimsGiveFacts, SomeCaseIsMet};
 ghost use Rattle.possible_reads.specs.Facts.{given_by};
 ghost use Rattle.possible_reads.specs.Possible.{readings, values_read, sources_read, words_left};
-ghost use Rattle.possible_reads.specs.Worked.{both_zero, load_part, store_part, taken, counter_of_three, adds_last, one_lost, load_of_y, load_of_x, load_then_store};
+ghost use Rattle.possible_reads.specs.Worked.{both_zero, load_part, store_part, taken, counter_of_three, adds_last, one_lost, load_of_y, load_of_x, load_then_store, compared_lock, references, sum_stored};
 ghost use Rattle.std.specs.Prelude.{◌≡◌, true, [], ◌∷◌, Some, None};
 ghost use Rattle.tso_terms.specs.Thread.{entry};
 ghost use Rattle.tso_terms.specs.Examples.{sb, loc_x};
@@ -84,7 +84,8 @@ pub fn some_case_is_met()
 
 /// Where one core has taken the lock, the other one reads what that core wrote; both take it in no candidate, since the read of each is
 /// left no source. Of three additions of 1 to a counter each finds 0, 1 or 2, the last one 2, and 3 is left, never 2. In store buffering
-/// the loads that both read 0 read the initial words. A load doesn't read what its own core stores later.
+/// the loads that both read 0 read the initial words. A load doesn't read what its own core stores later. Of two compare and exchanges
+/// one alone finds 0. Of two references that are dropped the last word is 0. A sum is modulo 2^32.
 pub fn worked_readings()
     ensures turn { sources_read lock (readings lock taken) (load_part 1) ≡ Some (store_part 0) ∷ [] }
     ensures exclusion { sources_read lock (readings lock (given_by lock both_zero true)) (load_part 0) ≡ [] }
@@ -95,4 +96,8 @@ pub fn worked_readings()
     ensures buffered { (sources_read sb (readings sb (given_by sb both_zero true)) load_of_y ≡ None ∷ [])
         × (sources_read sb (readings sb (given_by sb both_zero true)) load_of_x ≡ None ∷ []) }
     ensures later { sources_read load_then_store (readings load_then_store []) (entry 0 0 R loc_x 0) ≡ None ∷ [] }
+    ensures compared { sources_read compared_lock (readings compared_lock (given_by compared_lock both_zero true)) (load_part 0) ≡ [] }
+    ensures dropped { (values_read (readings references []) (load_part 0) ≡ Some (2 ∷ (1 ∷ [])))
+        × (words_left references [] (readings references []) 0 ≡ Some (0 ∷ [])) }
+    ensures sum { words_left sum_stored [] (readings sum_stored []) 1 ≡ Some (0 ∷ []) }
 {}

@@ -1,5 +1,5 @@
 -- What a verdict means, that both commands print one, and that the status says the same.
-use Rattle.promises.proofs.PrintedVocabulary.{◌≡◌, ℕ, ◌<◌, Bool, true, false, List, [], ◌⊎◌, inl, inr, refl, sym, ap, subst, ◌∙◌, arith, Some, ◌==◌, not, Contains, eqb-true, Litmus, IsTest, Condition, Claim, truth_of, Entry, names_shown, Outcome, shown_values, held_in, failed_in, is_met_in, verdict_word, is_well, is_met, is_as_claimed, PrintsVerdict, IsAsClaimed, IsNotAsClaimed, VerdictMeans, VerdictsAgree, StatusTells, IsSoEverywhere, IsSoSomewhere, Model, truth_asked, final_words, final_registers, EndsAreWhatTsoAllows, SpellsTest, TruthIsShown, parts_of, made-of, Search, shown_after, PrintsAllOutcomes, PrintsSomeOutcomes, HeadlineOfOutcomes, all, AreSomeOf, AreExactly, unfinished_search_in, StatusTellsNoVerdict, Tso, Sequential, Quantifier, Exists, NotExists, Forall, too_many}
+use Rattle.promises.proofs.PrintedVocabulary.{Instructions, ◌≡◌, ℕ, ◌<◌, Bool, true, false, List, [], ◌⊎◌, inl, inr, refl, sym, ap, subst, ◌∙◌, arith, Some, ◌==◌, not, Contains, eqb-true, Litmus, IsTest, Condition, Claim, truth_of, Entry, names_shown, Outcome, shown_values, held_in, failed_in, is_met_in, verdict_word, is_well, is_met, is_as_claimed, PrintsVerdict, IsAsClaimed, IsNotAsClaimed, VerdictMeans, VerdictsAgree, StatusTells, IsSoEverywhere, IsSoSomewhere, Model, truth_asked, final_words, final_registers, EndsAreWhatTsoAllows, SpellsTest, TruthIsShown, parts_of, made-of, Search, shown_after, PrintsAllOutcomes, PrintsSomeOutcomes, HeadlineOfOutcomes, all, AreSomeOf, AreExactly, unfinished_search_in, StatusTellsNoVerdict, Tso, Sequential, Quantifier, Exists, NotExists, Forall, too_many}
 use Rattle.refutation_laws.specs.Models.{IsExecutionOf, depth_of}
 use Rattle.litmus_reader.specs.Spelling.{IsRefused as IsRefusedTest}
 use Rattle.litmus_reader.specs.declared.fault.TextFault.{TextFault}
@@ -166,10 +166,10 @@ record Tells (verdict : Bool) (Meant : Quantifier → Litmus → ℕ → Claim �
 
 means : (verdict : Bool) (Meant : Quantifier → Litmus → ℕ → Claim → Type 0) → Tells verdict Meant
     → TestsAreWithin → EndsAreWhatTsoAllows → TruthIsShown → VerdictMeans (verdict_word verdict) Meant
-means verdict Meant tells within laws shown search json assert input out t condition small spelled is headline says = by ((headline.within small).every_test t spelled)
+means verdict Meant tells within laws shown search set json assert input out t condition small spelled is headline says = by ((headline.within small).every_test t spelled)
   where
     test : IsTest t
-    test = within (parts_of input).test t spelled
+    test = within set (parts_of input).test t spelled
 
     by : HeadlineOfOutcomes t search json out → Meant condition.quantifier t search.depth condition.claim
     by (all p) = tells.from_all t condition search json out laws shown test is p (printed-is t condition search json verdict out is p says)
@@ -266,11 +266,11 @@ module _ (t : Litmus) (condition : Condition) (s : Search) (e : Explanation) (js
   some-reason-is p (too_many more fewer printed) d = absurd (none-said printed)
 
 pub verdicts-agree : TestsAreWithin → TruthIsShown → VerdictsAgree
-verdicts-agree within shown search plan json again assert asserted input out other t condition verdict other_verdict small spelled is depth first says second other_says =
+verdicts-agree within shown search plan set json again assert asserted input out other t condition verdict other_verdict small spelled is depth first says second other_says =
     by ((first.within small).every_test t spelled)
   where
     test : IsTest t
-    test = within (parts_of input).test t spelled
+    test = within set (parts_of input).test t spelled
 
     by : HeadlineOfOutcomes t search json out → verdict ≡ other_verdict
     by (all p) =
@@ -284,8 +284,8 @@ verdicts-agree within shown search plan json again assert asserted input out oth
 
 -- a text spells one test, and isn't refused then
 pub record TextsAreDecided : Type 0 where
-  pub once : (text : List ℕ) (t other : Litmus) → SpellsTest text t → SpellsTest text other → t ≡ other
-  pub never_both : (text : List ℕ) (t : Litmus) (fault : TextFault) → SpellsTest text t → IsRefusedTest text fault → ⊥
+  pub once : (set : Instructions) (text : List ℕ) (t other : Litmus) → SpellsTest set text t → SpellsTest set text other → t ≡ other
+  pub never_both : (set : Instructions) (text : List ℕ) (t : Litmus) (fault : TextFault) → SpellsTest set text t → IsRefusedTest set text fault → ⊥
 
 -- a verdict, asserted: of all states or of some
 outcomes-status : (t : Litmus) (condition : Condition) (s : Search) (json verdict : Bool) (out : List ℕ) (status : Status) → t.condition ≡ Some condition
@@ -319,24 +319,24 @@ why-status t condition e json assert verdict _ _ is (allowed out r) says =
     (ends-so json verdict out says))
 why-status t condition e json assert verdict _ _ is (too_many more fewer) says = absurd (reasons.none-unfinished json verdict t e.cases (ends-so json verdict _ says))
 
-pub outcomes-tell : (search : Search) (json verdict : Bool) → TextsAreDecided → StatusTells (settings.Outcomes search json true) json (verdict_word verdict) (status_of_verdict true verdict)
-outcomes-tell search json verdict decided input _ _ t condition small spelled is (too_large large) says = absurd (omega (arith, small, large))
-outcomes-tell search json verdict decided input _ _ t condition small spelled is (refused fault less refusal) says = absurd (decided.never_both _ t fault spelled refusal)
-outcomes-tell search json verdict decided input _ _ t condition small spelled is (answered u out status less too answer) says =
+pub outcomes-tell : (search : Search) (set : Instructions) (json verdict : Bool) → TextsAreDecided → StatusTells (settings.Outcomes search set json true) json (verdict_word verdict) (status_of_verdict true verdict)
+outcomes-tell search set json verdict decided input _ _ t condition small spelled is (too_large large) says = absurd (omega (arith, small, large))
+outcomes-tell search set json verdict decided input _ _ t condition small spelled is (refused fault less refusal) says = absurd (decided.never_both set (parts_of input).test t fault spelled refusal)
+outcomes-tell search set json verdict decided input _ _ t condition small spelled is (answered u out status less too answer) says =
     outcomes-status t condition search json verdict out status is
-    (subst (λ v. IsOutcomesAnswer v search json true out status) (decided.once (parts_of input).test u t too spelled) answer) says
+    (subst (λ v. IsOutcomesAnswer v search json true out status) (decided.once set (parts_of input).test u t too spelled) answer) says
 
-pub outcomes-tell-nothing : (search : Search) (json verdict : Bool) → TextsAreDecided → StatusTellsNoVerdict (settings.Outcomes search json false) json (verdict_word verdict)
-outcomes-tell-nothing search json verdict decided input _ _ t condition small spelled is (too_large large) says = absurd (omega (arith, small, large))
-outcomes-tell-nothing search json verdict decided input _ _ t condition small spelled is (refused fault less refusal) says = absurd (decided.never_both _ t fault spelled refusal)
-outcomes-tell-nothing search json verdict decided input _ _ t condition small spelled is (answered u out status less too answer) says = outcomes-unasserted u search json out status answer
+pub outcomes-tell-nothing : (search : Search) (set : Instructions) (json verdict : Bool) → TextsAreDecided → StatusTellsNoVerdict (settings.Outcomes search set json false) json (verdict_word verdict)
+outcomes-tell-nothing search set json verdict decided input _ _ t condition small spelled is (too_large large) says = absurd (omega (arith, small, large))
+outcomes-tell-nothing search set json verdict decided input _ _ t condition small spelled is (refused fault less refusal) says = absurd (decided.never_both set (parts_of input).test t fault spelled refusal)
+outcomes-tell-nothing search set json verdict decided input _ _ t condition small spelled is (answered u out status less too answer) says = outcomes-unasserted u search json out status answer
 
-pub why-tells : (plan : Explanation) (json assert verdict : Bool) → TextsAreDecided → StatusTells (settings.Why plan json assert) json (verdict_word verdict) (status_of_verdict assert verdict)
-why-tells plan json assert verdict decided input _ _ t condition small spelled is (too_large large) says = absurd (omega (arith, small, large))
-why-tells plan json assert verdict decided input _ _ t condition small spelled is (refused fault less refusal) says = absurd (decided.never_both _ t fault spelled refusal)
-why-tells plan json assert verdict decided input _ _ t condition small spelled is (answered u out status less too answer) says =
+pub why-tells : (plan : Explanation) (set : Instructions) (json assert verdict : Bool) → TextsAreDecided → StatusTells (settings.Why plan set json assert) json (verdict_word verdict) (status_of_verdict assert verdict)
+why-tells plan set json assert verdict decided input _ _ t condition small spelled is (too_large large) says = absurd (omega (arith, small, large))
+why-tells plan set json assert verdict decided input _ _ t condition small spelled is (refused fault less refusal) says = absurd (decided.never_both set (parts_of input).test t fault spelled refusal)
+why-tells plan set json assert verdict decided input _ _ t condition small spelled is (answered u out status less too answer) says =
     why-status t condition plan json assert verdict out status is
-    (subst (λ v. IsWhyAnswer v plan json assert out status) (decided.once (parts_of input).test u t too spelled) answer) says
+    (subst (λ v. IsWhyAnswer v plan json assert out status) (decided.once set (parts_of input).test u t too spelled) answer) says
 
 -- with `Ok` nothing is told, asserted or not
 pub ok-is-good : (assert : Bool) → status_of_verdict assert true ≡ Good

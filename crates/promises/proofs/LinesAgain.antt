@@ -1,4 +1,5 @@
 -- The two lines of each state stand in the text of `outcomes`.
+use Rattle.litmus_tokens.specs.declared.instructions.Instructions.{Instructions}
 use Rattle.promises.proofs.Vocabulary.{◌≡◌, ◌∙◌, ℕ, Bool, false, List, [], ◌∷◌, ◌++◌, ◌⊎◌, inl, inr, length, refl, sym, ap, subst, codes, append_assoc, Litmus, Choice, Step, Drain, ProtocolKind, Configuration}
 use Rattle.std.specs.Fmt.{decimal}
 use Rattle.std.specs.List.{AllByRecursion}
@@ -77,9 +78,9 @@ shown-stand t s out outcomes (inr is) =
 
 -- ---- each is run again
 
-module _ (kind : ProtocolKind) (c : Configuration) (json : Bool) (test : List ℕ) (t : Litmus) (names : List Named) (out : List ℕ) where
-  again : (outcomes : List Outcome) → AllByRecursion (λ o. HasPart out (both_lines t names o)) outcomes → AllByRecursion (IsRevisited kind c json test t names) outcomes
-      → AllByRecursion (λ o. IsRunAgain kind c json t names test out (printed_choices o.choices)) outcomes
+module _ (kind : ProtocolKind) (c : Configuration) (set : Instructions) (json : Bool) (test : List ℕ) (t : Litmus) (names : List Named) (out : List ℕ) where
+  again : (outcomes : List Outcome) → AllByRecursion (λ o. HasPart out (both_lines t names o)) outcomes → AllByRecursion (IsRevisited kind c set json test t names) outcomes
+      → AllByRecursion (λ o. IsRunAgain kind c set json t names test out (printed_choices o.choices)) outcomes
   again [] stand revisited = tt
   again (o ∷ rest) stand revisited = (
     λ answer status answered.
@@ -98,8 +99,8 @@ module _ (kind : ProtocolKind) (c : Configuration) (json : Bool) (test : List �
     again rest stand.1 revisited.1,
   )
 
-pub lines-again : (kind : ProtocolKind) (c : Configuration) (s : Search) (json : Bool) (test out : List ℕ) → AreRevisited kind c s json false test out → LinesAreRunAgain kind c s json test out
-lines-again kind c s json test out r =
+pub lines-again : (kind : ProtocolKind) (c : Configuration) (set : Instructions) (s : Search) (json : Bool) (test out : List ℕ) → AreRevisited kind c set s json false test out → LinesAreRunAgain kind c set s json test out
+lines-again kind c set s json test out r =
     let t = r.t in
     let names = names_shown s.show t in
     record {
@@ -107,6 +108,6 @@ lines-again kind c s json test out r =
       spelled = r.spelled;
       outcomes = r.outcomes;
       text = r.printed;
-      each = All-from_recursion (λ o. IsRunAgain kind c json t names test out (printed_choices o.choices)) r.outcomes
-          (again kind c json test t names out r.outcomes (shown-stand t s out r.outcomes r.printed) (recursion_from_All (IsRevisited kind c json test t names) r.outcomes r.each));
+      each = All-from_recursion (λ o. IsRunAgain kind c set json t names test out (printed_choices o.choices)) r.outcomes
+          (again kind c set json test t names out r.outcomes (shown-stand t s out r.outcomes r.printed) (recursion_from_All (IsRevisited kind c set json test t names) r.outcomes r.each));
     }

@@ -1,44 +1,16 @@
 -- What a machine holds fits its test, whatever the choices: its words are words, its pending stores and what it commits are entries
 -- that an order of the test may have, and no core stands past its program.
-use Rattle.promises.proofs.PrintedVocabulary.{◌≡◌, ℕ, ◌<◌, Bool, true, false, List, [], ◌∷◌, ◌++◌, drop, refl, sym, subst, zero, suc, ◌≤◌, Option, arith, inl, inr, ◌+◌, length, slice_index, All, Some, None, slice_index_or, if◌then◌else◌, take, IfSome, nat_lt, slice_get, slice_set, Litmus, IsTest, IsProgram, KnownLocation, ConstantIsWord, Bus, Atomic, Split, All-head, All-tail, All-cons, All-nil, All-push, All-set, All-filter, All-drop, IsWord, AreRegisters, index_of, value_in, entry, fence, value_of, sum_of, updated, Reg, Entry, HasAccess, IsEntryFor, Choice, Drain, chosen, CoreState, State, Effect, is_none_pending, stalled, advanced_with, stored, load_value, effect_by, idle, program_of, core_of, effect_of, memory_after, applied, started, start, Kind, R, W, F, LR, LW, Stall, Committed, Buffered, action_of, is_write, writes_to, MemoryAccess, Locks, access_of, Holder, Free, HeldBy, HeldBetween, Attempt, BusEffect, same_choice, needs_bus, acts, asks, begins, completes, as_read, writes_last, split_effect, Instr, Operand, Number, Held, Update, Exchange, Add, Action, Store, Load, Move, Fence, Lock, ActionKnown, AccessKnown, step_of, next_of}
+use Rattle.promises.proofs.PrintedVocabulary.{◌≡◌, ℕ, ◌<◌, Bool, true, false, List, [], ◌∷◌, ◌++◌, drop, refl, sym, subst, zero, suc, ◌≤◌, Option, arith, inl, inr, ◌+◌, length, slice_index, All, Some, None, slice_index_or, if◌then◌else◌, take, IfSome, nat_lt, slice_get, slice_set, Litmus, IsTest, IsProgram, KnownLocation, ConstantIsWord, Bus, Atomic, Split, All-head, All-tail, All-cons, All-nil, All-push, All-set, All-filter, All-drop, IsWord, AreRegisters, index_of, entry, fence, value_of, updated, Reg, Entry, HasAccess, IsEntryFor, Choice, Drain, chosen, CoreState, State, Effect, is_none_pending, stalled, advanced_with, stored, load_value, effect_by, idle, program_of, core_of, effect_of, memory_after, applied, started, start, Kind, R, W, F, LR, LW, Stall, Committed, Buffered, action_of, is_write, writes_to, MemoryAccess, Locks, access_of, Holder, Free, HeldBy, HeldBetween, Attempt, BusEffect, same_choice, needs_bus, acts, asks, begins, completes, as_read, writes_last, split_effect, Instr, Action, Store, Load, Move, Fence, Lock, ActionKnown, AccessKnown, step_of, next_of}
 use Rattle.std.proofs.Common.{filter}
 use Rattle.tso_terms.specs.Axioms.{last_value}
 use Rattle.tso_terms.specs.EitherBus.{BusState, effect_on}
-use Rattle.basic_laws.specs.Types.{StoreImm, SetImm, Step}
+use Rattle.basic_laws.specs.Types.{Step}
+use Rattle.tso_terms.specs.Thread.{changed, with_taken}
 use Rattle.tso_terms.specs.declared.choice.Stall.TheVariants as stall
 use Rattle.basic_laws.proofs.Cores.{starts-idle}
 use Rattle.tso_laws.proofs.Cores.{core-cases}
+use Rattle.tso_laws.proofs.Words.{NumberIsWord, number-word, operand-word, updated-word, changed-words, taken-words}
 use Rattle.promises.proofs.Lists.{word-at}
-
--- ---- words
-
-no-word : IsWord 0
-no-word = omega arith
-
-sum-word : (word value : ℕ) → IsWord (sum_of word value)
-sum-word word value = omega arith
-
-updated-word : (update : Update) (word value : ℕ) → IsWord value → IsWord (updated update word value)
-updated-word Exchange word value w = w
-updated-word Add word value w = sum-word word value
-
-abbrev OperandIsWord : Operand → Type 0
-OperandIsWord (Number value) = IsWord value
-OperandIsWord (Held reg) = Unit {0}
-
-abbrev NumberIsWord : Action → Type 0
-NumberIsWord (Store loc operand) = OperandIsWord operand
-NumberIsWord (Move reg operand) = OperandIsWord operand
-NumberIsWord _ = Unit {0}
-
-number-word : (i : Instr) → ConstantIsWord i → NumberIsWord (action_of i)
-number-word (StoreImm loc value) w = w
-number-word (SetImm reg value) w = w
-number-word _ w = tt
-
-operand-word : (registers : List ℕ) (operand : Operand) → All IsWord registers → OperandIsWord operand → IsWord (value_of registers operand)
-operand-word registers (Number value) h w = w
-operand-word registers (Held reg) h w = word-at registers (index_of reg) h
 
 -- ---- entries
 
@@ -91,6 +63,9 @@ module _ (t : Litmus) where
   with-fits : (s : CoreState) (reg : Reg) (value : ℕ) → s.place < 32 → CoreFits t s → IsWord value → CoreFits t (advanced_with s reg value)
   with-fits s reg value here h w = record { place = omega (arith, here); registers = All-set IsWord s.registers (index_of reg) value w h.registers; pending = h.pending }
 
+  with-registers : (s : CoreState) (registers : List ℕ) → s.place < 32 → CoreFits t s → All IsWord registers → CoreFits t (record { place = s.place + 1; registers = registers; pending = s.pending })
+  with-registers s registers here h words = record { place = omega (arith, here); registers = words; pending = h.pending }
+
   stored-fits : (depth : ℕ) (s : CoreState) (e : Entry) → s.place < 32 → CoreFits t s → PendingFits t e → EffectFits t (stored depth s e)
   stored-fits zero s e here h p = record { after = next-place s here h; commits = one e (pending-entry t e p) }
   stored-fits (suc n) s e here h p = by_room (nat_lt (length s.pending) (suc n))
@@ -115,20 +90,20 @@ module _ (t : Litmus) where
         let value = load_value memory s loc.0 in
         let w : IsWord value = last-word t (filter (writes_to loc.0) s.pending) (slice_index memory loc.0) (All-filter (writes_to loc.0) (PendingFits t) s.pending h.pending) (word-at memory loc.0 m) in
         record { after = with-fits s reg value here h w; commits = one (entry core s.place R loc value) (record { core = small; place = omega (arith, here); access = (k, w) }) }
-    action-fits depth memory (Move reg operand) s m k n here h =
-        record { after = with-fits s reg (value_of s.registers operand) here h (operand-word s.registers operand h.registers n); commits = nothing }
+    action-fits depth memory (Move change) s m k n here h =
+        record { after = with-registers s (changed change s.registers) here h (changed-words change s.registers n h.registers); commits = nothing }
     action-fits depth memory Fence s m k n here h =
         when-fits s stall.Fence _ (is_none_pending s.pending) h
         (record { after = next-place s here h; commits = one (fence core s.place) (record { core = small; place = omega (arith, here); access = (refl, refl) }) })
     action-fits depth memory (Lock loc reg update) s m k n here h =
         let word = slice_index memory loc.0 in
-        let value = updated update word (value_in s.registers reg) in
+        let value = updated update s.registers word in
         let w : IsWord word = word-at memory loc.0 m in
-        let v : IsWord value = updated-word update word (value_in s.registers reg) (word-at s.registers (index_of reg) h.registers) in
+        let v : IsWord value = updated-word update s.registers word n h.registers w in
         let wrote = entry core s.place LW loc value in
         when-fits s stall.Lock _ (is_none_pending s.pending) h
         (record {
-          after = with-fits s reg word here h w;
+          after = with-registers s (with_taken s.registers reg word) here h (taken-words s.registers reg word h.registers w);
           commits = All-cons (IsEntryFor t) (entry core s.place LR loc word) (wrote ∷ []) (record { core = small; place = omega (arith, here); access = (k, w) })
               (one wrote (record { core = small; place = omega (arith, here); access = (k, v) }));
         })

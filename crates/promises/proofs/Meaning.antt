@@ -1,5 +1,5 @@
 -- What the word of a condition means: for each end of the machine's runs, and for each execution.
-use Rattle.promises.proofs.PrintedVocabulary.{◌≡◌, ℕ, ◌<◌, Bool, true, false, List, [], ◌∷◌, All, get_or, refl, sym, ap, subst, ◌∙◌, zero, suc, arith, ◌+◌, length, Some, ◌==◌, cond, map, not, Contains, eqb-true, list_all, codes, count_by, Litmus, IsTest, All-contains, Condition, Claim, truth_of, sum_by-cons, Named, frequency, run, names_shown, values_at, Outcome, shown_values, held_in, failed_in, PrintsWord, IsSoEverywhere, IsSoSomewhere, IsSoNowhere, IsAlwaysSo, IsSometimesSo, WordMeans, final_words, final_registers, registers_in, IsEnd, EndsAreWhatTsoAllows, SpellsTest, TruthIsShown, parts_of, Leads, made-of, Search, shown_after, PrintsAllOutcomes, PrintsSomeOutcomes, HeadlineOfOutcomes, all, too_many, AreSomeOf}
+use Rattle.promises.proofs.PrintedVocabulary.{Instructions, ◌≡◌, ℕ, ◌<◌, Bool, true, false, List, [], ◌∷◌, All, get_or, refl, sym, ap, subst, ◌∙◌, zero, suc, arith, ◌+◌, length, Some, ◌==◌, cond, map, not, Contains, eqb-true, list_all, codes, count_by, Litmus, IsTest, All-contains, Condition, Claim, truth_of, sum_by-cons, Named, frequency, run, names_shown, values_at, Outcome, shown_values, held_in, failed_in, PrintsWord, IsSoEverywhere, IsSoSomewhere, IsSoNowhere, IsAlwaysSo, IsSometimesSo, WordMeans, final_words, final_registers, registers_in, IsEnd, EndsAreWhatTsoAllows, SpellsTest, TruthIsShown, parts_of, Leads, made-of, Search, shown_after, PrintsAllOutcomes, PrintsSomeOutcomes, HeadlineOfOutcomes, all, too_many, AreSomeOf}
 use Rattle.tso_laws.specs.Outcomes.{IsSequentiallyConsistent}
 use Rattle.promises.proofs.Cutting.{unlike}
 use Rattle.promises.proofs.Digits.{is_other}
@@ -146,7 +146,7 @@ module _ (t : Litmus) (condition : Condition) (s : Search) (outcomes : List Outc
 -- ---- of an input
 
 abbrev pub TestsAreWithin : Type 0
-TestsAreWithin = (text : List ℕ) (t : Litmus) → SpellsTest text t → IsTest t
+TestsAreWithin = (set : Instructions) (text : List ℕ) (t : Litmus) → SpellsTest set text t → IsTest t
 
 -- a word is one of the three: it has no space and no quotation mark
 record IsWord (word : List ℕ) : Type 0 where
@@ -160,12 +160,12 @@ Tells word Meant =
     → (p : PrintsAllOutcomes t s json out) → frequency (held_in condition.claim p.outcomes) (failed_in condition.claim p.outcomes) ≡ word → Meant t s.depth condition.claim
 
 means : (word : List ℕ) (Meant : Litmus → ℕ → Claim → Type 0) → IsWord word → Tells word Meant → TestsAreWithin → EndsAreWhatTsoAllows → TruthIsShown → WordMeans word Meant
-means word Meant plain tells within laws shown search json assert input out t condition small spelled is headline says =
+means word Meant plain tells within laws shown search set json assert input out t condition small spelled is headline says =
     by ((headline.within small).every_test t spelled)
   where
     by : HeadlineOfOutcomes t search json out → Meant t search.depth condition.claim
     by (all p) =
-        tells t condition search json out laws shown (within (parts_of input).test t spelled) is p
+        tells t condition search json out laws shown (within set (parts_of input).test t spelled) is p
         (word-is json t (names_shown search.show t) condition search.depth p.outcomes word is plain.spaceless plain.unquoted (subst (PrintsWord json word) p.printed says))
     by (too_many more p) = absurd (word-isnt json t (names_shown search.show t) condition search.states p.outcomes word is (subst (PrintsWord json word) p.printed says))
 

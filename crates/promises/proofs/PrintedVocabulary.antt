@@ -20,7 +20,7 @@ pub use Rattle.tso_report.specs.Json.{unfinished_run_value, count, counts_value,
 pub use Rattle.promises.specs.Telling.{UnfinishedRunsAreTold, NameTheSame, ReportsTellTheirRuns, SweepsTellTheirCounts, ReportsTellTheirMachines, SweepsTellTheirMachines}
 pub use Rattle.tso_terms.specs.Litmus.{Litmus, IsTest, are_distinct, IsProgram, KnownLocation, ConstantIsWord}
 pub use Rattle.tso_terms.specs.Names.{is_printable, is_test_name, is_among, is_name, is_location_name, continues_name}
-pub use Rattle.basic_laws.specs.Types.{Bus, Atomic, Split, Reg, Entry, Eax, Ebx, Ecx, Edx, Esi, Edi, Choice, Drain, Core, Loc, Kind, R, W, F, LR, LW, Stall, Committed, Buffered, Moved, Asked, Stalled, Instr, Operand, Number, Held, Update, Exchange, Add, Action, Quantifier, Exists, NotExists, Forall}
+pub use Rattle.basic_laws.specs.Types.{Bus, Atomic, Split, Reg, Entry, Eax, Ebx, Ecx, Edx, Esi, Edi, Choice, Drain, Core, Loc, Kind, R, W, F, LR, LW, Stall, Committed, Buffered, Moved, Asked, Stalled, Instr, Operand, Number, Held, Update, Action, Quantifier, Exists, NotExists, Forall}
 pub use Rattle.protocol_tables.specs.Names.{protocol_name}
 pub use Rattle.protocol_tables.specs.declared.kind.ProtocolKind.{ProtocolKind}
 pub use Rattle.cache_set.specs.Geometry.{IsLineSize}
@@ -75,6 +75,7 @@ pub use Rattle.search_report.specs.ReasonJson.{allowed_value, unfinished_reason_
 pub use Rattle.tso_terms.specs.FinalState.{final_words, final_registers}
 pub use Rattle.tso_terms.specs.FlatMachine.{registers_in, chosen, CoreState, State, Effect, is_none_pending, stalled, advanced_with, stored, load_value, effect_by, idle, program_of, core_of, effect_of, memory_after, applied, started, start, step_of}
 pub use Rattle.tso_laws.specs.Outcomes.{IsEnd, EndsAreWhatTsoAllows}
+pub use Rattle.litmus_tokens.specs.declared.instructions.Instructions.{Instructions}
 pub use Rattle.litmus_reader.specs.Spelling.{SpellsTest}
 pub use Rattle.search_report.specs.Laws.{TruthIsShown}
 pub use Rattle.tso_cli.specs.Dividing.{parts_of}

@@ -1,6 +1,8 @@
 -- Each step of a trace fits its test.
 use Rattle.promises.proofs.PrintedVocabulary.{◌≡◌, ℕ, ◌<◌, Bool, true, false, List, [], ◌∷◌, ◌++◌, drop, subst, ◌∙◌, zero, suc, ◌≤◌, Option, arith, ◌+◌, length, All, Some, None, ◌==◌, if◌then◌else◌, IfSome, slice_get, length-replicate, Litmus, IsTest, Bus, Atomic, Split, ProtocolKind, Configuration, IsConfigurationWithinLimits, All-head, All-tail, All-weaker, All-cons, All-nil, All-drop, All-append, IsWord, index_of, Entry, HasWord, IsEntryFor, has_ended, CoresExist, Choice, Drain, chosen, program_of, core_of, Core, IsAt, AreStoresKnown, LineRequest, StateChange, Asked, TraceStepFits, action_of, access_of, Instr, Action, Move, access-known, Table, table_of, Awaited, is_awaited, Running, new_machine, machine_after, moved_by, moved_at, moved_from, buffer_if_changed, placed, line_states, placed_states_from, number_of_lines, states_of, number_of_state, change_of, changes_in, steps_from, trace_under, trace_step_of, IsTraced, traced-first, step-known, traced-next, attempt_on, machine_effect, machine_use}
-use Rattle.basic_laws.specs.Types.{Step, Outcome}
+use Rattle.basic_laws.specs.Types.{Step, Outcome, Change, Keep, Set, Swap}
+use Rattle.trace_report.specs.Steps.{given_by_move}
+use Rattle.promises.specs.Traces.{MovesWords}
 use Rattle.multiprocessor.specs.Statistics.{no_counts}
 use Rattle.multiprocessor.specs.inner.Keeping.{IsAmong}
 use Rattle.multiprocessor.proofs.CountBounds.{length-counted}
@@ -50,15 +52,20 @@ fits-next m choice small f =
 
 -- ---- the parts of a step
 
-moved-word : (t : Litmus) (place : ℕ) (choice : Choice) (registers : List ℕ) → All IsWord registers → IfSome (moved_from t place choice registers) (λ m. IsWord m.value)
+moved-word : (t : Litmus) (place : ℕ) (choice : Choice) (registers : List ℕ) → All IsWord registers → IfSome (moved_from t place choice registers) (λ m. MovesWords m)
 moved-word t place (Drain core) registers all = tt
 moved-word t place (Step core) registers all = at (slice_get (program_of t core.0) place)
   where
-    by_action : (a : Action) → IfSome (moved_by a registers) (λ m. IsWord m.value)
-    by_action (Move reg operand) = word-at registers (index_of reg) all
+    by_change : (change : Change) → IfSome (given_by_move change registers) (λ m. MovesWords m)
+    by_change Keep = tt
+    by_change (Set reg update) = word-at registers (index_of reg) all
+    by_change (Swap reg other) = (word-at registers (index_of reg) all, word-at registers (index_of other) all)
+
+    by_action : (a : Action) → IfSome (moved_by a registers) (λ m. MovesWords m)
+    by_action (Move change) = by_change change
     by_action a = tt
 
-    at : (i : Option Instr) → IfSome (moved_at i registers) (λ m. IsWord m.value)
+    at : (i : Option Instr) → IfSome (moved_at i registers) (λ m. MovesWords m)
     at None = tt
     at (Some i) = by_action (action_of i)
 

@@ -6,7 +6,11 @@ use Rattle.protocol_tables.specs.declared.requests.Request.{Request}
 use Rattle.protocol_tables.specs.declared.requests.Request.TheVariants.{GetS, GetM}
 use Rattle.protocol_tables.specs.declared.state.State.TheVariants as tag
 use Rattle.snoop_bus.specs.declared.access.AccessKind.TheVariants.{Hit, Upgrade, Miss}
+use Rattle.trace_report.specs.declared.step.Given.{Given}
 use Rattle.trace_report.specs.declared.step.Moved.{Moved}
+use Rattle.trace_report.specs.declared.step.Moved.TheVariants.{One, Both}
+use Rattle.trace_report.specs.Lines.{printed_given}
+use Rattle.promises.specs.Traces.{MovesWords}
 use Rattle.trace_report.specs.declared.step.LineState.TheVariants as state
 use Rattle.promises.proofs.Cutting.{next-cut, same-cut}
 use Rattle.promises.proofs.Digits.{all-digits}
@@ -94,29 +98,59 @@ entries-cut t xs ys rest other test p q f f' same =
     (λ n es rest all f. (entries-follow t es rest f).ends) (λ n e more rest fits f same. missing 1 ((codes " " ++ printed_entry t e) ++ more) rest (entry-rank t e more) f same) 0 xs ys rest other p q f f' same in
     (all-told xs ys cut.0, cut.1)
 
--- ---- the register
+-- ---- registers
 
 moved-flat : (name value rest : List ℕ) → (codes " " ++ (name ++ (codes "=" ++ value))) ++ rest ≡ codes " " ++ (name ++ (codes "=" ++ (value ++ rest)))
 moved-flat name value rest = simp append_assoc
 
-moved-rank : (reg : Reg) (value : ℕ) (rest : List ℕ) → rank (moved_text (Some (record { reg = reg; value = value })) ++ rest) ≡ 2
-moved-rank Eax value rest = refl
-moved-rank reg value rest = refl
+-- ` EAX=5`
+abbrev given_text : Given → List ℕ
+given_text g = moved_text (Some (One g))
+
+given-rank : (reg : Reg) (value : ℕ) (rest : List ℕ) → rank (given_text (record { reg = reg; value = value }) ++ rest) ≡ 2
+given-rank Eax value rest = refl
+given-rank reg value rest = refl
+
+both-flat : (one other rest : List ℕ) → (codes " " ++ (one ++ (codes " " ++ other))) ++ rest ≡ (codes " " ++ one) ++ ((codes " " ++ other) ++ rest)
+both-flat one other rest = simp append_assoc
+
+moved-rank : (m : Moved) (rest : List ℕ) → rank (moved_text (Some m) ++ rest) ≡ 2
+moved-rank (One g) rest = given-rank g.reg g.value rest
+moved-rank (Both g h) rest = ap rank (both-flat (printed_given g) (printed_given h) rest) ∙ given-rank g.reg g.value (given_text h ++ rest)
+
+given-ends : (g : Given) (rest : List ℕ) → Ends (given_text g ++ rest)
+given-ends g rest = refl
 
 pub moved-follows : (m : Option Moved) (rest : List ℕ) → Follows 3 rest → Follows 2 (moved_text m ++ rest)
 moved-follows None rest f = earlier 2 rest f
-moved-follows (Some m) rest f = is-part 2 (moved_text (Some m) ++ rest) refl (moved-rank m.reg m.value rest)
+moved-follows (Some m) rest f = is-part 2 (moved_text (Some m) ++ rest) refl (moved-rank m rest)
 
-pub moved-cut : (a b : Option Moved) (rest other : List ℕ) → IfSome a (λ m. IsWord m.value) → IfSome b (λ m. IsWord m.value) → Follows 3 rest → Follows 3 other
-    → moved_text a ++ rest ≡ moved_text b ++ other → (a ≡ b) × (rest ≡ other)
-moved-cut None None rest other p q f f' e = (refl, e)
-moved-cut None (Some b) rest other p q f f' e = missing 2 (moved_text (Some b) ++ other) rest (moved-rank b.reg b.value other) f (sym e)
-moved-cut (Some a) None rest other p q f f' e = missing 2 (moved_text (Some a) ++ rest) other (moved-rank a.reg a.value rest) f' e
-moved-cut (Some a) (Some b) rest other p q f f' e =
+given-cut : (a b : Given) (rest other : List ℕ) → IsWord a.value → IsWord b.value → Ends rest → Ends other → given_text a ++ rest ≡ given_text b ++ other → (a ≡ b) × (rest ≡ other)
+given-cut a b rest other p q ends ends' e =
     let flat = sym (moved-flat (name_of a.reg) (decimal a.value) rest) ∙ (e ∙ moved-flat (name_of b.reg) (decimal b.value) other) in
     let reg = register-cut a.reg b.reg (codes "=" ++ (decimal a.value ++ rest)) (codes "=" ++ (decimal b.value ++ other)) (append_cancel_left (codes " ") _ _ flat) in
-    let value = next-cut (codes "=") a.value b.value rest other (omega (arith, p)) (omega (arith, q)) (ends-stop rest f.ends) (ends-stop other f'.ends) reg.1 in
-    (ap Some (λ i. record { reg = reg.0 i; value = value.0 i }), value.1)
+    let value = next-cut (codes "=") a.value b.value rest other (omega (arith, p)) (omega (arith, q)) (ends-stop rest ends) (ends-stop other ends') reg.1 in
+    ((λ i. record { reg = reg.0 i; value = value.0 i }), value.1)
+
+pub moved-cut : (a b : Option Moved) (rest other : List ℕ) → IfSome a (λ m. MovesWords m) → IfSome b (λ m. MovesWords m) → Follows 3 rest → Follows 3 other
+    → moved_text a ++ rest ≡ moved_text b ++ other → (a ≡ b) × (rest ≡ other)
+moved-cut None None rest other p q f f' e = (refl, e)
+moved-cut None (Some b) rest other p q f f' e = missing 2 (moved_text (Some b) ++ other) rest (moved-rank b other) f (sym e)
+moved-cut (Some a) None rest other p q f f' e = missing 2 (moved_text (Some a) ++ rest) other (moved-rank a rest) f' e
+moved-cut (Some (One a)) (Some (One b)) rest other p q f f' e =
+    let cut = given-cut a b rest other p q f.ends f'.ends e in
+    (ap (λ (g : Given). Some (One g)) cut.0, cut.1)
+moved-cut (Some (One a)) (Some (Both b d)) rest other p q f f' e =
+    let cut = given-cut a b rest (given_text d ++ other) p q.0 f.ends (given-ends d other) (e ∙ both-flat (printed_given b) (printed_given d) other) in
+    missing 2 (given_text d ++ other) rest (given-rank d.reg d.value other) f (sym cut.1)
+moved-cut (Some (Both a c)) (Some (One b)) rest other p q f f' e =
+    let cut = given-cut a b (given_text c ++ rest) other p.0 q (given-ends c rest) f'.ends (sym (both-flat (printed_given a) (printed_given c) rest) ∙ e) in
+    missing 2 (given_text c ++ rest) other (given-rank c.reg c.value rest) f' cut.1
+moved-cut (Some (Both a c)) (Some (Both b d)) rest other p q f f' e =
+    let flat = sym (both-flat (printed_given a) (printed_given c) rest) ∙ (e ∙ both-flat (printed_given b) (printed_given d) other) in
+    let first = given-cut a b (given_text c ++ rest) (given_text d ++ other) p.0 q.0 (given-ends c rest) (given-ends d other) flat in
+    let second = given-cut c d rest other p.1 q.1 f.ends f'.ends first.1 in
+    ((λ i. Some (Both (first.0 i) (second.0 i))), second.1)
 
 -- ---- the access
 

@@ -1,5 +1,6 @@
 -- The word that `outcomes` prints of a condition, and what it means: for the machine's runs at that depth, and for what TSO allows.
 -- (Primer, chapter 4, for the axioms, and chapter 3 for sequential consistency.)
+use Rattle.litmus_tokens.specs.declared.instructions.Instructions.{Instructions}
 use Rattle.std.specs.Prelude.{ℕ, ◌≡◌, ◌<◌, ◌≤◌, Bool, true, false, List, ◌++◌, length, Some, codes}
 use Rattle.std.specs.Fmt.{decimal}
 use Rattle.promises.specs.Vocabulary.{Claim, Condition, InputHeadline, line, Litmus, longest_input, parts_of, printed_numbers, registers_in, Search, SpellsTest, truth_of, verdict_word}
@@ -74,7 +75,7 @@ IsSometimesSo t depth claim = IsSoSomewhere t depth claim true × IsSoSomewhere 
 -- where a text of which the headline holds has the word, this is so of the condition of the test that was given
 abbrev pub WordMeans : List ℕ → (Litmus → ℕ → Claim → Type 0) → Type 0
 WordMeans word Meant =
-    (search : Search) (json assert : Bool) (input out : List ℕ) (t : Litmus) (condition : Condition)
-    → length input ≤ longest_input → SpellsTest (parts_of input).test t → t.condition ≡ Some condition
-    → InputHeadline (settings.Outcomes search json assert) input out → PrintsWord json word out
+    (search : Search) (set : Instructions) (json assert : Bool) (input out : List ℕ) (t : Litmus) (condition : Condition)
+    → length input ≤ longest_input → SpellsTest set (parts_of input).test t → t.condition ≡ Some condition
+    → InputHeadline (settings.Outcomes search set json assert) input out → PrintsWord json word out
     → Meant t search.depth condition.claim

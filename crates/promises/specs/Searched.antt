@@ -1,4 +1,5 @@
 -- The lines of `outcomes`, and what `run` answers to them.
+use Rattle.litmus_tokens.specs.declared.instructions.Instructions.{Instructions}
 use Rattle.std.specs.Prelude.{ℕ, ◌≡◌, ◌⊎◌, Bool, List, [], ◌∷◌, ◌++◌, All, Some, codes}
 use Rattle.tso_terms.specs.Litmus.{Litmus}
 use Rattle.litmus_reader.specs.Spelling.{SpellsTest}
@@ -36,15 +37,15 @@ pub record StandsAbove (t : Litmus) (names : List Named) (kind : ProtocolKind) (
   pub unused : shown.unused ≡ 0
 
 -- whatever `run` answers to these choices, put after the test and a dividing line, is such a report, and a success
-abbrev pub IsRunAgain : ProtocolKind → Configuration → Bool → Litmus → List Named → List ℕ → List ℕ → List ℕ → Type 0
-IsRunAgain kind c json t names test out choices =
-    (answer : List ℕ) (status : Status) → IsAnswer (settings.Run kind c json) (Some (joined_parts test choices)) answer status
+abbrev pub IsRunAgain : ProtocolKind → Configuration → Instructions → Bool → Litmus → List Named → List ℕ → List ℕ → List ℕ → Type 0
+IsRunAgain kind c set json t names test out choices =
+    (answer : List ℕ) (status : Status) → IsAnswer (settings.Run kind c set json) (Some (joined_parts test choices)) answer status
     → StandsAbove t names kind c json out choices answer × (status ≡ Good)
 
 -- so it is with each state of the given test whose lines the text has
-pub record LinesAreRunAgain (kind : ProtocolKind) (c : Configuration) (s : Search) (json : Bool) (test out : List ℕ) : Type 0 where
+pub record LinesAreRunAgain (kind : ProtocolKind) (c : Configuration) (set : Instructions) (s : Search) (json : Bool) (test out : List ℕ) : Type 0 where
   pub t : Litmus
-  pub spelled : SpellsTest test t
+  pub spelled : SpellsTest set test t
   pub outcomes : List Outcome
   pub text : (out ≡ outcomes_text t (names_shown s.show t) s.depth outcomes) ⊎ (out ≡ met_text t (names_shown s.show t) s.states outcomes)
-  pub each : All (λ o. IsRunAgain kind c json t (names_shown s.show t) test out (printed_choices o.choices)) outcomes
+  pub each : All (λ o. IsRunAgain kind c set json t (names_shown s.show t) test out (printed_choices o.choices)) outcomes

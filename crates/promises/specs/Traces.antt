@@ -8,6 +8,8 @@ use Rattle.basic_laws.specs.Types.{Choice, Entry, W}
 use Rattle.order_builder.specs.PrintedOrder.{HasWord}
 use Rattle.trace_report.specs.Known.{StepNamesExist}
 use Rattle.trace_report.specs.Shown.{ShownStep}
+use Rattle.trace_report.specs.declared.step.Moved.{Moved}
+use Rattle.trace_report.specs.declared.step.Moved.TheVariants.{One, Both}
 use Rattle.trace_report.specs.StepJson.{step_json}
 use Rattle.trace_report.specs.TraceJson.{trace_json}
 use Rattle.trace_report.specs.declared.supplied.Source.{Source}
@@ -54,13 +56,18 @@ told_by_object s = record {
   buffer = None;
 }
 
+-- what registers were given are words
+abbrev pub MovesWords : Moved → Type 0
+MovesWords (One g) = IsWord g.value
+MovesWords (Both g h) = IsWord g.value × IsWord h.value
+
 -- a step of this test on caches whose lines have so many words: what it names is the test's, and its numbers are those of cores,
 -- places and words
 pub record TraceStepFits (t : Litmus) (words : ℕ) (s : ShownStep) : Type 0 where
   pub known : StepNamesExist t words s
   pub chosen_core : chosen s.choice < 256
   pub entries : IsOrderFor t s.entries
-  pub moved : IfSome s.moved (λ m. IsWord m.value)
+  pub moved : IfSome s.moved (λ m. MovesWords m)
   pub flushed : IfSome s.flushed (λ core. core.0 < 256)
   pub changes : All (λ c. c.core.0 < 256) s.changes
   pub buffer : IfSome s.buffer (All HasWord)

@@ -1,5 +1,7 @@
 -- Whether a condition is as it claims: what `Verdict` and `True` mean, for the machine's runs at that depth and for what TSO allows; and
 -- that the status says the same where that is asserted. (Primer, chapter 4, for the axioms, and chapter 3 for sequential consistency.)
+use Rattle.litmus_tokens.specs.declared.instructions.Instructions.{Instructions}
+use Rattle.command_line.specs.Instructions.{instructions_of}
 use Rattle.std.specs.Prelude.{ℕ, ◌+◌, ◌≡◌, ◌⊎◌, ◌<◌, ◌≤◌, ◌↔◌, Bool, true, false, List, ◌++◌, length, Some, Contains, slice_get, codes}
 use Rattle.promises.specs.Vocabulary.{Claim, Condition, Exists, Forall, InputHeadline, IsTest, line, Litmus, longest_input, Named, names_shown, NotExists, Outcome, parts_of, printed_numbers, Quantifier, Search, shown_values, SpellsTest, truth_of, values_at, verdict_word}
 use Rattle.refutation_laws.specs.Models.{depth_of}
@@ -46,19 +48,19 @@ IsNotAsClaimed Forall t depth claim = IsSoSomewhere t depth claim false
 -- where a text of which the headline holds has the verdict, this is so of the condition of the test that was given
 abbrev pub VerdictMeans : List ℕ → (Quantifier → Litmus → ℕ → Claim → Type 0) → Type 0
 VerdictMeans word Meant =
-    (search : Search) (json assert : Bool) (input out : List ℕ) (t : Litmus) (condition : Condition)
-    → length input ≤ longest_input → SpellsTest (parts_of input).test t → t.condition ≡ Some condition
-    → InputHeadline (settings.Outcomes search json assert) input out → PrintsVerdict json word out
+    (search : Search) (set : Instructions) (json assert : Bool) (input out : List ℕ) (t : Litmus) (condition : Condition)
+    → length input ≤ longest_input → SpellsTest set (parts_of input).test t → t.condition ≡ Some condition
+    → InputHeadline (settings.Outcomes search set json assert) input out → PrintsVerdict json word out
     → Meant condition.quantifier t search.depth condition.claim
 
 -- of one input `why` under a model prints the verdict that `outcomes` prints at that model's depth, in whichever form
 abbrev pub VerdictsAgree : Type 0
 VerdictsAgree =
-    (search : Search) (plan : Explanation) (json again assert asserted : Bool) (input out other : List ℕ) (t : Litmus) (condition : Condition)
+    (search : Search) (plan : Explanation) (set : Instructions) (json again assert asserted : Bool) (input out other : List ℕ) (t : Litmus) (condition : Condition)
     (verdict other_verdict : Bool)
-    → length input ≤ longest_input → SpellsTest (parts_of input).test t → t.condition ≡ Some condition → search.depth ≡ depth_of plan.model
-    → InputHeadline (settings.Outcomes search json assert) input out → PrintsVerdict json (verdict_word verdict) out
-    → InputHeadline (settings.Why plan again asserted) input other → PrintsVerdict again (verdict_word other_verdict) other
+    → length input ≤ longest_input → SpellsTest set (parts_of input).test t → t.condition ≡ Some condition → search.depth ≡ depth_of plan.model
+    → InputHeadline (settings.Outcomes search set json assert) input out → PrintsVerdict json (verdict_word verdict) out
+    → InputHeadline (settings.Why plan set again asserted) input other → PrintsVerdict again (verdict_word other_verdict) other
     → verdict ≡ other_verdict
 
 -- ---- the status
@@ -67,14 +69,14 @@ VerdictsAgree =
 abbrev pub StatusTells : Settings → Bool → List ℕ → Status → Type 0
 StatusTells s json word told =
     (input out : List ℕ) (status : Status) (t : Litmus) (condition : Condition)
-    → length input ≤ longest_input → SpellsTest (parts_of input).test t → t.condition ≡ Some condition
+    → length input ≤ longest_input → SpellsTest (instructions_of s) (parts_of input).test t → t.condition ≡ Some condition
     → IsAnswer s (Some input) out status → PrintsVerdict json word out → status ≡ told
 
 -- an answer that has a verdict is a success, or tells that a search met its limit
 abbrev pub StatusTellsNoVerdict : Settings → Bool → List ℕ → Type 0
 StatusTellsNoVerdict s json word =
     (input out : List ℕ) (status : Status) (t : Litmus) (condition : Condition)
-    → length input ≤ longest_input → SpellsTest (parts_of input).test t → t.condition ≡ Some condition
+    → length input ≤ longest_input → SpellsTest (instructions_of s) (parts_of input).test t → t.condition ≡ Some condition
     → IsAnswer s (Some input) out status → PrintsVerdict json word out → (status ≡ Good) ⊎ (status ≡ Unended)
 
 -- ---- the states in which the proposition is true

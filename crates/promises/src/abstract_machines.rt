@@ -1,7 +1,7 @@
 //! What the steps of the abstract machine of x86-TSO keep and what they leave free, field by field, and what its runs leave.
 //! (x86-TSO, section 3.)
 
-ghost use Rattle.std.specs.Prelude.{◌↔◌, ◌∷◌, ◌≡◌, ◌≤◌, ◌⊎◌, List, None, Some, [], slice_get, ℕ};
+ghost use Rattle.std.specs.Prelude.{◌↔◌, ◌∷◌, ◌≡◌, ◌≤◌, ◌⊎◌, List, None, Option, Some, [], slice_get, ℕ};
 ghost use Rattle.abstract_machine.specs.Ended.{EndsWith, IsReachedFreely, registers_of_threads};
 ghost use Rattle.abstract_machine.specs.Machine.{HardwareThread, HasRead, HasWritten, Machine, NotLocked};
 ghost use Rattle.abstract_machine.specs.OneStep.{CanGoOn, IsBlocked, KeepsBuffer, Unlocks};
@@ -12,7 +12,7 @@ ghost use Rattle.tso_terms.specs.FinalState.{final_registers, final_words};
 ghost use Rattle.tso_terms.specs.Litmus.{IsTest, Litmus};
 ghost use Rattle.tso_terms.specs.Thread.{fence};
 ghost use Rattle.tso_terms.specs.declared.action.Action.TheVariants.{Lock, Move, Store};
-ghost use Rattle.basic_laws.specs.Types.{Operand, Update, Entry, Loc, Reg};
+ghost use Rattle.basic_laws.specs.Types.{Change, Operand, Update, Entry, Loc, Reg};
 
 use abstract_machine::{
     blocked_threads_read_and_flush_nothing, bounded_buffers_lose_nothing,
@@ -75,11 +75,11 @@ pub fn a_run_leaves_the_final_state_of_its_order()
 pub fn a_thread_stores_at_any_time()
     ensures store { (t : Litmus) (m : Machine) (p : ℕ) (h : HardwareThread) (loc : Loc) (operand : Operand)
         → StandsAt t p h NotLocked (Store loc operand) → CanGoOn t m p h }
-    ensures locked_write { (t : Litmus) (m : Machine) (p : ℕ) (h : HardwareThread) (loc : Loc) (reg : Reg) (update : Update) (v : ℕ)
+    ensures locked_write { (t : Litmus) (m : Machine) (p : ℕ) (h : HardwareThread) (loc : Loc) (reg : Option Reg) (update : Update) (v : ℕ)
         → StandsAt t p h (HasRead v) (Lock loc reg update) → CanGoOn t m p h }
-    ensures register_move { (t : Litmus) (m : Machine) (p : ℕ) (h : HardwareThread) (reg : Reg) (operand : Operand)
-        → StandsAt t p h NotLocked (Move reg operand) → CanGoOn t m p h }
-    ensures locked_instruction { (t : Litmus) (m : Machine) (p : ℕ) (h : HardwareThread) (loc : Loc) (reg : Reg) (update : Update)
+    ensures register_move { (t : Litmus) (m : Machine) (p : ℕ) (h : HardwareThread) (change : Change)
+        → StandsAt t p h NotLocked (Move change) → CanGoOn t m p h }
+    ensures locked_instruction { (t : Litmus) (m : Machine) (p : ℕ) (h : HardwareThread) (loc : Loc) (reg : Option Reg) (update : Update)
         → StandsAt t p h NotLocked (Lock loc reg update) → m.lock ≡ None
         → (o : Machine) × ThreadStep t m p h [] o × (o.memory ≡ m.memory) × (o.lock ≡ Some p) }
 {

@@ -25,7 +25,9 @@ use machine_core::{Bus, Config};
 use protocol_tables::ProtocolKind;
 use std::alloc::Global;
 use std::io::{Read, Write};
-use tso_cli::{Answer, Counted, RunFault, Settings, Status, answer_to, hint, run_command};
+use tso_cli::{
+    Answer, Counted, Instructions, RunFault, Settings, Status, answer_to, hint, run_command,
+};
 use tso_terms::NoMemory;
 
 /// What a command writes is the answer to what its reader has, and keeps the headline.
@@ -72,12 +74,13 @@ pub fn check_reads_one_byte_too_many<R: Read, W: Write>(
     alloc: Global,
     reader: &mut Counted<R>,
     writer: &mut Counted<W>,
+    instructions: Instructions,
 ) -> Result<Status, RunFault>
     requires reader { reader.old.1 < 2 ^ 32 - 1 }
     requires writer { writer.old.1 < 2 ^ 32 - 1 }
     ensures { ConsumesAtMost (R.remaining reader.old.0) (R.remaining reader.new.0) 1048577 }
 {
-    run_command(alloc, reader, writer, &Settings::Check)
+    run_command(alloc, reader, writer, &Settings::Check { instructions })
 }
 
 /// What `trace` writes of choices that end the test has the trace of these very choices after the first two lines of a report;
@@ -87,19 +90,21 @@ pub fn a_trace_stands_in_a_report(
     alloc: Global,
     protocol: ProtocolKind,
     config: Config,
+    instructions: Instructions,
     input: &[u8],
 ) -> Result<Answer, NoMemory>
     ensures atomic { config.bus ≡ Bus.Atomic → length input.now ≤ 1048576 → IfOk result (λ a. (t : Litmus) (choices : List Choice)
-        → SpellsTest (parts_of input.now).test t → SpellsChoices (length t.programs) (parts_of input.now).rest choices
+        → SpellsTest instructions (parts_of input.now).test t → SpellsChoices (length t.programs) (parts_of input.now).rest choices
         → PrintsTrace t protocol config choices (run t config.depth choices) (string_bytes a.text)) }
     ensures split { config.bus ≡ Bus.Split → length input.now ≤ 1048576 → IfOk result (λ a. (t : Litmus) (choices : List Choice)
-        → SpellsTest (parts_of input.now).test t → SpellsChoices (length t.programs) (parts_of input.now).rest choices
+        → SpellsTest instructions (parts_of input.now).test t → SpellsChoices (length t.programs) (parts_of input.now).rest choices
         → PrintsTrace t protocol config choices (split_run t protocol config choices) (string_bytes a.text)) }
 {
     let json = false;
     let settings = Settings::Trace {
         protocol,
         config,
+        instructions,
         json,
     };
     answer_to(alloc, &settings, input)
@@ -112,23 +117,24 @@ pub fn a_trace_stands_in_an_object(
     alloc: Global,
     protocol: ProtocolKind,
     config: Config,
+    instructions: Instructions,
     input: &[u8],
 ) -> Result<Answer, NoMemory>
     ensures atomic { config.bus ≡ Bus.Atomic → length input.now ≤ 1048576 → IfOk result (λ a. (t : Litmus) (choices : List Choice)
-        → SpellsTest (parts_of input.now).test t → SpellsChoices (length t.programs) (parts_of input.now).rest choices
+        → SpellsTest instructions (parts_of input.now).test t → SpellsChoices (length t.programs) (parts_of input.now).rest choices
         → (run t config.depth choices).used ≤ 1000
         → PrintsTracedObject t protocol config choices (run t config.depth choices) (string_bytes a.text)) }
     ensures split { config.bus ≡ Bus.Split → length input.now ≤ 1048576 → IfOk result (λ a. (t : Litmus) (choices : List Choice)
-        → SpellsTest (parts_of input.now).test t → SpellsChoices (length t.programs) (parts_of input.now).rest choices
+        → SpellsTest instructions (parts_of input.now).test t → SpellsChoices (length t.programs) (parts_of input.now).rest choices
         → (split_run t protocol config choices).used ≤ 1000
         → PrintsTracedObject t protocol config choices (split_run t protocol config choices) (string_bytes a.text)) }
     ensures long_on_atomic { config.bus ≡ Bus.Atomic → length input.now ≤ 1048576 → IfOk result (λ a. (t : Litmus) (choices : List Choice)
-        → SpellsTest (parts_of input.now).test t → SpellsChoices (length t.programs) (parts_of input.now).rest choices
+        → SpellsTest instructions (parts_of input.now).test t → SpellsChoices (length t.programs) (parts_of input.now).rest choices
         → 1000 < (run t config.depth choices).used
         → (word : ℕ) × IsWordOfChoice (length t.programs) (parts_of input.now).rest 1000 word
         × (string_bytes a.text ≡ choices_refusal (TooMany word))) }
     ensures long_on_split { config.bus ≡ Bus.Split → length input.now ≤ 1048576 → IfOk result (λ a. (t : Litmus) (choices : List Choice)
-        → SpellsTest (parts_of input.now).test t → SpellsChoices (length t.programs) (parts_of input.now).rest choices
+        → SpellsTest instructions (parts_of input.now).test t → SpellsChoices (length t.programs) (parts_of input.now).rest choices
         → 1000 < (split_run t protocol config choices).used
         → (word : ℕ) × IsWordOfChoice (length t.programs) (parts_of input.now).rest 1000 word
         × (string_bytes a.text ≡ choices_refusal (TooMany word))) }
@@ -137,6 +143,7 @@ pub fn a_trace_stands_in_an_object(
     let settings = Settings::Trace {
         protocol,
         config,
+        instructions,
         json,
     };
     answer_to(alloc, &settings, input)
@@ -156,7 +163,7 @@ pub fn a_hint_is_told(
     ensures unended { answer.now.status ≡ Status.Unended → is_searched settings.now ≡ false → IfOk result (λ text. length (string_bytes text) ≤ 256) }
     ensures searched { answer.now.status ≡ Status.Unended → is_searched settings.now ≡ true → IfOk result (λ text. IsHintWithRuns (string_bytes text)) }
     ensures invalid { answer.now.status ≡ Status.Invalid → IfOk result (λ text. string_bytes text ≡ []) }
-    ensures valid { settings.now ≡ Settings.Check → answer.now.status ≡ Status.Good → IfOk result (λ text. string_bytes text ≡ []) }
+    ensures valid { (set : Instructions) → settings.now ≡ Settings.Check set → answer.now.status ≡ Status.Good → IfOk result (λ text. string_bytes text ≡ []) }
 {
     hint(alloc, settings, answer, input)
 }

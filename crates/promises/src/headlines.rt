@@ -1,6 +1,8 @@
 //! What the headline says of each command, field by field.
 
 ghost use Rattle.std.specs.Prelude.{◌+◌, ◌<◌, ◌^◌, ◌⊎◌, ◌≡◌, ◌≢◌, ◌≤◌, All, Bool, IfSome, List, if◌then◌else◌, is_some, length, true, ℕ};
+ghost use Rattle.litmus_tokens.specs.declared.instructions.Instructions.{Instructions};
+ghost use Rattle.command_line.specs.Instructions.{instructions_of};
 ghost use Rattle.scheduler.specs.Plan.{Plan, most_seeds};
 ghost use Rattle.command_line.specs.Search.{Search};
 ghost use Rattle.command_line.specs.declared.settings.Settings.{Settings};
@@ -54,10 +56,10 @@ use tso_report::report_texts::one_more_run_is_counted;
 /// Each first part that spells a test is answered of this test, and every other is refused.
 pub fn a_test_or_its_refusal_is_answered()
     ensures every_test { (s : Settings) (parts : Parts) (out : List ℕ) → PartsHeadline s parts out → (t : Litmus)
-        → SpellsTest parts.test t → HeadlineOf s t parts.rest out }
+        → SpellsTest (instructions_of s) parts.test t → HeadlineOf s t parts.rest out }
     ensures every_other { (s : Settings) (parts : Parts) (out : List ℕ) → PartsHeadline s parts out
-        → ((t : Litmus) → ¬ (SpellsTest parts.test t))
-        → (fault : TextFault) × IsRefusedTest parts.test fault × (out ≡ test_refusal fault) }
+        → ((t : Litmus) → ¬ (SpellsTest (instructions_of s) parts.test t))
+        → (fault : TextFault) × IsRefusedTest (instructions_of s) parts.test fault × (out ≡ test_refusal fault) }
 {}
 
 /// At depth 0 the printed order keeps program order without exception.
@@ -107,12 +109,12 @@ pub fn a_table_is_printed()
 
 /// Choices of a printed state end there when they are run.
 pub fn printed_choices_end_in_printed_states()
-    ensures printed_states { (kind : ProtocolKind) (c : Configuration) (s : Search) (json told : Bool) (test out : List ℕ)
-        (said : AreRevisited kind c s json told test out) → (out ≡ outcomes_in told said.t (names_shown s.show said.t) s.depth said.outcomes)
+    ensures printed_states { (kind : ProtocolKind) (c : Configuration) (set : Instructions) (s : Search) (json told : Bool) (test out : List ℕ)
+        (said : AreRevisited kind c set s json told test out) → (out ≡ outcomes_in told said.t (names_shown s.show said.t) s.depth said.outcomes)
         ⊎ (out ≡ unfinished_search_in told said.t (names_shown s.show said.t) s.states said.outcomes) }
-    ensures each { (kind : ProtocolKind) (c : Configuration) (s : Search) (json told : Bool) (test out : List ℕ)
-        (said : AreRevisited kind c s json told test out)
-        → All (IsRevisited kind c json test said.t (names_shown s.show said.t)) said.outcomes }
+    ensures each { (kind : ProtocolKind) (c : Configuration) (set : Instructions) (s : Search) (json told : Bool) (test out : List ℕ)
+        (said : AreRevisited kind c set s json told test out)
+        → All (IsRevisited kind c set json test said.t (names_shown s.show said.t)) said.outcomes }
     ensures printed { (t : Litmus) (names : List Named) (kind : ProtocolKind) (c : Configuration) (json : Bool) (values out : List ℕ)
         (said : ReportsValues t names kind c json values out) → out ≡ report_in json t kind c said.shown }
     ensures values_are { (t : Litmus) (names : List Named) (kind : ProtocolKind) (c : Configuration) (json : Bool) (values out : List ℕ)
@@ -163,18 +165,18 @@ pub fn a_swept_answer_fits_its_caches()
 
 /// The report of a witness shows the very order, no choice stalled and none left over.
 pub fn an_order_is_reported()
-    ensures test_spelled { (kind : ProtocolKind) (c : Configuration) (json : Bool) (parts : Parts) (out : List ℕ)
-        (said : ReportsOrder kind c json parts out) → SpellsTest parts.test said.t }
-    ensures order_spelled { (kind : ProtocolKind) (c : Configuration) (json : Bool) (parts : Parts) (out : List ℕ)
-        (said : ReportsOrder kind c json parts out) → SpellsOrder said.t parts.rest said.order }
-    ensures printed { (kind : ProtocolKind) (c : Configuration) (json : Bool) (parts : Parts) (out : List ℕ)
-        (said : ReportsOrder kind c json parts out) → out ≡ report_in json said.t kind c said.shown }
-    ensures reached { (kind : ProtocolKind) (c : Configuration) (json : Bool) (parts : Parts) (out : List ℕ)
-        (said : ReportsOrder kind c json parts out) → said.shown.order ≡ said.order }
-    ensures stalled { (kind : ProtocolKind) (c : Configuration) (json : Bool) (parts : Parts) (out : List ℕ)
-        (said : ReportsOrder kind c json parts out) → said.shown.stalled ≡ 0 }
-    ensures unused { (kind : ProtocolKind) (c : Configuration) (json : Bool) (parts : Parts) (out : List ℕ)
-        (said : ReportsOrder kind c json parts out) → said.shown.unused ≡ 0 }
+    ensures test_spelled { (kind : ProtocolKind) (c : Configuration) (set : Instructions) (json : Bool) (parts : Parts) (out : List ℕ)
+        (said : ReportsOrder kind c set json parts out) → SpellsTest set parts.test said.t }
+    ensures order_spelled { (kind : ProtocolKind) (c : Configuration) (set : Instructions) (json : Bool) (parts : Parts) (out : List ℕ)
+        (said : ReportsOrder kind c set json parts out) → SpellsOrder said.t parts.rest said.order }
+    ensures printed { (kind : ProtocolKind) (c : Configuration) (set : Instructions) (json : Bool) (parts : Parts) (out : List ℕ)
+        (said : ReportsOrder kind c set json parts out) → out ≡ report_in json said.t kind c said.shown }
+    ensures reached { (kind : ProtocolKind) (c : Configuration) (set : Instructions) (json : Bool) (parts : Parts) (out : List ℕ)
+        (said : ReportsOrder kind c set json parts out) → said.shown.order ≡ said.order }
+    ensures stalled { (kind : ProtocolKind) (c : Configuration) (set : Instructions) (json : Bool) (parts : Parts) (out : List ℕ)
+        (said : ReportsOrder kind c set json parts out) → said.shown.stalled ≡ 0 }
+    ensures unused { (kind : ProtocolKind) (c : Configuration) (set : Instructions) (json : Bool) (parts : Parts) (out : List ℕ)
+        (said : ReportsOrder kind c set json parts out) → said.shown.unused ≡ 0 }
 {}
 
 /// One more run is counted in its own state alone, and the states stay in order.

@@ -2,6 +2,7 @@
 //! verdict mean what they say.
 
 ghost use Rattle.std.specs.Prelude.{Bool, true, false, codes};
+ghost use Rattle.litmus_tokens.specs.declared.instructions.Instructions.{Instructions};
 ghost use Rattle.promises.specs.Observed.{WordMeans, IsSoNowhere, IsAlwaysSo, IsSometimesSo};
 ghost use Rattle.promises.specs.Outcomes.{OutcomesTellTheirStates, OutcomesTellTheirTests, PrintedStatesFit};
 ghost use Rattle.promises.specs.Verdicts.{VerdictMeans, IsAsClaimed, IsNotAsClaimed, VerdictsAgree, StatusTells, StatusTellsNoVerdict};
@@ -51,13 +52,13 @@ pub fn both_commands_print_one_verdict()
 /// Where it is asserted that the condition is as it claims, the status of an answer with `Verdict No` tells that it isn't, and with
 /// `Verdict Ok` it is that of success. Where nothing is asserted, it is that of success too, unless a search met its limit.
 pub fn statuses_tell_the_verdict()
-    ensures outcomes_no { (search : Search) (json : Bool) → StatusTells (Settings.Outcomes search json true) json (codes "No") NotAsClaimed }
-    ensures outcomes_ok { (search : Search) (json : Bool) → StatusTells (Settings.Outcomes search json true) json (codes "Ok") Good }
-    ensures outcomes_unasserted { (search : Search) (json verdict : Bool)
-        → StatusTellsNoVerdict (Settings.Outcomes search json false) json (verdict_word verdict) }
-    ensures why_no { (plan : Explanation) (json : Bool) → StatusTells (Settings.Why plan json true) json (codes "No") NotAsClaimed }
-    ensures why_ok { (plan : Explanation) (json assert : Bool) → StatusTells (Settings.Why plan json assert) json (codes "Ok") Good }
-    ensures why_unasserted { (plan : Explanation) (json : Bool) → StatusTells (Settings.Why plan json false) json (codes "No") Good }
+    ensures outcomes_no { (search : Search) (set : Instructions) (json : Bool) → StatusTells (Settings.Outcomes search set json true) json (codes "No") NotAsClaimed }
+    ensures outcomes_ok { (search : Search) (set : Instructions) (json : Bool) → StatusTells (Settings.Outcomes search set json true) json (codes "Ok") Good }
+    ensures outcomes_unasserted { (search : Search) (set : Instructions) (json verdict : Bool)
+        → StatusTellsNoVerdict (Settings.Outcomes search set json false) json (verdict_word verdict) }
+    ensures why_no { (plan : Explanation) (set : Instructions) (json : Bool) → StatusTells (Settings.Why plan set json true) json (codes "No") NotAsClaimed }
+    ensures why_ok { (plan : Explanation) (set : Instructions) (json assert : Bool) → StatusTells (Settings.Why plan set json assert) json (codes "Ok") Good }
+    ensures why_unasserted { (plan : Explanation) (set : Instructions) (json : Bool) → StatusTells (Settings.Why plan set json false) json (codes "No") Good }
 {
     test_is_spelled_once();
 }

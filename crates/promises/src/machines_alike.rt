@@ -2,6 +2,7 @@
 //! lines, or members.
 
 ghost use Rattle.std.specs.Prelude.{◌++◌, ◌≡◌, ◌≢◌, Bool, List, Some, length, ℕ};
+ghost use Rattle.litmus_tokens.specs.declared.instructions.Instructions.{Instructions};
 ghost use Rattle.scheduler.specs.Plan.{Plan};
 ghost use Rattle.command_line.specs.declared.settings.Settings.{Settings};
 ghost use Rattle.tso_cli.specs.Dividing.{EndsInFeed};
@@ -21,48 +22,48 @@ use tso_cli::machine_laws::machines_on_the_atomic_bus_answer_alike;
 
 /// Two answers of `run` have one status; where the test ended the reports differ in those lines alone, and all else is the same.
 pub fn runs_answer_alike()
-    ensures status { (kind other : ProtocolKind) (c d : Configuration) (json : Bool) (input out again : List ℕ) (status too : Status)
-        → AreAtomicAtOneDepth c d → IsAnswer (Settings.Run kind c json) (Some input) out status
-        → IsAnswer (Settings.Run other d json) (Some input) again too → status ≡ too }
-    ensures ended { (kind other : ProtocolKind) (c d : Configuration) (json : Bool) (input out again : List ℕ) (status too : Status)
-        → AreAtomicAtOneDepth c d → IsAnswer (Settings.Run kind c json) (Some input) out status
-        → IsAnswer (Settings.Run other d json) (Some input) again too → status ≡ Good
+    ensures status { (kind other : ProtocolKind) (c d : Configuration) (set : Instructions) (json : Bool) (input out again : List ℕ) (status too : Status)
+        → AreAtomicAtOneDepth c d → IsAnswer (Settings.Run kind c set json) (Some input) out status
+        → IsAnswer (Settings.Run other d set json) (Some input) again too → status ≡ too }
+    ensures ended { (kind other : ProtocolKind) (c d : Configuration) (set : Instructions) (json : Bool) (input out again : List ℕ) (status too : Status)
+        → AreAtomicAtOneDepth c d → IsAnswer (Settings.Run kind c set json) (Some input) out status
+        → IsAnswer (Settings.Run other d set json) (Some input) again too → status ≡ Good
         → ReportsDiffer json kind other c d out again }
-    ensures otherwise { (kind other : ProtocolKind) (c d : Configuration) (json : Bool) (input out again : List ℕ) (status too : Status)
-        → AreAtomicAtOneDepth c d → IsAnswer (Settings.Run kind c json) (Some input) out status
-        → IsAnswer (Settings.Run other d json) (Some input) again too → status ≢ Good → out ≡ again }
+    ensures otherwise { (kind other : ProtocolKind) (c d : Configuration) (set : Instructions) (json : Bool) (input out again : List ℕ) (status too : Status)
+        → AreAtomicAtOneDepth c d → IsAnswer (Settings.Run kind c set json) (Some input) out status
+        → IsAnswer (Settings.Run other d set json) (Some input) again too → status ≢ Good → out ≡ again }
 {
     machines_on_the_atomic_bus_answer_alike();
 }
 
 /// So do two answers of `trace`.
 pub fn traces_answer_alike()
-    ensures status { (kind other : ProtocolKind) (c d : Configuration) (json : Bool) (input out again : List ℕ) (status too : Status)
-        → AreAtomicAtOneDepth c d → IsAnswer (Settings.Trace kind c json) (Some input) out status
-        → IsAnswer (Settings.Trace other d json) (Some input) again too → status ≡ too }
-    ensures traced { (kind other : ProtocolKind) (c d : Configuration) (json : Bool) (input out again : List ℕ) (status too : Status)
-        → AreAtomicAtOneDepth c d → IsAnswer (Settings.Trace kind c json) (Some input) out status
-        → IsAnswer (Settings.Trace other d json) (Some input) again too → status ≢ Refused
+    ensures status { (kind other : ProtocolKind) (c d : Configuration) (set : Instructions) (json : Bool) (input out again : List ℕ) (status too : Status)
+        → AreAtomicAtOneDepth c d → IsAnswer (Settings.Trace kind c set json) (Some input) out status
+        → IsAnswer (Settings.Trace other d set json) (Some input) again too → status ≡ too }
+    ensures traced { (kind other : ProtocolKind) (c d : Configuration) (set : Instructions) (json : Bool) (input out again : List ℕ) (status too : Status)
+        → AreAtomicAtOneDepth c d → IsAnswer (Settings.Trace kind c set json) (Some input) out status
+        → IsAnswer (Settings.Trace other d set json) (Some input) again too → status ≢ Refused
         → TracesDifferIn json kind other c d out again }
-    ensures refused { (kind other : ProtocolKind) (c d : Configuration) (json : Bool) (input out again : List ℕ) (status too : Status)
-        → AreAtomicAtOneDepth c d → IsAnswer (Settings.Trace kind c json) (Some input) out status
-        → IsAnswer (Settings.Trace other d json) (Some input) again too → status ≡ Refused → out ≡ again }
+    ensures refused { (kind other : ProtocolKind) (c d : Configuration) (set : Instructions) (json : Bool) (input out again : List ℕ) (status too : Status)
+        → AreAtomicAtOneDepth c d → IsAnswer (Settings.Trace kind c set json) (Some input) out status
+        → IsAnswer (Settings.Trace other d set json) (Some input) again too → status ≡ Refused → out ≡ again }
 {
     machines_on_the_atomic_bus_answer_alike();
 }
 
 /// And two of `sweep`.
 pub fn sweeps_answer_alike()
-    ensures status { (kind other : ProtocolKind) (c d : Configuration) (plan : Plan) (input out again : List ℕ) (status too : Status)
-        → AreAtomicAtOneDepth c d → IsAnswer (Settings.Sweep kind c plan) (Some input) out status
-        → IsAnswer (Settings.Sweep other d plan) (Some input) again too → status ≡ too }
-    ensures swept { (kind other : ProtocolKind) (c d : Configuration) (plan : Plan) (input out again : List ℕ) (status too : Status)
-        → AreAtomicAtOneDepth c d → IsAnswer (Settings.Sweep kind c plan) (Some input) out status
-        → IsAnswer (Settings.Sweep other d plan) (Some input) again too → status ≢ Refused
+    ensures status { (kind other : ProtocolKind) (c d : Configuration) (set : Instructions) (plan : Plan) (input out again : List ℕ) (status too : Status)
+        → AreAtomicAtOneDepth c d → IsAnswer (Settings.Sweep kind c set plan) (Some input) out status
+        → IsAnswer (Settings.Sweep other d set plan) (Some input) again too → status ≡ too }
+    ensures swept { (kind other : ProtocolKind) (c d : Configuration) (set : Instructions) (plan : Plan) (input out again : List ℕ) (status too : Status)
+        → AreAtomicAtOneDepth c d → IsAnswer (Settings.Sweep kind c set plan) (Some input) out status
+        → IsAnswer (Settings.Sweep other d set plan) (Some input) again too → status ≢ Refused
         → SweepsDiffer kind other c d out again }
-    ensures refused { (kind other : ProtocolKind) (c d : Configuration) (plan : Plan) (input out again : List ℕ) (status too : Status)
-        → AreAtomicAtOneDepth c d → IsAnswer (Settings.Sweep kind c plan) (Some input) out status
-        → IsAnswer (Settings.Sweep other d plan) (Some input) again too → status ≡ Refused → out ≡ again }
+    ensures refused { (kind other : ProtocolKind) (c d : Configuration) (set : Instructions) (plan : Plan) (input out again : List ℕ) (status too : Status)
+        → AreAtomicAtOneDepth c d → IsAnswer (Settings.Sweep kind c set plan) (Some input) out status
+        → IsAnswer (Settings.Sweep other d set plan) (Some input) again too → status ≡ Refused → out ≡ again }
 {
     machines_on_the_atomic_bus_answer_alike();
 }

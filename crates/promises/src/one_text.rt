@@ -1,6 +1,7 @@
 //! What the headline leaves open of two texts, field by field.
 
 ghost use Rattle.std.specs.Prelude.{◌++◌, ◌<◌, ◌^◌, ◌≡◌, ◌≤◌, ◌⊎◌, Bool, List, Option, Some, false, length, map, true, ℕ};
+ghost use Rattle.litmus_tokens.specs.declared.instructions.Instructions.{Instructions};
 ghost use Rattle.command_line.specs.Limits.{IsWithinLimits};
 ghost use Rattle.scheduler.specs.Plan.{Plan};
 ghost use Rattle.command_line.specs.Search.{Search};
@@ -113,44 +114,44 @@ pub fn two_texts_reach_one_order()
 
 /// The headline leaves such texts, and one text of `sweep`, `counts` and `check`.
 pub fn headlines_leave_one_text_of_each_command()
-    ensures runs { (kind : ProtocolKind) (c : Configuration) (json : Bool) (input out other : List ℕ)
-        → InputHeadline (Settings.Run kind c json) input out → InputHeadline (Settings.Run kind c json) input other
+    ensures runs { (kind : ProtocolKind) (c : Configuration) (set : Instructions) (json : Bool) (input out other : List ℕ)
+        → InputHeadline (Settings.Run kind c set json) input out → InputHeadline (Settings.Run kind c set json) input other
         → (out ≡ other) ⊎ ShowOneExecution kind c json out other }
-    ensures traces { (kind : ProtocolKind) (c : Configuration) (json : Bool) (input out other : List ℕ)
-        → InputHeadline (Settings.Trace kind c json) input out → InputHeadline (Settings.Trace kind c json) input other
+    ensures traces { (kind : ProtocolKind) (c : Configuration) (set : Instructions) (json : Bool) (input out other : List ℕ)
+        → InputHeadline (Settings.Trace kind c set json) input out → InputHeadline (Settings.Trace kind c set json) input other
         → AreOneTrace kind c json out other }
-    ensures sweeps { (kind : ProtocolKind) (c : Configuration) (plan : Plan) (input out other : List ℕ)
-        → InputHeadline (Settings.Sweep kind c plan) input out → InputHeadline (Settings.Sweep kind c plan) input other
+    ensures sweeps { (kind : ProtocolKind) (c : Configuration) (set : Instructions) (plan : Plan) (input out other : List ℕ)
+        → InputHeadline (Settings.Sweep kind c set plan) input out → InputHeadline (Settings.Sweep kind c set plan) input other
         → out ≡ other }
-    ensures counts { (kind : ProtocolKind) (c : Configuration) (plan : Option Plan) (json : Bool) (input out other : List ℕ)
-        → InputHeadline (Settings.Counts kind c plan json) input out → InputHeadline (Settings.Counts kind c plan json) input other
+    ensures counts { (kind : ProtocolKind) (c : Configuration) (set : Instructions) (plan : Option Plan) (json : Bool) (input out other : List ℕ)
+        → InputHeadline (Settings.Counts kind c set plan json) input out → InputHeadline (Settings.Counts kind c set plan json) input other
         → out ≡ other }
-    ensures checks { (input out other : List ℕ) → InputHeadline Settings.Check input out
-        → InputHeadline Settings.Check input other → out ≡ other }
-    ensures witnesses { (depth : ℕ) (input out other : List ℕ) → InputHeadline (Settings.Witness depth) input out
-        → InputHeadline (Settings.Witness depth) input other → (out ≡ other) ⊎ ReachOneOrder depth out other }
+    ensures checks { (set : Instructions) (input out other : List ℕ) → InputHeadline (Settings.Check set) input out
+        → InputHeadline (Settings.Check set) input other → out ≡ other }
+    ensures witnesses { (depth : ℕ) (set : Instructions) (input out other : List ℕ) → InputHeadline (Settings.Witness depth set) input out
+        → InputHeadline (Settings.Witness depth set) input other → (out ≡ other) ⊎ ReachOneOrder depth out other }
 {
     headlines_leave_one_text();
 }
 
 /// Each command but `outcomes` gives one answer to an input, and so one status.
 pub fn each_command_gives_one_answer()
-    ensures runs { (kind : ProtocolKind) (config : Configuration) (json : Bool) (input out other : List ℕ) (status again : Status)
-        → IsAnswer (Settings.Run kind config json) (Some input) out status
-        → IsAnswer (Settings.Run kind config json) (Some input) other again → (out ≡ other) × (status ≡ again) }
-    ensures traces { (kind : ProtocolKind) (config : Configuration) (json : Bool) (input out other : List ℕ) (status again : Status)
-        → IsAnswer (Settings.Trace kind config json) (Some input) out status
-        → IsAnswer (Settings.Trace kind config json) (Some input) other again → (out ≡ other) × (status ≡ again) }
-    ensures sweeps { (kind : ProtocolKind) (config : Configuration) (plan : Plan) (input out other : List ℕ) (status again : Status)
-        → IsAnswer (Settings.Sweep kind config plan) (Some input) out status
-        → IsAnswer (Settings.Sweep kind config plan) (Some input) other again → (out ≡ other) × (status ≡ again) }
-    ensures counts { (kind : ProtocolKind) (config : Configuration) (plan : Option Plan) (json : Bool) (input out other : List ℕ) (status again : Status)
-        → IsAnswer (Settings.Counts kind config plan json) (Some input) out status
-        → IsAnswer (Settings.Counts kind config plan json) (Some input) other again → (out ≡ other) × (status ≡ again) }
-    ensures checks { (input out other : List ℕ) (status again : Status) → IsAnswer Settings.Check (Some input) out status
-        → IsAnswer Settings.Check (Some input) other again → (out ≡ other) × (status ≡ again) }
-    ensures witnesses { (depth : ℕ) (input out other : List ℕ) (status again : Status)
-        → IsAnswer (Settings.Witness depth) (Some input) out status → IsAnswer (Settings.Witness depth) (Some input) other again
+    ensures runs { (kind : ProtocolKind) (config : Configuration) (set : Instructions) (json : Bool) (input out other : List ℕ) (status again : Status)
+        → IsAnswer (Settings.Run kind config set json) (Some input) out status
+        → IsAnswer (Settings.Run kind config set json) (Some input) other again → (out ≡ other) × (status ≡ again) }
+    ensures traces { (kind : ProtocolKind) (config : Configuration) (set : Instructions) (json : Bool) (input out other : List ℕ) (status again : Status)
+        → IsAnswer (Settings.Trace kind config set json) (Some input) out status
+        → IsAnswer (Settings.Trace kind config set json) (Some input) other again → (out ≡ other) × (status ≡ again) }
+    ensures sweeps { (kind : ProtocolKind) (config : Configuration) (set : Instructions) (plan : Plan) (input out other : List ℕ) (status again : Status)
+        → IsAnswer (Settings.Sweep kind config set plan) (Some input) out status
+        → IsAnswer (Settings.Sweep kind config set plan) (Some input) other again → (out ≡ other) × (status ≡ again) }
+    ensures counts { (kind : ProtocolKind) (config : Configuration) (set : Instructions) (plan : Option Plan) (json : Bool) (input out other : List ℕ) (status again : Status)
+        → IsAnswer (Settings.Counts kind config set plan json) (Some input) out status
+        → IsAnswer (Settings.Counts kind config set plan json) (Some input) other again → (out ≡ other) × (status ≡ again) }
+    ensures checks { (set : Instructions) (input out other : List ℕ) (status again : Status) → IsAnswer (Settings.Check set) (Some input) out status
+        → IsAnswer (Settings.Check set) (Some input) other again → (out ≡ other) × (status ≡ again) }
+    ensures witnesses { (depth : ℕ) (set : Instructions) (input out other : List ℕ) (status again : Status)
+        → IsAnswer (Settings.Witness depth set) (Some input) out status → IsAnswer (Settings.Witness depth set) (Some input) other again
         → (out ≡ other) × (status ≡ again) }
     ensures tables { (kind : ProtocolKind) (input out other : List ℕ) (status again : Status)
         → IsAnswer (Settings.Tables kind) (Some input) out status → IsAnswer (Settings.Tables kind) (Some input) other again
@@ -168,10 +169,10 @@ pub fn led_runs_end_with_their_order()
     ensures tests { (t : Litmus) (kind : ProtocolKind) (c : Configuration) (r : Run) (out answer : List ℕ) (status : Status)
         → IsTest t → length out < 2 ^ 64 → PrintsExecution t kind c false r out → IsCheckAnswer t out answer status
         → (answer ≡ valid_line) × (status ≡ Good) }
-    ensures inputs { (kind : ProtocolKind) (c : Configuration) (input out answer : List ℕ) (status : Status)
-        → IsWithinLimits (Settings.Run kind c false) → IsJoinable (parts_of input).test
-        → IsAnswer (Settings.Run kind c false) (Some input) out Good
-        → IsAnswer Settings.Check (Some (joined_parts (parts_of input).test out)) answer status
+    ensures inputs { (kind : ProtocolKind) (c : Configuration) (set : Instructions) (input out answer : List ℕ) (status : Status)
+        → IsWithinLimits (Settings.Run kind c set false) → IsJoinable (parts_of input).test
+        → IsAnswer (Settings.Run kind c set false) (Some input) out Good
+        → IsAnswer (Settings.Check set) (Some (joined_parts (parts_of input).test out)) answer status
         → (answer ≡ valid_line) × (status ≡ Good) }
 {
     led_simulations_end();

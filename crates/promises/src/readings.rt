@@ -7,6 +7,7 @@ ghost use Rattle.tso_terms.specs.declared.execution.Entry.{Entry};
 ghost use Rattle.litmus_reader.specs.GrammarTest.{FollowsGrammar};
 ghost use Rattle.litmus_reader.specs.Spelling.{SpellsTest, IsFault, IsRefused};
 ghost use Rattle.litmus_tokens.specs.declared.fault.Fault.{Fault as FaultFound};
+ghost use Rattle.litmus_tokens.specs.declared.instructions.Instructions.TheVariants.{Basic};
 ghost use Rattle.litmus_reader.specs.declared.fault.TextFault.{TextFault as TextRefused};
 ghost use Rattle.order_builder.specs.Reading.{entries_of_order, Gives};
 ghost use Rattle.order_builder.specs.Spelling.{SpellsOrder, HasFault};
@@ -17,7 +18,9 @@ ghost use Rattle.scheduler.specs.Seeds.{seeded_choices};
 ghost use Rattle.scheduler.specs.declared.fault.ChoiceFault.{ChoiceFault as ChoicesRefused};
 
 use litmus_reader::test_texts::spelled_tests_follow_the_grammar;
-use litmus_reader::{ReadError, TextFault, Why, read_test, test_or_fault};
+use litmus_reader::{
+    Instructions, ReadError, TextFault, Why, read_test, read_test_in, test_or_fault, test_or_fault_in,
+};
 use order_builder::{OrderFault, read_order};
 use scheduler::{ChoiceFault, read_choices, seeded_choices};
 use std::alloc::Global;
@@ -25,10 +28,10 @@ use tso_terms::{Choice, Execution, NoMemory, Test};
 
 /// A test is read exactly where a text spells it, and refused exactly as the text is; where memory ran out, of no line.
 pub fn a_test_is_read(alloc: Global, text: &[u8]) -> Result<Test, TextFault>
-    ensures found { IfOk result (λ test. SpellsTest text.now test) }
-    ensures only { (t : Litmus) → SpellsTest text.now t → MatchResult result (λ test. test ≡ t) (λ f. f.why ≡ Why.NoMemory) }
-    ensures refused { IfErr result (λ f. f.why ≢ Why.NoMemory → IsRefused text.now f) }
-    ensures refuses { (fault : TextRefused) → IsRefused text.now fault
+    ensures found { IfOk result (λ test. SpellsTest Basic text.now test) }
+    ensures only { (t : Litmus) → SpellsTest Basic text.now t → MatchResult result (λ test. test ≡ t) (λ f. f.why ≡ Why.NoMemory) }
+    ensures refused { IfErr result (λ f. f.why ≢ Why.NoMemory → IsRefused Basic text.now f) }
+    ensures refuses { (fault : TextRefused) → IsRefused Basic text.now fault
         → MatchResult result (λ _. ⊥) (λ f. f.why ≢ Why.NoMemory → f ≡ fault) }
     ensures no_memory { IfErr result (λ f. f.why ≡ Why.NoMemory → f.line ≡ 0) }
 {
@@ -37,8 +40,8 @@ pub fn a_test_is_read(alloc: Global, text: &[u8]) -> Result<Test, TextFault>
 
 /// A test is read exactly where a text follows the grammar, keeps the limits and says this test.
 pub fn a_test_is_read_by_the_grammar(alloc: Global, text: &[u8]) -> Result<Test, TextFault>
-    ensures found { IfOk result (λ test. FollowsGrammar text.now test) }
-    ensures only { (t : Litmus) → FollowsGrammar text.now t → MatchResult result (λ test. test ≡ t) (λ f. f.why ≡ Why.NoMemory) }
+    ensures found { IfOk result (λ test. FollowsGrammar Basic text.now test) }
+    ensures only { (t : Litmus) → FollowsGrammar Basic text.now t → MatchResult result (λ test. test ≡ t) (λ f. f.why ≡ Why.NoMemory) }
 {
     spelled_tests_follow_the_grammar();
     read_test(alloc, text)
@@ -46,13 +49,57 @@ pub fn a_test_is_read_by_the_grammar(alloc: Global, text: &[u8]) -> Result<Test,
 
 /// A test is read exactly where a text spells it, and what is at fault in any other text is found.
 pub fn a_fault_is_found(alloc: Global, text: &[u8]) -> Result<Test, ReadError>
-    ensures found { IfOk result (λ test. SpellsTest text.now test) }
-    ensures only { (t : Litmus) → SpellsTest text.now t → MatchResult result (λ test. test ≡ t) (λ e. e ≡ ReadError.NoMemory) }
-    ensures fault { (fault : FaultFound) → result ≡ Err (ReadError.Fault fault) → IsFault text.now fault }
-    ensures faults { (fault : FaultFound) → IsFault text.now fault
+    ensures found { IfOk result (λ test. SpellsTest Basic text.now test) }
+    ensures only { (t : Litmus) → SpellsTest Basic text.now t → MatchResult result (λ test. test ≡ t) (λ e. e ≡ ReadError.NoMemory) }
+    ensures fault { (fault : FaultFound) → result ≡ Err (ReadError.Fault fault) → IsFault Basic text.now fault }
+    ensures faults { (fault : FaultFound) → IsFault Basic text.now fault
         → MatchResult result (λ _. ⊥) (λ e. e ≢ ReadError.NoMemory → e ≡ ReadError.Fault fault) }
 {
     test_or_fault(alloc, text)
+}
+
+/// So it is in either set of instructions.
+pub fn a_test_is_read_in_a_set(
+    alloc: Global,
+    set: Instructions,
+    text: &[u8],
+) -> Result<Test, TextFault>
+    ensures found { IfOk result (λ test. SpellsTest set text.now test) }
+    ensures only { (t : Litmus) → SpellsTest set text.now t → MatchResult result (λ test. test ≡ t) (λ f. f.why ≡ Why.NoMemory) }
+    ensures refused { IfErr result (λ f. f.why ≢ Why.NoMemory → IsRefused set text.now f) }
+    ensures refuses { (fault : TextRefused) → IsRefused set text.now fault
+        → MatchResult result (λ _. ⊥) (λ f. f.why ≢ Why.NoMemory → f ≡ fault) }
+    ensures no_memory { IfErr result (λ f. f.why ≡ Why.NoMemory → f.line ≡ 0) }
+{
+    read_test_in(alloc, set, text)
+}
+
+/// By the grammar of either set.
+pub fn a_test_is_read_by_the_grammar_of_a_set(
+    alloc: Global,
+    set: Instructions,
+    text: &[u8],
+) -> Result<Test, TextFault>
+    ensures found { IfOk result (λ test. FollowsGrammar set text.now test) }
+    ensures only { (t : Litmus) → FollowsGrammar set text.now t → MatchResult result (λ test. test ≡ t) (λ f. f.why ≡ Why.NoMemory) }
+{
+    spelled_tests_follow_the_grammar();
+    read_test_in(alloc, set, text)
+}
+
+/// And what is at fault in any other text of a set is found.
+pub fn a_fault_is_found_in_a_set(
+    alloc: Global,
+    set: Instructions,
+    text: &[u8],
+) -> Result<Test, ReadError>
+    ensures found { IfOk result (λ test. SpellsTest set text.now test) }
+    ensures only { (t : Litmus) → SpellsTest set text.now t → MatchResult result (λ test. test ≡ t) (λ e. e ≡ ReadError.NoMemory) }
+    ensures fault { (fault : FaultFound) → result ≡ Err (ReadError.Fault fault) → IsFault set text.now fault }
+    ensures faults { (fault : FaultFound) → IsFault set text.now fault
+        → MatchResult result (λ _. ⊥) (λ e. e ≢ ReadError.NoMemory → e ≡ ReadError.Fault fault) }
+{
+    test_or_fault_in(alloc, set, text)
 }
 
 /// Choices are read exactly where a text spells them, and refused exactly as the text is.

@@ -2,6 +2,7 @@
 //! and one model both are never printed.
 
 ghost use Rattle.std.specs.Prelude.{◌≡◌, ◌<◌, ◌≤◌, ◌↔◌, ℕ, Bool, true, List, length, IsSome, IfSome};
+ghost use Rattle.litmus_tokens.specs.declared.instructions.Instructions.{Instructions};
 ghost use Rattle.tso_terms.specs.Litmus.{Litmus};
 ghost use Rattle.tso_terms.specs.FinalState.{final_registers, final_words};
 ghost use Rattle.tso_terms.specs.FlatMachine.{registers_in};
@@ -75,10 +76,10 @@ pub fn a_refutation_and_an_execution_are_never_both_printed()
 
 /// Two texts for one input and one model never tell the one that it never is and the other that it can be.
 pub fn reasons_for_one_input_agree()
-    ensures reasons { (plan another : Explanation) (json again assert asserted : Bool) (input out other : List ℕ)
+    ensures reasons { (plan another : Explanation) (set : Instructions) (json again assert asserted : Bool) (input out other : List ℕ)
         → plan.model ≡ another.model
-        → InputHeadline (Settings.Why plan json assert) input out → InputHeadline (Settings.Why another again asserted) input other
-        → AreOneReason (parts_of input).test plan another json again out other }
+        → InputHeadline (Settings.Why plan set json assert) input out → InputHeadline (Settings.Why another set again asserted) input other
+        → AreOneReason set (parts_of input).test plan another json again out other }
 {
     headlines_leave_one_text();
 }

@@ -2,6 +2,7 @@
 //! `witness` and `why` print.
 
 ghost use Rattle.std.specs.Prelude.{◌≡◌, ◌≤◌, ℕ, Bool, false, List, Some, length};
+ghost use Rattle.litmus_tokens.specs.declared.instructions.Instructions.{Instructions};
 ghost use Rattle.tso_terms.specs.Axioms.{IsTsoExecution};
 ghost use Rattle.tso_terms.specs.Litmus.{Litmus, IsTest};
 ghost use Rattle.tso_terms.specs.declared.execution.Entry.{Entry};
@@ -27,8 +28,8 @@ use tso_cli::round_trips::{
 
 /// What is printed of a run that ended has at most 32,768 bytes.
 pub fn a_printed_run_is_short()
-    ensures { (kind : ProtocolKind) (c : Configuration) (input out : List ℕ)
-        → IsWithinLimits (Settings.Run kind c false) → IsAnswer (Settings.Run kind c false) (Some input) out Good → length out ≤ 32768 }
+    ensures { (kind : ProtocolKind) (c : Configuration) (set : Instructions) (input out : List ℕ)
+        → IsWithinLimits (Settings.Run kind c set false) → IsAnswer (Settings.Run kind c set false) (Some input) out Good → length out ≤ 32768 }
 {
     printed_runs_are_short();
 }
@@ -44,21 +45,21 @@ pub fn a_depth_of_32_is_enough_for_each_execution()
 
 /// The choices that `witness` prints, handed to `run` at its depth, end with the very order that it was asked for.
 pub fn choices_of_a_witness_end_with_its_order()
-    ensures { (kind : ProtocolKind) (c : Configuration) (json : Bool) (input out answer : List ℕ) (status : Status)
-        → c.bus ≡ Atomic → IsWithinLimits (Settings.Run kind c json) → IsJoinable (parts_of input).test
-        → IsAnswer (Settings.Witness c.depth) (Some input) out Good
-        → IsAnswer (Settings.Run kind c json) (Some (joined_parts (parts_of input).test out)) answer status
-        → ReportsOrder kind c json (parts_of input) answer × (status ≡ Good) }
+    ensures { (kind : ProtocolKind) (c : Configuration) (set : Instructions) (json : Bool) (input out answer : List ℕ) (status : Status)
+        → c.bus ≡ Atomic → IsWithinLimits (Settings.Run kind c set json) → IsJoinable (parts_of input).test
+        → IsAnswer (Settings.Witness c.depth set) (Some input) out Good
+        → IsAnswer (Settings.Run kind c set json) (Some (joined_parts (parts_of input).test out)) answer status
+        → ReportsOrder kind c set json (parts_of input) answer × (status ≡ Good) }
 {
     witnesses_reach_their_orders();
 }
 
 /// The choices that `why` prints beside an execution, handed to `run` at the depth of its model, end with the execution's order.
 pub fn choices_beside_an_execution_end_with_its_order()
-    ensures { (kind : ProtocolKind) (c : Configuration) (plan : Explanation) (json told assert : Bool) (input out : List ℕ) (status : Status)
-        → c.bus ≡ Atomic → c.depth ≡ depth_of plan.model → IsWithinLimits (Settings.Run kind c json) → IsJoinable (parts_of input).test
-        → IsPrinted status → IsAnswer (Settings.Why plan told assert) (Some input) out status
-        → IsExplained kind c json plan.model told (parts_of input).test out }
+    ensures { (kind : ProtocolKind) (c : Configuration) (set : Instructions) (plan : Explanation) (json told assert : Bool) (input out : List ℕ) (status : Status)
+        → c.bus ≡ Atomic → c.depth ≡ depth_of plan.model → IsWithinLimits (Settings.Run kind c set json) → IsJoinable (parts_of input).test
+        → IsPrinted status → IsAnswer (Settings.Why plan set told assert) (Some input) out status
+        → IsExplained kind c set json plan.model told (parts_of input).test out }
 {
     reasons_reach_their_executions();
 }

@@ -2,6 +2,7 @@
 //! a text leads to the line above it.
 
 ghost use Rattle.std.specs.Prelude.{◌≡◌, ◌<◌, ◌≤◌, ℕ, All, Bool, true, false, IfOk, List, length, Some, None};
+ghost use Rattle.litmus_tokens.specs.declared.instructions.Instructions.{Instructions};
 ghost use Rattle.tso_terms.specs.Condition.{Condition};
 ghost use Rattle.basic_laws.specs.Types.{Atomic, Reg};
 ghost use Rattle.tso_laws.specs.Outcomes.{IsAllowedAtDepth};
@@ -113,10 +114,10 @@ pub fn what_is_not_shown_is_hidden(
 /// What stands behind `By` in the text of `outcomes`, handed to `run` at the same depth on the atomic bus with the same test, ends
 /// with the values of the line above.
 pub fn each_line_by_leads_to_the_line_above()
-    ensures { (kind : ProtocolKind) (c : Configuration) (search : Search) (json assert : Bool) (input out : List ℕ) (status : Status)
-        → c.bus ≡ Atomic → search.depth ≡ c.depth → IsWithinLimits (Settings.Run kind c json) → IsJoinable (parts_of input).test
-        → ¬ (status ≡ Refused) → IsAnswer (Settings.Outcomes search false assert) (Some input) out status
-        → LinesAreRunAgain kind c search json (parts_of input).test out }
+    ensures { (kind : ProtocolKind) (c : Configuration) (set : Instructions) (search : Search) (json assert : Bool) (input out : List ℕ) (status : Status)
+        → c.bus ≡ Atomic → search.depth ≡ c.depth → IsWithinLimits (Settings.Run kind c set json) → IsJoinable (parts_of input).test
+        → ¬ (status ≡ Refused) → IsAnswer (Settings.Outcomes search set false assert) (Some input) out status
+        → LinesAreRunAgain kind c set search json (parts_of input).test out }
 {
     searches_reach_their_states();
 }
@@ -124,11 +125,11 @@ pub fn each_line_by_leads_to_the_line_above()
 /// Lines and JSON of one input show one search: the same states, the same of them in which the condition's proposition is true, and
 /// the same counts, of the test that was given.
 pub fn both_forms_show_one_search()
-    ensures { (search : Search) (assert asserted : Bool) (input out object : List ℕ) (status again : Status)
-        → IsWithinLimits (Settings.Outcomes search false assert) → IsWithinLimits (Settings.Outcomes search true asserted)
-        → IsAnswer (Settings.Outcomes search false assert) (Some input) out status
-        → IsAnswer (Settings.Outcomes search true asserted) (Some input) object again
-        → AreOneSearch (parts_of input).test search false true out object }
+    ensures { (search : Search) (set : Instructions) (assert asserted : Bool) (input out object : List ℕ) (status again : Status)
+        → IsWithinLimits (Settings.Outcomes search set false assert) → IsWithinLimits (Settings.Outcomes search set true asserted)
+        → IsAnswer (Settings.Outcomes search set false assert) (Some input) out status
+        → IsAnswer (Settings.Outcomes search set true asserted) (Some input) object again
+        → AreOneSearch set (parts_of input).test search false true out object }
 {
     answers_meet_the_headline();
     headlines_leave_one_text();

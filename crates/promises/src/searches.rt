@@ -2,6 +2,7 @@
 //! reached.
 
 ghost use Rattle.std.specs.Prelude.{◌≡◌, ◌↔◌, ◌⊎◌, ℕ, Bool, true, IfErr, IfOk, List, [], Some, slice_get};
+ghost use Rattle.litmus_tokens.specs.declared.instructions.Instructions.{Instructions};
 ghost use Rattle.tso_terms.specs.Condition.{Condition, truth_of};
 ghost use Rattle.tso_terms.specs.Litmus.{Litmus, IsTest};
 ghost use Rattle.basic_laws.specs.Types.{Atomic, Choice};
@@ -111,9 +112,9 @@ pub fn the_same_states_are_printed_alike()
 
 /// Two answers of `outcomes` that print states print the same ones, with one status; or one of them says that it prints some.
 pub fn two_answers_show_the_same_states()
-    ensures { (search : Search) (json assert : Bool) (input out other : List ℕ) (status again : Status) → IsPrinted status → IsPrinted again
-        → IsAnswer (Settings.Outcomes search json assert) (Some input) out status
-        → IsAnswer (Settings.Outcomes search json assert) (Some input) other again
+    ensures { (search : Search) (set : Instructions) (json assert : Bool) (input out other : List ℕ) (status again : Status) → IsPrinted status → IsPrinted again
+        → IsAnswer (Settings.Outcomes search set json assert) (Some input) out status
+        → IsAnswer (Settings.Outcomes search set json assert) (Some input) other again
         → (ShowTheSameStates search json out other × (status ≡ again)) ⊎ (ShowsPart search json out ⊎ ShowsPart search json other) }
 {
     inputs_have_one_answer();
@@ -121,10 +122,10 @@ pub fn two_answers_show_the_same_states()
 
 /// The choices of each printed state, handed to `run`, end there.
 pub fn printed_choices_end_in_their_states()
-    ensures { (kind : ProtocolKind) (c : Configuration) (search : Search) (json told assert : Bool) (input out : List ℕ) (status : Status)
-        → c.bus ≡ Atomic → search.depth ≡ c.depth → IsWithinLimits (Settings.Run kind c json) → IsJoinable (parts_of input).test
-        → ¬ (status ≡ Refused) → IsAnswer (Settings.Outcomes search told assert) (Some input) out status
-        → AreRevisited kind c search json told (parts_of input).test out }
+    ensures { (kind : ProtocolKind) (c : Configuration) (set : Instructions) (search : Search) (json told assert : Bool) (input out : List ℕ) (status : Status)
+        → c.bus ≡ Atomic → search.depth ≡ c.depth → IsWithinLimits (Settings.Run kind c set json) → IsJoinable (parts_of input).test
+        → ¬ (status ≡ Refused) → IsAnswer (Settings.Outcomes search set told assert) (Some input) out status
+        → AreRevisited kind c set search json told (parts_of input).test out }
 {
     searches_reach_their_states();
 }

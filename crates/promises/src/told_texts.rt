@@ -1,6 +1,7 @@
 //! What is told of texts, field by field.
 
 ghost use Rattle.std.specs.Prelude.{◌++◌, ◌∷◌, ◌≡◌, ◌≤◌, ◌⊎◌, List, [], codes, length, true, ℕ};
+ghost use Rattle.litmus_tokens.specs.declared.instructions.Instructions.{Instructions};
 ghost use Rattle.hints.specs.Hint.{IsHint, IsRunsLine, longest_hint};
 ghost use Rattle.tso_cli.specs.Hints.{IsHintWithRuns};
 ghost use Rattle.scheduler.specs.Printed.{printed_choices};
@@ -28,11 +29,11 @@ pub fn a_line_of_runs_says_choices()
 
 /// Each text spells one test or gets one refusal, and never both.
 pub fn each_text_is_decided()
-    ensures one_test { (text : List ℕ) → (t other : Litmus) → SpellsTest text t → SpellsTest text other → t ≡ other }
-    ensures one_refusal { (text : List ℕ) → (refusal other : TextFault) → IsRefused text refusal → IsRefused text other
+    ensures one_test { (set : Instructions) (text : List ℕ) → (t other : Litmus) → SpellsTest set text t → SpellsTest set text other → t ≡ other }
+    ensures one_refusal { (set : Instructions) (text : List ℕ) → (refusal other : TextFault) → IsRefused set text refusal → IsRefused set text other
         → refusal ≡ other }
-    ensures never_both { (text : List ℕ) → (t : Litmus) (refusal : TextFault) → SpellsTest text t → IsRefused text refusal → ⊥ }
-    ensures always { (text : List ℕ) → ((t : Litmus) × SpellsTest text t) ⊎ ((refusal : TextFault) × IsRefused text refusal) }
+    ensures never_both { (set : Instructions) (text : List ℕ) → (t : Litmus) (refusal : TextFault) → SpellsTest set text t → IsRefused set text refusal → ⊥ }
+    ensures always { (set : Instructions) (text : List ℕ) → ((t : Litmus) × SpellsTest set text t) ⊎ ((refusal : TextFault) × IsRefused set text refusal) }
 {
     texts_are_decided();
 }

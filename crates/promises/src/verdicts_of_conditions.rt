@@ -2,6 +2,7 @@
 //! and the states agree with them.
 
 ghost use Rattle.std.specs.Prelude.{◌+◌, ◌<◌, ◌≡◌, ◌≤◌, ◌↔◌, ◌++◌, Bool, Contains, List, Some, codes, false, length, slice_get, true, ℕ};
+ghost use Rattle.litmus_tokens.specs.declared.instructions.Instructions.{Instructions};
 ghost use Rattle.command_line.specs.Explanation.{Explanation};
 ghost use Rattle.command_line.specs.Search.{Search};
 ghost use Rattle.command_line.specs.declared.settings.Settings.{Settings};
@@ -93,13 +94,13 @@ pub fn why_and_outcomes_agree()
 /// With `Verdict No` the status is 4 where that is asserted, and with `Verdict Ok` 0; where nothing is asserted it is 0, or 3 of a search
 /// that met its limit.
 pub fn a_status_tells_the_verdict()
-    ensures outcomes_no { (search : Search) (json : Bool) → StatusTells (Settings.Outcomes search json true) json (codes "No") NotAsClaimed }
-    ensures outcomes_ok { (search : Search) (json : Bool) → StatusTells (Settings.Outcomes search json true) json (codes "Ok") Good }
-    ensures outcomes_unasserted { (search : Search) (json verdict : Bool)
-        → StatusTellsNoVerdict (Settings.Outcomes search json false) json (verdict_word verdict) }
-    ensures why_no { (plan : Explanation) (json : Bool) → StatusTells (Settings.Why plan json true) json (codes "No") NotAsClaimed }
-    ensures why_ok { (plan : Explanation) (json assert : Bool) → StatusTells (Settings.Why plan json assert) json (codes "Ok") Good }
-    ensures why_unasserted { (plan : Explanation) (json : Bool) → StatusTells (Settings.Why plan json false) json (codes "No") Good }
+    ensures outcomes_no { (search : Search) (set : Instructions) (json : Bool) → StatusTells (Settings.Outcomes search set json true) json (codes "No") NotAsClaimed }
+    ensures outcomes_ok { (search : Search) (set : Instructions) (json : Bool) → StatusTells (Settings.Outcomes search set json true) json (codes "Ok") Good }
+    ensures outcomes_unasserted { (search : Search) (set : Instructions) (json verdict : Bool)
+        → StatusTellsNoVerdict (Settings.Outcomes search set json false) json (verdict_word verdict) }
+    ensures why_no { (plan : Explanation) (set : Instructions) (json : Bool) → StatusTells (Settings.Why plan set json true) json (codes "No") NotAsClaimed }
+    ensures why_ok { (plan : Explanation) (set : Instructions) (json assert : Bool) → StatusTells (Settings.Why plan set json assert) json (codes "Ok") Good }
+    ensures why_unasserted { (plan : Explanation) (set : Instructions) (json : Bool) → StatusTells (Settings.Why plan set json false) json (codes "No") Good }
 {
     statuses_tell_the_verdict();
 }

@@ -1,5 +1,9 @@
--- One core more: what it writes stands behind what those before it write.
-use Rattle.reading_tables.proofs.Vocabulary.{◌≡◌, ◌<◌, ◌+◌, ℕ, List, [], ◌++◌, length, drop, get_or, sym, ap, ◌∙◌, append_assoc, at_drop_more, Instr}
+-- One core more: what it writes stands behind what those before it write, and their registers stay as they are.
+use Rattle.reading_tables.proofs.Vocabulary.{◌≡◌, ◌<◌, ◌+◌, ℕ, List, [], ◌∷◌, ◌++◌, ◌⊎◌, inl, inr, length, drop, slice_index_or, get_or, arith, subst, sym, ap, ◌∙◌, append_assoc, at_drop_more, Instr, map}
+use Rattle.reading_tables.specs.declared.expressions.Held.{Held}
+use Rattle.reading_tables.specs.declared.expressions.Making.{Making}
+use Rattle.reading_tables.specs.inner.Told.{held_of, all_made, HaveBeenMade, IsMore}
+use Rattle.reading_tables.proofs.Makings.{at-front, at-end, all-in-more, held-kept}
 use Rattle.possible_reads.specs.Expressions.{Expression, Written, written_in, written_from, first_registers}
 
 pub core-more : (programs : List (List Instr)) (registers : List (List ℕ)) (number : ℕ) (first : List Expression)
@@ -15,3 +19,33 @@ core-more programs registers number first before after whole within same more so
     so
     ∙ (at_drop_more (λ ps. before ++ written_from number ps registers) programs number [] within
     ∙ (sym (append_assoc before own left) ∙ ap (λ z. z ++ left) (sym is)))
+
+-- the registers of the cores so far, and of one core more
+module _ (a b : List Making) (more : IsMore a b) (rows : List (List Held)) (row : List Held) (number core : ℕ) (size : length rows ≡ number) where
+  abbrev longer : List (List Held)
+  longer = rows ++ (row ∷ [])
+
+  either : core < number + 1 → (core < number) ⊎ (core ≡ number)
+  either l = grind arith
+
+  before : core < number → slice_index_or longer core [] ≡ slice_index_or rows core []
+  before l = at-front rows (row ∷ []) core [] (omega (arith, l, size))
+
+  last : core ≡ number → slice_index_or longer core [] ≡ row
+  last e = ap (λ n. slice_index_or longer n []) (e ∙ sym size) ∙ at-end rows row []
+
+  pub inside-more : core < number + 1 → (core < number → HaveBeenMade (length a) (slice_index_or rows core [])) → HaveBeenMade (length b) row
+      → HaveBeenMade (length b) (slice_index_or longer core [])
+  inside-more l old new = elim (either l) [
+    | inl m ↦ subst (HaveBeenMade (length b)) (sym (before m)) (all-in-more (length a) (length b) (slice_index_or rows core []) more.longer (old m))
+    | inr e ↦ subst (HaveBeenMade (length b)) (sym (last e)) new
+  ]
+
+  pub each-more : (due : ℕ → List Expression) → core < number + 1 → (core < number → HaveBeenMade (length a) (slice_index_or rows core []))
+      → (core < number → map (held_of (all_made a)) (slice_index_or rows core []) ≡ due core) → map (held_of (all_made b)) row ≡ due number
+      → map (held_of (all_made b)) (slice_index_or longer core []) ≡ due core
+  each-more due l inside old new = elim (either l) [
+    | inl m ↦
+        ap (map (held_of (all_made b))) (before m) ∙ (held-kept a b (slice_index_or rows core []) more (inside m) ∙ old m)
+    | inr e ↦ ap (map (held_of (all_made b))) (last e) ∙ (new ∙ ap due (sym e))
+  ]

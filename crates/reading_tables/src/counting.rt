@@ -6,39 +6,95 @@ ghost use Rattle.refutation_laws.specs.Known.{same_event as is_same_event};
 ghost use Rattle.possible_reads.specs.Expressions as expressions;
 ghost use Rattle.possible_reads.specs.Possible as spec;
 ghost use Rattle.reading_tables.specs.Told.{facts_of};
-ghost use Rattle.reading_tables.specs.inner.Told.{expression_of, written_of, known_of};
+ghost use Rattle.reading_tables.specs.inner.Told.{held_of, all_made, written_of, known_of};
 ghost use Rattle.reading_tables.specs.inner.Tables.{IsTold, readings_of};
-ghost use Rattle.std.specs.Prelude.{map};
+ghost use Rattle.reading_tables.specs.inner.Addends.{addend_by, made_addend};
+ghost use Rattle.std.specs.Prelude.{map, List};
 
-use crate::expressions::{Held, Value, Written};
+use crate::expressions::{Held, Making, Written};
 use crate::orders::{is_put_before, last_writes};
 use crate::tables::Told;
-use crate::values::{either_of, one, sums_of};
+use crate::values::{combined_values, either_of, one};
 use refutations::events::{same_event, writes_to};
 use refutations::values::first_word;
 use std::alloc::Global;
-use tso_terms::{Entry, Kind, Loc, NoMemory, Update};
+use tso_terms::{Entry, Kind, Loc, NoMemory, Operator};
 
 /// What this write writes; 0 where there is no such write.
-fn value_among(written: &[Written], write: &Entry) -> Value
-    ensures { expression_of result ≡ expressions.expression_among (map written_of written.now) write.now }
+fn value_among(written: &[Written], write: &Entry) -> Held
+    ensures { (made : List expressions.Expression) → held_of made result ≡ expressions.expression_among (map (written_of made) written.now) write.now }
 {
     for x in written {
         if same_event(&x.write, write) {
             return x.value;
         }
     }
-    Value::Held(Held::Number(0))
+    Held::Number(0)
 }
 
-/// The number that is added to what is read, if it is one.
-fn addend_in(value: Value) -> Option<u32>
-    ensures { result ≡ spec.addend_in (expression_of value) }
+/// The load part of the locked instruction whose store part this is.
+fn load_part_of(write: &Entry) -> Entry
+    ensures { result ≡ spec.load_part_of write.now }
 {
-    match value {
-        Value::Sum(_, Held::Number(addend)) => Some(addend),
+    Entry {
+        core: write.core,
+        place: write.place,
+        kind: Kind::LR,
+        loc: write.loc,
+        value: 0,
+    }
+}
+
+/// What an operator with this number adds, modulo 2^32, if it adds.
+fn added_by(operator: Operator, number: u32) -> Option<u32>
+    ensures { result ≡ addend_by operator number }
+{
+    match operator {
+        Operator::Add => Some(number),
+        Operator::Subtract => Some(0_u32.wrapping_sub(number)),
+        Operator::And | Operator::Or | Operator::Xor => None,
+    }
+}
+
+/// The number that this making adds to what the read returns, if it is one.
+fn addend_made(own: &Entry, making: Making) -> Option<u32>
+    ensures { result ≡ made_addend own.now making }
+{
+    match making {
+        Making::Combined(operator, Held::Returned(read), Held::Number(number)) => {
+            if same_event(&read, own) {
+                added_by(operator, number)
+            } else {
+                None
+            }
+        }
         _ => None,
     }
+}
+
+/// The number that is added to what the read returns, if it is one.
+fn addend_in(makings: &[Making], own: &Entry, held: Held) -> Option<u32>
+    ensures { result ≡ spec.addend_in own.now (held_of (all_made makings.now) held) }
+{
+    let Held::Made(number) = held else {
+        return None;
+    };
+    match makings.get(number) {
+        Some(making) => addend_made(own, *making),
+        None => None,
+    }
+}
+
+/// The number that a write adds to what its load part reads, if it is one.
+fn addend_written(told: Told<'_>, write: &Entry) -> Option<u32>
+    requires { IsTold told }
+    ensures { result ≡ spec.addend_in (spec.load_part_of write.now) (expressions.expression_of told.entry.test.now write.now) }
+{
+    addend_in(
+        told.makings,
+        &load_part_of(write),
+        value_among(told.written, write),
+    )
 }
 
 /// The number that a write adds to what its load part reads; 0 where it adds none.
@@ -46,7 +102,7 @@ fn addend_of(told: Told<'_>, write: &Entry) -> u32
     requires { IsTold told }
     ensures { result ≡ spec.addend_of told.entry.test.now write.now }
 {
-    match addend_in(value_among(told.written, write)) {
+    match addend_written(told, write) {
         Some(addend) => addend,
         None => 0,
     }
@@ -57,7 +113,7 @@ fn adds_alone(told: Told<'_>, loc: u8, e: &Entry) -> bool
     ensures { result ≡ spec.adds_alone told.entry.test.now loc e.now }
 {
     if writes_to(loc, e) {
-        e.kind == Kind::LW && addend_in(value_among(told.written, e)).is_some()
+        e.kind == Kind::LW && addend_written(told, e).is_some()
     } else {
         true
     }
@@ -103,7 +159,7 @@ pub fn counted(told: Told<'_>, loc: u8) -> u32
     let mut word = first_word(told.test, Loc(loc));
     for w in told.events {
         if writes_to(loc, w) {
-            word = Update::Add.apply(word, addend_of(told, w));
+            word = word.wrapping_add(addend_of(told, w));
         }
     }
     word
@@ -149,7 +205,7 @@ fn added(
         return Ok(words);
     }
     let addend = one(alloc, addend_of(told, w))?;
-    let sums = sums_of(alloc, &words, &addend)?;
+    let sums = combined_values(alloc, Operator::Add, &words, &addend)?;
     if comes_first(told, lasts, w, own) {
         Ok(sums)
     } else {

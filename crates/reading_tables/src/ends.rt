@@ -4,14 +4,14 @@ ghost use Rattle.possible_reads.specs.Expressions as expressions;
 ghost use Rattle.possible_reads.specs.Possible as spec;
 ghost use Rattle.reading_tables.specs.Told.{facts_of};
 ghost use Rattle.reading_tables.specs.inner.Told.{known_of, told_of};
-ghost use Rattle.reading_tables.specs.inner.Tables.{IsProblem, IsTold, readings_of};
+ghost use Rattle.reading_tables.specs.inner.Tables.{IsProblem, IsTold, AreTableValues, readings_of};
 
 use crate::counting::{counted, is_counter, is_written};
 use crate::expressions::held_in;
 use crate::facts::{Fact, may_be_left, told_word};
 use crate::orders::last_writes;
 use crate::rounds::held_values;
-use crate::tables::{Problem, Reading, Told, values_written};
+use crate::tables::{Problem, Table, Told, values_written};
 use crate::values::{both_of, either_of, one};
 use refutations::values::first_word;
 use std::alloc::Global;
@@ -106,15 +106,16 @@ pub fn words_left(alloc: Global, told: Told<'_>, loc: u8) -> Result<Option<Vec<u
 pub fn register_values(
     alloc: Global,
     problem: &Problem<'_>,
-    readings: &[Reading],
+    table: &Table,
     core: Core,
     reg: Reg,
 ) -> Result<Option<Vec<u32>>, NoMemory>
     requires problem { IsProblem problem.now.test.now problem.now }
+    requires values { AreTableValues problem.now table.now }
     requires core { core.0 < length problem.now.test.now.programs }
-    ensures { IfOk result (λ v. known_of v ≡ spec.values_of (spec.values_read (readings_of readings.now))
+    ensures { IfOk result (λ v. known_of v ≡ spec.values_of (spec.values_read (readings_of table.now.readings.items))
         (expressions.register_left problem.now.test.now core.0 reg)) }
 {
     let registers = &problem.expressions.registers[usize::from(core.0)];
-    held_values(alloc, readings, held_in(registers, reg))
+    held_values(alloc, &table.readings, &table.made, held_in(registers, reg))
 }

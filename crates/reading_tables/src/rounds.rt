@@ -1,18 +1,21 @@
 //! Rounds: in each, what every read can read from and return goes by what the round before left.
-ghost use Rattle.std.specs.Prelude.{◌≡◌, [], IfOk, true, map, filter};
+ghost use Rattle.std.specs.Prelude.{◌≡◌, [], List, IfOk, true, map, filter, slice_index_or};
 ghost use Rattle.tso_terms.specs.ProgramOrder as program_order;
 ghost use Rattle.refutation_laws.specs.Known.{events_of};
+ghost use Rattle.possible_reads.specs.Expressions.{Expression};
 ghost use Rattle.possible_reads.specs.Possible as spec;
 ghost use Rattle.reading_tables.specs.Told.{facts_of};
-ghost use Rattle.reading_tables.specs.inner.Told.{held_of, expression_of, known_of};
-ghost use Rattle.reading_tables.specs.inner.Tables.{IsProblem, IsTold, AreValues, reading_of, readings_of};
+ghost use Rattle.reading_tables.specs.inner.Told.{held_of, making_of, all_made, unmade, known_of};
+ghost use Rattle.reading_tables.specs.inner.Tables.{IsProblem, IsTold, AreMadeValues, AreTableValues, AreValues, reading_of, readings_of};
 
 use crate::counting::counted_values;
-use crate::expressions::{Held, Value, Written};
+use crate::expressions::{Held, Making, Written};
 use crate::facts::{Fact, may_return, told_value};
 use crate::sources::sources_after;
 use crate::tables::{Problem, Reading, Table, Told, reading_for, told_by, values_written};
-use crate::values::{both_of, copy, either_of, one, sums_of};
+use crate::values::{
+    both_of, combined_values, copy, either_of, exchanged_values, negated_values, one,
+};
 use refutations::events::is_read;
 use refutations::values::first_word;
 use std::alloc::Global;
@@ -148,15 +151,32 @@ fn next_readings(alloc: Global, told: Told<'_>) -> Result<Vec<Reading>, NoMemory
     Ok(readings)
 }
 
+/// What was made can be, where all that was made can be these.
+fn made_values(
+    alloc: Global,
+    made: &[Option<Vec<u32>>],
+    number: usize,
+) -> Result<Option<Vec<u32>>, NoMemory>
+    ensures { (readings : List spec.Reading) (es : List Expression) → AreMadeValues readings es made.now
+        → IfOk result (λ v. known_of v ≡ spec.values_of (spec.values_read readings) (slice_index_or es number unmade)) }
+{
+    match made.get(number) {
+        Some(values) => copy(alloc, values),
+        None => one(alloc, 0),
+    }
+}
+
 /// What a register can hold.
 ///
 /// Errors: out of memory only.
 pub fn held_values(
     alloc: Global,
     readings: &[Reading],
+    made: &[Option<Vec<u32>>],
     held: Held,
 ) -> Result<Option<Vec<u32>>, NoMemory>
-    ensures { IfOk result (λ v. known_of v ≡ spec.values_of (spec.values_read (readings_of readings.now)) (held_of held)) }
+    ensures { (es : List Expression) → AreMadeValues (readings_of readings.now) es made.now
+        → IfOk result (λ v. known_of v ≡ spec.values_of (spec.values_read (readings_of readings.now)) (held_of es held)) }
 {
     match held {
         Held::Number(value) => one(alloc, value),
@@ -164,40 +184,85 @@ pub fn held_values(
             Some(x) => copy(alloc, &x.values),
             None => Ok(None),
         },
+        Held::Made(number) => made_values(alloc, made, number),
     }
 }
 
-fn expression_values(
+/// What an instruction can make.
+fn making_values(
     alloc: Global,
     readings: &[Reading],
-    value: Value,
+    made: &[Option<Vec<u32>>],
+    making: Making,
 ) -> Result<Option<Vec<u32>>, NoMemory>
-    ensures { IfOk result (λ v. known_of v ≡ spec.values_of (spec.values_read (readings_of readings.now)) (expression_of value)) }
+    ensures { (es : List Expression) → AreMadeValues (readings_of readings.now) es made.now
+        → IfOk result (λ v. known_of v ≡ spec.values_of (spec.values_read (readings_of readings.now)) (making_of es making)) }
 {
-    match value {
-        Value::Held(held) => held_values(alloc, readings, held),
-        Value::Sum(read, held) => {
-            let word = held_values(alloc, readings, Held::Returned(read))?;
-            let addend = held_values(alloc, readings, held)?;
-            sums_of(alloc, &word, &addend)
+    match making {
+        Making::Combined(operator, left, right) => {
+            let us = held_values(alloc, readings, made, left)?;
+            let vs = held_values(alloc, readings, made, right)?;
+            combined_values(alloc, operator, &us, &vs)
+        }
+        Making::Negated(inner) => {
+            let values = held_values(alloc, readings, made, inner)?;
+            negated_values(alloc, &values)
+        }
+        Making::Exchanged(word, eax, new) => {
+            let words = held_values(alloc, readings, made, word)?;
+            let compared = held_values(alloc, readings, made, eax)?;
+            let values = held_values(alloc, readings, made, new)?;
+            exchanged_values(alloc, &words, &compared, &values)
         }
     }
+}
+
+/// What all instructions can make.
+fn all_made_values(
+    alloc: Global,
+    readings: &[Reading],
+    makings: &[Making],
+) -> Result<Vec<Option<Vec<u32>>>, NoMemory>
+    ensures { IfOk result (λ vs. AreMadeValues (readings_of readings.now) (all_made makings.now) vs.items) }
+{
+    let mut made = Vec::new(alloc);
+    for making in makings {
+        let values = making_values(alloc, readings, &made, *making)?;
+        made.push(values)?;
+    }
+    Ok(made)
 }
 
 /// What each write can write, and the value of none.
 fn write_values(
     alloc: Global,
     readings: &[Reading],
+    made: &[Option<Vec<u32>>],
     written: &[Written],
 ) -> Result<Vec<Option<Vec<u32>>>, NoMemory>
-    ensures { IfOk result (λ vs. AreValues (readings_of readings.now) written.now vs.items) }
+    ensures { (es : List Expression) → AreMadeValues (readings_of readings.now) es made.now
+        → IfOk result (λ vs. AreValues (readings_of readings.now) es written.now vs.items) }
 {
     let mut values = Vec::new(alloc);
     for x in written {
-        values.push(expression_values(alloc, readings, x.value)?)?;
+        values.push(held_values(alloc, readings, made, x.value)?)?;
     }
     values.push(one(alloc, 0)?)?;
     Ok(values)
+}
+
+/// The table of these readings.
+fn table_of(alloc: Global, problem: &Problem<'_>, readings: Vec<Reading>) -> Result<Table, NoMemory>
+    ensures readings { IfOk result (λ x. x.readings.items ≡ readings.items) }
+    ensures values { IfOk result (λ x. AreTableValues problem.now x) }
+{
+    let made = all_made_values(alloc, &readings, &problem.expressions.makings)?;
+    let values = write_values(alloc, &readings, &made, &problem.expressions.written)?;
+    Ok(Table {
+        readings,
+        made,
+        values,
+    })
 }
 
 fn same_values(a: &Option<Vec<u32>>, b: &Option<Vec<u32>>) -> bool
@@ -267,11 +332,9 @@ fn same_readings(xs: &[Reading], ys: &[Reading]) -> bool
 /// A table that tells nothing yet.
 fn first_table(alloc: Global, problem: &Problem<'_>) -> Result<Table, NoMemory>
     ensures readings { IfOk result (λ x. readings_of x.readings.items ≡ []) }
-    ensures values { IfOk result (λ x. AreValues (readings_of x.readings.items) problem.now.expressions.written.items x.values.items) }
+    ensures values { IfOk result (λ x. AreTableValues problem.now x) }
 {
-    let readings = Vec::new(alloc);
-    let values = write_values(alloc, &readings, &problem.expressions.written)?;
-    Ok(Table { readings, values })
+    table_of(alloc, problem, Vec::new(alloc))
 }
 
 /// One round more.
@@ -282,14 +345,13 @@ fn next_table(
     table: &Table,
 ) -> Result<Table, NoMemory>
     requires problem { IsProblem problem.now.test.now problem.now }
-    requires values { AreValues (readings_of table.now.readings.items) problem.now.expressions.written.items table.now.values.items }
+    requires values { AreTableValues problem.now table.now }
     ensures readings { IfOk result (λ x. readings_of x.readings.items ≡ map (spec.reading_after problem.now.test.now (facts_of facts.now)
         (readings_of table.now.readings.items)) (filter program_order.is_read (events_of problem.now.test.now))) }
-    ensures values { IfOk result (λ x. AreValues (readings_of x.readings.items) problem.now.expressions.written.items x.values.items) }
+    ensures values { IfOk result (λ x. AreTableValues problem.now x) }
 {
     let readings = next_readings(alloc, told_by(problem, facts, table))?;
-    let values = write_values(alloc, &readings, &problem.expressions.written)?;
-    Ok(Table { readings, values })
+    table_of(alloc, problem, readings)
 }
 
 /// What each read can read from and return, where these facts are given, and what each write can write: the rounds end where one changes
@@ -303,7 +365,7 @@ pub fn make_table(
 ) -> Result<Table, NoMemory>
     requires { IsProblem problem.now.test.now problem.now }
     ensures readings { IfOk result (λ x. readings_of x.readings.items ≡ spec.readings problem.now.test.now (facts_of facts.now)) }
-    ensures values { IfOk result (λ x. AreValues (readings_of x.readings.items) problem.now.expressions.written.items x.values.items) }
+    ensures values { IfOk result (λ x. AreTableValues problem.now x) }
 {
     let mut table = first_table(alloc, problem)?;
     for _round in 0..problem.events.len() {

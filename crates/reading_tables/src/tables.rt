@@ -6,9 +6,9 @@ ghost use Rattle.refutation_laws.specs.Refutations.{sources_of};
 ghost use Rattle.possible_reads.specs.Possible as spec;
 ghost use Rattle.reading_tables.specs.Told.{facts_of};
 ghost use Rattle.reading_tables.specs.inner.Told.{known_of};
-ghost use Rattle.reading_tables.specs.inner.Tables.{IsProblem, IsTold, AreValues, readings_of, sources_or, values_or_any};
+ghost use Rattle.reading_tables.specs.inner.Tables.{IsProblem, IsTold, AreTableValues, readings_of, sources_or, values_or_any};
 
-use crate::expressions::{Expressions, Written, make_expressions};
+use crate::expressions::{Expressions, Making, Written, make_expressions};
 use crate::facts::{Fact, same_source};
 use refutations::events::{make_events, same_event, writes_to};
 use std::alloc::Global;
@@ -32,10 +32,12 @@ pub struct Reading {
     pub values: Option<Vec<u32>>,
 }
 
-/// What each read can read from and return, and by it what each write can write; the last of the values is that of no write.
+/// What each read can read from and return, and by it what each instruction can make and each write can write; the last of the values
+/// is that of no write.
 #[derive(Drop)]
 pub struct Table {
     pub readings: Vec<Reading>,
+    pub made: Vec<Option<Vec<u32>>>,
     pub values: Vec<Option<Vec<u32>>>,
 }
 
@@ -44,9 +46,11 @@ pub struct Table {
 pub struct Told<'a> {
     pub test: &'a Test,
     pub events: &'a [Entry],
+    pub makings: &'a [Making],
     pub written: &'a [Written],
     pub facts: &'a [Fact<'a>],
     pub readings: &'a [Reading],
+    pub made: &'a [Option<Vec<u32>>],
     pub values: &'a [Option<Vec<u32>>],
 }
 
@@ -68,10 +72,11 @@ pub fn make_problem<'t>(alloc: Global, test: &'t Test) -> Result<Problem<'t>, No
 /// What these facts and this table tell of a test.
 pub fn told_by<'a>(problem: &'a Problem<'a>, facts: &'a [Fact<'a>], table: &'a Table) -> Told<'a>
     requires problem { IsProblem problem.now.test.now problem.now }
-    requires values { AreValues (readings_of table.now.readings.items) problem.now.expressions.written.items table.now.values.items }
+    requires values { AreTableValues problem.now table.now }
     ensures told { IsTold result }
     ensures test { result.test.now ≡ problem.now.test.now }
     ensures events { result.events.now ≡ problem.now.events.items }
+    ensures makings { result.makings.now ≡ problem.now.expressions.makings.items }
     ensures written { result.written.now ≡ problem.now.expressions.written.items }
     ensures facts { result.facts.now ≡ facts.now }
     ensures readings { result.readings.now ≡ table.now.readings.items }
@@ -79,9 +84,11 @@ pub fn told_by<'a>(problem: &'a Problem<'a>, facts: &'a [Fact<'a>], table: &'a T
     Told {
         test: problem.test,
         events: &problem.events,
+        makings: &problem.expressions.makings,
         written: &problem.expressions.written,
         facts,
         readings: &table.readings,
+        made: &table.made,
         values: &table.values,
     }
 }

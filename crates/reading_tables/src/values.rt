@@ -1,11 +1,11 @@
 //! What a number can be: one of some values, or any one.
 ghost use Rattle.std.specs.Prelude.{◌≡◌, [], ◌∷◌, IfOk, Some, map};
-ghost use Rattle.tso_terms.specs.Thread.{sum_of};
+ghost use Rattle.tso_terms.specs.Thread.{combined, difference_of};
 ghost use Rattle.possible_reads.specs.Possible as spec;
 ghost use Rattle.reading_tables.specs.inner.Told.{known_of};
 
 use std::alloc::Global;
-use tso_terms::{NoMemory, Update};
+use tso_terms::{NoMemory, Operator};
 
 /// How many values are told at most. More are told as any value.
 pub const MOST: usize = 64;
@@ -138,40 +138,51 @@ pub fn both_of(
     }
 }
 
-/// Each of these values and this number together, modulo 2^32.
-fn sums_with(alloc: Global, number: u32, values: &[u32]) -> Result<Vec<u32>, NoMemory>
-    ensures { IfOk result (λ all. all.items ≡ map (sum_of number) values.now) }
+/// What an operator makes of this number and each of these values.
+fn combined_with(
+    alloc: Global,
+    operator: Operator,
+    number: u32,
+    values: &[u32],
+) -> Result<Vec<u32>, NoMemory>
+    ensures { IfOk result (λ all. all.items ≡ map (combined operator number) values.now) }
 {
     let mut all = Vec::new(alloc);
     for v in values {
-        all.push(Update::Add.apply(number, *v))?;
+        all.push(operator.apply(number, *v))?;
     }
     Ok(all)
 }
 
-/// One of these and one of those together.
-fn all_sums(alloc: Global, us: &[u32], vs: &[u32]) -> Result<Option<Vec<u32>>, NoMemory>
-    ensures { IfOk result (λ v. known_of v ≡ spec.sums_of (Some us.now) (Some vs.now)) }
+/// What an operator makes of one of these and one of those.
+fn all_combined(
+    alloc: Global,
+    operator: Operator,
+    us: &[u32],
+    vs: &[u32],
+) -> Result<Option<Vec<u32>>, NoMemory>
+    ensures { IfOk result (λ v. known_of v ≡ spec.combined_values operator (Some us.now) (Some vs.now)) }
 {
     let mut all = Some(Vec::new(alloc));
     let mut left = us.len();
     while left > 0 {
         left -= 1;
-        let sums = at_most_64(sums_with(alloc, us[left], vs)?);
-        all = either_of(&sums, all)?;
+        let made = at_most_64(combined_with(alloc, operator, us[left], vs)?);
+        all = either_of(&made, all)?;
     }
     Ok(all)
 }
 
-/// The sum of two numbers that can be these, modulo 2^32.
+/// What an operator makes of two numbers that can be these.
 ///
 /// Errors: out of memory only.
-pub fn sums_of(
+pub fn combined_values(
     alloc: Global,
+    operator: Operator,
     us: &Option<Vec<u32>>,
     vs: &Option<Vec<u32>>,
 ) -> Result<Option<Vec<u32>>, NoMemory>
-    ensures { IfOk result (λ v. known_of v ≡ spec.sums_of (known_of us.now) (known_of vs.now)) }
+    ensures { IfOk result (λ v. known_of v ≡ spec.combined_values operator (known_of us.now) (known_of vs.now)) }
 {
     let Some(us) = us else {
         return Ok(None);
@@ -179,5 +190,95 @@ pub fn sums_of(
     let Some(vs) = vs else {
         return Ok(None);
     };
-    all_sums(alloc, us, vs)
+    all_combined(alloc, operator, us, vs)
+}
+
+fn all_negated(alloc: Global, values: &[u32]) -> Result<Vec<u32>, NoMemory>
+    ensures { IfOk result (λ all. all.items ≡ map (difference_of 0) values.now) }
+{
+    let mut all = Vec::new(alloc);
+    for v in values {
+        all.push(0_u32.wrapping_sub(*v))?;
+    }
+    Ok(all)
+}
+
+/// Zero without a number that can be these, modulo 2^32.
+///
+/// Errors: out of memory only.
+pub fn negated_values(
+    alloc: Global,
+    values: &Option<Vec<u32>>,
+) -> Result<Option<Vec<u32>>, NoMemory>
+    ensures { IfOk result (λ v. known_of v ≡ spec.negated_values (known_of values.now)) }
+{
+    match values {
+        None => Ok(None),
+        Some(values) => Ok(Some(all_negated(alloc, values)?)),
+    }
+}
+
+/// These values where the test is met, else none of them.
+fn only_where(
+    alloc: Global,
+    test: bool,
+    values: &Option<Vec<u32>>,
+) -> Result<Option<Vec<u32>>, NoMemory>
+    ensures { IfOk result (λ v. known_of v ≡ spec.only_where test (known_of values.now)) }
+{
+    if test {
+        copy(alloc, values)
+    } else {
+        Ok(Some(Vec::new(alloc)))
+    }
+}
+
+/// What a compare and exchange makes of this word.
+fn exchanged_word(
+    alloc: Global,
+    eax: &Option<Vec<u32>>,
+    new: &Option<Vec<u32>>,
+    word: u32,
+) -> Result<Option<Vec<u32>>, NoMemory>
+    ensures { IfOk result (λ v. known_of v ≡ spec.exchanged_word (known_of eax.now) (known_of new.now) word) }
+{
+    let itself = one(alloc, word)?;
+    let equal = only_where(alloc, can_be_number(eax, true, word), new)?;
+    let other = only_where(alloc, can_be_number(eax, false, word), &itself)?;
+    either_of(&equal, other)
+}
+
+fn all_exchanged(
+    alloc: Global,
+    words: &[u32],
+    eax: &Option<Vec<u32>>,
+    new: &Option<Vec<u32>>,
+) -> Result<Option<Vec<u32>>, NoMemory>
+    ensures { IfOk result (λ v. known_of v ≡ spec.exchanged_values (Some words.now) (known_of eax.now) (known_of new.now)) }
+{
+    let mut all = Some(Vec::new(alloc));
+    let mut left = words.len();
+    while left > 0 {
+        left -= 1;
+        let made = exchanged_word(alloc, eax, new, words[left])?;
+        all = either_of(&made, all)?;
+    }
+    Ok(all)
+}
+
+/// What a compare and exchange makes of a word, where the word, EAX and the new value can be these.
+///
+/// Errors: out of memory only.
+pub fn exchanged_values(
+    alloc: Global,
+    words: &Option<Vec<u32>>,
+    eax: &Option<Vec<u32>>,
+    new: &Option<Vec<u32>>,
+) -> Result<Option<Vec<u32>>, NoMemory>
+    ensures { IfOk result (λ v. known_of v ≡ spec.exchanged_values (known_of words.now) (known_of eax.now) (known_of new.now)) }
+{
+    let Some(words) = words else {
+        return Ok(None);
+    };
+    all_exchanged(alloc, words, eax, new)
 }

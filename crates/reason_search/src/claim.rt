@@ -1,8 +1,9 @@
 //! What is asked of the final state, as a list of parts. A part that is made of two stands before them, the first one right behind it.
 
 use crate::lists::{List, NONE};
-use crate::problem::{Problem, RELEVANT, STORED, Term, add_reads, register_place};
+use crate::problem::{Problem, RELEVANT, STORED};
 use crate::rows::bit;
+use crate::terms::{Term, register_place};
 use tso_terms::Prop;
 
 /// What a value has to be: this number, or any other one.
@@ -22,6 +23,8 @@ pub enum Part {
     Fixed(bool),
     /// What a read returns, or a location has at the end, is as demanded.
     Value(usize, Demand),
+    /// What an instruction makes, a register's value at the end, is as demanded.
+    Made(Term, Demand),
     /// The next part is so, and the part with this number.
     Both(usize),
     /// The next part is so, or the part with this number.
@@ -58,42 +61,41 @@ pub fn can_be(demand: Demand, value: usize) -> bool {
 
 /// A part that says of a term that it has a number, or hasn't.
 fn term_part(term: Term, number: u32, truth: bool) -> Part {
-    if term.first == NONE {
-        Part::Fixed((term.number == number) == truth)
-    } else {
-        let other = NONE;
-        let demand = Demand {
-            number,
-            truth,
-            other,
-        };
-        Part::Value(term.first, demand)
+    let demand = Demand {
+        number,
+        truth,
+        other: NONE,
+    };
+    match term {
+        Term::Number(value) => Part::Fixed((value == number) == truth),
+        Term::Returned(r) => Part::Value(r, demand),
+        Term::Made(_) => Part::Made(term, demand),
     }
 }
 
 /// Adds the parts of what says that a proposition has this truth.
-pub fn add_parts(problem: &mut Problem, registers: &List<Term>, prop: &Prop, truth: bool) {
+pub fn add_parts(problem: &mut Problem, prop: &Prop, truth: bool) {
     match prop {
         Prop::Truth(value) => problem.claim.push(Part::Fixed(*value == truth)),
         Prop::RegIs(core, reg, number) => {
-            let held = registers.at(register_place(*core, *reg));
+            let held = problem.terms.registers.at(register_place(*core, *reg));
             problem.claim.push(term_part(held, *number, truth));
         }
         Prop::LocIs(loc, number) => {
             let x = usize::from(loc.0);
-            let mut last = problem.terms.at(x);
+            let mut last = problem.terms.events.at(x);
             if problem.writes_to.next(x, 0) != NONE {
-                last.first = x;
+                last = Term::Returned(x);
             }
             problem.claim.push(term_part(last, *number, truth));
         }
-        Prop::Not(inner) => add_parts(problem, registers, inner, !truth),
+        Prop::Not(inner) => add_parts(problem, inner, !truth),
         Prop::And(left, right) | Prop::Or(left, right) => {
             let place = problem.claim.len();
             problem.claim.push(Part::Fixed(true));
-            add_parts(problem, registers, left, truth);
+            add_parts(problem, left, truth);
             let second = problem.claim.len();
-            add_parts(problem, registers, right, truth);
+            add_parts(problem, right, truth);
             let both = matches!(prop, Prop::And(..)) == truth;
             let part = if both {
                 Part::Both(second)
@@ -117,6 +119,12 @@ pub fn mark_relevant(problem: &mut Problem) {
                 problem.parts_on.put(r, i);
                 problem.reads.add(RELEVANT, r);
             }
+            Part::Made(term, _) => {
+                // What is asked hangs on these as a written value does.
+                let row = problem.terms.row(term);
+                problem.reads.join(RELEVANT, &problem.terms.hangs, row);
+                problem.reads.join(STORED, &problem.terms.hangs, row);
+            }
             Part::Either(_) => has_choice = true,
             Part::Both(_) | Part::Fixed(_) => {}
         }
@@ -133,7 +141,7 @@ pub fn mark_relevant(problem: &mut Problem) {
                 problem.reads.add(RELEVANT, loc);
             }
             if problem.reads.has(RELEVANT, loc) & problem.writes_to.has(loc, a) {
-                add_reads(&mut problem.reads, RELEVANT, problem.terms.at(a));
+                problem.reads.join(RELEVANT, &problem.terms.hangs, a);
             }
         }
         if problem.reads.count(RELEVANT) == before {

@@ -23,6 +23,7 @@ pub mod program_order;
 pub mod questions;
 pub mod reasoning;
 pub mod rows;
+pub mod terms;
 pub mod values;
 pub mod weights;
 

@@ -26,16 +26,13 @@ pub fn put_source(problem: &Problem, branch: &mut Branch, r: usize, w: usize, tr
     branch.source.put(r, fact);
     branch.sets.add(DIRTY, r);
     let is_stored = problem.reads.has(STORED, r);
-    let hangs = problem.terms.at(w).first != NONE;
+    let hangs = problem.terms.is_read(w);
     let all = hangs & problem.reads.has(RELEVANT, r);
     if is_stored | all {
         for a in problem.locations..problem.size {
             let event = problem.events.at(a);
-            if event.writes {
-                let term = problem.terms.at(a);
-                if (term.first == r) | (term.second == r) {
-                    branch.sets.join(DIRTY, &problem.readers_of, event.location);
-                }
+            if event.writes && problem.terms.hangs.has(a, r) {
+                branch.sets.join(DIRTY, &problem.readers_of, event.location);
             }
             if all && problem.reads.has(RELEVANT, a) && branch.source.at(a) == NONE {
                 branch.sets.add(DIRTY, a);

@@ -5,18 +5,11 @@ use crate::claim::{Part, add_parts, mark_relevant};
 use crate::lists::{List, NONE};
 use crate::program_order::add_program_order;
 use crate::rows::Rows;
+use crate::terms::{Terms, make_terms};
 use refutation_laws::Model;
 use refutations::events::{is_read, is_write};
 use std::alloc::Global;
-use tso_terms::{Action, Core, Entry, Kind, Loc, Operand, Quantifier, Reg, Test, Update};
-
-/// A value: a number and what up to two reads return, added up. `NONE` is no read.
-#[derive(Clone, Copy)]
-pub struct Term {
-    pub number: u32,
-    pub first: usize,
-    pub second: usize,
-}
+use tso_terms::{Core, Entry, Kind, Loc, Quantifier, Test};
 
 /// An event.
 #[derive(Clone, Copy)]
@@ -82,7 +75,8 @@ pub struct Problem {
     pub locations: usize,
     pub sequential: bool,
     pub events: List<Event>,
-    pub terms: List<Term>,
+    /// What each of them writes, in terms of what is read.
+    pub terms: Terms,
     /// The writes to each location but the initial one.
     pub writes_to: Rows,
     /// For each event how many writes to its location stand before it, and it if it is one; and the most of all.
@@ -111,7 +105,7 @@ impl Problem {
     /// Whether memory was refused.
     pub fn is_refused(&self) -> bool {
         self.events.is_refused
-            | self.terms.is_refused
+            | self.terms.is_refused()
             | self.claim.is_refused
             | self.ranks.is_refused
             | self.writes_to.words.is_refused
@@ -121,19 +115,6 @@ impl Problem {
             | self.reads.words.is_refused
             | self.parts_on.is_refused
     }
-}
-
-/// The number 0, which hangs on no read.
-const ZERO: Term = Term {
-    number: 0,
-    first: NONE,
-    second: NONE,
-};
-
-/// Adds to a row the reads on which a term hangs.
-pub fn add_reads(rows: &mut Rows, row: usize, term: Term) {
-    rows.add(row, term.first);
-    rows.add(row, term.second);
 }
 
 /// Notes the events, after the initial writes: for each location what writes to it and what reads it, and the reads on whose values
@@ -177,73 +158,11 @@ fn add_events(problem: &mut Problem, events: &[Entry]) {
             problem.add_edge(Relations::OnLocation, location, a);
             problem.add_edge(Relations::Global, location, a);
             problem.add_edge(Relations::Coherence, location, a);
-            add_reads(&mut problem.reads, STORED, problem.terms.at(a));
+            problem.reads.join(STORED, &problem.terms.hangs, a);
         }
         let rank = problem.writes_to.count(location);
         problem.ranks.push(rank);
         problem.most_writes = problem.most_writes.max(rank);
-    }
-}
-
-/// Where a register stands among those of all cores, six to a core.
-pub fn register_place(core: Core, reg: Reg) -> usize {
-    usize::from(core.0)
-        .wrapping_mul(6)
-        .wrapping_add(reg.index())
-}
-
-fn held(registers: &List<Term>, core: Core, operand: Operand) -> Term {
-    match operand {
-        Operand::Number(number) => Term { number, ..ZERO },
-        Operand::Held(reg) => registers.at(register_place(core, reg)),
-    }
-}
-
-/// The terms of all events, and of all registers at the end.
-fn run_cores(terms: &mut List<Term>, registers: &mut List<Term>, test: &Test) {
-    for word in test.initial_words() {
-        terms.push(Term {
-            number: *word,
-            ..ZERO
-        });
-    }
-    for core in 0..test.cores() {
-        let core = Core(core);
-        for number in test.initial_registers(core) {
-            registers.push(Term { number, ..ZERO });
-        }
-        for instr in test.program(core) {
-            let returned = Term {
-                first: terms.len(),
-                ..ZERO
-            };
-            match instr.action() {
-                Action::Store(_, operand) => terms.push(held(registers, core, operand)),
-                Action::Load(reg, _) => {
-                    terms.push(returned);
-                    registers.put(register_place(core, reg), returned);
-                }
-                Action::Move(reg, operand) => {
-                    let value = held(registers, core, operand);
-                    registers.put(register_place(core, reg), value);
-                }
-                Action::Fence => terms.push(ZERO),
-                Action::Lock(_, reg, update) => {
-                    let place = register_place(core, reg);
-                    let old = registers.at(place);
-                    terms.push(returned);
-                    terms.push(match update {
-                        Update::Exchange => old,
-                        Update::Add => Term {
-                            number: old.number,
-                            first: returned.first,
-                            second: old.first,
-                        },
-                    });
-                    registers.put(place, returned);
-                }
-            }
-        }
     }
 }
 
@@ -256,7 +175,7 @@ pub fn make_problem(alloc: Global, test: &Test, events: &[Entry], model: Model) 
         locations,
         sequential: matches!(model, Model::Sequential),
         events: List::new(alloc, 0, NO_EVENT),
-        terms: List::new(alloc, 0, ZERO),
+        terms: make_terms(alloc, test, size),
         writes_to: Rows::new(alloc, locations, size),
         ranks: List::new(alloc, 0, 0),
         most_writes: 0,
@@ -267,15 +186,11 @@ pub fn make_problem(alloc: Global, test: &Test, events: &[Entry], model: Model) 
         parts_on: List::new(alloc, size, NONE),
         reads: Rows::new(alloc, 2, size),
     };
-    let mut registers = List::new(alloc, 0, ZERO);
-    run_cores(&mut problem.terms, &mut registers, test);
-    // What is asked hangs on both lists, and this one ends here.
-    problem.terms.is_refused |= registers.is_refused;
     add_events(&mut problem, events);
     add_program_order(&mut problem);
     if let Some(cond) = test.cond() {
         let truth = !matches!(cond.quantifier, Quantifier::Forall);
-        add_parts(&mut problem, &registers, &cond.prop, truth);
+        add_parts(&mut problem, &cond.prop, truth);
     } else {
         // Without a condition it is so, whatever the events do.
         problem.claim.push(Part::Fixed(true));

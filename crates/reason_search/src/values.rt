@@ -4,7 +4,7 @@ use crate::branch::{Branch, NEEDED, VALUED};
 use crate::claim::{Demand, NO_PARTS, Part, Parts, can_be};
 use crate::evidence::{Closing, Evidence, need, reset};
 use crate::lists::NONE;
-use crate::problem::{Problem, STORED, add_reads};
+use crate::problem::{Problem, STORED};
 
 /// What is taken as known: the first so many facts, and what is supposed, that a read has a source, or that a write comes before
 /// another one. `NONE` is no such read or write.
@@ -24,24 +24,11 @@ pub const NOTHING: Known = Known {
     first: NONE,
 };
 
-/// A number and what a read returns, added up as far as both are known; no read adds nothing.
-fn plus_returned(branch: &Branch, number: usize, r: usize) -> usize {
-    if r == NONE {
-        return number;
-    }
-    let value = branch.values.at(r);
-    if (number == NONE) | (value == NONE) {
-        NONE
-    } else {
-        number.wrapping_add(value) % 4_294_967_296
-    }
-}
-
 /// What an event writes, as far as it is known.
 pub fn written(problem: &Problem, branch: &Branch, w: usize) -> usize {
-    let term = problem.terms.at(w);
-    let first = plus_returned(branch, term.number as usize, term.first);
-    plus_returned(branch, first, term.second)
+    problem
+        .terms
+        .value(&branch.values, problem.terms.events.at(w))
 }
 
 /// The source that a read is known to have.
@@ -125,6 +112,7 @@ pub fn parts_that_can_be(
                 has_it
             }
             Part::Value(r, demand) => can_be(demand, branch.values.at(r)),
+            Part::Made(term, demand) => can_be(demand, problem.terms.value(&branch.values, term)),
             Part::Fixed(truth) => truth,
             Part::Both(second) => parts.has(i.wrapping_add(1)) & parts.has(second),
             Part::Either(second) => parts.has(i.wrapping_add(1)) | parts.has(second),
@@ -215,9 +203,13 @@ fn need_parts(
                             need(evidence, fact);
                         }
                     } else {
-                        add_reads(&mut branch.sets, NEEDED, problem.terms.at(w));
+                        branch.sets.join(NEEDED, &problem.terms.hangs, w);
                     }
                 }
+            }
+            Part::Made(term, _) => {
+                let row = problem.terms.row(term);
+                branch.sets.join(NEEDED, &problem.terms.hangs, row);
             }
             Part::Both(second) => {
                 let is_second = !can.has(second);
@@ -261,9 +253,9 @@ pub fn need_falsity(
                 if r != known.read {
                     need(evidence, branch.source.at(r));
                 }
-                let term = problem.terms.at(source(branch, known, r));
-                add_reads(&mut branch.sets, NEEDED, term);
-                changed |= term.first != NONE;
+                let s = source(branch, known, r);
+                branch.sets.join(NEEDED, &problem.terms.hangs, s);
+                changed |= problem.terms.is_read(s);
             }
             r = branch.sets.next(NEEDED, r.wrapping_add(1));
         }

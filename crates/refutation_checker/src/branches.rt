@@ -1,10 +1,11 @@
 //! The branches of a node: the answers to a question, each with the facts on the way to it.
-ghost use Rattle.std.specs.Prelude.{◌≡◌, ◌∷◌, ◌++◌, IfOk, Some, [], map, slice_get, true};
+ghost use Rattle.std.specs.Prelude.{◌≡◌, List, ◌∷◌, ◌++◌, IfOk, Some, [], map, slice_get, true};
+ghost use Rattle.reading_tables.specs.declared.expressions.Making.{Making};
 ghost use Rattle.possible_reads.specs.Facts as given;
 ghost use Rattle.tso_terms.specs.Condition.{claim_of};
 ghost use Rattle.possible_reads.specs.Possible.{last_writes};
 ghost use Rattle.reading_tables.specs.Told.{fact_of, facts_of};
-ghost use Rattle.reading_tables.specs.inner.Told.{held_of, known_of};
+ghost use Rattle.reading_tables.specs.inner.Told.{held_of, all_made, known_of};
 ghost use Rattle.reading_tables.specs.inner.Tables.{IsProblem, IsTold, readings_of};
 ghost use Rattle.short_refutations.specs.Refutations as spec;
 ghost use Rattle.refutation_checker.specs.inner.Branches.{IsCase, knowledge_of};
@@ -181,16 +182,18 @@ pub fn add_unread<'t>(
 }
 
 /// Adds the fact that a register has this value, or another one, where what it holds is what a read returned.
+#[tactic(auto, using(reading_tables::proofs::Addends::no_facts))]
 fn push_value<'t>(
     branch: &mut Vec<Fact<'t>>,
     held: Held,
     value: u32,
     truth: bool,
 ) -> Result<(), NoMemory>
-    ensures { IfOk result (λ _. facts_of branch.new.items ≡ facts_of branch.old.items ++ given.value_facts (held_of held) value truth) }
+    ensures { (makings : List Making) → IfOk result (λ _. facts_of branch.new.items
+        ≡ facts_of branch.old.items ++ given.value_facts (held_of (all_made makings) held) value truth) }
 {
     match held {
-        Held::Number(_) => Ok(()),
+        Held::Number(_) | Held::Made(_) => Ok(()),
         Held::Returned(read) => {
             branch.push(Fact::Returns(read, value, truth))?;
             Ok(())

@@ -4,7 +4,7 @@ ghost use Rattle.std.specs.List.{list_any};
 ghost use Rattle.refutation_laws.specs.Refutations.{sources_of};
 ghost use Rattle.possible_reads.specs.Expressions as expressions;
 ghost use Rattle.possible_reads.specs.Possible as possible;
-ghost use Rattle.reading_tables.specs.inner.Told.{held_of, known_of};
+ghost use Rattle.reading_tables.specs.inner.Told.{held_of, all_made, known_of};
 ghost use Rattle.reading_tables.specs.inner.Tables.{IsProblem, IsTold, readings_of};
 ghost use Rattle.refutation_checker.specs.inner.Branches.{IsCase};
 
@@ -63,7 +63,7 @@ pub fn can_read(told: Told<'_>, source: &Option<Entry>, read: &Entry) -> bool
 /// What a register holds at the end; one of a core that isn't there holds 0.
 pub fn register_left(problem: &Problem<'_>, core: Core, reg: Reg) -> Held
     requires { IsProblem problem.now.test.now problem.now }
-    ensures { held_of result ≡ expressions.register_left problem.now.test.now core.0 reg }
+    ensures { held_of (all_made problem.now.expressions.makings.items) result ≡ expressions.register_left problem.now.test.now core.0 reg }
 {
     if core.0 < problem.test.cores() {
         held_in(&problem.expressions.registers[usize::from(core.0)], reg)
@@ -85,5 +85,10 @@ pub fn values_left(
     requires { IsCase problem.now told }
     ensures { IfOk result (λ v. known_of v ≡ possible.values_of (possible.values_read (readings_of told.entry.readings.now)) (expressions.register_left told.entry.test.now core.0 reg)) }
 {
-    held_values(alloc, told.readings, register_left(problem, core, reg))
+    held_values(
+        alloc,
+        told.readings,
+        told.made,
+        register_left(problem, core, reg),
+    )
 }

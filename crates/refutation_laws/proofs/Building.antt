@@ -30,7 +30,7 @@ reads_by val core (p ∷ ps) = values_by val core 0 p ∷ reads_by val (core + 1
 after-read : (val : Entry → ℕ) (core place : ℕ) (a : Action) (vs : List ℕ) → values_after a (read_by val core place a ++ vs) ≡ vs
 after-read val core place (Store loc operand) vs = refl
 after-read val core place (Load reg loc) vs = refl
-after-read val core place (Move reg operand) vs = refl
+after-read val core place (Move change) vs = refl
 after-read val core place Fence vs = refl
 after-read val core place (Lock loc reg update) vs = refl
 
@@ -50,7 +50,7 @@ by-chosen val core place (Store loc operand) regs vs x i r =
 by-chosen val core place (Load reg loc) regs vs x i r =
     let e : Entry = entry core place R loc (val (entry core place R loc 0)) in
     as-chosen val (entry core place R loc (val (entry core place R loc 0))) x (only (entry core place R loc (val (entry core place R loc 0))) x i) refl
-by-chosen val core place (Move reg operand) regs vs x i r = absurd (in-none x i)
+by-chosen val core place (Move change) regs vs x i r = absurd (in-none x i)
 by-chosen val core place Fence regs vs x i r = absurd (unread _ x (only _ x i) refl r)
 by-chosen val core place (Lock loc reg update) regs vs x i r =
     elim (in-case first (second ∷ []) x i) [ inl q ↦ as-chosen val first x q refl | inr j ↦ absurd (unread second x (only second x j) refl r) ]
@@ -62,7 +62,7 @@ by-chosen val core place (Lock loc reg update) regs vs x i r =
     first = entry core place LR loc word
 
     second : Entry
-    second = entry core place LW loc (updated update word (value_in regs reg))
+    second = entry core place LW loc (updated update regs word)
 
 program-chosen : (val : Entry → ℕ) (core place : ℕ) (p : List Instr) (regs : List ℕ) (x : Entry)
     → IsIn (entries_of core place p regs (values_by val core place p)) x → is_read x ≡ true → x.value ≡ val (bare x)

@@ -1,5 +1,10 @@
 -- Where reads are given, registers are known, and writes: a write whose earlier reads are given is among those that are known.
-use Rattle.refutation_laws.proofs.Vocabulary.{◌≡◌, ◌<◌, ◌≤◌, ℕ, zero, suc, ◌+◌, true, List, [], ◌∷◌, length, Option, Some, None, slice_index, slice_index_or, arith, refl, sym, ap, ◌∙◌, inl, inr, subst, map, slice_set, Litmus, index_of, action_of, entry, value_in, value_of, updated, entries_by, registers_by, values_after, entries_of, registers_after, is_before, is_read, is_write, Reg, Eax, Ebx, Ecx, Edx, Esi, Edi, Loc, Instr, Operand, Number, Held, Update, Exchange, Add, Action, Store, Load, Move, Fence, Lock, Entry, Kind, R, W, LR, LW, rank, part-small, IsIn, events_from, in-case, in-none, in-first, in-append, in-left, in-right, rank-before, only, here-by, from-place, bare, known_in, known_operand, known_update, write_with, word_given, writes_by, registers_left_by, writes_of, left_of, known_first_registers, writes_from, length-set}
+use Rattle.std.specs.Prelude.{◌==◌, if◌then◌else◌, Bool, false}
+use Rattle.tso_terms.specs.Thread.{with_taken, changed, combined}
+use Rattle.refutation_laws.specs.Values.{known_changed, known_combined, known_negated, known_exchanged, known_taken}
+use Rattle.basic_laws.specs.Types.{Operator, Replace, Negate, CompareExchange, Change, Keep, Set, Swap}
+use Rattle.tso_terms.specs.declared.action.Update.TheVariants.{Combine}
+use Rattle.refutation_laws.proofs.Vocabulary.{◌≡◌, ◌<◌, ◌≤◌, ℕ, zero, suc, ◌+◌, true, List, [], ◌∷◌, length, Option, Some, None, slice_index, slice_index_or, arith, refl, sym, ap, ◌∙◌, inl, inr, subst, map, slice_set, Litmus, index_of, action_of, entry, value_in, value_of, updated, entries_by, registers_by, values_after, entries_of, registers_after, is_before, is_read, is_write, Reg, Eax, Ebx, Ecx, Edx, Esi, Edi, Loc, Instr, Operand, Number, Held, Update, Action, Store, Load, Move, Fence, Lock, Entry, Kind, R, W, LR, LW, rank, part-small, IsIn, events_from, in-case, in-none, in-first, in-append, in-left, in-right, rank-before, only, here-by, from-place, bare, known_in, known_operand, known_update, write_with, word_given, writes_by, registers_left_by, writes_of, left_of, known_first_registers, writes_from, length-set}
 use Rattle.refutation_laws.proofs.Building.{unwritten}
 
 -- ---- registers that are all known
@@ -32,9 +37,34 @@ operand-all : (ns : List ℕ) (operand : Operand) → 6 ≤ length ns → known_
 operand-all ns (Number value) six = refl
 operand-all ns (Held reg) six = in-all ns reg six
 
-update-all : (u : Update) (o p : Option ℕ) (word value : ℕ) → o ≡ Some word → p ≡ Some value → known_update u o p ≡ Some (updated u word value)
-update-all Exchange o p word value a b = b
-update-all Add o p word value a b = ap (λ w. known_update Add w p) a ∙ ap (λ v. known_update Add (Some word) v) b
+update-all : (u : Update) (ns : List ℕ) (o : Option ℕ) (word : ℕ) → 6 ≤ length ns → o ≡ Some word → known_update u (all_of ns) o ≡ Some (updated u ns word)
+update-all (Replace operand) ns o word six a = operand-all ns operand six
+update-all (Combine operator operand) ns o word six a =
+    ap (λ w. known_combined operator w (known_operand (all_of ns) operand)) a ∙ ap (λ v. known_combined operator (Some word) v) (operand-all ns operand six)
+update-all Negate ns o word six a = ap known_negated a
+update-all (CompareExchange reg) ns o word six a =
+    ap (λ w. known_exchanged w (known_in (all_of ns) Eax) (known_in (all_of ns) reg)) a
+    ∙ ap (λ e. known_exchanged (Some word) e (known_in (all_of ns) reg)) (in-all ns Eax six)
+    ∙ ap (λ v. known_exchanged (Some word) (Some (value_in ns Eax)) v) (in-all ns reg six) ∙ go (word == value_in ns Eax)
+  where
+    go : (b : Bool) → (if b then Some (value_in ns reg) else Some word) ≡ Some (if b then value_in ns reg else word)
+    go true = refl
+    go false = refl
+
+taken-all : (ns : List ℕ) (target : Option Reg) (v : ℕ) → known_taken (all_of ns) target (Some v) ≡ all_of (with_taken ns target v)
+taken-all ns None v = refl
+taken-all ns (Some reg) v = set-all ns (index_of reg) v
+
+change-all : (change : Change) (ns : List ℕ) → 6 ≤ length ns → known_changed change (all_of ns) ≡ all_of (changed change ns)
+change-all Keep ns six = refl
+change-all (Set reg update) ns six =
+    ap (λ o. slice_set (all_of ns) (index_of reg) o) (update-all update ns (known_in (all_of ns) reg) (value_in ns reg) six (in-all ns reg six))
+    ∙ set-all ns (index_of reg) (updated update ns (value_in ns reg))
+change-all (Swap reg other) ns six =
+    ap (λ o. slice_set (slice_set (all_of ns) (index_of reg) o) (index_of other) (known_in (all_of ns) reg)) (in-all ns other six)
+    ∙ (ap (λ o. slice_set (slice_set (all_of ns) (index_of reg) (Some (value_in ns other))) (index_of other) o) (in-all ns reg six)
+    ∙ (ap (λ os. slice_set os (index_of other) (Some (value_in ns reg))) (set-all ns (index_of reg) (value_in ns other))
+    ∙ set-all (slice_set ns (index_of reg) (value_in ns other)) (index_of other) (value_in ns reg)))
 
 -- each of these reads is given
 abbrev pub AllGiven : (Entry → Option ℕ) → List Entry → Type 0
@@ -45,18 +75,21 @@ left-all : (given : Entry → Option ℕ) (core place : ℕ) (a : Action) (ns : 
 left-all given core place (Store loc operand) ns v six g = refl
 left-all given core place (Load reg loc) ns v six g =
     ap (λ o. slice_set (all_of ns) (index_of reg) o) (g (entry core place R loc v) (0, refl) refl) ∙ set-all ns (index_of reg) v
-left-all given core place (Move reg operand) ns v six g =
-    ap (λ o. slice_set (all_of ns) (index_of reg) o) (operand-all ns operand six) ∙ set-all ns (index_of reg) (value_of ns operand)
+left-all given core place (Move change) ns v six g = change-all change ns six
 left-all given core place Fence ns v six g = refl
 left-all given core place (Lock loc reg update) ns v six g =
-    ap (λ o. slice_set (all_of ns) (index_of reg) o) (g (entry core place LR loc v) (0, refl) refl) ∙ set-all ns (index_of reg) v
+    ap (λ o. known_taken (all_of ns) reg o) (g (entry core place LR loc v) (0, refl) refl) ∙ taken-all ns reg v
 
 six-after : (a : Action) (ns : List ℕ) (v : ℕ) → length (registers_by a ns v) ≡ length ns
 six-after (Store loc operand) ns v = refl
 six-after (Load reg loc) ns v = length-set ns (index_of reg) v
-six-after (Move reg operand) ns v = length-set ns (index_of reg) (value_of ns operand)
+six-after (Move Keep) ns v = refl
+six-after (Move (Set reg update)) ns v = length-set ns (index_of reg) (updated update ns (value_in ns reg))
+six-after (Move (Swap reg other)) ns v =
+    length-set (slice_set ns (index_of reg) (value_in ns other)) (index_of other) (value_in ns reg) ∙ length-set ns (index_of reg) (value_in ns other)
 six-after Fence ns v = refl
-six-after (Lock loc reg update) ns v = length-set ns (index_of reg) v
+six-after (Lock loc None update) ns v = refl
+six-after (Lock loc (Some reg) update) ns v = length-set ns (index_of reg) v
 
 pub length-after : (p : List Instr) (ns values : List ℕ) → length (registers_after p ns values) ≡ length ns
 length-after [] ns values = refl
@@ -93,7 +126,7 @@ by-known given core place (Store loc operand) ns v y six i w g =
     written core place W loc (known_operand (all_of ns) operand) (value_of ns operand) y
     (only (entry core place W loc (value_of ns operand)) y i) (operand-all ns operand six)
 by-known given core place (Load reg loc) ns v y six i w g = absurd (unwritten (entry core place R loc v) y (only (entry core place R loc v) y i) refl w)
-by-known given core place (Move reg operand) ns v y six i w g = absurd (in-none y i)
+by-known given core place (Move change) ns v y six i w g = absurd (in-none y i)
 by-known given core place Fence ns v y six i w g = absurd (unwritten _ y (only _ y i) refl w)
 by-known given core place (Lock loc reg update) ns v y six i w g = elim (in-case first (second ∷ []) y i) [
   | inl q ↦ absurd (unwritten first y q refl w)
@@ -101,17 +134,16 @@ by-known given core place (Lock loc reg update) ns v y six i w g = elim (in-case
       let q : y ≡ second = only second y j in
       let l : rank first < rank second = omega arith in
       let b : is_before first y ≡ true = subst (λ z. is_before first z ≡ true) (sym q) (rank-before first second refl l) in
-      written core place LW loc (known_update update (given (entry core place LR loc 0)) (known_in (all_of ns) reg))
-      (updated update v (value_in ns reg)) y q
-      (update-all update (given (entry core place LR loc 0)) (known_in (all_of ns) reg) v (value_in ns reg)
-      (g first (0, refl) refl b) (in-all ns reg six))
+      written core place LW loc (known_update update (all_of ns) (given (entry core place LR loc 0)))
+      (updated update ns v) y q
+      (update-all update ns (given (entry core place LR loc 0)) v six (g first (0, refl) refl b))
 ]
   where
     first : Entry
     first = entry core place LR loc v
 
     second : Entry
-    second = entry core place LW loc (updated update v (value_in ns reg))
+    second = entry core place LW loc (updated update ns v)
 
 earlier-place : (x y : Entry) (place : ℕ) → x.core.0 ≡ y.core.0 → x.place ≡ place → place + 1 ≤ y.place → is_before x y ≡ true
 earlier-place x y place c e l =

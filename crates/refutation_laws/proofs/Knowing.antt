@@ -1,5 +1,10 @@
 -- Values that are known are those of each candidate that agrees.
-use Rattle.refutation_laws.proofs.Vocabulary.{◌≡◌, ℕ, zero, suc, ◌+◌, Bool, true, false, if◌then◌else◌, List, [], ◌∷◌, ◌++◌, Option, Some, None, slice_index, slice_index_or, refl, sym, ap, ◌∙◌, ◌⊎◌, inl, inr, subst, map, slice_set, Litmus, index_of, action_of, entry, value_in, value_of, sum_of, updated, entries_by, registers_by, values_after, entries_of, registers_after, is_read, Reg, Loc, Instr, Operand, Number, Held, Update, Exchange, Add, Action, Store, Load, Move, Fence, Lock, Entry, Kind, R, W, LR, LW, IsIn, Candidate, Returns, events_from, events, in-none, in-first, in-later, in-append, in-left, in-right, only, Sound, Known, bare, same_event, Source, known_in, known_operand, known_update, write_with, word_given, writes_by, registers_left_by, writes_of, left_of, known_first_registers, writes_from, value_among, returned_from, returned, known_writes, Stands, IsSameSource, HasSources, Agrees}
+use Rattle.std.specs.Prelude.{◌==◌}
+use Rattle.tso_terms.specs.Thread.{with_taken, changed, combined, difference_of}
+use Rattle.refutation_laws.specs.Values.{known_changed, known_combined, known_negated, known_exchanged, known_taken}
+use Rattle.basic_laws.specs.Types.{Eax, Operator, Replace, Negate, CompareExchange, Change, Keep, Set, Swap}
+use Rattle.tso_terms.specs.declared.action.Update.TheVariants.{Combine}
+use Rattle.refutation_laws.proofs.Vocabulary.{◌≡◌, ℕ, zero, suc, ◌+◌, Bool, true, false, if◌then◌else◌, List, [], ◌∷◌, ◌++◌, Option, Some, None, slice_index, slice_index_or, refl, sym, ap, ◌∙◌, ◌⊎◌, inl, inr, subst, map, slice_set, Litmus, index_of, action_of, entry, value_in, value_of, updated, entries_by, registers_by, values_after, entries_of, registers_after, is_read, Reg, Loc, Instr, Operand, Number, Held, Update, Action, Store, Load, Move, Fence, Lock, Entry, Kind, R, W, LR, LW, IsIn, Candidate, Returns, events_from, events, in-none, in-first, in-later, in-append, in-left, in-right, only, Sound, Known, bare, same_event, Source, known_in, known_operand, known_update, write_with, word_given, writes_by, registers_left_by, writes_of, left_of, known_first_registers, writes_from, value_among, returned_from, returned, known_writes, Stands, IsSameSource, HasSources, Agrees}
 use Rattle.refutation_laws.proofs.Standing.{same-bare, one-entry}
 
 -- ---- registers
@@ -41,11 +46,44 @@ tells-operand : (os : List (Option ℕ)) (ns : List ℕ) (operand : Operand) →
 tells-operand os ns (Number value) f = refl
 tells-operand os ns (Held reg) f = tells-in os ns reg f
 
-tells-update : (u : Update) (w v : Option ℕ) (word value : ℕ) → Tells w word → Tells v value → Tells (known_update u w v) (updated u word value)
-tells-update Exchange w v word value a b = b
-tells-update Add None v word value a b = tt
-tells-update Add (Some x) None word value a b = tt
-tells-update Add (Some x) (Some y) word value a b = ap (λ n. sum_of n y) a ∙ ap (λ n. sum_of word n) b
+tells-combined : (o : Operator) (w v : Option ℕ) (word value : ℕ) → Tells w word → Tells v value → Tells (known_combined o w v) (combined o word value)
+tells-combined o None v word value a b = tt
+tells-combined o (Some x) None word value a b = tt
+tells-combined o (Some x) (Some y) word value a b = ap (λ n. combined o n y) a ∙ ap (λ n. combined o word n) b
+
+tells-negated : (w : Option ℕ) (word : ℕ) → Tells w word → Tells (known_negated w) (difference_of 0 word)
+tells-negated None word a = tt
+tells-negated (Some x) word a = ap (λ n. difference_of 0 n) a
+
+tells-exchanged : (w e v : Option ℕ) (word eax value : ℕ) → Tells w word → Tells e eax → Tells v value
+    → Tells (known_exchanged w e v) (if word == eax then value else word)
+tells-exchanged None e v word eax value a b c = tt
+tells-exchanged (Some x) None v word eax value a b c = tt
+tells-exchanged (Some x) (Some y) v word eax value a b c = rw (a, b) (go (word == eax))
+  where
+    go : (d : Bool) → Tells (if d then v else Some word) (if d then value else word)
+    go true = c
+    go false = refl
+
+tells-update : (u : Update) (os : List (Option ℕ)) (ns : List ℕ) (w : Option ℕ) (word : ℕ) → Fits os ns → Tells w word → Tells (known_update u os w) (updated u ns word)
+tells-update (Replace operand) os ns w word f a = tells-operand os ns operand f
+tells-update (Combine operator operand) os ns w word f a =
+    tells-combined operator w (known_operand os operand) word (value_of ns operand) a (tells-operand os ns operand f)
+tells-update Negate os ns w word f a = tells-negated w word a
+tells-update (CompareExchange reg) os ns w word f a =
+    tells-exchanged w (known_in os Eax) (known_in os reg) word (value_in ns Eax) (value_in ns reg) a (tells-in os ns Eax f) (tells-in os ns reg f)
+
+fits-taken : (os : List (Option ℕ)) (ns : List ℕ) (target : Option Reg) (o : Option ℕ) (n : ℕ) → Fits os ns → Tells o n → Fits (known_taken os target o) (with_taken ns target n)
+fits-taken os ns None o n f t = f
+fits-taken os ns (Some reg) o n f t = fits-set os ns (index_of reg) o n f t
+
+fits-changed : (change : Change) (os : List (Option ℕ)) (ns : List ℕ) → Fits os ns → Fits (known_changed change os) (changed change ns)
+fits-changed Keep os ns f = f
+fits-changed (Set reg update) os ns f =
+    fits-set os ns (index_of reg) _ (updated update ns (value_in ns reg)) f (tells-update update os ns (known_in os reg) (value_in ns reg) f (tells-in os ns reg f))
+fits-changed (Swap reg other) os ns f =
+    fits-set (slice_set os (index_of reg) (known_in os other)) (slice_set ns (index_of reg) (value_in ns other)) (index_of other) (known_in os reg) (value_in ns reg)
+    (fits-set os ns (index_of reg) (known_in os other) (value_in ns other) f (tells-in os ns other f)) (tells-in os ns reg f)
 
 -- ---- programs
 
@@ -58,11 +96,10 @@ left-by : (given : Entry → Option ℕ) (core place : ℕ) (a : Action) (os : L
 left-by given core place (Store loc operand) os ns v f g = f
 left-by given core place (Load reg loc) os ns v f g =
     fits-set os ns (index_of reg) _ v f (g (entry core place R loc v) (0, refl) refl)
-left-by given core place (Move reg operand) os ns v f g =
-    fits-set os ns (index_of reg) _ (value_of ns operand) f (tells-operand os ns operand f)
+left-by given core place (Move change) os ns v f g = fits-changed change os ns f
 left-by given core place Fence os ns v f g = f
 left-by given core place (Lock loc reg update) os ns v f g =
-    fits-set os ns (index_of reg) _ v f (g (entry core place LR loc v) (0, refl) refl)
+    fits-taken os ns reg _ v f (g (entry core place LR loc v) (0, refl) refl)
 
 pub left-fits : (given : Entry → Option ℕ) (core place : ℕ) (p : List Instr) (os : List (Option ℕ)) (ns values : List ℕ) → Fits os ns
     → Given given (entries_of core place p ns values) → Fits (left_of given core place p os) (registers_after p ns values)
@@ -86,15 +123,15 @@ write-by given core place (Store loc operand) os ns v f g x i =
     in-first (entry core place W loc (value_of ns operand)) [] x
     (with-value core place W loc (known_operand os operand) (value_of ns operand) (tells-operand os ns operand f) x i)
 write-by given core place (Load reg loc) os ns v f g x i = absurd (in-none x i)
-write-by given core place (Move reg operand) os ns v f g x i = absurd (in-none x i)
+write-by given core place (Move change) os ns v f g x i = absurd (in-none x i)
 write-by given core place Fence os ns v f g x i = absurd (in-none x i)
 write-by given core place (Lock loc reg update) os ns v f g x i =
-    in-later (entry core place LR loc v) (entry core place LW loc (updated update v (value_in ns reg)) ∷ []) x
-    (in-first (entry core place LW loc (updated update v (value_in ns reg))) [] x
-    (with-value core place LW loc (known_update update (given (entry core place LR loc 0)) (known_in os reg))
-    (updated update v (value_in ns reg))
-    (tells-update update (given (entry core place LR loc 0)) (known_in os reg) v (value_in ns reg)
-    (g (entry core place LR loc v) (0, refl) refl) (tells-in os ns reg f)) x i))
+    in-later (entry core place LR loc v) (entry core place LW loc (updated update ns v) ∷ []) x
+    (in-first (entry core place LW loc (updated update ns v)) [] x
+    (with-value core place LW loc (known_update update os (given (entry core place LR loc 0)))
+    (updated update ns v)
+    (tells-update update os ns (given (entry core place LR loc 0)) v f
+    (g (entry core place LR loc v) (0, refl) refl)) x i))
 
 writes-in : (given : Entry → Option ℕ) (core place : ℕ) (p : List Instr) (os : List (Option ℕ)) (ns values : List ℕ) → Fits os ns
     → Given given (entries_of core place p ns values) → (x : Entry) → IsIn (writes_of given core place p os) x

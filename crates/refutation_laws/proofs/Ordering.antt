@@ -17,7 +17,7 @@ fence-by : (core place : ℕ) (a : Action) (registers : List ℕ) (word : ℕ) (
     → x.kind ≡ F → x.value ≡ 0
 fence-by core place (Store loc operand) registers word x i f = unfenced _ x (λ q. let z : ⊥ = cc in z) (only _ x i) f
 fence-by core place (Load reg loc) registers word x i f = unfenced _ x (λ q. let z : ⊥ = cc in z) (only _ x i) f
-fence-by core place (Move reg operand) registers word x i f = absurd (in-none x i)
+fence-by core place (Move change) registers word x i f = absurd (in-none x i)
 fence-by core place Fence registers word x i f = ap (λ (z : Entry). z.value) (only (fence core place) x i)
 fence-by core place (Lock loc reg update) registers word x i f = go (in-case first (second ∷ []) x i)
   where
@@ -25,7 +25,7 @@ fence-by core place (Lock loc reg update) registers word x i f = go (in-case fir
     first = entry core place LR loc word
 
     second : Entry
-    second = entry core place LW loc (updated update word (value_in registers reg))
+    second = entry core place LW loc (updated update registers word)
 
     go : (x ≡ first) ⊎ IsIn (second ∷ []) x → x.value ≡ 0
     go (inl q) = unfenced first x (λ k. let z : ⊥ = cc in z) q f

@@ -24,7 +24,7 @@ by-action : (core place : ℕ) (a : Action) (r s : List ℕ) (v w : ℕ)
     → map bare (entries_by core place a r v) ≡ map bare (entries_by core place a s w)
 by-action core place (Store loc operand) r s v w = refl
 by-action core place (Load reg loc) r s v w = refl
-by-action core place (Move reg operand) r s v w = refl
+by-action core place (Move change) r s v w = refl
 by-action core place Fence r s v w = refl
 by-action core place (Lock loc reg update) r s v w = refl
 

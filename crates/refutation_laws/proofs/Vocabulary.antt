@@ -2,7 +2,7 @@
 pub use Rattle.std.proofs.Common.{◌≡◌, ◌&&◌, ◌||◌, Bool, true, false, not, List, [], ◌∷◌, refl, sym, ap, ◌⊎◌, inl, inr, subst, ◌≢◌, ℕ, ◌==◌, if◌then◌else◌, Option, Some, None, ◌∙◌, ◌++◌, length, ◌<◌, ◌≤◌, zero, suc, ◌+◌, slice_index, slice_index_or, arith, slice_get, append-nil, append_assoc}
 pub use Rattle.std.specs.Prelude.{map, filter, slice_set}
 pub use Rattle.std.specs.List.{list_any, list_all}
-pub use Rattle.basic_laws.specs.Types.{Entry, F, LR, LW, R, W, Reg, Eax, Ebx, Ecx, Edx, Esi, Edi, Loc, Instr, Operand, Number, Held, Update, Exchange, Add, Action, Kind, Quantifier, Exists, NotExists, Forall}
+pub use Rattle.basic_laws.specs.Types.{Entry, F, LR, LW, R, W, Reg, Eax, Ebx, Ecx, Edx, Esi, Edi, Loc, Instr, Operand, Number, Held, Update, Action, Kind, Quantifier, Exists, NotExists, Forall}
 pub use Rattle.relational_model.specs.Events.{IsIn, IsEarlier, LeadsTo, at_once, onward, IsAcyclic}
 pub use Rattle.relational_model.proofs.Lists.{in-case, in-none, in-first, in-later, in-filter, filter-in, in-append, in-left, in-right, last-is-in, last-last, Precedes, from-precedes, at-one}
 pub use Rattle.tso_terms.specs.Litmus.{Litmus, IsTest, IsCondition}

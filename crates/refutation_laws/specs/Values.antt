@@ -6,11 +6,12 @@ use Rattle.std.specs.List.{list_any}
 use Rattle.tso_terms.specs.Litmus.{Litmus}
 use Rattle.tso_terms.specs.Registers.{index_of}
 use Rattle.tso_terms.specs.Actions.{action_of}
-use Rattle.tso_terms.specs.Thread.{entry, sum_of}
+use Rattle.tso_terms.specs.Thread.{entry, combined, difference_of}
 use Rattle.tso_terms.specs.ProgramOrder.{writes_to}
 use Rattle.tso_terms.specs.Condition.{Claim, TruthClaim, RegClaim, LocClaim, NotClaim, AndClaim, OrClaim}
-use Rattle.basic_laws.specs.Types.{Reg, Loc, Instr, Operand, Number, Held, Update, Exchange, Add, Action, Entry, Kind, R, W, LR, LW}
+use Rattle.basic_laws.specs.Types.{Reg, Eax, Loc, Instr, Operand, Number, Held, Operator, Update, Replace, Negate, CompareExchange, Change, Keep, Set, Swap, Action, Entry, Kind, R, W, LR, LW}
 use Rattle.tso_terms.specs.declared.action.Action.TheVariants.{Store, Load, Move, Lock}
+use Rattle.tso_terms.specs.declared.action.Update.TheVariants.{Combine}
 use Rattle.refutation_laws.specs.Known.{Known, events_of, same_event, comes_before}
 use Rattle.refutation_laws.specs.declared.known.Source.{Source}
 
@@ -23,10 +24,35 @@ abbrev pub known_operand : List (Option ℕ) → Operand → Option ℕ
 known_operand registers (Number value) = Some value
 known_operand registers (Held reg) = known_in registers reg
 
-abbrev pub known_update : Update → Option ℕ → Option ℕ → Option ℕ
-known_update Exchange word value = value
-known_update Add (Some word) (Some value) = Some (sum_of word value)
-known_update Add _ _ = None
+abbrev pub known_combined : Operator → Option ℕ → Option ℕ → Option ℕ
+known_combined operator (Some word) (Some value) = Some (combined operator word value)
+known_combined operator _ _ = None
+
+abbrev pub known_negated : Option ℕ → Option ℕ
+known_negated (Some word) = Some (difference_of 0 word)
+known_negated None = None
+
+-- the word after a compare and exchange: the register's value, or the word itself, once it is known whether EAX is equal
+abbrev pub known_exchanged : Option ℕ → Option ℕ → Option ℕ → Option ℕ
+known_exchanged (Some word) (Some eax) value = if word == eax then value else Some word
+known_exchanged _ _ value = None
+
+abbrev pub known_update : Update → List (Option ℕ) → Option ℕ → Option ℕ
+known_update (Replace operand) registers word = known_operand registers operand
+known_update (Combine operator operand) registers word = known_combined operator word (known_operand registers operand)
+known_update Negate registers word = known_negated word
+known_update (CompareExchange reg) registers word = known_exchanged word (known_in registers Eax) (known_in registers reg)
+
+-- the registers with this word in the register, if there is one
+abbrev pub known_taken : List (Option ℕ) → Option Reg → Option ℕ → List (Option ℕ)
+known_taken registers None word = registers
+known_taken registers (Some reg) word = slice_set registers (index_of reg) word
+
+-- the registers after a move
+abbrev pub known_changed : Change → List (Option ℕ) → List (Option ℕ)
+known_changed Keep registers = registers
+known_changed (Set reg update) registers = slice_set registers (index_of reg) (known_update update registers (known_in registers reg))
+known_changed (Swap reg other) registers = slice_set (slice_set registers (index_of reg) (known_in registers other)) (index_of other) (known_in registers reg)
 
 -- what an action reads, where `given` tells what is known of each read
 abbrev pub word_given : (Entry → Option ℕ) → ℕ → ℕ → Action → Option ℕ
@@ -41,13 +67,13 @@ write_with core place kind loc (Some value) = entry core place kind loc value �
 
 abbrev pub writes_by : ℕ → ℕ → Action → List (Option ℕ) → Option ℕ → List Entry
 writes_by core place (Store loc operand) registers word = write_with core place W loc (known_operand registers operand)
-writes_by core place (Lock loc reg update) registers word = write_with core place LW loc (known_update update word (known_in registers reg))
+writes_by core place (Lock loc reg update) registers word = write_with core place LW loc (known_update update registers word)
 writes_by core place _ registers word = []
 
 abbrev pub registers_left_by : Action → List (Option ℕ) → Option ℕ → List (Option ℕ)
 registers_left_by (Load reg loc) registers word = slice_set registers (index_of reg) word
-registers_left_by (Move reg operand) registers word = slice_set registers (index_of reg) (known_operand registers operand)
-registers_left_by (Lock loc reg update) registers word = slice_set registers (index_of reg) word
+registers_left_by (Move change) registers word = known_changed change registers
+registers_left_by (Lock loc target update) registers word = known_taken registers target word
 registers_left_by _ registers word = registers
 
 -- the writes of a program that are known, with their values

@@ -1,4 +1,4 @@
-//! Counters: locations to which locked additions of numbers alone write. Their words add up.
+//! Counters: locations to which locked additions and subtractions of numbers alone write. Their words add up.
 
 use crate::sets::{MOST, add_value};
 use crate::setting::{COUNTERS, Setting};
@@ -11,7 +11,7 @@ const SUMS: usize = 1;
 /// The set of the sums before an addition.
 const BEFORE: usize = 2;
 /// How many spare sets there are.
-pub const SPARES: usize = 3;
+pub const SPARES: usize = 6;
 
 /// How additions come before one of them: surely, perhaps, or not.
 #[derive(Clone, Copy)]
@@ -34,7 +34,7 @@ fn how_it_comes(setting: &Setting<'_>, state: &State, w: usize, own: usize) -> C
 /// The sums where all additions add one number: they go by how many come before.
 fn count_equal(setting: &Setting<'_>, state: &mut State, x: usize, own: usize, addend: u32) {
     let sums = spare(setting, SUMS);
-    let mut word = setting.terms.at(x).number;
+    let mut word = setting.first_word(x);
     let mut perhaps = 0usize;
     for w in setting.locations..setting.size {
         if setting.writes_to.has(x, w) {
@@ -73,13 +73,13 @@ fn add_number(setting: &Setting<'_>, state: &mut State, addend: u32, is_sure: bo
 fn count_each(setting: &Setting<'_>, state: &mut State, x: usize, own: usize) {
     let sums = spare(setting, SUMS);
     state.values.counts.put(sums, 0);
-    add_value(&mut state.values, sums, setting.terms.at(x).number);
+    add_value(&mut state.values, sums, setting.first_word(x));
     for w in setting.locations..setting.size {
         if state.values.is_any(sums) {
             return;
         }
         if setting.writes_to.has(x, w) {
-            let addend = setting.terms.at(w).number;
+            let addend = setting.addends.at(w);
             match how_it_comes(setting, state, w, own) {
                 Comes::Surely => add_number(setting, state, addend, true),
                 Comes::Perhaps => add_number(setting, state, addend, false),
@@ -91,9 +91,9 @@ fn count_each(setting: &Setting<'_>, state: &mut State, x: usize, own: usize) {
 
 /// The number that all additions to a location add, if it is one.
 fn common_addend(setting: &Setting<'_>, x: usize) -> Option<u32> {
-    let addend = setting.terms.at(setting.writes_to.next(x, 0)).number;
+    let addend = setting.addends.at(setting.writes_to.next(x, 0));
     for w in setting.locations..setting.size {
-        if setting.writes_to.has(x, w) & (setting.terms.at(w).number != addend) {
+        if setting.writes_to.has(x, w) & (setting.addends.at(w) != addend) {
             return None;
         }
     }
@@ -117,13 +117,13 @@ pub fn count_values(setting: &Setting<'_>, state: &mut State, r: usize) {
 
 /// The last word of a counter.
 pub fn counted(setting: &Setting<'_>, x: usize) -> u32 {
-    let mut word = setting.terms.at(x).number;
+    let mut word = setting.first_word(x);
     let mut w = setting.writes_to.next(x, 0);
     for _write in 0..setting.size {
         if w == NONE {
             break;
         }
-        word = word.wrapping_add(setting.terms.at(w).number);
+        word = word.wrapping_add(setting.addends.at(w));
         w = setting.writes_to.next(x, w.wrapping_add(1));
     }
     word

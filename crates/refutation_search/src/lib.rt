@@ -14,6 +14,7 @@ pub mod leaves;
 pub mod lemmas;
 pub mod lines;
 pub mod looking;
+pub mod makings;
 pub mod ordering;
 pub mod parts;
 pub mod program;

@@ -1,7 +1,8 @@
 //! What is asked of the final state, as a list of parts: each stands before the parts that it is made of, the first one right behind it.
 
 use crate::facts::Fact;
-use crate::setting::{NAMED, Setting, Term};
+use crate::makings::Term;
+use crate::setting::{NAMED, Setting};
 use reading_tables::tables::Problem;
 use reason_search::lists::{List, NONE};
 use tso_terms::Prop;
@@ -128,8 +129,8 @@ pub fn add_given(setting: &Setting<'_>, facts: &mut List<Fact>, part: usize, tru
             PartKind::Either if !claim.truth => open_both(&mut open, claim, part.second),
             PartKind::Register(term, value) => {
                 facts.push(Fact::Holds(claim.part, claim.truth));
-                if term.first != NONE {
-                    facts.push(Fact::Returns(term.first, value, claim.truth));
+                if let Term::Returned(r) = term {
+                    facts.push(Fact::Returns(r, value, claim.truth));
                 }
             }
             _ => facts.push(Fact::Holds(claim.part, claim.truth)),

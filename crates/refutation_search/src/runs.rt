@@ -1,8 +1,9 @@
 //! Runs by chance: the cores take steps and write back stores in an order of chance, as far as what is known of each read and write leaves
 //! them possible. Where what is asked is true at the end of many runs, one is found soon.
 
+use crate::makings::Term;
 use crate::parts::PartKind;
-use crate::setting::{Setting, Term};
+use crate::setting::Setting;
 use crate::settle::settle;
 use crate::state::{Group, State, first_state};
 use reason_search::chance::{Chance, FIRST_CHANCE};
@@ -20,6 +21,8 @@ struct Run {
     buffered: List<usize>,
     /// What each event read or wrote.
     values: List<u32>,
+    /// What instructions made, as far as it was asked for.
+    made: List<u32>,
     /// The last write to each location.
     memory: List<usize>,
     /// The events that memory has seen, in their order, and as a set.
@@ -36,6 +39,7 @@ fn make_run(alloc: Global, setting: &Setting<'_>) -> Run {
         ends: List::new(alloc, 0, NONE),
         buffered: List::new(alloc, 0, NONE),
         values: List::new(alloc, setting.size, 0),
+        made: List::new(alloc, setting.makings.len(), 0),
         memory: List::new(alloc, setting.locations, NONE),
         order: List::new(alloc, 0, NONE),
         placed: Rows::new(alloc, 1, setting.size),
@@ -65,6 +69,7 @@ impl Run {
             | self.ends.is_refused
             | self.buffered.is_refused
             | self.values.is_refused
+            | self.made.is_refused
             | self.memory.is_refused
             | self.order.is_refused
             | self.placed.words.is_refused
@@ -82,7 +87,7 @@ fn begin(setting: &Setting<'_>, run: &mut Run) {
     }
     for x in 0..setting.locations {
         run.memory.put(x, x);
-        run.values.put(x, setting.terms.at(x).number);
+        run.values.put(x, setting.first_word(x));
     }
     run.order.cut(0);
     run.placed.clear(0);
@@ -145,11 +150,26 @@ fn may_read(setting: &Setting<'_>, root: &State, run: &Run, r: usize, s: usize) 
         && may_place(setting, root, run, r)
 }
 
-/// The number that a term is in this run.
-fn sum(run: &Run, term: Term) -> u32 {
-    term.number
-        .wrapping_add(run.values.at(term.first))
-        .wrapping_add(run.values.at(term.second))
+/// The number that a term is in this run, where what instructions make for it is noted.
+fn known(run: &Run, term: Term) -> u32 {
+    match term {
+        Term::Number(value) => value,
+        Term::Returned(r) => run.values.at(r),
+        Term::Made(number) => run.made.at(number),
+    }
+}
+
+/// The number that a term is in this run. What instructions make for it is noted.
+fn value_of(setting: &Setting<'_>, run: &mut Run, term: Term) -> u32 {
+    if let Term::Made(number) = term {
+        for k in setting.makings.at(number).first..number.wrapping_add(1) {
+            let making = setting.makings.at(k);
+            let [first, second, third] = making.parts;
+            let made = making.of([known(run, first), known(run, second), known(run, third)]);
+            run.made.put(k, made);
+        }
+    }
+    known(run, term)
 }
 
 /// Lets memory see a write.
@@ -185,7 +205,7 @@ fn run_locked(setting: &Setting<'_>, root: &State, run: &mut Run, core: usize, r
     let value = run.values.at(s);
     run.values.put(r, value);
     place(run, r);
-    let written = sum(run, setting.terms.at(w));
+    let written = value_of(setting, run, setting.terms.at(w));
     run.values.put(w, written);
     write(setting, run, w);
     run.next.put(core, w.wrapping_add(1));
@@ -228,7 +248,7 @@ fn step(setting: &Setting<'_>, root: &State, run: &mut Run, core: usize) -> bool
     if event.reads {
         return run_load(setting, root, run, core, a);
     }
-    let written = sum(run, setting.terms.at(a));
+    let written = value_of(setting, run, setting.terms.at(a));
     run.values.put(a, written);
     run.next.put(core, a.wrapping_add(1));
     true
@@ -271,13 +291,13 @@ fn finish(setting: &Setting<'_>, root: &State, run: &mut Run, patience: usize) -
     most
 }
 
-fn truth_of(setting: &Setting<'_>, run: &Run, i: usize) -> bool {
+fn truth_of(setting: &Setting<'_>, run: &mut Run, i: usize) -> bool {
     let part = setting.parts.at(i);
     let first = run.truths.at(i.wrapping_add(1));
     let second = run.truths.at(part.second);
     match part.kind {
         PartKind::Truth(value) => value,
-        PartKind::Register(term, value) => sum(run, term) == value,
+        PartKind::Register(term, value) => value_of(setting, run, term) == value,
         PartKind::Word(x, value) => run.values.at(run.memory.at(x)) == value,
         PartKind::Not => !first,
         PartKind::Both => first & second,

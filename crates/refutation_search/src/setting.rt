@@ -1,31 +1,16 @@
 //! What a search works on, by number: the initial write of each location stands before the events.
 
 use crate::facts::{Fact, NO_FACT};
+use crate::makings::{Making, NO_MAKING, Term, add_makings, term_of};
 use crate::parts::{NO_PART, Part, add_given, add_parts};
 use crate::program::add_program;
-use reading_tables::expressions::{Held, Value};
 use reading_tables::tables::Problem;
 use reason_search::lists::{List, NONE};
 use reason_search::rows::Rows;
 use refutation_laws::Model;
 use refutations::events::{is_read, is_write};
 use std::alloc::Global;
-use tso_terms::{Core, Entry, Kind, Loc, Quantifier, Reg};
-
-/// A number and what up to two reads return, added up. `NONE` is no read.
-#[derive(Clone, Copy)]
-pub struct Term {
-    pub number: u32,
-    pub first: usize,
-    pub second: usize,
-}
-
-/// The number 0.
-pub const ZERO: Term = Term {
-    number: 0,
-    first: NONE,
-    second: NONE,
-};
+use tso_terms::{Core, Entry, Kind, Loc, Operator, Quantifier, Reg};
 
 /// An event.
 #[derive(Clone, Copy)]
@@ -62,7 +47,7 @@ pub const NO_EVENT: Event = Event {
 
 /// The locations to which locked instructions alone write.
 pub const LOCKED: usize = 0;
-/// The locations to which locked additions of numbers alone write.
+/// The locations to which locked additions and subtractions of numbers alone write.
 pub const COUNTERS: usize = 1;
 /// The locations that what is asked names.
 pub const NAMED: usize = 2;
@@ -79,6 +64,10 @@ pub struct Setting<'t> {
     pub events: List<Event>,
     /// What each event writes.
     pub terms: List<Term>,
+    /// What instructions make.
+    pub makings: List<Making>,
+    /// What each write to a counter adds.
+    pub addends: List<u32>,
     /// The writes to each location but the initial one, its reads, and its load parts of locked instructions.
     pub writes_to: Rows,
     pub readers_of: Rows,
@@ -115,35 +104,19 @@ impl<'t> Setting<'t> {
         }
     }
 
-    fn term_of_held(&self, held: Held) -> Term {
-        match held {
-            Held::Number(number) => Term { number, ..ZERO },
-            Held::Returned(read) => Term {
-                first: self.number_of(&read),
-                ..ZERO
-            },
-        }
-    }
-
-    fn term_of(&self, value: Value) -> Term {
-        match value {
-            Value::Held(held) => self.term_of_held(held),
-            Value::Sum(read, held) => {
-                let other = self.term_of_held(held);
-                Term {
-                    number: other.number,
-                    first: self.number_of(&read),
-                    second: other.first,
-                }
-            }
+    /// The first word of a location.
+    pub fn first_word(&self, x: usize) -> u32 {
+        match self.terms.at(x) {
+            Term::Number(word) => word,
+            Term::Returned(_) | Term::Made(_) => 0,
         }
     }
 
     /// What a register holds at the end.
     pub fn register_left(&self, problem: &Problem<'_>, core: Core, reg: Reg) -> Term {
         match problem.expressions.registers.get(usize::from(core.0)) {
-            Some(registers) => self.term_of_held(registers[reg.index()]),
-            None => ZERO,
+            Some(registers) => term_of(self, registers[reg.index()]),
+            None => Term::Number(0),
         }
     }
 
@@ -151,6 +124,8 @@ impl<'t> Setting<'t> {
     pub fn is_refused(&self) -> bool {
         self.events.is_refused
             | self.terms.is_refused
+            | self.makings.is_refused
+            | self.addends.is_refused
             | self.writes_to.words.is_refused
             | self.readers_of.words.is_refused
             | self.load_parts_of.words.is_refused
@@ -177,7 +152,7 @@ fn add_event(setting: &mut Setting<'_>, entry: &Entry) {
         is_fence: matches!(entry.kind, Kind::F),
     };
     setting.events.push(event);
-    setting.terms.push(ZERO);
+    setting.terms.push(Term::Number(0));
     setting.events_of.add(event.core, a);
     if event.reads {
         setting.readers_of.add(location, a);
@@ -201,10 +176,45 @@ fn add_event(setting: &mut Setting<'_>, entry: &Entry) {
 fn add_terms(setting: &mut Setting<'_>, problem: &Problem<'_>) {
     for x in &problem.expressions.written {
         let w = setting.number_of(&x.write);
-        let term = setting.term_of(x.value);
+        let term = term_of(setting, x.value);
         setting.terms.put(w, term);
-        setting.users_of.add(term.first, w);
-        setting.users_of.add(term.second, w);
+        add_user(setting, term, w);
+    }
+}
+
+/// Notes that what a write writes hangs on the reads of a term.
+fn add_user(setting: &mut Setting<'_>, term: Term, w: usize) {
+    match term {
+        Term::Number(_) => {}
+        Term::Returned(r) => setting.users_of.add(r, w),
+        Term::Made(number) => {
+            let first = setting.makings.at(number).first;
+            for k in first..number.wrapping_add(1) {
+                for part in setting.makings.at(k).parts {
+                    if let Term::Returned(r) = part {
+                        setting.users_of.add(r, w);
+                    }
+                }
+            }
+        }
+    }
+}
+
+/// What a write adds to what its own load part returns, if it adds a number.
+fn addend_of(setting: &Setting<'_>, w: usize) -> Option<u32> {
+    let Term::Made(number) = setting.terms.at(w) else {
+        return None;
+    };
+    let making = setting.makings.at(number);
+    match (making.parts[0], making.parts[1]) {
+        (Term::Returned(r), Term::Number(value)) if r == w.wrapping_sub(1) => {
+            match making.operator {
+                Some(Operator::Add) => Some(value),
+                Some(Operator::Subtract) => Some(0u32.wrapping_sub(value)),
+                _ => None,
+            }
+        }
+        _ => None,
     }
 }
 
@@ -215,9 +225,11 @@ fn add_sets(setting: &mut Setting<'_>) {
         let mut is_counter = is_locked;
         for w in setting.locations..setting.size {
             if setting.writes_to.has(x, w) {
-                let term = setting.terms.at(w);
                 is_locked &= setting.events.at(w).is_locked;
-                is_counter &= (term.first == w.wrapping_sub(1)) & (term.second == NONE);
+                match addend_of(setting, w) {
+                    Some(addend) => setting.addends.put(w, addend),
+                    None => is_counter = false,
+                }
             }
         }
         if is_locked {
@@ -251,10 +263,7 @@ fn add_initial(setting: &mut Setting<'_>, problem: &Problem<'_>) {
             location,
             ..NO_EVENT
         });
-        setting.terms.push(Term {
-            number: *word,
-            ..ZERO
-        });
+        setting.terms.push(Term::Number(*word));
         location = location.wrapping_add(1);
     }
 }
@@ -269,7 +278,9 @@ pub fn make_setting<'t>(alloc: Global, problem: &Problem<'t>, model: Model) -> S
         size,
         locations,
         events: List::new(alloc, 0, NO_EVENT),
-        terms: List::new(alloc, 0, ZERO),
+        terms: List::new(alloc, 0, Term::Number(0)),
+        makings: List::new(alloc, 0, NO_MAKING),
+        addends: List::new(alloc, size, 0),
         writes_to: Rows::new(alloc, locations, size),
         readers_of: Rows::new(alloc, locations, size),
         load_parts_of: Rows::new(alloc, locations, size),
@@ -286,6 +297,7 @@ pub fn make_setting<'t>(alloc: Global, problem: &Problem<'t>, model: Model) -> S
     for entry in &problem.events {
         add_event(&mut setting, entry);
     }
+    add_makings(&mut setting, problem);
     add_terms(&mut setting, problem);
     add_sets(&mut setting);
     add_program(&mut setting);

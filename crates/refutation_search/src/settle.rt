@@ -2,6 +2,7 @@
 
 use crate::counting::count_values;
 use crate::facts::Fact;
+use crate::makings::find_term;
 use crate::sets::add_value;
 use crate::setting::{LOCKED, NAMED, Setting};
 use crate::state::{
@@ -127,27 +128,15 @@ fn take_new(setting: &Setting<'_>, state: &mut State, a: usize) -> bool {
 /// Finds what a write can write.
 fn find_written(setting: &Setting<'_>, state: &mut State, w: usize) {
     let new = spare(setting, NEW);
-    let term = setting.terms.at(w);
+    let found = find_term(setting, state, setting.terms.at(w));
     state.values.counts.put(new, 0);
-    if state.values.is_any(term.first)
-        || ((term.second != NONE) && state.values.is_any(term.second))
-    {
+    if state.values.is_any(found) {
         state.values.put_any(new);
         return;
     }
-    for i in 0..state.values.count(term.first) {
-        let sum = term.number.wrapping_add(state.values.value(term.first, i));
-        if term.second == NONE {
-            add_value(&mut state.values, new, sum);
-        } else {
-            for k in 0..state.values.count(term.second) {
-                let value = sum.wrapping_add(state.values.value(term.second, k));
-                add_value(&mut state.values, new, value);
-            }
-        }
-        if state.values.is_any(new) {
-            return;
-        }
+    for i in 0..state.values.count(found) {
+        let value = state.values.value(found, i);
+        add_value(&mut state.values, new, value);
     }
 }
 

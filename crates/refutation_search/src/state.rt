@@ -2,6 +2,7 @@
 
 use crate::counting::SPARES;
 use crate::facts::{Fact, NO_FACT};
+use crate::makings::Term;
 use crate::parts::add_given;
 use crate::sets::{Values, add_value};
 use crate::setting::{COUNTERS, Setting};
@@ -76,7 +77,13 @@ pub fn empty_state(alloc: Global, setting: &Setting<'_>) -> State {
         rows: Rows::new(alloc, setting.size.wrapping_mul(GROUPS), setting.size),
         lasts: Rows::new(alloc, setting.locations, setting.size),
         sets: Rows::new(alloc, 4, setting.size),
-        values: Values::new(alloc, setting.size.wrapping_add(SPARES)),
+        values: Values::new(
+            alloc,
+            setting
+                .size
+                .wrapping_add(SPARES)
+                .wrapping_add(setting.makings.len()),
+        ),
         facts: List::new(alloc, 0, NO_FACT),
         truths: List::new(alloc, setting.parts.len(), OPEN),
         is_closed: false,
@@ -334,15 +341,13 @@ fn add_sources(setting: &Setting<'_>, state: &mut State, r: usize) {
 /// Notes what each event can read or write by the program alone.
 fn add_values(setting: &Setting<'_>, state: &mut State) {
     for a in 0..setting.size {
-        let term = setting.terms.at(a);
         let reads = setting.events.at(a).reads;
         if reads {
             add_sources(setting, state, a);
         }
-        if reads | (term.first != NONE) {
-            state.values.put_any(a);
-        } else {
-            add_value(&mut state.values, a, term.number);
+        match setting.terms.at(a) {
+            Term::Number(value) if !reads => add_value(&mut state.values, a, value),
+            _ => state.values.put_any(a),
         }
     }
 }

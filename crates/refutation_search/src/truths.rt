@@ -2,9 +2,10 @@
 
 use crate::counting::counted;
 use crate::facts::Fact;
+use crate::makings::{Term, find_term};
 use crate::parts::PartKind;
 use crate::sets::add_value;
-use crate::setting::{COUNTERS, Setting, Term};
+use crate::setting::{COUNTERS, Setting};
 use crate::settle::{NEW, spare};
 use crate::state::State;
 use reason_search::lists::NONE;
@@ -79,7 +80,7 @@ fn find_last_words(setting: &Setting<'_>, state: &mut State, x: usize) {
         return;
     }
     if setting.writes_to.next(x, 0) == NONE {
-        add_value(&mut state.values, new, setting.terms.at(x).number);
+        add_value(&mut state.values, new, setting.first_word(x));
         return;
     }
     let mut w = state.lasts.next(x, 0);
@@ -127,16 +128,11 @@ fn find_words(setting: &Setting<'_>, state: &mut State, x: usize) {
     }
 }
 
-fn truth_of_register(state: &State, term: Term, value: u32) -> Truth {
-    if term.first == NONE {
-        return Truth {
-            can_be_true: term.number == value,
-            can_be_false: term.number != value,
-        };
-    }
+fn truth_of_register(setting: &Setting<'_>, state: &mut State, term: Term, value: u32) -> Truth {
+    let set = find_term(setting, state, term);
     Truth {
-        can_be_true: state.values.can_be(term.first, value, true),
-        can_be_false: state.values.can_be(term.first, value, false),
+        can_be_true: state.values.can_be(set, value, true),
+        can_be_false: state.values.can_be(set, value, false),
     }
 }
 
@@ -149,7 +145,7 @@ fn truth_of(setting: &Setting<'_>, state: &mut State, i: usize) -> Truth {
             can_be_true: value,
             can_be_false: !value,
         },
-        PartKind::Register(term, value) => truth_of_register(state, term, value),
+        PartKind::Register(term, value) => truth_of_register(setting, state, term, value),
         PartKind::Word(x, value) => {
             find_words(setting, state, x);
             let new = spare(setting, NEW);

@@ -5,7 +5,9 @@ ghost use Rattle.refutation_laws.specs.Values as spec;
 
 use crate::events::same_event;
 use refutation_laws::Source;
-use tso_terms::{Action, Core, Entry, Instr, Kind, Loc, NoMemory, Operand, Test, Update};
+use tso_terms::{
+    Action, Change, Core, Entry, Instr, Kind, Loc, NoMemory, Operand, Operator, Reg, Test, Update,
+};
 
 /// A program that is run with what is known: the writes whose values are, and the registers.
 #[derive(Drop)]
@@ -31,15 +33,72 @@ fn known_operand(registers: &[Option<u32>; 6], operand: Operand) -> Option<u32>
     }
 }
 
-fn known_update(update: Update, word: Option<u32>, value: Option<u32>) -> Option<u32>
-    ensures { result ≡ spec.known_update update word value }
+fn known_combined(operator: Operator, word: Option<u32>, value: Option<u32>) -> Option<u32>
+    ensures { result ≡ spec.known_combined operator word value }
+{
+    match (word, value) {
+        (Some(word), Some(value)) => Some(operator.apply(word, value)),
+        _ => None,
+    }
+}
+
+fn known_negated(word: Option<u32>) -> Option<u32>
+    ensures { result ≡ spec.known_negated word }
+{
+    match word {
+        Some(word) => Some(0_u32.wrapping_sub(word)),
+        None => None,
+    }
+}
+
+fn known_exchanged(word: Option<u32>, eax: Option<u32>, value: Option<u32>) -> Option<u32>
+    ensures { result ≡ spec.known_exchanged word eax value }
+{
+    match (word, eax) {
+        (Some(word), Some(eax)) => { if word == eax { value } else { Some(word) } }
+        _ => None,
+    }
+}
+
+fn known_update(update: Update, registers: &[Option<u32>; 6], word: Option<u32>) -> Option<u32>
+    ensures { result ≡ spec.known_update update registers.now word }
 {
     match update {
-        Update::Exchange => value,
-        Update::Add => match (word, value) {
-            (Some(word), Some(value)) => Some(Update::Add.apply(word, value)),
-            _ => None,
-        },
+        Update::Replace(operand) => known_operand(registers, operand),
+        Update::Combine(operator, operand) => {
+            known_combined(operator, word, known_operand(registers, operand))
+        }
+        Update::Negate => known_negated(word),
+        Update::CompareExchange(reg) => {
+            known_exchanged(word, registers[Reg::Eax.index()], registers[reg.index()])
+        }
+    }
+}
+
+/// Changes the registers.
+fn change_known(registers: &mut [Option<u32>; 6], change: Change)
+    ensures { registers.new ≡ spec.known_changed change registers.old }
+{
+    match change {
+        Change::Keep => {}
+        Change::Set(reg, update) => {
+            let value = known_update(update, registers, registers[reg.index()]);
+            registers[reg.index()] = value;
+        }
+        Change::Swap(reg, other) => {
+            let value = registers[reg.index()];
+            registers[reg.index()] = registers[other.index()];
+            registers[other.index()] = value;
+        }
+    }
+}
+
+/// The register, if there is one, gets the word.
+fn take_known(registers: &mut [Option<u32>; 6], target: Option<Reg>, word: Option<u32>)
+    ensures { registers.new ≡ spec.known_taken registers.old target word }
+{
+    if let Some(reg) = target {
+        registers[reg.index()] = word;
     }
 }
 
@@ -148,14 +207,14 @@ fn run_instruction(
             walk.registers[reg.index()] = word;
             Ok(())
         }
-        Action::Move(reg, operand) => {
-            walk.registers[reg.index()] = known_operand(&walk.registers, operand);
+        Action::Move(change) => {
+            change_known(&mut walk.registers, change);
             Ok(())
         }
         Action::Fence => Ok(()),
-        Action::Lock(loc, reg, update) => {
-            let value = known_update(update, word, walk.registers[reg.index()]);
-            walk.registers[reg.index()] = word;
+        Action::Lock(loc, target, update) => {
+            let value = known_update(update, &walk.registers, word);
+            take_known(&mut walk.registers, target, word);
             note(walk, core, place, Kind::LW, loc, value)
         }
     }

@@ -18,7 +18,7 @@ alone e = ((λ i. in-none e i), tt)
 once-by : (core place : ℕ) (a : Action) (registers : List ℕ) (word : ℕ) → Once (entries_by core place a registers word)
 once-by core place (Store loc operand) registers word = alone (entry core place W loc (value_of registers operand))
 once-by core place (Load reg loc) registers word = alone (entry core place R loc word)
-once-by core place (Move reg operand) registers word = tt
+once-by core place (Move change) registers word = tt
 once-by core place Fence registers word = alone (fence core place)
 once-by core place (Lock loc reg update) registers word = ((λ i. clash (in-case second [] first i)), alone second)
   where
@@ -26,7 +26,7 @@ once-by core place (Lock loc reg update) registers word = ((λ i. clash (in-case
     first = entry core place LR loc word
 
     second : Entry
-    second = entry core place LW loc (updated update word (value_in registers reg))
+    second = entry core place LW loc (updated update registers word)
 
     clash : (first ≡ second) ⊎ IsIn [] first → ⊥
     clash (inl e) = let k : LR ≡ LW = ap (λ (z : Entry). z.kind) e in let z : ⊥ = cc in z

@@ -1,4 +1,5 @@
 -- What a candidate leaves is what its order leaves.
+use Rattle.tso_terms.specs.Thread.{with_taken}
 use Rattle.relational_model.proofs.Vocabulary.{◌≡◌, ℕ, ◌+◌, suc, List, [], ◌∷◌, ◌++◌, slice_index, slice_index_or, arith, refl, ap, ◌∙◌, subst, length, filter, action_of, entry, entries_by, registers_by, values_after, entries_of, registers_after, with_value, writes_to, last_value, read_values, made_by, made_from, word_after, words_from, registers_of, registers_from, Litmus, Instr, Action, Store, Load, Move, Fence, Lock, Entry, R, LR, Candidate, events_from, last_word, words_left_from, registers_left_from, IsCandidateOf, LeaveTheSame}
 
 -- ---- memory
@@ -37,7 +38,7 @@ length-by : (core place : ℕ) (a : Action) (r s : List ℕ) (v w : ℕ)
     → length (entries_by core place a r v) ≡ length (entries_by core place a s w)
 length-by core place (Store loc operand) r s v w = refl
 length-by core place (Load reg loc) r s v w = refl
-length-by core place (Move reg operand) r s v w = refl
+length-by core place (Move change) r s v w = refl
 length-by core place Fence r s v w = refl
 length-by core place (Lock loc reg update) r s v w = refl
 
@@ -69,10 +70,10 @@ registers-same : (core place : ℕ) (a : Action) (r : List ℕ) (v w : ℕ) → 
 registers-same core place (Store loc operand) r v w h = refl
 registers-same core place (Load reg loc) r v w h =
     ap (λ z. with_value r reg z) (value-of (entry core place R loc v) (entry core place R loc w) [] [] h)
-registers-same core place (Move reg operand) r v w h = refl
+registers-same core place (Move change) r v w h = refl
 registers-same core place Fence r v w h = refl
 registers-same core place (Lock loc reg update) r v w h =
-    ap (λ z. with_value r reg z) (value-of (entry core place LR loc v) (entry core place LR loc w) _ _ h)
+    ap (λ z. with_taken r reg z) (value-of (entry core place LR loc v) (entry core place LR loc w) _ _ h)
 
 -- and so does a program
 after-same : (core place : ℕ) (p : List Instr) (r values others : List ℕ)

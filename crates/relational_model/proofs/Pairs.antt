@@ -34,7 +34,7 @@ coupled-by core place (Store loc operand) registers word x i =
     plain (entry core place W loc (value_of registers operand)) _ x (λ q. let z : ⊥ = cc in z) (λ q. let z : ⊥ = cc in z) i
 coupled-by core place (Load reg loc) registers word x i =
     plain (entry core place R loc word) _ x (λ q. let z : ⊥ = cc in z) (λ q. let z : ⊥ = cc in z) i
-coupled-by core place (Move reg operand) registers word x i = absurd (in-none x i)
+coupled-by core place (Move change) registers word x i = absurd (in-none x i)
 coupled-by core place Fence registers word x i = plain (fence core place) _ x (λ q. let z : ⊥ = cc in z) (λ q. let z : ⊥ = cc in z) i
 coupled-by core place (Lock loc reg update) registers word x i = go (in-case first (second ∷ []) x i)
   where
@@ -42,7 +42,7 @@ coupled-by core place (Lock loc reg update) registers word x i = go (in-case fir
     first = entry core place LR loc word
 
     second : Entry
-    second = entry core place LW loc (updated update word (value_in registers reg))
+    second = entry core place LW loc (updated update registers word)
 
     pair : ArePair first second
     pair = record { read = refl; write = refl; core = refl; place = refl }

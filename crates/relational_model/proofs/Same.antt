@@ -18,15 +18,15 @@ pub here-by : (core place : ℕ) (a : Action) (registers : List ℕ) (word : ℕ
 here-by core place (Store loc operand) registers word x i =
     here-only core place (entry core place W loc (value_of registers operand)) x (refl, refl) i
 here-by core place (Load reg loc) registers word x i = here-only core place (entry core place R loc word) x (refl, refl) i
-here-by core place (Move reg operand) registers word x i = absurd (in-none x i)
+here-by core place (Move change) registers word x i = absurd (in-none x i)
 here-by core place Fence registers word x i = here-only core place (fence core place) x (refl, refl) i
 here-by core place (Lock loc reg update) registers word x i =
-    go (in-case (entry core place LR loc word) (entry core place LW loc (updated update word (value_in registers reg)) ∷ []) x i)
+    go (in-case (entry core place LR loc word) (entry core place LW loc (updated update registers word) ∷ []) x i)
   where
-    go : (x ≡ entry core place LR loc word) ⊎ IsIn (entry core place LW loc (updated update word (value_in registers reg)) ∷ []) x
+    go : (x ≡ entry core place LR loc word) ⊎ IsIn (entry core place LW loc (updated update registers word) ∷ []) x
         → Here core place x
     go (inl q) = subst (Here core place) (sym q) (refl, refl)
-    go (inr k) = here-only core place (entry core place LW loc (updated update word (value_in registers reg))) x (refl, refl) k
+    go (inr k) = here-only core place (entry core place LW loc (updated update registers word)) x (refl, refl) k
 
 both-only : (e x y : Entry) → IsIn (e ∷ []) x → IsIn (e ∷ []) y → x ≡ y
 both-only e x y i j = only e x i ∙ sym (only e y j)
@@ -51,10 +51,10 @@ same-by : (core place : ℕ) (a : Action) (registers : List ℕ) (word : ℕ) (x
     → IsIn (entries_by core place a registers word) y → part_of x.kind ≡ part_of y.kind → x ≡ y
 same-by core place (Store loc operand) registers word x y i j k = both-only (entry core place W loc (value_of registers operand)) x y i j
 same-by core place (Load reg loc) registers word x y i j k = both-only (entry core place R loc word) x y i j
-same-by core place (Move reg operand) registers word x y i j k = absurd (in-none x i)
+same-by core place (Move change) registers word x y i j k = absurd (in-none x i)
 same-by core place Fence registers word x y i j k = both-only (fence core place) x y i j
 same-by core place (Lock loc reg update) registers word x y i j k =
-    two (entry core place LR loc word) (entry core place LW loc (updated update word (value_in registers reg))) x y refl refl i j k
+    two (entry core place LR loc word) (entry core place LW loc (updated update registers word)) x y refl refl i j k
 
 -- what a program makes from a place on stands at that place or after it
 pub from-place : (core place : ℕ) (p : List Instr) (registers values : List ℕ) (x : Entry)

@@ -42,7 +42,7 @@ act (Load reg loc) core place p registers more v order u h =
     (registers_by (Load reg loc) registers w) more)
     (found-value order u (entry core place R loc v)
     (h (entry core place R loc v) (in-first (entry core place R loc v) [] (entry core place R loc v) refl)))
-act (Move reg operand) core place p registers more v order u h = refl
+act (Move change) core place p registers more v order u h = refl
 act Fence core place p registers more v order u h = refl
 act (Lock loc reg update) core place p registers more v order u h =
     ap (λ w. entries_by core place (Lock loc reg update) registers w ++ entries_of core (place + 1) p

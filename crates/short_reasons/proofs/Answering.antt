@@ -3,7 +3,7 @@ use Rattle.short_reasons.proofs.Vocabulary.{◌≡◌, ◌≤◌, suc, Bool, tru
 use Rattle.std.proofs.Common.{ℕ, zero, not}
 use Rattle.std.specs.Prelude.{filter}
 use Rattle.tso_terms.specs.Condition.{TruthClaim, RegClaim, LocClaim, NotClaim, AndClaim, OrClaim}
-use Rattle.possible_reads.specs.Expressions.{Expression, Constant, Returned, Sum, register_left}
+use Rattle.possible_reads.specs.Expressions.{Expression, Constant, Returned, Combined, Negated, Exchanged, register_left}
 use Rattle.possible_reads.specs.Facts.{value_facts}
 use Rattle.possible_reads.specs.Possible.{can_read_from}
 use Rattle.refutation_laws.specs.inner.FullCases.{AreOfReads, ArePairsOfWrites, IsPairOfWrites}
@@ -31,7 +31,9 @@ silent-both (HoldsAtEnd c b ∷ fs) gs s u = silent-both fs gs s u
 silent-values : (e : Expression) (value : ℕ) (truth : Bool) → Silent (value_facts e value truth)
 silent-values (Constant n) value truth = (refl, refl)
 silent-values (Returned r) value truth = (refl, refl)
-silent-values (Sum a b) value truth = (refl, refl)
+silent-values (Combined operator a b) value truth = (refl, refl)
+silent-values (Negated a) value truth = (refl, refl)
+silent-values (Exchanged a b c) value truth = (refl, refl)
 
 silent-given : (t : Litmus) (claim : Claim) (truth : Bool) → Silent (given_by t claim truth)
 silent-given t (TruthClaim x) truth = (refl, refl)

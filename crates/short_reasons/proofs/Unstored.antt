@@ -5,8 +5,8 @@ use Rattle.std.proofs.Common.{◌≢◌, max, zero, filter, slice_get, slice_set
 use Rattle.basic_laws.proofs.Basics.{decide, max-second}
 use Rattle.basic_laws.proofs.Lists.{append-nil}
 use Rattle.tso_terms.specs.Actions.{action_of}
-use Rattle.tso_terms.specs.Thread.{entry, fence, value_in, value_of, updated}
-use Rattle.tso_terms.specs.FlatMachine.{CoreState, State, Effect, idle, advanced, advanced_with, moved, effect_by, step_of, drain_of, core_of, program_of, effect_of, chosen, memory_after, after_choice, applied, start, started, step, drain}
+use Rattle.tso_terms.specs.Thread.{entry, fence, changed, updated}
+use Rattle.tso_terms.specs.FlatMachine.{CoreState, State, Effect, idle, advanced, advanced_to, advanced_taking, moved, effect_by, step_of, drain_of, core_of, program_of, effect_of, chosen, memory_after, after_choice, applied, start, started, step, drain}
 use Rattle.tso_terms.specs.Runs.{CoresExist, stall_count, all_done, has_ended}
 use Rattle.basic_laws.specs.Types.{Instr, Loc, Reg, Action, LR, LW, Choice, Step, Drain, Stall, Committed, Stalled}
 use Rattle.tso_terms.specs.declared.action.Action.TheVariants.{Store, Load, Move, Fence, Lock}
@@ -73,14 +73,14 @@ trails-set t places a b k place x y m n h l q w = record {
 moves-take : (t : Litmus) (k n : ℕ) (s : State) (a b : CoreState) → k < length t.programs → k < length s.cores → core_of s k ≡ a → Moves (program_of t k) n a b → AllTake t 0 s (steps k n)
 moves-take t k zero s a b l ls e m = tt
 moves-take t k (suc n) s a b l ls e m =
-    let next : CoreState = advanced_with a m.1 (value_of a.registers m.2) in
-    let f : effect_of t 0 s (step k) ≡ moved a m.1 (value_of a.registers m.2) =
-    ap (λ z. step_of 0 s.memory k (slice_get (program_of t k) z.place) z) e ∙ ap (λ i. step_of 0 s.memory k i a) m.3 ∙ rw m.4 refl in
+    let next : CoreState = advanced_to a (changed m.1 a.registers) in
+    let f : effect_of t 0 s (step k) ≡ moved a (changed m.1 a.registers) =
+    ap (λ z. step_of 0 s.memory k (slice_get (program_of t k) z.place) z) e ∙ ap (λ i. step_of 0 s.memory k i a) m.2 ∙ rw m.3 refl in
     let s2 : after_choice t 0 s (step k) ≡ with_core s k next = ap (λ z. applied s k z) f in (
       l,
       ap (λ z. stall_count z.outcome) f,
       subst (λ z. AllTake t 0 z (steps k n)) (sym s2)
-          (moves-take t k n (with_core s k next) next b l (let w = length-set s.cores k next in omega (arith, w, ls)) (get_or-set_same s.cores k next idle ls) m.5),
+          (moves-take t k n (with_core s k next) next b l (let w = length-set s.cores k next in omega (arith, w, ls)) (get_or-set_same s.cores k next idle ls) m.4),
     )
 
 -- one entry, or two of one place
@@ -194,9 +194,9 @@ module _ (law : StallsChangeNothing) (t : Litmus) (places : List ℕ) (a b : Sta
     abbrev fence_effect : CoreState → Effect
     fence_effect s = record { outcome = Committed; after = advanced s; commits = fence k s.place ∷ [] }
 
-    abbrev lock_effect : CoreState → Loc → Reg → ℕ → ℕ → Effect
+    abbrev lock_effect : CoreState → Loc → Option Reg → ℕ → ℕ → Effect
     lock_effect s loc reg word value =
-        record { outcome = Committed; after = advanced_with s reg word; commits = entry k s.place LR loc word ∷ (entry k s.place LW loc value ∷ []) }
+        record { outcome = Committed; after = advanced_taking s reg word; commits = entry k s.place LR loc word ∷ (entry k s.place LW loc value ∷ []) }
 
     effect-is : (i : Instr) (x : Action) → slice_get (program_of t k) (core_of b k).place ≡ Some i → action_of i ≡ x
         → effect_of t 0 b (step k) ≡ effect_by 0 b.memory k x (core_of b k)
@@ -207,17 +207,17 @@ module _ (law : StallsChangeNothing) (t : Litmus) (places : List ℕ) (a b : Sta
         acts (effect_by 0 b.memory k (Store loc operand) (core_of b k)) (effect-is i (Store loc operand) at is) refl w.empty refl (one _ refl refl)
     by-action i (Load reg loc) at is =
         acts (effect_by 0 b.memory k (Load reg loc) (core_of b k)) (effect-is i (Load reg loc) at is) refl w.empty refl (one _ refl refl)
-    by-action i (Move reg operand) at is =
-        later (effect_by 0 b.memory k (Move reg operand) (core_of b k)) (effect-is i (Move reg operand) at is) refl (record {
+    by-action i (Move change) at is =
+        later (effect_by 0 b.memory k (Move change) (core_of b k)) (effect-is i (Move change) at is) refl (record {
           count = suc w.count;
-          moves = moves-more (program_of t k) w.count (core_of a k) (core_of b k) i reg operand w.moves at is;
+          moves = moves-more (program_of t k) w.count (core_of a k) (core_of b k) i change w.moves at is;
           empty = w.empty;
           stands = w.stands;
         })
     by-action i Fence at is =
         acts (fence_effect (core_of b k)) (effect-is i Fence at is ∙ acts-when stall.Fence (core_of b k) (fence_effect (core_of b k)) w.empty) refl w.empty refl (one _ refl refl)
     by-action i (Lock loc reg update) at is =
-        let f : Effect = lock_effect (core_of b k) loc reg (slice_index b.memory loc.0) (updated update (slice_index b.memory loc.0) (value_in (core_of b k).registers reg)) in
+        let f : Effect = lock_effect (core_of b k) loc reg (slice_index b.memory loc.0) (updated update (core_of b k).registers (slice_index b.memory loc.0)) in
         acts f (effect-is i (Lock loc reg update) at is ∙ acts-when stall.Lock (core_of b k) f w.empty) refl w.empty refl (two _ _ refl refl refl refl)
 
     steps-on : Goes t places a b (step k)

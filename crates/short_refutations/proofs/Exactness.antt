@@ -13,7 +13,7 @@ use Rattle.refutation_laws.proofs.Settling.{IsOpen, own_events, own_reads, own_c
 use Rattle.refutation_laws.proofs.Allowing.{co-known, write-in}
 use Rattle.short_refutations.proofs.Lists.{any-picked, any-at, left-at, right-at}
 use Rattle.short_refutations.proofs.Programs.{related-register}
-use Rattle.short_refutations.proofs.Single.{AtMost, Exact, exactly-one, most-exact, any-most, sums-most, kept-exact, both-exact}
+use Rattle.short_refutations.proofs.Single.{AtMost, Exact, exactly-one, most-exact, any-most, most-relates, kept-exact, both-exact}
 use Rattle.short_refutations.proofs.Covering.{Covers}
 use Rattle.short_refutations.proofs.Values.{read-most, write-most}
 
@@ -148,8 +148,7 @@ module _ (words : LastWordsArePossible) (model : Model) (t : Litmus) (k : Known)
       → Exact (value_in (slice_index_or (registers_left t c) core []) reg) (values_of (values_read told.readings) (register_left t core reg))
   register-exact core reg l =
       most-exact _ _
-      (related-register (λ e n. AtMost n (values_of (values_read told.readings) e)) (λ n. exactly-one n)
-      (λ a b n r u v. sums-most n r (values_of (values_read told.readings) a) (values_of (values_read told.readings) b) u v)
+      (related-register (λ e n. AtMost n (values_of (values_read told.readings) e)) (most-relates (values_read told.readings))
       t (own_reads model t k o) core reg l (read-most model t k o allowed given facts covers))
 
   pub claim-exact : (claim : Claim) → NamesExist (length t.programs) (length t.words) claim → (b : Bool) → allows t told claim b ≡ true

@@ -1,7 +1,10 @@
--- What relates numbers, sums and what reads return relates each write's expression to its value, and each register's at the end: by
--- the reads before the write in its program alone.
-use Rattle.refutation_laws.proofs.Vocabulary.{◌≡◌, ◌<◌, ◌≤◌, ◌==◌, ◌&&◌, ℕ, zero, suc, ◌+◌, true, false, if◌then◌else◌, List, [], ◌∷◌, ◌++◌, length, slice_index, slice_index_or, slice_set, arith, refl, sym, ap, ◌∙◌, inl, inr, subst, map, append_assoc, Litmus, index_of, action_of, entry, value_in, value_of, sum_of, updated, entries_by, registers_by, values_after, entries_of, registers_after, is_before, is_read, is_write, same_kind, is_at, Reg, Loc, Kind, Instr, Operand, Number, Held, Update, Exchange, Add, Action, Store, Load, Move, Fence, Lock, Entry, R, W, LR, LW, rank, part-small, IsIn, events_from, in-case, in-none, in-append, in-left, in-right, rank-before, only, here-by, from-place, bare, same_event, registers_left_from, same-number, is-false, and-both}
-use Rattle.possible_reads.specs.Expressions.{Expression, Constant, Returned, Sum, Written, held_in, operand_in, updated_by, written_by, registers_after_action, written_in, registers_at_end, first_registers, written_from, expression_among, expression_of, register_left}
+-- What relates numbers, what reads return and what instructions make of these relates each write's expression to its value, and each
+-- register's at the end: by the reads before the write in its program alone.
+use Rattle.refutation_laws.proofs.Vocabulary.{◌≡◌, ◌<◌, ◌≤◌, ◌==◌, ◌&&◌, ℕ, zero, suc, ◌+◌, true, false, if◌then◌else◌, List, [], ◌∷◌, ◌++◌, length, slice_index, slice_index_or, slice_set, Option, Some, None, arith, refl, sym, ap, ◌∙◌, inl, inr, subst, map, append_assoc, Litmus, index_of, action_of, entry, value_in, value_of, updated, entries_by, registers_by, values_after, entries_of, registers_after, is_before, is_read, is_write, same_kind, is_at, Reg, Loc, Kind, Instr, Operand, Number, Held, Update, Action, Store, Load, Move, Fence, Lock, Entry, R, W, LR, LW, rank, part-small, IsIn, events_from, in-case, in-none, in-append, in-left, in-right, rank-before, only, here-by, from-place, bare, same_event, registers_left_from, same-number, is-false, and-both}
+use Rattle.tso_terms.specs.Thread.{combined, difference_of, changed, with_taken}
+use Rattle.basic_laws.specs.Types.{Eax, Operator, Replace, Negate, CompareExchange, Change, Keep, Set, Swap}
+use Rattle.tso_terms.specs.declared.action.Update.TheVariants.{Combine}
+use Rattle.possible_reads.specs.Expressions.{Expression, Constant, Returned, Combined, Negated, Exchanged, Written, held_in, operand_in, updated_by, changed_by, taken_by, written_by, registers_after_action, written_in, registers_at_end, first_registers, written_from, expression_among, expression_of, register_left}
 use Rattle.refutation_laws.proofs.Building.{unwritten}
 use Rattle.refutation_laws.proofs.Soundness.{itself}
 use Rattle.refutation_laws.proofs.Tests.{pick, pass}
@@ -35,10 +38,10 @@ pass-by : (core place : ℕ) (a : Action) (os : List Expression) (rest : List Wr
 pass-by core place (Store loc operand) os rest y h =
     elsewhere (record { write = entry core place W loc 0; value = operand_in os operand }) rest y (h W loc)
 pass-by core place (Load reg loc) os rest y h = refl
-pass-by core place (Move reg operand) os rest y h = refl
+pass-by core place (Move change) os rest y h = refl
 pass-by core place Fence os rest y h = refl
 pass-by core place (Lock loc reg update) os rest y h =
-    elsewhere (record { write = entry core place LW loc 0; value = updated_by update (Returned (entry core place LR loc 0)) (held_in os reg) }) rest y
+    elsewhere (record { write = entry core place LW loc 0; value = updated_by update os (Returned (entry core place LR loc 0)) }) rest y
     (h LW loc)
 
 pass-core : (core place : ℕ) (p : List Instr) (os : List Expression) (rest : List Written) (y : Entry) → (y.core.0 ≡ core → ⊥)
@@ -61,8 +64,14 @@ same-expression t y = same-among (written_from 0 t.programs t.registers) y
 
 -- ---- programs
 
-module _ (Rel : Expression → ℕ → Type 0) (constant : (n : ℕ) → Rel (Constant n) n)
-    (add : (a b : Expression) (m n : ℕ) → Rel a m → Rel b n → Rel (Sum a b) (sum_of m n)) where
+-- it relates numbers to themselves, and what instructions make of what it relates
+pub record Relates (Rel : Expression → ℕ → Type 0) : Type 0 where
+  pub constant : (n : ℕ) → Rel (Constant n) n
+  pub combine : (operator : Operator) (a b : Expression) (m n : ℕ) → Rel a m → Rel b n → Rel (Combined operator a b) (combined operator m n)
+  pub negate : (a : Expression) (n : ℕ) → Rel a n → Rel (Negated a) (difference_of 0 n)
+  pub exchange : (word eax new : Expression) (m e n : ℕ) → Rel word m → Rel eax e → Rel new n → Rel (Exchanged word eax new) (if m == e then n else m)
+
+module _ (Rel : Expression → ℕ → Type 0) (related : Relates Rel) where
   abbrev Fits : List Expression → List ℕ → Type 0
   Fits [] [] = Unit {0}
   Fits [] (n ∷ ns) = ⊥
@@ -77,7 +86,7 @@ module _ (Rel : Expression → ℕ → Type 0) (constant : (n : ℕ) → Rel (Co
   All es = (x : Entry) → IsIn es x → is_read x ≡ true → Rel (Returned (bare x)) x.value
 
   fits-at : (os : List Expression) (ns : List ℕ) (i : ℕ) → Fits os ns → Rel (slice_index_or os i (Constant 0)) (slice_index ns i)
-  fits-at [] [] i f = constant 0
+  fits-at [] [] i f = related.constant 0
   fits-at [] (n ∷ ns) i f = absurd f
   fits-at (o ∷ os) [] i f = absurd f
   fits-at (o ∷ os) (n ∷ ns) zero f = f.0
@@ -92,23 +101,42 @@ module _ (Rel : Expression → ℕ → Type 0) (constant : (n : ℕ) → Rel (Co
 
   fits-first : (ns : List ℕ) → Fits (map (λ value. Constant value) ns) ns
   fits-first [] = tt
-  fits-first (n ∷ ns) = (constant n, fits-first ns)
+  fits-first (n ∷ ns) = (related.constant n, fits-first ns)
 
   fits-operand : (os : List Expression) (ns : List ℕ) (operand : Operand) → Fits os ns → Rel (operand_in os operand) (value_of ns operand)
-  fits-operand os ns (Number value) f = constant value
+  fits-operand os ns (Number value) f = related.constant value
   fits-operand os ns (Held reg) f = fits-at os ns (index_of reg) f
 
-  fits-update : (u : Update) (a b : Expression) (m n : ℕ) → Rel a m → Rel b n → Rel (updated_by u a b) (updated u m n)
-  fits-update Exchange a b m n f g = g
-  fits-update Add a b m n f g = add a b m n f g
+  fits-update : (u : Update) (os : List Expression) (ns : List ℕ) (word : Expression) (v : ℕ) → Fits os ns → Rel word v
+      → Rel (updated_by u os word) (updated u ns v)
+  fits-update (Replace operand) os ns word v f g = fits-operand os ns operand f
+  fits-update (Combine operator operand) os ns word v f g =
+      related.combine operator word (operand_in os operand) v (value_of ns operand) g (fits-operand os ns operand f)
+  fits-update Negate os ns word v f g = related.negate word v g
+  fits-update (CompareExchange reg) os ns word v f g =
+      related.exchange word (held_in os Eax) (held_in os reg) v (value_in ns Eax) (value_in ns reg) g (fits-at os ns (index_of Eax) f)
+      (fits-at os ns (index_of reg) f)
+
+  fits-change : (change : Change) (os : List Expression) (ns : List ℕ) → Fits os ns → Fits (changed_by change os) (changed change ns)
+  fits-change Keep os ns f = f
+  fits-change (Set reg update) os ns f =
+      fits-set os ns (index_of reg) _ _ f (fits-update update os ns (held_in os reg) (value_in ns reg) f (fits-at os ns (index_of reg) f))
+  fits-change (Swap reg other) os ns f =
+      fits-set (slice_set os (index_of reg) (held_in os other)) (slice_set ns (index_of reg) (value_in ns other)) (index_of other) _ _
+      (fits-set os ns (index_of reg) _ _ f (fits-at os ns (index_of other) f)) (fits-at os ns (index_of reg) f)
+
+  fits-taken : (target : Option Reg) (os : List Expression) (ns : List ℕ) (word : Expression) (v : ℕ) → Fits os ns → Rel word v
+      → Fits (taken_by os target word) (with_taken ns target v)
+  fits-taken None os ns word v f g = f
+  fits-taken (Some reg) os ns word v f g = fits-set os ns (index_of reg) word v f g
 
   fits-after : (core place : ℕ) (a : Action) (os : List Expression) (ns : List ℕ) (v : ℕ) → Fits os ns → All (entries_by core place a ns v)
       → Fits (registers_after_action core place a os) (registers_by a ns v)
   fits-after core place (Store loc operand) os ns v f g = f
   fits-after core place (Load reg loc) os ns v f g = fits-set os ns (index_of reg) _ v f (g (entry core place R loc v) (0, refl) refl)
-  fits-after core place (Move reg operand) os ns v f g = fits-set os ns (index_of reg) _ (value_of ns operand) f (fits-operand os ns operand f)
+  fits-after core place (Move change) os ns v f g = fits-change change os ns f
   fits-after core place Fence os ns v f g = f
-  fits-after core place (Lock loc reg update) os ns v f g = fits-set os ns (index_of reg) _ v f (g (entry core place LR loc v) (0, refl) refl)
+  fits-after core place (Lock loc target update) os ns v f g = fits-taken target os ns _ v f (g (entry core place LR loc v) (0, refl) refl)
 
   fits-end : (core place : ℕ) (p : List Instr) (os : List Expression) (ns values : List ℕ) → Fits os ns → All (entries_of core place p ns values)
       → Fits (registers_at_end core place p os) (registers_after p ns values)
@@ -137,7 +165,7 @@ module _ (Rel : Expression → ℕ → Type 0) (constant : (n : ℕ) → Rel (Co
       (fits-operand os ns operand f)
   by-action core place (Load reg loc) os ns v rest y f i w g =
       absurd (unwritten (entry core place R loc v) y (only (entry core place R loc v) y i) refl w)
-  by-action core place (Move reg operand) os ns v rest y f i w g = absurd (in-none y i)
+  by-action core place (Move change) os ns v rest y f i w g = absurd (in-none y i)
   by-action core place Fence os ns v rest y f i w g = absurd (unwritten _ y (only _ y i) refl w)
   by-action core place (Lock loc reg update) os ns v rest y f i w g = elim (in-case first (second ∷ []) y i) [
     | inl q ↦ absurd (unwritten first y q refl w)
@@ -145,16 +173,15 @@ module _ (Rel : Expression → ℕ → Type 0) (constant : (n : ℕ) → Rel (Co
         let q : y ≡ second = only second y j in
         let l : rank first < rank second = omega arith in
         let b : is_before first y ≡ true = subst (λ z. is_before first z ≡ true) (sym q) (rank-before first second refl l) in
-        found core place LW loc (updated_by update (Returned (entry core place LR loc 0)) (held_in os reg)) rest (updated update v (value_in ns reg)) y q
-        (fits-update update (Returned (entry core place LR loc 0)) (held_in os reg) v (value_in ns reg) (g first (0, refl) refl b)
-        (fits-at os ns (index_of reg) f))
+        found core place LW loc (updated_by update os (Returned (entry core place LR loc 0))) rest (updated update ns v) y q
+        (fits-update update os ns (Returned (entry core place LR loc 0)) v f (g first (0, refl) refl b))
   ]
     where
       first : Entry
       first = entry core place LR loc v
 
       second : Entry
-      second = entry core place LW loc (updated update v (value_in ns reg))
+      second = entry core place LW loc (updated update ns v)
 
   earlier-place : (x y : Entry) (place : ℕ) → x.core.0 ≡ y.core.0 → x.place ≡ place → place + 1 ≤ y.place → is_before x y ≡ true
   earlier-place x y place c e l = let s = part-small x.kind in rank-before x y c (omega (arith, e, l, s))

@@ -1,7 +1,10 @@
 -- Values of which at most one number is left.
-use Rattle.short_refutations.proofs.Vocabulary.{◌≡◌, ◌==◌, ◌||◌, ℕ, suc, Bool, true, false, if◌then◌else◌, List, [], ◌∷◌, Some, None, refl, sym, ap, ◌∙◌, ◌⊎◌, inl, inr, subst, slice_get, map, filter, number-same, same-number, Values, can_be}
-use Rattle.possible_reads.specs.Possible.{at_most_64, either_of, both_of, any_of, sums_of, kept, is_among}
-use Rattle.tso_terms.specs.Thread.{sum_of}
+use Rattle.short_refutations.proofs.Vocabulary.{◌≡◌, ◌==◌, ◌||◌, ℕ, suc, Bool, true, false, not, if◌then◌else◌, Entry, List, [], ◌∷◌, Some, None, refl, sym, ap, ◌∙◌, ◌⊎◌, inl, inr, subst, slice_get, map, filter, number-same, same-number, Values, can_be, values_of}
+use Rattle.possible_reads.specs.Possible.{at_most_64, either_of, both_of, any_of, combined_values, negated_values, only_where, exchanged_word, exchanged_values, kept, is_among}
+use Rattle.tso_terms.specs.Thread.{combined, difference_of}
+use Rattle.basic_laws.specs.Types.{Operator}
+use Rattle.possible_reads.proofs.Values.{turned}
+use Rattle.short_refutations.proofs.Programs.{Relates}
 use Rattle.short_refutations.proofs.Lists.{any-picked, any-at, filter-at}
 
 -- this number, or none
@@ -55,11 +58,45 @@ both-most n us (Some vs) (inl e) = inl (ap (λ x. both_of x (Some vs)) e)
 both-most n us None (inr e) = inr (ap (λ x. both_of x None) e)
 both-most n us (Some vs) (inr e) = subst (λ x. AtMost n (both_of x (Some vs))) (sym e) (one-kept n (is_among vs n))
 
-pub sums-most : (m n : ℕ) (us vs : Values) → AtMost m us → AtMost n vs → AtMost (sum_of m n) (sums_of us vs)
-sums-most m n us vs (inl e) (inl f) = inl (ap (λ x. sums_of x vs) e ∙ ap (λ x. sums_of (Some []) x) f)
-sums-most m n us vs (inl e) (inr f) = inl (ap (λ x. sums_of x vs) e ∙ ap (λ x. sums_of (Some []) x) f)
-sums-most m n us vs (inr e) (inl f) = inl (ap (λ x. sums_of x vs) e ∙ ap (λ x. sums_of (Some (m ∷ [])) x) f)
-sums-most m n us vs (inr e) (inr f) = inr (ap (λ x. sums_of x vs) e ∙ ap (λ x. sums_of (Some (m ∷ [])) x) f)
+combined-most : (operator : Operator) (m n : ℕ) (us vs : Values) → AtMost m us → AtMost n vs → AtMost (combined operator m n) (combined_values operator us vs)
+combined-most operator m n us vs (inl e) (inl f) =
+    inl (ap (λ x. combined_values operator x vs) e ∙ ap (λ x. combined_values operator (Some []) x) f)
+combined-most operator m n us vs (inl e) (inr f) =
+    inl (ap (λ x. combined_values operator x vs) e ∙ ap (λ x. combined_values operator (Some []) x) f)
+combined-most operator m n us vs (inr e) (inl f) =
+    inl (ap (λ x. combined_values operator x vs) e ∙ ap (λ x. combined_values operator (Some (m ∷ [])) x) f)
+combined-most operator m n us vs (inr e) (inr f) =
+    inr (ap (λ x. combined_values operator x vs) e ∙ ap (λ x. combined_values operator (Some (m ∷ [])) x) f)
+
+negated-most : (n : ℕ) (vs : Values) → AtMost n vs → AtMost (difference_of 0 n) (negated_values vs)
+negated-most n vs (inl e) = inl (ap negated_values e)
+negated-most n vs (inr e) = inr (ap negated_values e)
+
+word-most : (m e n : ℕ) (eax new : Values) → AtMost e eax → AtMost n new → AtMost (if m == e then n else m) (exchanged_word eax new m)
+word-most m e n eax new (inl k) l = inl (ap (λ x. exchanged_word x new m) k)
+word-most m e n eax new (inr k) l =
+    subst (λ x. AtMost (if m == e then n else m) (exchanged_word x new m)) (sym k)
+    (subst (λ b. AtMost (if b then n else m) (exchanged_word (Some (e ∷ [])) new m)) (turned m e) (go (e == m)))
+  where
+    go : (b : Bool) → AtMost (if b then n else m) (either_of (only_where (b || false) new) (only_where (not b || false) (Some (m ∷ []))))
+    go true = either-most n new (Some []) l (inl refl)
+    go false = either-most m (Some []) (Some (m ∷ [])) (inl refl) (exactly-one m)
+
+exchanged-most : (m e n : ℕ) (words eax new : Values) → AtMost m words → AtMost e eax → AtMost n new
+    → AtMost (if m == e then n else m) (exchanged_values words eax new)
+exchanged-most m e n words eax new (inl w) k l = inl (ap (λ x. exchanged_values x eax new) w)
+exchanged-most m e n words eax new (inr w) k l =
+    subst (λ x. AtMost (if m == e then n else m) (exchanged_values x eax new)) (sym w)
+    (either-most (if m == e then n else m) (exchanged_word eax new m) (Some []) (word-most m e n eax new k l) (inl refl))
+
+-- having at most this value relates what instructions make of values
+pub most-relates : (reads : Entry → Values) → Relates (λ x n. AtMost n (values_of reads x))
+most-relates reads = record {
+  constant = λ n. exactly-one n;
+  combine = λ operator a b m n u v. combined-most operator m n (values_of reads a) (values_of reads b) u v;
+  negate = λ a n u. negated-most n (values_of reads a) u;
+  exchange = λ word eax new m e n u v w. exchanged-most m e n (values_of reads word) (values_of reads eax) (values_of reads new) u v w;
+}
 
 -- what is exact stays so where fewer are left
 pub kept-exact : (n : ℕ) (p : ℕ → Bool) (vs : Values) → Exact n vs → Exact n (kept p vs)

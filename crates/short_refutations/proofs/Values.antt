@@ -13,7 +13,7 @@ use Rattle.refutation_laws.proofs.Rows.{ordered-acyclic, Edge}
 use Rattle.refutation_laws.proofs.Building.{same-place}
 use Rattle.refutation_laws.proofs.Settling.{IsOpen, First, found, entry_of, own_events, own_reads, own_candidate, own-in, place, within, edge-places, one-own, first-source, read-edge, other-edge}
 use Rattle.short_refutations.proofs.Programs.{related-write, same-expression}
-use Rattle.short_refutations.proofs.Single.{AtMost, exactly-one, any-most, both-most, kept-most, sums-most}
+use Rattle.short_refutations.proofs.Single.{AtMost, exactly-one, any-most, both-most, kept-most, most-relates}
 use Rattle.short_refutations.proofs.Covering.{Covers, values-after, fits, named}
 
 module _ (model : Model) (t : Litmus) (k : Known) (o : IsOpen model t k) (allowed : IsAllowed t (own_candidate model t k o))
@@ -146,8 +146,7 @@ module _ (model : Model) (t : Litmus) (k : Known) (o : IsOpen model t k) (allowe
 
           written : AtMost y.value (values_of (values_read (table m)) (expression_of t (bare y)))
           written =
-              related-write (Rel m) (λ n. exactly-one n)
-              (λ a b n r u v. sums-most n r (values_of (values_read (table m)) a) (values_of (values_read (table m)) b) u v)
+              related-write (Rel m) (most-relates (values_read (table m)))
               t (own_reads model t k o) y iy (writes x.loc.0 y returns.1)
               (λ z iz rz b.
               let pz = place model t k o z iz in
@@ -171,7 +170,5 @@ module _ (model : Model) (t : Litmus) (k : Known) (o : IsOpen model t k) (allowe
 
   pub write-most : (y : Entry) → IsIn es y → is_write y ≡ true → AtMost y.value (values_written t (table (length (events_of t))) (bare y))
   write-most y iy wy =
-      related-write (Rel (length (events_of t))) (λ n. exactly-one n)
-      (λ a b n r u v.
-      sums-most n r (values_of (values_read (table (length (events_of t)))) a) (values_of (values_read (table (length (events_of t)))) b) u v)
+      related-write (Rel (length (events_of t))) (most-relates (values_read (table (length (events_of t)))))
       t (own_reads model t k o) y iy wy (λ z iz rz b. read-most z iz rz)

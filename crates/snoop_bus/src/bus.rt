@@ -26,13 +26,16 @@ use cache_set::shape::Target;
 use protocol_tables::Protocol;
 use std::alloc::Global;
 use std::marker::Model;
-use tso_terms::{Core, Loc, NoMemory, Update};
+use tso_terms::{Core, Loc, NoMemory, Operand, Update};
 
 /// Maximum number of cores of a bus.
 pub const MAX_CORES: u8 = 8;
 
 /// Maximum number of locations of memory.
 pub const MAX_LOCATIONS: usize = tso_terms::limits::MAX_LOCATIONS;
+
+/// What an update gets that reads no register.
+pub(crate) const NO_REGISTERS: [u32; 6] = [0; 6];
 
 /// The caches of all cores on one bus, and memory after them. Where a line has so many words, location `l`
 /// lies in line `l / words` at offset `l % words`.
@@ -123,18 +126,19 @@ impl<P: Protocol> SnoopBus<P> {
         ensures coherent { IsCoherent self.new }
         ensures machine { IsSameMachine self.old self.new }
     {
-        self.update(core, loc, Update::Exchange, value).report
+        let update = Update::Replace(Operand::Number(value));
+        self.update(core, loc, update, &NO_REGISTERS).report
     }
 
-    /// Makes of the word at a location what the update makes of it and of this value, by one write access.
+    /// Makes of the word at a location what the update makes of it with these registers, by one write access.
     #[inline(always)]
-    pub fn update(&mut self, core: Core, loc: Loc, update: Update, value: u32) -> Updated
+    pub fn update(&mut self, core: Core, loc: Loc, update: Update, registers: &[u32; 6]) -> Updated
         requires core { core.0 < cores_of self.old }
         requires loc { loc.0 < length (words_of self.old) }
         requires free { MayGoOn self.old core.0 loc.0 true }
 
         ensures before { IsCurrentWord self.old loc.0 result.before }
-        ensures after { result.after ≡ updated update result.before value }
+        ensures after { result.after ≡ updated update registers.now result.before }
         ensures done { WritesAt self.old self.new core.0 loc.0 result.after result.report }
         ensures coherent { IsCoherent self.new }
         ensures machine { IsSameMachine self.old self.new }
@@ -145,7 +149,7 @@ impl<P: Protocol> SnoopBus<P> {
             .hierarchy
             .acquire(&self.protocol, self.held, core, line);
         let before = words[usize::from(offset)];
-        let after = update.apply(before, value);
+        let after = update.apply(registers, before);
         self.hierarchy.write(target, after);
         Updated {
             before,

@@ -8,10 +8,10 @@ ghost use Rattle.snoop_bus.specs.Accesses.{awaited_of, load_of, write_of, comple
 ghost use Rattle.snoop_bus.specs.inner.Accesses.{MayGoOn};
 
 use crate::access::Access;
-use crate::bus::SnoopBus;
+use crate::bus::{NO_REGISTERS, SnoopBus};
 use crate::holding::Stage;
 use protocol_tables::Protocol;
-use tso_terms::{Core, Loc, NoMemory, Update};
+use tso_terms::{Core, Loc, NoMemory, Operand, Operator, Update};
 
 impl<P: Protocol> SnoopBus<P> {
     /// What [`SnoopBus::read`] answers: the word at a location, and what the access was.
@@ -58,7 +58,8 @@ impl<P: Protocol> SnoopBus<P> {
         ensures coherent { IsCoherent self.new }
         ensures machine { IsSameMachine self.old self.new }
     {
-        let updated = self.update(core, loc, Update::Exchange, value);
+        let update = Update::Replace(Operand::Number(value));
+        let updated = self.update(core, loc, update, &NO_REGISTERS);
         Ok((updated.before, updated.report.access))
     }
 
@@ -76,7 +77,8 @@ impl<P: Protocol> SnoopBus<P> {
         ensures coherent { IsCoherent self.new }
         ensures machine { IsSameMachine self.old self.new }
     {
-        let updated = self.update(core, loc, Update::Add, value);
+        let update = Update::Combine(Operator::Add, Operand::Number(value));
+        let updated = self.update(core, loc, update, &NO_REGISTERS);
         Ok((updated.before, updated.report.access))
     }
 

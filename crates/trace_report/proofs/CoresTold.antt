@@ -1,10 +1,14 @@
--- What a step tells of its core: the register that was moved, the pending stores, and why it stalled.
-use Rattle.trace_report.proofs.Vocabulary.{arith, ◌≡◌, ◌≢◌, ◌∙◌, ◌⊎◌, ◌≤◌, ◌+◌, ◌==◌, ℕ, zero, suc, Bool, true, false, nat_lt, if◌then◌else◌, List, [], ◌∷◌, length, slice_index, slice_set, Option, Some, None, inl, inr, refl, sym, ap, subst, length-append, get_or-set_same, get_or_past, nat_tests, length-set, lt-or, Litmus, action_of, value_of, CoreState, State, Effect, idle, is_none_pending, stalled, stored, effect_by, effect_of, core_of, chosen, applied, access_of, next_of, Holder, Free, HeldBy, Attempt, needs_bus, asks, as_read, split_effect, BusState, effect_on, Bus, Atomic, Split, Core, Instr, Action, Store, Load, Move, Fence, Lock, Entry, Choice, Step, Drain, Outcome, Moved, Stalled, Stall, Running, machine_after, attempt_on, stall_name, moved_by, moved_at, moved_from, buffer_if_changed, with_moved, pending_told, CoresAreTold, IsWordOfStall, done, full, lock, empty, IsHeldByOther, IsWordOfStallOn, flat, bus, StallsAreTold, if-by, effect-by, split-by, begins-by, completes-by, drain_with, IsOther, cases_Bool, step_of, after_choice}
+-- What a step tells of its core: the registers that were moved, the pending stores, and why it stalled.
+use Rattle.trace_report.proofs.Vocabulary.{arith, ◌≡◌, ◌≢◌, ◌∙◌, ◌⊎◌, ◌≤◌, ◌+◌, ◌==◌, ℕ, zero, suc, Bool, true, false, nat_lt, if◌then◌else◌, List, [], ◌∷◌, length, slice_index, slice_set, Option, Some, None, inl, inr, refl, sym, ap, subst, length-append, get_or-set_same, get_or_past, nat_tests, length-set, lt-or, Litmus, action_of, CoreState, State, Effect, idle, is_none_pending, stalled, stored, effect_by, effect_of, core_of, chosen, applied, access_of, next_of, Holder, Free, HeldBy, Attempt, needs_bus, asks, as_read, split_effect, BusState, effect_on, Bus, Atomic, Split, Core, Instr, Action, Store, Load, Move, Fence, Lock, Entry, Choice, Step, Drain, Outcome, Moved, Stalled, Stall, Running, machine_after, attempt_on, stall_name, moved_by, moved_at, moved_from, buffer_if_changed, with_moved, pending_told, CoresAreTold, IsWordOfStall, done, full, lock, empty, IsHeldByOther, IsWordOfStallOn, flat, bus, StallsAreTold, if-by, effect-by, split-by, begins-by, completes-by, drain_with, IsOther, cases_Bool, step_of, after_choice}
 use Rattle.tso_terms.specs.Registers.{index_of}
 use Rattle.tso_terms.specs.declared.choice.Stall.TheVariants as stall
 use Rattle.machine_core.specs.Running.{machine_effect as effect_made}
 use Rattle.trace_report.specs.Steps as steps
 use Rattle.trace_report.specs.declared.step.Moved as move
+use Rattle.trace_report.specs.declared.step.Moved.TheVariants.{One, Both}
+use Rattle.trace_report.specs.Steps.{given_by_move}
+use Rattle.tso_terms.specs.Thread.{value_in, changed, updated}
+use Rattle.basic_laws.specs.Types.{Change, Keep, Set, Swap}
 use Rattle.trace_report.specs.StepLaws.{fence}
 use Rattle.trace_report.proofs.Effects.{Form, still, grown, shrunk}
 use Rattle.trace_report.proofs.Stalls.{MovesBy, effect-moves}
@@ -27,6 +31,16 @@ kept-value [] n value = refl
 kept-value (r ∷ rs) zero value = refl
 kept-value (r ∷ rs) (suc n) value = ap (λ l. r ∷ l) (kept-value rs n value)
 
+-- the same of two registers
+kept-both : (registers : List ℕ) (n k value other : ℕ)
+    → slice_set (slice_set registers n (slice_index (slice_set (slice_set registers n value) k other) n)) k
+    (slice_index (slice_set (slice_set registers n value) k other) k) ≡ slice_set (slice_set registers n value) k other
+kept-both [] n k value other = refl
+kept-both (r ∷ rs) zero zero value other = refl
+kept-both (r ∷ rs) zero (suc k) value other = ap (λ l. value ∷ l) (kept-value rs k other)
+kept-both (r ∷ rs) (suc n) zero value other = ap (λ l. other ∷ l) (kept-value rs n value)
+kept-both (r ∷ rs) (suc n) (suc k) value other = ap (λ l. r ∷ l) (kept-both rs n k value other)
+
 -- a stall is no move
 not-when : (s : CoreState) (why : Stall) (f : Effect) (b : Bool) → f.outcome ≢ Moved → (if b then f else stalled why s).outcome ≢ Moved
 not-when s why f b h = if-by (λ (g : Effect). g.outcome ≢ Moved) b f (stalled why s) (λ q. h) (λ q is. let z : ⊥ = cc in z)
@@ -46,10 +60,16 @@ step-moves-to : (depth core : ℕ) (memory : List ℕ) (i : Option Instr) (s : C
 step-moves-to depth core memory None s = λ q. absurd (let z : ⊥ = cc in z)
 step-moves-to depth core memory (Some x) s = by_action (action_of x)
   where
+    given : (change : Change) → changed change s.registers ≡ with_moved (given_by_move change (changed change s.registers)) s.registers
+    given Keep = refl
+    given (Set reg update) = sym (kept-value s.registers (index_of reg) (updated update s.registers (value_in s.registers reg)))
+    given (Swap reg other) =
+        sym (kept-both s.registers (index_of reg) (index_of other) (value_in s.registers other) (value_in s.registers reg))
+
     by_action : (a : Action) → MovesTo (moved_by a) s (effect_by depth memory core a s)
     by_action (Store loc operand) = λ q. absurd (not-stored depth s _ q)
     by_action (Load reg loc) = λ q. absurd (let z : ⊥ = cc in z)
-    by_action (Move reg operand) = λ q. sym (kept-value s.registers (index_of reg) (value_of s.registers operand))
+    by_action (Move change) = λ q. given change
     by_action _ = λ q. absurd (not-when s _ _ (is_none_pending s.pending) (λ z. (let y : ⊥ = cc in y)) q)
 
 flat-moves-to : (t : Litmus) (depth : ℕ) (state : State) (a : Choice) → MovesToBy t state a (effect_of t depth state a)
@@ -71,7 +91,8 @@ no-core t a s r n one two = ap (λ (c : CoreState). c.registers) two ∙ (sym (n
   where
     nothing : (o : Option move.Moved) → with_moved o [] ≡ []
     nothing None = refl
-    nothing (Some m) = refl
+    nothing (Some (One g)) = refl
+    nothing (Some (Both g h)) = refl
 
 moved-told : (m : Running) (choice : Choice) → (effect_made m choice).effect.outcome ≡ Moved
     → (core_of (machine_after m choice).state.flat (chosen choice)).registers

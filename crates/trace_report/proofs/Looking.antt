@@ -1,7 +1,8 @@
 -- What is looked up of a core on a machine.
-use Rattle.trace_report.proofs.Vocabulary.{◌≡◌, ◌∙◌, ℕ, zero, suc, ◌+◌, ◌-◌, ◌<◌, List, [], ◌∷◌, ◌++◌, length, take, Option, Some, None, option_map, slice_get, slice_index_or, refl, sym, ap, arith, length-append, option_and_then, unwrap_or, action_of, value_in, CoreState, idle, core_of, Action, Move, Instr, Entry, Running, moved_by, Reg, Operand}
+use Rattle.trace_report.proofs.Vocabulary.{◌≡◌, ◌∙◌, ℕ, zero, suc, ◌+◌, ◌-◌, ◌<◌, List, [], ◌∷◌, ◌++◌, length, take, Option, Some, None, option_map, slice_get, slice_index_or, refl, sym, ap, arith, length-append, option_and_then, unwrap_or, value_in, CoreState, idle, core_of, Entry, Running, Reg}
 use Rattle.machine_core.specs.inner.Looking.{core_numbered, pending_at}
-use Rattle.trace_report.specs.declared.step.Moved.{Moved}
+use Rattle.trace_report.specs.declared.step.Given.{Given}
+use Rattle.trace_report.specs.Steps.{register_given}
 
 place-in : (cores : List CoreState) (i : ℕ) → unwrap_or (option_map (λ (s : CoreState). s.place) (slice_get cores i)) 0 ≡ (slice_index_or cores i idle).place
 place-in [] i = refl
@@ -21,13 +22,13 @@ pub register-of : (m : Running) (core : ℕ) (reg : Reg)
     → unwrap_or (option_map (λ (s : CoreState). value_in s.registers reg) (core_numbered m core)) 0 ≡ value_in (core_of m.state.flat core).registers reg
 register-of m core reg = register-in m.state.flat.cores core reg
 
--- what a move set
-pub moved-value : (m : Running) (core : ℕ) (reg : Reg) (operand : Operand) (i : Instr) (found : Option ℕ) (value : ℕ) → Move reg operand ≡ action_of i
+-- what a register was given
+pub given-value : (m : Running) (core : ℕ) (reg : Reg) (found : Option ℕ) (value : ℕ)
     → found ≡ option_map (λ (s : CoreState). value_in s.registers reg) (core_numbered m core) → value ≡ unwrap_or found 0
-    → Some (record { reg = reg; value = value }) ≡ moved_by (action_of i) (core_of m.state.flat core).registers
-moved-value m core reg operand i found value is found_is value_is =
-    let made : ℕ → Option Moved = λ v. Some (record { reg = reg; value = v }) in
-    ap made (value_is ∙ (ap (λ o. unwrap_or o 0) found_is ∙ register-of m core reg)) ∙ ap (λ (a : Action). moved_by a (core_of m.state.flat core).registers) is
+    → record { reg = reg; value = value } ≡ register_given (core_of m.state.flat core).registers reg
+given-value m core reg found value found_is value_is =
+    let made : ℕ → Given = λ v. record { reg = reg; value = v } in
+    ap made (value_is ∙ (ap (λ o. unwrap_or o 0) found_is ∙ register-of m core reg))
 
 pending-in : (cores : List CoreState) (i number : ℕ) → option_and_then (λ (s : CoreState). slice_get s.pending number) (slice_get cores i) ≡ slice_get (slice_index_or cores i idle).pending number
 pending-in [] i number = refl

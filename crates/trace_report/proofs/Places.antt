@@ -39,11 +39,11 @@ stored-places t (suc n) s e at h =
 action-places : (t : Litmus) (depth core : ℕ) (memory : List ℕ) (a : Action) (s : CoreState) → ActionKnown t a → All (IsAt t) s.pending → Places t (effect_by depth memory core a s)
 action-places t depth core memory (Store loc operand) s k h = stored-places t depth s (entry core s.place W loc (value_of s.registers operand)) k h
 action-places t depth core memory (Load reg loc) s k h = record { commits = one t (entry core s.place R loc (load_value memory s loc.0)) k; pending = h }
-action-places t depth core memory (Move reg operand) s k h = record { commits = none t; pending = h }
+action-places t depth core memory (Move change) s k h = record { commits = none t; pending = h }
 action-places t depth core memory Fence s k h = if-by (Places t) (is_none_pending s.pending) _ _ (λ q. record { commits = one t (fence core s.place) tt; pending = h }) (λ q. record { commits = none t; pending = h })
 action-places t depth core memory (Lock loc reg update) s k h =
     let e = entry core s.place LR loc (slice_index memory loc.0) in
-    let wrote = entry core s.place LW loc (updated update (slice_index memory loc.0) (value_in s.registers reg)) in
+    let wrote = entry core s.place LW loc (updated update s.registers (slice_index memory loc.0)) in
     if-by (Places t) (is_none_pending s.pending) _ _ (λ q. record { commits = All-cons (HasLocation t) e (wrote ∷ []) k (one t wrote k); pending = h }) (λ q. record { commits = none t; pending = h })
 
 -- an instruction of the test

@@ -19,7 +19,7 @@ step-moves depth core memory None s = inl (λ registers. refl)
 step-moves depth core memory (Some x) s = by_action (action_of x)
   where
     by_action : (a : Action) → ((registers : List ℕ) → moved_by a registers ≡ None) ⊎ ((effect_by depth memory core a s).outcome ≡ Moved)
-    by_action (Move reg operand) = inr refl
+    by_action (Move change) = inr refl
     by_action _ = inl (λ registers. refl)
 
 flat-moves : (t : Litmus) (depth : ℕ) (state : State) (a : Choice) → MovesBy t (core_of state (chosen a)).place a (effect_of t depth state a).outcome
@@ -32,7 +32,7 @@ no-move depth None pending registers some = refl
 no-move depth (Some x) pending registers some = by_action (action_of x) some
   where
     by_action : (a : Action) → (access_by depth a pending ≡ NoAccess → ⊥) → moved_by a registers ≡ None
-    by_action (Move reg operand) some = absurd (some refl)
+    by_action (Move change) some = absurd (some refl)
     by_action _ some = refl
 
 no-move-at : (t : Litmus) (depth : ℕ) (state : State) (a : Choice) (registers : List ℕ) → (access_of t depth state a ≡ NoAccess → ⊥) → moved_from t (core_of state (chosen a)).place a registers ≡ None

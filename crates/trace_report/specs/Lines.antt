@@ -21,7 +21,9 @@ use Rattle.trace_report.specs.declared.step.LineRequest.{LineRequest}
 use Rattle.trace_report.specs.declared.step.LineState.{LineState}
 use Rattle.trace_report.specs.declared.step.StateChange.{StateChange}
 use Rattle.trace_report.specs.declared.step.LineState.TheVariants as state
+use Rattle.trace_report.specs.declared.step.Given.{Given}
 use Rattle.trace_report.specs.declared.step.Moved as move
+use Rattle.trace_report.specs.declared.step.Moved.TheVariants.{One, Both}
 
 -- ---- names
 abbrev pub stall_name : Stall → List ℕ
@@ -83,8 +85,13 @@ entries_text t [] = []
 entries_text t (e ∷ es) = codes " " ++ (printed_entry t e ++ entries_text t es)
 
 -- `EAX=5`
+abbrev pub printed_given : Given → List ℕ
+printed_given g = name_of g.reg ++ (codes "=" ++ decimal g.value)
+
+-- `EAX=5`, or `EAX=5 EBX=3` where two registers exchanged their values
 abbrev pub printed_move : move.Moved → List ℕ
-printed_move m = name_of m.reg ++ (codes "=" ++ decimal m.value)
+printed_move (One g) = printed_given g
+printed_move (Both g h) = printed_given g ++ (codes " " ++ printed_given h)
 
 -- ` EAX=5`
 abbrev pub moved_text : Option move.Moved → List ℕ

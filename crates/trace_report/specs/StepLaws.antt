@@ -23,20 +23,27 @@ use Rattle.trace_report.specs.Lines.{stall_name}
 use Rattle.trace_report.specs.Steps.{trace_step_of}
 use Rattle.trace_report.specs.TraceLaws.{KeepsNoCopyInI}
 use Rattle.trace_report.specs.declared.step.LineRequest.{LineRequest}
+use Rattle.trace_report.specs.declared.step.Given.{Given}
 use Rattle.trace_report.specs.declared.step.Moved.{Moved}
+use Rattle.trace_report.specs.declared.step.Moved.TheVariants.{One, Both}
 
 -- ---- the core
 
--- the registers once a value was moved, and the pending stores once these are there
+-- the registers once this one was given its value
+abbrev pub with_given : List ℕ → Given → List ℕ
+with_given registers g = with_value registers g.reg g.value
+
+-- the registers once values were moved, and the pending stores once these are there
 abbrev pub with_moved : Option Moved → List ℕ → List ℕ
 with_moved None registers = registers
-with_moved (Some m) registers = with_value registers m.reg m.value
+with_moved (Some (One g)) registers = with_given registers g
+with_moved (Some (Both g h)) registers = with_given (with_given registers g) h
 
 abbrev pub pending_told : Option (List Entry) → List Entry → List Entry
 pending_told None pending = pending
 pending_told (Some stores) pending = stores
 
--- the register that a step tells has the value that it tells, and no other has changed, and none is told but where the core
+-- the registers that a step tells have the values that it tells, and no others have changed, and none is told but where the core
 -- moved; the stores that a step tells are pending then, and where it tells none the same as before are. On the atomic bus that
 -- is the flat machine's core
 pub record CoresAreTold (m : Running) (choice : Choice) : Type 0 where
@@ -57,7 +64,7 @@ pub data IsWordOfStall (t : Litmus) (depth : ℕ) (state : State) : List ℕ →
       → depth ≤ length (core_of state core.0).pending → IsWordOfStall t depth state (codes "Full") (Step core)
   fence : (core : Core) (i : Instr) → next_of t state core.0 ≡ Some i → action_of i ≡ Fence
       → (core_of state core.0).pending ≢ [] → IsWordOfStall t depth state (codes "Fence") (Step core)
-  lock : (core : Core) (i : Instr) (loc : Loc) (reg : Reg) (update : Update) → next_of t state core.0 ≡ Some i → action_of i ≡ Lock loc reg update
+  lock : (core : Core) (i : Instr) (loc : Loc) (reg : Option Reg) (update : Update) → next_of t state core.0 ≡ Some i → action_of i ≡ Lock loc reg update
       → (core_of state core.0).pending ≢ [] → IsWordOfStall t depth state (codes "Lock") (Step core)
   empty : (core : Core) → (core_of state core.0).pending ≡ [] → IsWordOfStall t depth state (codes "Empty") (Drain core)
 

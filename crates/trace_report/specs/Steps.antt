@@ -7,7 +7,7 @@ use Rattle.tso_terms.specs.Actions.{action_of}
 use Rattle.tso_terms.specs.Thread.{value_in}
 use Rattle.tso_terms.specs.FlatMachine.{Effect, core_of, program_of, chosen}
 use Rattle.tso_terms.specs.Runs.{has_ended}
-use Rattle.basic_laws.specs.Types.{Action, Instr, Choice, Step, Drain, Outcome, Entry}
+use Rattle.basic_laws.specs.Types.{Reg, Change, Keep, Set, Swap, Action, Instr, Choice, Step, Drain, Outcome, Entry}
 use Rattle.protocol_tables.specs.Tables.{Table, table_of}
 use Rattle.protocol_tables.specs.declared.kind.ProtocolKind.{ProtocolKind}
 use Rattle.protocol_tables.specs.declared.state.State.{State}
@@ -25,7 +25,9 @@ use Rattle.multiprocessor.specs.declared.accesses.CacheUse.{CacheUse}
 use Rattle.multiprocessor.specs.declared.accesses.CacheUse.TheVariants.{Unused, Forwarded, Through}
 use Rattle.multiprocessor.specs.declared.accesses.CacheUse.TheVariants as uses
 use Rattle.trace_report.specs.Shown.{ShownStep}
+use Rattle.trace_report.specs.declared.step.Given.{Given}
 use Rattle.trace_report.specs.declared.step.Moved.{Moved}
+use Rattle.trace_report.specs.declared.step.Moved.TheVariants.{One, Both}
 use Rattle.trace_report.specs.declared.step.LineRequest.{LineRequest}
 use Rattle.trace_report.specs.declared.step.LineState.{LineState}
 use Rattle.trace_report.specs.declared.step.StateChange.{StateChange}
@@ -37,11 +39,21 @@ use Rattle.trace_report.specs.declared.step.LineState.TheVariants as state
 
 -- ---- the entries, the register, the buffer
 
--- the register that an action moves a value to, and the value that it has then
+-- a register, and the value that it has among these
+abbrev pub register_given : List ℕ → Reg → Given
+register_given registers reg = record { reg = reg; value = value_in registers reg }
+
+-- what a move gave, where these are the registers after it
+abbrev pub given_by_move : Change → List ℕ → Option Moved
+given_by_move Keep registers = None
+given_by_move (Set reg update) registers = Some (One (register_given registers reg))
+given_by_move (Swap reg other) registers = Some (Both (register_given registers reg) (register_given registers other))
+
+-- the same of an action, if it is a move
 abbrev pub moved_by : Action → List ℕ → Option Moved
 moved_by (action.Store loc operand) registers = None
 moved_by (action.Load reg loc) registers = None
-moved_by (action.Move reg operand) registers = Some (record { reg = reg; value = value_in registers reg })
+moved_by (action.Move change) registers = given_by_move change registers
 moved_by action.Fence registers = None
 moved_by (action.Lock loc reg update) registers = None
 

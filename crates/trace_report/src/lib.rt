@@ -31,7 +31,7 @@ mod traced_run;
 
 pub use kept_trace::{TracedRun, simulate_telling_last, simulate_tracing};
 pub use states::states_of;
-pub use step::{LineRequest, LineState, Moved, StateChange, Step};
+pub use step::{Given, LineRequest, LineState, Moved, StateChange, Step};
 pub use telling::{Told, tell, tell_or_stall};
 pub use text::{write_end, write_stall, write_start, write_step};
 pub use traced_run::{MAX_STEPS, traced_json, word_beyond};

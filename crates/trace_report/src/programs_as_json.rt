@@ -6,14 +6,14 @@ ghost use Rattle.serde_json.specs.View.{view};
 ghost use Rattle.tso_terms.specs.Litmus.{KnownLocation};
 ghost use Rattle.tso_terms.specs.Registers.{name_of};
 ghost use Rattle.tso_report.specs.inner.Pieces.{line_piece};
-ghost use Rattle.trace_report.specs.ProgramsJson.{instruction_text, program_value, programs_value};
+ghost use Rattle.trace_report.specs.ProgramsJson.{operator_name, operand_text, instruction_text, program_value, programs_value};
 
 use crate::texts_as_json::text_value;
 use serde_json::Value;
 use std::alloc::Global;
 use tso_report::arrays::Array;
 use tso_report::pieces::Piece;
-use tso_terms::{Core, Instr, NoMemory, Reg, Test};
+use tso_terms::{Core, Instr, NoMemory, Operand, Operator, Reg, Test};
 
 /// For each core a list of its instructions, each as a text: `MOV [x],$1`.
 ///
@@ -66,7 +66,74 @@ fn instruction_value(alloc: Global, test: &Test, instr: &Instr) -> Result<Value,
         Instr::Fence => text_value(alloc, &[Piece::Text("MFENCE")]),
         Instr::Xchg(loc, reg) => with_location(alloc, "XCHG [", test.location_name(loc), reg),
         Instr::Xadd(loc, reg) => with_location(alloc, "LOCK XADD [", test.location_name(loc), reg),
+        Instr::CompareExchange(loc, reg) => {
+            with_location(alloc, "LOCK CMPXCHG [", test.location_name(loc), reg)
+        }
+        Instr::LockedCombine(loc, operator, operand) => {
+            let name = test.location_name(loc);
+            combined(alloc, "LOCK ", operator, " [", name, "],", operand)
+        }
+        Instr::LockedNegate(loc) => {
+            let name = Piece::Text(test.location_name(loc));
+            text_value(alloc, &[Piece::Text("LOCK NEG ["), name, Piece::Text("]")])
+        }
+        Instr::Combine(reg, operator, operand) => {
+            combined(alloc, "", operator, " ", reg.name(), ",", operand)
+        }
+        Instr::Negate(reg) => { text_value(alloc, &[Piece::Text("NEG "), Piece::Text(reg.name())]) }
+        Instr::Swap(reg, other) => {
+            spelled(
+                alloc,
+                "XCHG ",
+                reg.name(),
+                ",",
+                Piece::Text(other.name()),
+                "",
+            )
+        }
+        Instr::Nop => text_value(alloc, &[Piece::Text("NOP")]),
     }
+}
+
+fn operator_name(operator: Operator) -> &'static str
+    ensures { result.now ≡ operator_name operator }
+{
+    match operator {
+        Operator::Add => "ADD",
+        Operator::Subtract => "SUB",
+        Operator::And => "AND",
+        Operator::Or => "OR",
+        Operator::Xor => "XOR",
+    }
+}
+
+/// An instruction that combines a word with an operand: with what stands before the operator, behind it, and behind the word.
+fn combined(
+    alloc: Global,
+    front: &str,
+    operator: Operator,
+    before: &str,
+    word: &str,
+    after: &str,
+    operand: Operand,
+) -> Result<Value, NoMemory>
+    ensures { IfOk result (λ value. view value ≡ string (front.now ++ (operator_name operator
+        ++ (before.now ++ (word.now ++ (after.now ++ operand_text operand)))))) }
+{
+    let (sign, value) = match operand {
+        Operand::Number(number) => ("$", Piece::Number(number as u64)),
+        Operand::Held(reg) => ("", Piece::Text(reg.name())),
+    };
+    let pieces = [
+        Piece::Text(front),
+        Piece::Text(operator_name(operator)),
+        Piece::Text(before),
+        Piece::Text(word),
+        Piece::Text(after),
+        Piece::Text(sign),
+        value,
+    ];
+    text_value(alloc, &pieces)
 }
 
 /// An instruction of a location and then a register, `MOV [x],EAX`.

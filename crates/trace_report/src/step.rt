@@ -52,9 +52,18 @@ impl Drop for Step {
 
 /// A register, and the value that it was given.
 #[derive(Clone, Copy)]
-pub struct Moved {
+pub struct Given {
     pub reg: Reg,
     pub value: u32,
+}
+
+/// What a move gave.
+#[derive(Clone, Copy)]
+pub enum Moved {
+    /// One register has a value now.
+    One(Given),
+    /// Two registers have each other's values now.
+    Both(Given, Given),
 }
 
 /// A core's request for a line, by the line's number.

@@ -85,17 +85,29 @@ fn flush_value(alloc: Global, flushed: Option<Core>) -> Result<Value, NoMemory>
     }
 }
 
-/// The register that a value was moved to, `EAX=5`.
+/// The registers that values were moved to, `EAX=5`.
 fn move_value(alloc: Global, moved: Option<Moved>) -> Result<Value, NoMemory>
     ensures { IfOk result (λ value. view value ≡ text_or_null (option_map printed_move moved)) }
 {
     match moved {
         None => Ok(Value::Null),
-        Some(Moved { reg, value }) => {
+        Some(Moved::One(given)) => {
             let pieces = [
-                Piece::Text(reg.name()),
+                Piece::Text(given.reg.name()),
                 Piece::Text("="),
-                Piece::Number(value as u64),
+                Piece::Number(given.value as u64),
+            ];
+            text_value(alloc, &pieces)
+        }
+        Some(Moved::Both(given, other)) => {
+            let pieces = [
+                Piece::Text(given.reg.name()),
+                Piece::Text("="),
+                Piece::Number(given.value as u64),
+                Piece::Text(" "),
+                Piece::Text(other.reg.name()),
+                Piece::Text("="),
+                Piece::Number(other.value as u64),
             ];
             text_value(alloc, &pieces)
         }

@@ -9,7 +9,7 @@ ghost use Rattle.tso_terms.specs.Runs.{stall_count};
 ghost use Rattle.machine_core.specs.Running.{machine_after, AnswerFits};
 ghost use Rattle.trace_report.specs.Shown.{shown_step};
 ghost use Rattle.trace_report.specs.inner.Steps.{waited_before};
-ghost use Rattle.trace_report.specs.Steps.{is_forwarded, access_kind_in, moved_from, moved_by, buffer_if_changed, among, left_in, written_line, trace_step_of, states_of};
+ghost use Rattle.trace_report.specs.Steps.{is_forwarded, access_kind_in, moved_from, moved_by, register_given, given_by_move, buffer_if_changed, among, left_in, written_line, trace_step_of, states_of};
 ghost use Rattle.trace_report.specs.Known.{StepNamesExist};
 ghost use Rattle.trace_report.specs.inner.Told.{IsLookedAt};
 ghost use Rattle.trace_report.specs.Told.{IsTracedInStates};
@@ -19,12 +19,12 @@ ghost use Rattle.trace_report.specs.inner.ToldSteps.{told_step, stalls_told};
 
 use crate::sending::sent_by;
 use crate::states::{PlacedState, changes_in, states_of};
-use crate::step::{Moved, StateChange, Step, core_of};
+use crate::step::{Given, Moved, StateChange, Step, core_of};
 use machine_core::{CacheUse, Config, Machine};
 use protocol_tables::Protocol;
 use snoop_bus::AccessKind;
 use std::alloc::Global;
-use tso_terms::{Action, Choice, Core, Entry, Instr, NoMemory, Outcome, Stall, Test};
+use tso_terms::{Action, Change, Choice, Core, Entry, Instr, NoMemory, Outcome, Reg, Stall, Test};
 
 /// What is told of a choice: that it stalled and nothing else, or its step.
 #[derive(Drop)]
@@ -234,7 +234,7 @@ fn after(entries: &[Entry], count: usize) -> &[Entry]
     &entries[count.min(entries.len())..]
 }
 
-/// The register that a step at this place of its core's program moves a value to, and the value that it has then.
+/// What a step at this place of its core's program gave registers, if it is a move.
 fn moved_in<P: Protocol>(
     machine: &Machine<P>,
     test: &Test,
@@ -253,15 +253,36 @@ fn moved_in<P: Protocol>(
     }
 }
 
-/// The register that an instruction of a core moves a value to, and the value that it has now.
+/// A register of a core, and the value that it has now.
+fn register_given<P: Protocol>(machine: &Machine<P>, core: Core, reg: Reg) -> Given
+    ensures { result ≡ register_given (core_of machine.now.state.flat core.0).registers reg }
+{
+    Given {
+        reg,
+        value: machine.register(core, reg).unwrap_or(0),
+    }
+}
+
+/// What a move of a core gave.
+fn given_by_move<P: Protocol>(machine: &Machine<P>, core: Core, change: Change) -> Option<Moved>
+    ensures { result ≡ given_by_move change (core_of machine.now.state.flat core.0).registers }
+{
+    match change {
+        Change::Keep => None,
+        Change::Set(reg, _) => Some(Moved::One(register_given(machine, core, reg))),
+        Change::Swap(reg, other) => Some(Moved::Both(
+            register_given(machine, core, reg),
+            register_given(machine, core, other),
+        )),
+    }
+}
+
+/// What an instruction of a core gave registers, if it is a move.
 fn moved_by<P: Protocol>(machine: &Machine<P>, core: Core, instr: Instr) -> Option<Moved>
     ensures { result ≡ moved_by (action_of instr) (core_of machine.now.state.flat core.0).registers }
 {
     match instr.action() {
-        Action::Move(reg, _) => Some(Moved {
-            reg,
-            value: machine.register(core, reg).unwrap_or(0),
-        }),
+        Action::Move(change) => given_by_move(machine, core, change),
         Action::Store(..) | Action::Load(..) | Action::Fence | Action::Lock(..) => None,
     }
 }

@@ -5,7 +5,7 @@ ghost use Rattle.std.specs.Prelude.{◌≡◌, ◌++◌, OnOk, All, IfSome, code
 ghost use Rattle.order_builder.specs.PrintedOrder.{HasLocation};
 ghost use Rattle.trace_report.specs.Shown.{shown_step};
 ghost use Rattle.protocol_tables.specs.PrintedTable.{line};
-ghost use Rattle.trace_report.specs.Lines.{line_name, entries_text, moved_text, access_text, outcome_name, outcome_text};
+ghost use Rattle.trace_report.specs.Lines.{line_name, entries_text, printed_given, moved_text, access_text, outcome_name, outcome_text};
 ghost use Rattle.trace_report.specs.Lines.{bus_traffic_text, changes_text};
 ghost use Rattle.trace_report.specs.Lines.{printed_request, printed_change};
 ghost use Rattle.trace_report.specs.Lines.{stores_text, buffer_text, done_text};
@@ -15,7 +15,7 @@ ghost use Rattle.trace_report.specs.Stalls.{stall_line};
 
 use crate::names::{access_name, request_name, stall_name, state_name};
 use crate::pieces::{Piece, write_number, write_pieces};
-use crate::step::{LineRequest, Moved, StateChange, Step, core_of};
+use crate::step::{Given, LineRequest, Moved, StateChange, Step, core_of};
 use order_builder::write_entry;
 use snoop_bus::AccessKind;
 use tso_terms::{Choice, Core, Entry, Loc, NoMemory, Outcome, Stall, Test};
@@ -140,19 +140,27 @@ fn write_entries(text: &mut String, test: &Test, entries: &[Entry]) -> Result<()
     Ok(())
 }
 
+fn write_given(text: &mut String, given: Given) -> Result<(), NoMemory>
+    ensures { OnOk result (string_bytes text.new ≡ string_bytes text.old ++ (codes " " ++ printed_given given)) }
+{
+    let pieces = [
+        Piece::Word(" "),
+        Piece::Word(given.reg.name()),
+        Piece::Word("="),
+        Piece::Number(given.value as usize),
+    ];
+    write_pieces(text, &pieces)
+}
+
 fn write_moved(text: &mut String, moved: Option<Moved>) -> Result<(), NoMemory>
     ensures { OnOk result (string_bytes text.new ≡ string_bytes text.old ++ moved_text moved) }
 {
     match moved {
         None => Ok(()),
-        Some(Moved { reg, value }) => {
-            let pieces = [
-                Piece::Word(" "),
-                Piece::Word(reg.name()),
-                Piece::Word("="),
-                Piece::Number(value as usize),
-            ];
-            write_pieces(text, &pieces)
+        Some(Moved::One(given)) => write_given(text, given),
+        Some(Moved::Both(given, other)) => {
+            write_given(text, given)?;
+            write_given(text, other)
         }
     }
 }

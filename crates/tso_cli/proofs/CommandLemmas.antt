@@ -1,5 +1,5 @@
 -- From the bytes that were read and written to what the definitions say of the whole input.
-use Rattle.tso_cli.proofs.Vocabulary.{◌≡◌, ◌+◌, ℕ, ◌≤◌, ◌<◌, List, [], ◌∷◌, length, take, Option, Some, None, IfSome, arith, ap, refl, subst, length-take, zero, suc, SpellsTest, longest_input, parts_of, IsInputAnswer, IsAnswerTo, IsAnswer, most_read, too_large, refused, answered, InputHeadline, PartsHeadline, Headline, Settings, Status}
+use Rattle.tso_cli.proofs.Vocabulary.{◌≡◌, ◌+◌, ℕ, ◌≤◌, ◌<◌, List, [], ◌∷◌, length, take, Option, Some, None, IfSome, arith, ap, refl, subst, length-take, zero, suc, SpellsTest, longest_input, parts_of, IsInputAnswer, IsAnswerTo, IsAnswer, most_read, too_large, refused, answered, InputHeadline, PartsHeadline, Headline, Settings, instructions_of, Status}
 use Rattle.litmus_reader.specs.Spelling.{IsRefused as IsRefusedTest}
 use Rattle.command_line.specs.declared.settings.Settings.TheVariants as settings
 
@@ -26,10 +26,10 @@ IsInputAnswer-from_read : (s : Settings) (input out : List ℕ) (status : Status
 IsInputAnswer-from_read s input _ _ (too_large large) = too_large (omega (arith, length-take (longest_input + 1) input))
 IsInputAnswer-from_read s input _ _ (refused fault small is) =
     let fits = short input small in
-    refused fault fits (subst (λ i. IsRefusedTest (parts_of i).test fault) (whole input fits) is)
+    refused fault fits (subst (λ i. IsRefusedTest (instructions_of s) (parts_of i).test fault) (whole input fits) is)
 IsInputAnswer-from_read s input _ _ (answered t out status small spelled answer) =
     let fits = short input small in
-    answered t out status fits (subst (λ i. SpellsTest (parts_of i).test t) (whole input fits) spelled)
+    answered t out status fits (subst (λ i. SpellsTest (instructions_of s) (parts_of i).test t) (whole input fits) spelled)
     (subst (λ i. IsAnswerTo s t (parts_of i).rest out status) (whole input fits) answer)
 
 InputHeadline-from_read : (s : Settings) (input out : List ℕ) → InputHeadline s (read input) out → InputHeadline s input out

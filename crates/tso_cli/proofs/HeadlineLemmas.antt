@@ -1,5 +1,5 @@
 -- The headline holds of each answer.
-use Rattle.tso_cli.proofs.Vocabulary.{◌≡◌, ◌<◌, ◌^◌, ℕ, Bool, List, ◌++◌, length, true, false, Option, Some, None, IfSome, subst, refl, arith, Litmus, IsTest, IsWhole, StandsIn, KeepsAllOrder, Bus, Atomic, Choice, Entry, FitsTest, IsExecution, IsDecidedAsChoices, IsOrderFor, SpellsOrder, Table, table_of, ProtocolKind, Configuration, IsConfigurationWithinLimits, head, report, ShownRun, IsAnswerTo, IsInputAnswer, IsAnswer, too_large, answered, run_text, IsRunAnswer, ran, IsWithinLimits, parts_of, Plan, PrintsExecution, PrintsEachRun, HeadlineOfRuns, ending_text, traced_in, IsTooLong, IsTraceAnswer, too_long, traced, PrintsTraceIn, PrintsEachTrace, HeadlineOfTraces, PrintsSweep, HeadlineOfSweeps, HeadlineOf, InputHeadline, Headline, run_by, run_under, AnswersFitBy, AnswersFit, counts_under, unfinished_run_line, report_in, unfinished_in, shown_of, Settings, Status, AreReadOneWay}
+use Rattle.tso_cli.proofs.Vocabulary.{◌≡◌, ◌<◌, ◌^◌, ℕ, Bool, List, ◌++◌, length, true, false, Option, Some, None, IfSome, subst, refl, arith, Litmus, IsTest, IsWhole, StandsIn, KeepsAllOrder, Bus, Atomic, Choice, Entry, FitsTest, IsExecution, IsDecidedAsChoices, IsOrderFor, SpellsOrder, Table, table_of, ProtocolKind, Configuration, IsConfigurationWithinLimits, head, report, ShownRun, IsAnswerTo, IsInputAnswer, IsAnswer, too_large, answered, run_text, IsRunAnswer, ran, IsWithinLimits, parts_of, Plan, PrintsExecution, PrintsEachRun, HeadlineOfRuns, ending_text, traced_in, IsTooLong, IsTraceAnswer, too_long, traced, PrintsTraceIn, PrintsEachTrace, HeadlineOfTraces, PrintsSweep, HeadlineOfSweeps, HeadlineOf, InputHeadline, Headline, run_by, run_under, AnswersFitBy, AnswersFit, counts_under, unfinished_run_line, report_in, unfinished_in, shown_of, Settings, instructions_of, Status, AreReadOneWay}
 use Rattle.tso_laws.specs.Words.{HoldsWords}
 use Rattle.cache_set.specs.Geometry.{IsShapeWithinLimits as IsShape}
 use Rattle.tso_cli.specs.Answers.{refused}
@@ -187,28 +187,28 @@ report-spells t kind c false choices out laws test within fit is ended plain =
 
 answer-means : (s : Settings) (t : Litmus) (text out : List ℕ) (status : Status) → AreReadOneWay → Runs → Reaching → Searches → Refuting → IsWithinLimits s → IsTest t → length text < 2 ^ 64
     → IsAnswerTo s t text out status → HeadlineOf s t text out
-answer-means (settings.Run kind c json) t text out status texts runs reaching searches refuting within test short is =
+answer-means (settings.Run kind c set json) t text out status texts runs reaching searches refuting within test short is =
     runs-by-bus t kind c json text out
     (run-means t kind c json text out status (texts.decided (length t.programs) text test.some_core) (λ choices. runs.executions (table_of kind) c t choices test)
     (λ choices none. runs.unbuffered (table_of kind) c t choices none test)
     (λ choices out. report-spells t kind c json choices out runs test within) is)
-answer-means (settings.Trace kind c json) t text out status texts runs reaching searches refuting within test short is =
+answer-means (settings.Trace kind c set json) t text out status texts runs reaching searches refuting within test short is =
     traces-by-bus t kind c json text out
     (trace-means t kind c json text out status (texts.decided (length t.programs) text test.some_core) (λ choices. runs.executions (table_of kind) c t choices test)
     (λ choices none. runs.unbuffered (table_of kind) c t choices none test)
     (λ choices out. report-spells t kind c json choices out runs test within) is)
-answer-means (settings.Sweep kind c plan) t text out status texts runs reaching searches refuting within test short is =
+answer-means (settings.Sweep kind c set plan) t text out status texts runs reaching searches refuting within test short is =
     sweeps-by-bus t kind c plan out
     (sweep-means t kind c plan out status (λ choices. runs.executions (table_of kind) c t choices test) (λ choices none. runs.unbuffered (table_of kind) c t choices none test) (runs.atomic (table_of kind) c t) is)
-answer-means (settings.Counts kind c plan json) t text out status texts runs reaching searches refuting within test short is =
+answer-means (settings.Counts kind c set plan json) t text out status texts runs reaching searches refuting within test short is =
     counts-mean t kind c plan json text out status (texts.decided (length t.programs) text test.some_core) (λ choices. runs.executions (table_of kind) c t choices test) is
-answer-means (settings.Outcomes search json assert) t text out status texts runs reaching searches refuting within test short is =
+answer-means (settings.Outcomes search set json assert) t text out status texts runs reaching searches refuting within test short is =
     outcomes-mean t search json assert out status reaching searches test is
-answer-means (settings.Why plan json assert) t text out status texts runs reaching searches refuting within test short is =
+answer-means (settings.Why plan set json assert) t text out status texts runs reaching searches refuting within test short is =
     reasons-mean t plan json assert out status reaching refuting test is
-answer-means settings.Check t text out status texts runs reaching searches refuting within test short is =
+answer-means (settings.Check set) t text out status texts runs reaching searches refuting within test short is =
     check-means t text out status texts.real texts.one texts.once texts.never_both test short is
-answer-means (settings.Witness depth) t text out status texts runs reaching searches refuting within test short is =
+answer-means (settings.Witness depth set) t text out status texts runs reaching searches refuting within test short is =
     witness-means t depth text out status texts reaching test within short is
 answer-means (settings.Tables kind) t text out status texts runs reaching searches refuting within test short is = is.text
 
@@ -217,15 +217,15 @@ pub input-means : (s : Settings) (input out : List ℕ) (status : Status) → Ar
 input-means s input _ _ texts runs reaching searches refuting within (too_large large) = record { within = λ small. absurd (omega arith); above = λ _. refl }
 input-means s input _ _ texts runs reaching searches refuting within (refused fault small is) = record {
   within = λ _. record {
-    every_test = λ t spelled. absurd (texts.refused_or_not _ t fault spelled is);
+    every_test = λ t spelled. absurd (texts.refused_or_not (instructions_of s) (parts_of input).test t fault spelled is);
     every_other = λ none. (fault, is, refl);
   };
   above = λ large. absurd (omega arith);
 }
 input-means s input _ _ texts runs reaching searches refuting within (answered t out status small spelled is) = record {
   within = λ _. record {
-    every_test = λ other too. subst (λ (t : Litmus). HeadlineOf s t (parts_of input).rest out) (texts.one_test _ t other spelled too)
-        (answer-means s t (parts_of input).rest out status texts runs reaching searches refuting within (texts.test _ t spelled) (short_rest input small) is);
+    every_test = λ other too. subst (λ (t : Litmus). HeadlineOf s t (parts_of input).rest out) (texts.one_test (instructions_of s) (parts_of input).test t other spelled too)
+        (answer-means s t (parts_of input).rest out status texts runs reaching searches refuting within (texts.test (instructions_of s) (parts_of input).test t spelled) (short_rest input small) is);
     every_other = λ none. absurd (none t spelled);
   };
   above = λ large. absurd (omega arith);

@@ -1,5 +1,5 @@
 -- On the atomic bus the protocol and the shape of the caches change two kinds of lines alone.
-use Rattle.tso_cli.proofs.Vocabulary.{◌≡◌, ◌<◌, ◌==◌, ◌+◌, ℕ, zero, suc, Bool, true, false, cond, List, [], ◌∷◌, ◌++◌, length, Some, codes, refl, sym, ap, subst, ◌∙◌, inl, inr, append_assoc, append-nil, decimal, Litmus, registers_in, Run, run, Choice, IsDecidedAsChoices, TooMany, table_of, ProtocolKind, Configuration, printed_order, ShownRun, line, head, body, test_line, machine_line, register_lines, memory_line, condition_line, choices_line, cache_lines, report, RunCounts, tally_text, Plan, EndsInFeed, choices_refusal, unfinished_run_line, report_in, unfinished_in, run_under, counts_under, shown_of, verdict, sweep_status, IsSweepAnswer, choices_of, seeded_run, with_one_run, counts_from, sweep_counts, IsAnswer, run_text, run_status, status_under, IsRunAnswer, ran, ending_text, IsTraceAnswer, traced, traced_in, FitsForm, IsTooLong, too_long, trace_text, trace_under, json_ended, json_unended, AreReadOneWay, Status, Good, Refused, Unended, atomic-run, counts-each}
+use Rattle.tso_cli.proofs.Vocabulary.{Instructions, ◌≡◌, ◌<◌, ◌==◌, ◌+◌, ℕ, zero, suc, Bool, true, false, cond, List, [], ◌∷◌, ◌++◌, length, Some, codes, refl, sym, ap, subst, ◌∙◌, inl, inr, append_assoc, append-nil, decimal, Litmus, registers_in, Run, run, Choice, IsDecidedAsChoices, TooMany, table_of, ProtocolKind, Configuration, printed_order, ShownRun, line, head, body, test_line, machine_line, register_lines, memory_line, condition_line, choices_line, cache_lines, report, RunCounts, tally_text, Plan, EndsInFeed, choices_refusal, unfinished_run_line, report_in, unfinished_in, run_under, counts_under, shown_of, verdict, sweep_status, IsSweepAnswer, choices_of, seeded_run, with_one_run, counts_from, sweep_counts, IsAnswer, run_text, run_status, status_under, IsRunAnswer, ran, ending_text, IsTraceAnswer, traced, traced_in, FitsForm, IsTooLong, too_long, trace_text, trace_under, json_ended, json_unended, AreReadOneWay, Status, Good, Refused, Unended, atomic-run, counts-each}
 use Rattle.multiprocessor.specs.declared.counts.Counts.{Counts}
 use Rattle.tso_report.specs.Json.{json_report}
 use Rattle.tso_report.specs.inner.JsonFrame.{other_members}
@@ -270,26 +270,26 @@ sweep-answers-alike t kind other c d plan out again status too shape is is_too =
       refused = λ is_refused. absurd (never-refused ((sweep_counts t kind c plan).unfinished == 0) (sym is.status_is ∙ is_refused));
     }
 
-pub runs-alike : (kind other : ProtocolKind) (c d : Configuration) (json : Bool) (input out again : List ℕ) (status too : Status) → AreReadOneWay → AreAtomicAtOneDepth c d
-    → IsAnswer (settings.Run kind c json) (Some input) out status → IsAnswer (settings.Run other d json) (Some input) again too
+pub runs-alike : (kind other : ProtocolKind) (c d : Configuration) (set : Instructions) (json : Bool) (input out again : List ℕ) (status too : Status) → AreReadOneWay → AreAtomicAtOneDepth c d
+    → IsAnswer (settings.Run kind c set json) (Some input) out status → IsAnswer (settings.Run other d set json) (Some input) again too
     → RunsAnswerAlike json kind other c d out again status too
-runs-alike kind other c d json input out again status too law shape is is_too =
-    inputs-alike (settings.Run kind c json) (settings.Run other d json) (RunsAnswerAlike json kind other c d) input out again status too law
+runs-alike kind other c d set json input out again status too law shape is is_too =
+    inputs-alike (settings.Run kind c set json) (settings.Run other d set json) (RunsAnswerAlike json kind other c d) input out again status too law refl
     (λ text. refusals-alike json kind other c d text text refl)
     (λ t text out again status too test short. run-answers-alike t kind other c d json text out again status too (law.decided (length t.programs) text test.some_core) shape) is is_too
 
-pub traces-alike : (kind other : ProtocolKind) (c d : Configuration) (json : Bool) (input out again : List ℕ) (status too : Status) → AreReadOneWay → AreAtomicAtOneDepth c d
-    → IsAnswer (settings.Trace kind c json) (Some input) out status → IsAnswer (settings.Trace other d json) (Some input) again too
+pub traces-alike : (kind other : ProtocolKind) (c d : Configuration) (set : Instructions) (json : Bool) (input out again : List ℕ) (status too : Status) → AreReadOneWay → AreAtomicAtOneDepth c d
+    → IsAnswer (settings.Trace kind c set json) (Some input) out status → IsAnswer (settings.Trace other d set json) (Some input) again too
     → TracesAnswerAlike json kind other c d out again status too
-traces-alike kind other c d json input out again status too law shape is is_too =
-    inputs-alike (settings.Trace kind c json) (settings.Trace other d json) (TracesAnswerAlike json kind other c d) input out again status too law
+traces-alike kind other c d set json input out again status too law shape is is_too =
+    inputs-alike (settings.Trace kind c set json) (settings.Trace other d set json) (TracesAnswerAlike json kind other c d) input out again status too law refl
     (λ text. trace-refusals-alike json kind other c d text text refl)
     (λ t text out again status too test short. trace-answers-alike t kind other c d json text out again status too test.some_core (law.decided (length t.programs) text test.some_core) shape) is is_too
 
-pub sweeps-alike : (kind other : ProtocolKind) (c d : Configuration) (plan : Plan) (input out again : List ℕ) (status too : Status) → AreReadOneWay → AreAtomicAtOneDepth c d
-    → IsAnswer (settings.Sweep kind c plan) (Some input) out status → IsAnswer (settings.Sweep other d plan) (Some input) again too
+pub sweeps-alike : (kind other : ProtocolKind) (c d : Configuration) (set : Instructions) (plan : Plan) (input out again : List ℕ) (status too : Status) → AreReadOneWay → AreAtomicAtOneDepth c d
+    → IsAnswer (settings.Sweep kind c set plan) (Some input) out status → IsAnswer (settings.Sweep other d set plan) (Some input) again too
     → SweepsAnswerAlike kind other c d out again status too
-sweeps-alike kind other c d plan input out again status too law shape is is_too =
-    inputs-alike (settings.Sweep kind c plan) (settings.Sweep other d plan) (SweepsAnswerAlike kind other c d) input out again status too law
+sweeps-alike kind other c d set plan input out again status too law shape is is_too =
+    inputs-alike (settings.Sweep kind c set plan) (settings.Sweep other d set plan) (SweepsAnswerAlike kind other c d) input out again status too law refl
     (λ text. record { status = refl; swept = λ not_refused. absurd (not_refused refl); refused = λ is_refused. refl })
     (λ t text out again status too test short. sweep-answers-alike t kind other c d plan out again status too shape) is is_too

@@ -1,5 +1,6 @@
 -- There is one answer to an input.
-use Rattle.tso_cli.proofs.Vocabulary.{◌≡◌, ◌≤◌, ◌<◌, ◌^◌, ℕ, Bool, List, length, Some, refl, sym, ◌∙◌, ap, subst, arith, Litmus, IsTest, Entry, IsDecidedAsChoices, TooMany, ProtocolKind, Configuration, parts_of, run_under, counts_under, test_refusal, input_refusal, Refused, choices_refusal, order_refusal, invalid_line, IsAnswerTo, IsInputAnswer, IsAnswer, too_large, answered, run_text, run_status, IsRunAnswer, IsJudgement, IsCheckAnswer, ran, valid, traced_in, IsTooLong, IsTraceAnswer, too_long, traced, IsWitness, IsWitnessAnswer, reached, too_small, Settings, Status, GivesOneAnswer, AreReadOneWay}
+use Rattle.tso_cli.proofs.Vocabulary.{◌≡◌, ◌≤◌, ◌<◌, ◌^◌, ℕ, Bool, List, length, Some, refl, sym, ◌∙◌, ap, subst, arith, Litmus, IsTest, Entry, SpellsTest, IsDecidedAsChoices, TooMany, ProtocolKind, Configuration, parts_of, run_under, counts_under, test_refusal, input_refusal, Refused, choices_refusal, order_refusal, invalid_line, IsAnswerTo, IsInputAnswer, IsAnswer, too_large, answered, run_text, run_status, IsRunAnswer, IsJudgement, IsCheckAnswer, ran, valid, traced_in, IsTooLong, IsTraceAnswer, too_long, traced, IsWitness, IsWitnessAnswer, reached, too_small, Settings, instructions_of, Status, GivesOneAnswer, AreReadOneWay}
+use Rattle.litmus_reader.specs.Spelling.{IsRefused as IsRefusedTest}
 use Rattle.tso_cli.specs.Answers.{refused}
 use Rattle.tso_cli.specs.CommandAnswers.{refused, judged, invalid}
 use Rattle.tso_cli.specs.Trace.{refused}
@@ -76,39 +77,42 @@ one_witness_answer t depth text _ _ _ _ law test short (judged order out status 
 
 one_answer_to : (s : Settings) (t : Litmus) (text out other : List ℕ) (status again : Status) → AreReadOneWay → GivesOneAnswer s → IsTest t → length text < 2 ^ 64
     → IsAnswerTo s t text out status → IsAnswerTo s t text other again → Same out other status again
-one_answer_to (settings.Run kind c json) t text out other status again law one test short is too = one_run_answer t kind c json text out other status again (law.decided (length t.programs) text test.some_core) is too
-one_answer_to (settings.Trace kind c json) t text out other status again law one test short is too = one_trace_answer t kind c json text out other status again test.some_core (law.decided (length t.programs) text test.some_core) is too
-one_answer_to (settings.Sweep kind c plan) t text out other status again law one test short is too = (is.text ∙ sym too.text, is.status_is ∙ sym too.status_is)
-one_answer_to (settings.Counts kind c plan json) t text out other status again law one test short is too = one-counts-answer t kind c plan json text out other status again (law.decided (length t.programs) text test.some_core) is too
-one_answer_to (settings.Outcomes search json assert) t text out other status again law one test short is too = absurd one
-one_answer_to (settings.Why plan json assert) t text out other status again law one test short is too = absurd one
-one_answer_to settings.Check t text out other status again law one test short is too = one_check_answer t text out other status again law test short is too
-one_answer_to (settings.Witness depth) t text out other status again law one test short is too = one_witness_answer t depth text out other status again law test short is too
+one_answer_to (settings.Run kind c set json) t text out other status again law one test short is too = one_run_answer t kind c json text out other status again (law.decided (length t.programs) text test.some_core) is too
+one_answer_to (settings.Trace kind c set json) t text out other status again law one test short is too = one_trace_answer t kind c json text out other status again test.some_core (law.decided (length t.programs) text test.some_core) is too
+one_answer_to (settings.Sweep kind c set plan) t text out other status again law one test short is too = (is.text ∙ sym too.text, is.status_is ∙ sym too.status_is)
+one_answer_to (settings.Counts kind c set plan json) t text out other status again law one test short is too = one-counts-answer t kind c plan json text out other status again (law.decided (length t.programs) text test.some_core) is too
+one_answer_to (settings.Outcomes search set json assert) t text out other status again law one test short is too = absurd one
+one_answer_to (settings.Why plan set json assert) t text out other status again law one test short is too = absurd one
+one_answer_to (settings.Check set) t text out other status again law one test short is too = one_check_answer t text out other status again law test short is too
+one_answer_to (settings.Witness depth set) t text out other status again law one test short is too = one_witness_answer t depth text out other status again law test short is too
 one_answer_to (settings.Tables kind) t text out other status again law one test short is too = (is.text ∙ sym too.text, is.status_is ∙ sym too.status_is)
 
 pub short_rest : (input : List ℕ) → length input ≤ 1048576 → length (parts_of input).rest < 2 ^ 64
 short_rest input small = let within = rest_within input in omega arith
 
 -- of whole inputs: two commands answer alike, where they do so of each test and of what is refused
-pub inputs-alike : (s other : Settings) (Alike : List ℕ → List ℕ → Status → Status → Type 0) (input out again : List ℕ) (status too : Status) → AreReadOneWay
+pub inputs-alike : (s other : Settings) (Alike : List ℕ → List ℕ → Status → Status → Type 0) (input out again : List ℕ) (status too : Status) → AreReadOneWay → instructions_of other ≡ instructions_of s
     → ((text : List ℕ) → Alike text text Refused Refused)
     → ((t : Litmus) (text out again : List ℕ) (status too : Status) → IsTest t → length text < 2 ^ 64 → IsAnswerTo s t text out status → IsAnswerTo other t text again too → Alike out again status too)
     → IsInputAnswer s input out status → IsInputAnswer other input again too → Alike out again status too
-inputs-alike s other Alike input _ _ _ _ law same step (too_large l) (too_large m) = same input_refusal
-inputs-alike s other Alike input _ _ _ _ law same step (too_large l) (refused f small h) = absurd (omega arith)
-inputs-alike s other Alike input _ _ _ _ law same step (too_large l) (answered t out status small spelled is) = absurd (omega arith)
-inputs-alike s other Alike input _ _ _ _ law same step (refused f small h) (too_large m) = absurd (omega arith)
-inputs-alike s other Alike input _ _ _ _ law same step (refused f small h) (refused g less k) =
-    subst (λ (text : List ℕ). Alike (test_refusal f) text Refused Refused) (ap test_refusal (law.one_refusal _ f g h k)) (same (test_refusal f))
-inputs-alike s other Alike input _ _ _ _ law same step (refused f small h) (answered t out status less spelled is) = absurd (law.refused_or_not _ t f spelled h)
-inputs-alike s other Alike input _ _ _ _ law same step (answered t out status small spelled is) (too_large m) = absurd (omega arith)
-inputs-alike s other Alike input _ _ _ _ law same step (answered t out status small spelled is) (refused f less h) = absurd (law.refused_or_not _ t f spelled h)
-inputs-alike s other Alike input _ _ _ _ law same step (answered t out status small spelled is) (answered t2 out2 status2 less spelled2 is2) =
-    step t2 (parts_of input).rest out out2 status status2 (law.test _ t2 spelled2) (short_rest input small)
-    (subst (λ t. IsAnswerTo s t (parts_of input).rest out status) (law.one_test _ t t2 spelled spelled2) is) is2
+inputs-alike s other Alike input _ _ _ _ law together same step (too_large l) (too_large m) = same input_refusal
+inputs-alike s other Alike input _ _ _ _ law together same step (too_large l) (refused f small h) = absurd (omega arith)
+inputs-alike s other Alike input _ _ _ _ law together same step (too_large l) (answered t out status small spelled is) = absurd (omega arith)
+inputs-alike s other Alike input _ _ _ _ law together same step (refused f small h) (too_large m) = absurd (omega arith)
+inputs-alike s other Alike input _ _ _ _ law together same step (refused f small h) (refused g less k) =
+    subst (λ (text : List ℕ). Alike (test_refusal f) text Refused Refused) (ap test_refusal (law.one_refusal (instructions_of s) (parts_of input).test f g h (subst (λ set. IsRefusedTest set (parts_of input).test g) together k))) (same (test_refusal f))
+inputs-alike s other Alike input _ _ _ _ law together same step (refused f small h) (answered t out status less spelled is) =
+    absurd (law.refused_or_not (instructions_of s) (parts_of input).test t f (subst (λ set. SpellsTest set (parts_of input).test t) together spelled) h)
+inputs-alike s other Alike input _ _ _ _ law together same step (answered t out status small spelled is) (too_large m) = absurd (omega arith)
+inputs-alike s other Alike input _ _ _ _ law together same step (answered t out status small spelled is) (refused f less h) =
+    absurd (law.refused_or_not (instructions_of s) (parts_of input).test t f spelled (subst (λ set. IsRefusedTest set (parts_of input).test f) together h))
+inputs-alike s other Alike input _ _ _ _ law together same step (answered t out status small spelled is) (answered t2 out2 status2 less spelled2 is2) =
+    let too : SpellsTest (instructions_of s) (parts_of input).test t2 = subst (λ set. SpellsTest set (parts_of input).test t2) together spelled2 in
+    step t2 (parts_of input).rest out out2 status status2 (law.test (instructions_of s) (parts_of input).test t2 too) (short_rest input small)
+    (subst (λ t. IsAnswerTo s t (parts_of input).rest out status) (law.one_test (instructions_of s) (parts_of input).test t t2 spelled too) is) is2
 
 pub one_answer : (s : Settings) (input out other : List ℕ) (status again : Status) → AreReadOneWay → GivesOneAnswer s
     → IsAnswer s (Some input) out status → IsAnswer s (Some input) other again → Same out other status again
 one_answer (settings.Tables kind) input out other status again law one is too = (is.text ∙ sym too.text, is.status_is ∙ sym too.status_is)
 one_answer s input out other status again law one is too =
-    inputs-alike s s Same input out other status again law (λ text. (refl, refl)) (λ t text out other status again test short is too. one_answer_to s t text out other status again law one test short is too) is too
+    inputs-alike s s Same input out other status again law refl (λ text. (refl, refl)) (λ t text out other status again test short is too. one_answer_to s t text out other status again law one test short is too) is too

@@ -1,5 +1,5 @@
 -- What the headline decides by itself.
-use Rattle.tso_cli.proofs.Vocabulary.{◌≡◌, ◌<◌, ◌≤◌, ◌^◌, ◌+◌, ◌⊎◌, inl, inr, ℕ, zero, suc, Bool, true, false, cond, List, ◌++◌, length, Option, Some, None, IfSome, Contains, refl, sym, ap, subst, ◌∙◌, arith, keys_of, bytes_eq-Decides, Litmus, IsTest, Condition, IsTsoExecution, final_words, final_registers, Run, run, Bus, Atomic, Split, Choice, Entry, SpellsTest, TextFault, SpellsChoices, IsRefusedAsChoices, IsDecidedAsChoices, TooMany, SpellsOrder, HasFault, OrderFault, IsFirstBreach, Breach, ProtocolKind, Configuration, head, observation, counted_state_lines, sweep_line, ended_in, run_counts, Plan, longest_input, Parts, parts_of, test_refusal, choices_refusal, order_refusal, invalid_line, verdict, sweep_lines, PrintsExecution, PrintsEachRun, HeadlineOfRuns, seeded_order, final_values, has_values, has_truth, seeds_from, seeds_with, PrintsSweep, HeadlineOfSweeps, JudgesOrder, JudgesEachOrder, WitnessesOrder, WitnessesEachOrder, unreached, broken, HeadlineOf, PartsHeadline, InputHeadline, ShowOneExecution, AreOneRun, AreOneTrace, AreOneWitness, PrintsEachTrace, HeadlineOfTraces, PrintsTrace, PrintsTracedObject, PrintsTraceIn, trace_text, trace_under, FitsForm, IsTooLong, AreReadOneWay, Settings}
+use Rattle.tso_cli.proofs.Vocabulary.{◌≡◌, ◌<◌, ◌≤◌, ◌^◌, ◌+◌, ◌⊎◌, inl, inr, ℕ, zero, suc, Bool, true, false, cond, List, ◌++◌, length, Option, Some, None, IfSome, Contains, refl, sym, ap, subst, ◌∙◌, arith, keys_of, bytes_eq-Decides, Litmus, IsTest, Condition, IsTsoExecution, final_words, final_registers, Run, run, Bus, Atomic, Split, Choice, Entry, SpellsTest, Instructions, instructions_of, TextFault, SpellsChoices, IsRefusedAsChoices, IsDecidedAsChoices, TooMany, SpellsOrder, HasFault, OrderFault, IsFirstBreach, Breach, ProtocolKind, Configuration, head, observation, counted_state_lines, sweep_line, ended_in, run_counts, Plan, longest_input, Parts, parts_of, test_refusal, choices_refusal, order_refusal, invalid_line, verdict, sweep_lines, PrintsExecution, PrintsEachRun, HeadlineOfRuns, seeded_order, final_values, has_values, has_truth, seeds_from, seeds_with, PrintsSweep, HeadlineOfSweeps, JudgesOrder, JudgesEachOrder, WitnessesOrder, WitnessesEachOrder, unreached, broken, HeadlineOf, PartsHeadline, InputHeadline, ShowOneExecution, AreOneRun, AreOneTrace, AreOneWitness, PrintsEachTrace, HeadlineOfTraces, PrintsTrace, PrintsTracedObject, PrintsTraceIn, trace_text, trace_under, FitsForm, IsTooLong, AreReadOneWay, Settings}
 use Rattle.litmus_reader.specs.Spelling.{IsRefused as IsRefusedTest, IsDecided as IsDecidedTest}
 use Rattle.scheduler.specs.declared.fault.ChoiceFault.{ChoiceFault}
 use Rattle.tso_cli.specs.SplitRun.{split_run}
@@ -12,7 +12,7 @@ use Rattle.tso_cli.proofs.TraceLengths.{too-long-or-not, one-word}
 
 -- each text and each order is one or the other
 pub record AreDecided : Type 0 where
-  pub tests : (text : List ℕ) → IsDecidedTest text
+  pub tests : (set : Instructions) (text : List ℕ) → IsDecidedTest set text
   pub orders : (t : Litmus) (text : List ℕ) → IsTest t → length text < 2 ^ 64
       → ((order : List Entry) × SpellsOrder t text order) ⊎ ((fault : OrderFault) × HasFault t text fault)
   pub judged : (t : Litmus) (order : List Entry) → IsTsoExecution t order ⊎ ((b : Breach) × IsFirstBreach t order b)
@@ -251,15 +251,15 @@ sizes n m = grind arith
 parts-one : (s : Settings) (Same : List ℕ → List ℕ → Type 0) (parts : Parts) (out other : List ℕ) → AreReadOneWay → AreDecided → ((a b : List ℕ) → a ≡ b → Same a b)
     → ((t : Litmus) → IsTest t → HeadlineOf s t parts.rest out → HeadlineOf s t parts.rest other → Same out other)
     → PartsHeadline s parts out → PartsHeadline s parts other → Same out other
-parts-one s Same parts out other law decided same step p q = by_text (decided.tests parts.test).always
+parts-one s Same parts out other law decided same step p q = by_text (decided.tests (instructions_of s) parts.test).always
   where
-    by_text : ((t : Litmus) × SpellsTest parts.test t) ⊎ ((fault : TextFault) × IsRefusedTest parts.test fault) → Same out other
-    by_text (inl spells) = step spells.0 (law.test parts.test spells.0 spells.1) (p.every_test spells.0 spells.1) (q.every_test spells.0 spells.1)
+    by_text : ((t : Litmus) × SpellsTest (instructions_of s) parts.test t) ⊎ ((fault : TextFault) × IsRefusedTest (instructions_of s) parts.test fault) → Same out other
+    by_text (inl spells) = step spells.0 (law.test (instructions_of s) parts.test spells.0 spells.1) (p.every_test spells.0 spells.1) (q.every_test spells.0 spells.1)
     by_text (inr faulty) =
-        let none : (t : Litmus) → ¬ (SpellsTest parts.test t) = λ t spelled. law.refused_or_not parts.test t faulty.0 spelled faulty.1 in
+        let none : (t : Litmus) → ¬ (SpellsTest (instructions_of s) parts.test t) = λ t spelled. law.refused_or_not (instructions_of s) parts.test t faulty.0 spelled faulty.1 in
         let first = p.every_other none in
         let second = q.every_other none in
-        same out other (first.2 ∙ ap test_refusal (law.one_refusal parts.test first.0 second.0 first.1 second.1) ∙ sym second.2)
+        same out other (first.2 ∙ ap test_refusal (law.one_refusal (instructions_of s) parts.test first.0 second.0 first.1 second.1) ∙ sym second.2)
 
 input-one : (s : Settings) (Same : List ℕ → List ℕ → Type 0) (input out other : List ℕ) → AreReadOneWay → AreDecided → ((a b : List ℕ) → a ≡ b → Same a b)
     → ((t : Litmus) → IsTest t → length (parts_of input).rest < 2 ^ 64 → HeadlineOf s t (parts_of input).rest out → HeadlineOf s t (parts_of input).rest other → Same out other)
@@ -271,35 +271,35 @@ input-one s Same input out other law decided same step p q = by_size (sizes (len
         parts-one s Same (parts_of input) out other law decided same (λ t test. step t test (short_rest input small)) (p.within small) (q.within small)
     by_size (inr large) = same out other (p.above large ∙ sym (q.above large))
 
-pub runs-one : (kind : ProtocolKind) (c : Configuration) (json : Bool) (input out other : List ℕ) → AreReadOneWay → AreDecided
-    → InputHeadline (settings.Run kind c json) input out → InputHeadline (settings.Run kind c json) input other → AreOneRun kind c json out other
-runs-one kind c json input out other law decided =
-    input-one (settings.Run kind c json) (AreOneRun kind c json) input out other law decided (λ a b same. inl same)
+pub runs-one : (kind : ProtocolKind) (c : Configuration) (set : Instructions) (json : Bool) (input out other : List ℕ) → AreReadOneWay → AreDecided
+    → InputHeadline (settings.Run kind c set json) input out → InputHeadline (settings.Run kind c set json) input other → AreOneRun kind c json out other
+runs-one kind c set json input out other law decided =
+    input-one (settings.Run kind c set json) (AreOneRun kind c json) input out other law decided (λ a b same. inl same)
     (λ t test short. one-run-on-either t kind c json out other (parts_of input).rest (law.decided (length t.programs) (parts_of input).rest test.some_core))
 
-pub traces-one : (kind : ProtocolKind) (c : Configuration) (json : Bool) (input out other : List ℕ) → AreReadOneWay → AreDecided
-    → InputHeadline (settings.Trace kind c json) input out → InputHeadline (settings.Trace kind c json) input other → AreOneTrace kind c json out other
-traces-one kind c json input out other law decided =
-    input-one (settings.Trace kind c json) (AreOneTrace kind c json) input out other law decided (λ a b same. same-text kind c json a b same)
+pub traces-one : (kind : ProtocolKind) (c : Configuration) (set : Instructions) (json : Bool) (input out other : List ℕ) → AreReadOneWay → AreDecided
+    → InputHeadline (settings.Trace kind c set json) input out → InputHeadline (settings.Trace kind c set json) input other → AreOneTrace kind c json out other
+traces-one kind c set json input out other law decided =
+    input-one (settings.Trace kind c set json) (AreOneTrace kind c json) input out other law decided (λ a b same. same-text kind c json a b same)
     (λ t test short. one-trace-on-either t kind c out other json (parts_of input).rest test.some_core (law.decided (length t.programs) (parts_of input).rest test.some_core))
 
-pub sweeps-one : (kind : ProtocolKind) (c : Configuration) (plan : Plan) (input out other : List ℕ) → AreReadOneWay → AreDecided
-    → InputHeadline (settings.Sweep kind c plan) input out → InputHeadline (settings.Sweep kind c plan) input other → out ≡ other
-sweeps-one kind c plan input out other law decided =
-    input-one (settings.Sweep kind c plan) (λ a b. a ≡ b) input out other law decided (λ a b same. same) (λ t test short. one-sweep-on-either t kind c plan out other)
+pub sweeps-one : (kind : ProtocolKind) (c : Configuration) (set : Instructions) (plan : Plan) (input out other : List ℕ) → AreReadOneWay → AreDecided
+    → InputHeadline (settings.Sweep kind c set plan) input out → InputHeadline (settings.Sweep kind c set plan) input other → out ≡ other
+sweeps-one kind c set plan input out other law decided =
+    input-one (settings.Sweep kind c set plan) (λ a b. a ≡ b) input out other law decided (λ a b same. same) (λ t test short. one-sweep-on-either t kind c plan out other)
 
-pub counts-one : (kind : ProtocolKind) (c : Configuration) (plan : Option Plan) (json : Bool) (input out other : List ℕ) → AreReadOneWay → AreDecided
-    → InputHeadline (settings.Counts kind c plan json) input out → InputHeadline (settings.Counts kind c plan json) input other → out ≡ other
-counts-one kind c plan json input out other law decided =
-    input-one (settings.Counts kind c plan json) (λ a b. a ≡ b) input out other law decided (λ a b same. same)
+pub counts-one : (kind : ProtocolKind) (c : Configuration) (set : Instructions) (plan : Option Plan) (json : Bool) (input out other : List ℕ) → AreReadOneWay → AreDecided
+    → InputHeadline (settings.Counts kind c set plan json) input out → InputHeadline (settings.Counts kind c set plan json) input other → out ≡ other
+counts-one kind c set plan json input out other law decided =
+    input-one (settings.Counts kind c set plan json) (λ a b. a ≡ b) input out other law decided (λ a b same. same)
     (λ t test short. one-counts-text t kind c plan json (parts_of input).rest out other (law.decided (length t.programs) (parts_of input).rest test.some_core))
 
-pub checks-one : (input out other : List ℕ) → AreReadOneWay → AreDecided → InputHeadline settings.Check input out → InputHeadline settings.Check input other → out ≡ other
-checks-one input out other law decided =
-    input-one settings.Check (λ a b. a ≡ b) input out other law decided (λ a b same. same) (λ t test short. one-check t (parts_of input).rest out other law decided test short)
+pub checks-one : (set : Instructions) (input out other : List ℕ) → AreReadOneWay → AreDecided → InputHeadline (settings.Check set) input out → InputHeadline (settings.Check set) input other → out ≡ other
+checks-one set input out other law decided =
+    input-one (settings.Check set) (λ a b. a ≡ b) input out other law decided (λ a b same. same) (λ t test short. one-check t (parts_of input).rest out other law decided test short)
 
-pub witnesses-one : (depth : ℕ) (input out other : List ℕ) → AreReadOneWay → AreDecided
-    → InputHeadline (settings.Witness depth) input out → InputHeadline (settings.Witness depth) input other → AreOneWitness depth out other
-witnesses-one depth input out other law decided =
-    input-one (settings.Witness depth) (AreOneWitness depth) input out other law decided (λ a b same. inl same)
+pub witnesses-one : (depth : ℕ) (set : Instructions) (input out other : List ℕ) → AreReadOneWay → AreDecided
+    → InputHeadline (settings.Witness depth set) input out → InputHeadline (settings.Witness depth set) input other → AreOneWitness depth out other
+witnesses-one depth set input out other law decided =
+    input-one (settings.Witness depth set) (AreOneWitness depth) input out other law decided (λ a b same. inl same)
     (λ t test short. one-witnessed t depth (parts_of input).rest out other law decided test short)

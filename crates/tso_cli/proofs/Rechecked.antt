@@ -1,5 +1,5 @@
 -- The report of a run is short, and what `check` answers to it.
-use Rattle.tso_cli.proofs.Vocabulary.{◌≡◌, ◌+◌, ◌-◌, ◌*◌, ◌≤◌, ◌^◌, ℕ, suc, Bool, true, false, cond, List, [], ◌∷◌, ◌++◌, length, All, slice_index, slice_index_or, drop, length-append, codes, refl, sym, ap, subst, ◌∙◌, arith, All-map, All-head, All-tail, All-weaker, SpellsOrder, Litmus, IsTest, IsProgram, AreRegisters, made_by, made_from, IsTsoExecution, read_values, registers_from, start, Run, has_ended, stall_count, Bus, Instr, StoreImm, StoreReg, Load, SetImm, SetReg, Fence, Xchg, Xadd, Entry, Choice, IsExecution, SpellsTest, Table, table_of, ProtocolKind, Configuration, IsConfigurationWithinLimits, report, ShownRun, Parts, parts_of, joined_parts, valid_line, run_by, run_under, AnswersFit, counts_under, shown_of, IsInputAnswer, too_large, answered, run_text, run_status, IsRunAnswer, IsCheckAnswer, ran, Status, Good, Unended, attempts_in, length-in, run-is, RunLaws, counts-each, counts-few, AreReadOneWay}
+use Rattle.tso_cli.proofs.Vocabulary.{Instructions, ◌≡◌, ◌+◌, ◌-◌, ◌*◌, ◌≤◌, ◌^◌, ℕ, suc, Bool, true, false, cond, List, [], ◌∷◌, ◌++◌, length, All, slice_index, slice_index_or, drop, length-append, codes, refl, sym, ap, subst, ◌∙◌, arith, All-map, All-head, All-tail, All-weaker, SpellsOrder, Litmus, IsTest, IsProgram, AreRegisters, made_by, made_from, IsTsoExecution, read_values, registers_from, start, Run, has_ended, stall_count, Bus, Instr, StoreImm, StoreReg, Load, SetImm, SetReg, Fence, Xchg, Xadd, Entry, Choice, IsExecution, SpellsTest, Table, table_of, ProtocolKind, Configuration, IsConfigurationWithinLimits, report, ShownRun, Parts, parts_of, joined_parts, valid_line, run_by, run_under, AnswersFit, counts_under, shown_of, IsInputAnswer, too_large, answered, run_text, run_status, IsRunAnswer, IsCheckAnswer, ran, Status, Good, Unended, attempts_in, length-in, run-is, RunLaws, counts-each, counts-few, AreReadOneWay}
 use Rattle.tso_terms.specs.Thread.{entries_of, with_value, value_in}
 use Rattle.tso_terms.specs.SplitMachine.{Attempt}
 use Rattle.tso_terms.specs.EitherBus.{BusState, unheld, effect_on, after_on, run_on_from, resting_on, then_on}
@@ -103,10 +103,10 @@ small-run t kind c choices laws runs test few fit ended =
 abbrev pub AreShort : Type 0
 AreShort = (t : Litmus) (kind : ProtocolKind) (c : Configuration) (s : ShownRun) → IsTest t → IsConfigurationWithinLimits c → IsSmall t s → length (report t kind c s) ≤ longest_report
 
-record Ended (kind : ProtocolKind) (c : Configuration) (input out : List ℕ) : Type 0 where
+record Ended (kind : ProtocolKind) (c : Configuration) (set : Instructions) (input out : List ℕ) : Type 0 where
   t : Litmus
   choices : List Choice
-  spelled : SpellsTest (parts_of input).test t
+  spelled : SpellsTest set (parts_of input).test t
   few : length choices ≤ 100000
   fit : AnswersFit t kind c choices
   ended : (run_under t kind c choices).ended ≡ true
@@ -119,52 +119,52 @@ good-ended t r good = by_end r.ended refl
     by_end true e = e
     by_end false e = absurd (let other : Unended ≡ Good = subst (λ b. cond b Good Unended ≡ Good) e good in let no : ⊥ = cc in no)
 
-run-ended : (t : Litmus) (kind : ProtocolKind) (c : Configuration) (input out : List ℕ) (status : Status) → SpellsTest (parts_of input).test t
-    → status ≡ Good → IsRunAnswer t kind c false (parts_of input).rest out status → Ended kind c input out
-run-ended t kind c input _ _ spelled good (refused fault h) = absurd (let no : ⊥ = cc in no)
-run-ended t kind c input _ _ spelled good (ran choices read fit) =
+run-ended : (t : Litmus) (kind : ProtocolKind) (c : Configuration) (set : Instructions) (input out : List ℕ) (status : Status) → SpellsTest set (parts_of input).test t
+    → status ≡ Good → IsRunAnswer t kind c false (parts_of input).rest out status → Ended kind c set input out
+run-ended t kind c set input _ _ spelled good (refused fault h) = absurd (let no : ⊥ = cc in no)
+run-ended t kind c set input _ _ spelled good (ran choices read fit) =
     record { t = t; choices = choices; spelled = spelled; few = read.few; fit = fit; ended = good-ended t (run_under t kind c choices) good; is = refl }
 
-input-ended : (kind : ProtocolKind) (c : Configuration) (input out : List ℕ) (status : Status) → status ≡ Good
-    → IsInputAnswer (settings.Run kind c false) input out status → Ended kind c input out
-input-ended kind c input _ _ good (too_large large) = absurd (let no : ⊥ = cc in no)
-input-ended kind c input _ _ good (refused fault small is) = absurd (let no : ⊥ = cc in no)
-input-ended kind c input _ _ good (answered t out status small spelled is) = run-ended t kind c input out status spelled good is
+input-ended : (kind : ProtocolKind) (c : Configuration) (set : Instructions) (input out : List ℕ) (status : Status) → status ≡ Good
+    → IsInputAnswer (settings.Run kind c set false) input out status → Ended kind c set input out
+input-ended kind c set input _ _ good (too_large large) = absurd (let no : ⊥ = cc in no)
+input-ended kind c set input _ _ good (refused fault small is) = absurd (let no : ⊥ = cc in no)
+input-ended kind c set input _ _ good (answered t out status small spelled is) = run-ended t kind c set input out status spelled good is
 
-checked : (test out input answer : List ℕ) (status : Status) (t : Litmus) (order : List Entry) → AreReadOneWay → input ≡ joined_parts test out
-    → parts_of (joined_parts test out) ≡ record { test = test; rest = out } → length out ≤ longest_report → SpellsTest test t → SpellsOrder t out order → IsTsoExecution t order
-    → IsInputAnswer settings.Check input answer status → (answer ≡ valid_line) × (status ≡ Good)
-checked test out input _ _ t order laws same separated short spelled spells execution (too_large large) =
-    let size : length test ≤ 65536 = laws.short test t spelled in
+checked : (set : Instructions) (test out input answer : List ℕ) (status : Status) (t : Litmus) (order : List Entry) → AreReadOneWay → input ≡ joined_parts test out
+    → parts_of (joined_parts test out) ≡ record { test = test; rest = out } → length out ≤ longest_report → SpellsTest set test t → SpellsOrder t out order → IsTsoExecution t order
+    → IsInputAnswer (settings.Check set) input answer status → (answer ≡ valid_line) × (status ≡ Good)
+checked set test out input _ _ t order laws same separated short spelled spells execution (too_large large) =
+    let size : length test ≤ 65536 = laws.short set test t spelled in
     absurd (omega (arith, ap (λ (l : List ℕ). length l) same, length-append test (codes "====\n" ++ out), length-append (codes "====\n") out))
-checked test out input _ _ t order laws same separated short spelled spells execution (refused fault small is) =
+checked set test out input _ _ t order laws same separated short spelled spells execution (refused fault small is) =
     let first : (parts_of input).test ≡ test = ap (λ i. (parts_of i).test) same ∙ ap (λ (p : Parts). p.test) separated in
-    absurd (laws.refused_or_not test t fault spelled (subst (λ text. IsRefusedTest text fault) first is))
-checked test out input _ _ t order laws same separated short spelled spells execution (answered other answer status small too is) =
+    absurd (laws.refused_or_not set test t fault spelled (subst (λ text. IsRefusedTest set text fault) first is))
+checked set test out input _ _ t order laws same separated short spelled spells execution (answered other answer status small too is) =
     let first : (parts_of input).test ≡ test = ap (λ i. (parts_of i).test) same ∙ ap (λ (p : Parts). p.test) separated in
     let second : (parts_of input).rest ≡ out = ap (λ i. (parts_of i).rest) same ∙ ap (λ (p : Parts). p.rest) separated in
-    let one : other ≡ t = laws.one_test test other t (subst (λ text. SpellsTest text other) first too) spelled in
-    valid-answer t out order answer status laws.real laws.once laws.never_both (laws.test test t spelled) (omega arith) spells execution
+    let one : other ≡ t = laws.one_test set test other t (subst (λ text. SpellsTest set text other) first too) spelled in
+    valid-answer t out order answer status laws.real laws.once laws.never_both (laws.test set test t spelled) (omega arith) spells execution
     (subst (λ (u : Litmus). IsCheckAnswer u out answer status) one (subst (λ text. IsCheckAnswer other text answer status) second is))
 
-ended-short : (kind : ProtocolKind) (c : Configuration) (input out : List ℕ) → AreReadOneWay → Runs → RunLaws → AreShort
-    → IsConfigurationWithinLimits c → Ended kind c input out → length out ≤ longest_report
-ended-short kind c input out texts runs laws short within e =
-    let test = texts.test (parts_of input).test e.t e.spelled in
+ended-short : (kind : ProtocolKind) (c : Configuration) (set : Instructions) (input out : List ℕ) → AreReadOneWay → Runs → RunLaws → AreShort
+    → IsConfigurationWithinLimits c → Ended kind c set input out → length out ≤ longest_report
+ended-short kind c set input out texts runs laws short within e =
+    let test = texts.test set (parts_of input).test e.t e.spelled in
     let printed : out ≡ report e.t kind c (shown_of e.t (counts_under e.t kind c e.choices) (run_under e.t kind c e.choices)) = rw e.ended at e.is in
     subst (λ (o : List ℕ). length o ≤ longest_report) (sym printed)
     (short e.t kind c (shown_of e.t (counts_under e.t kind c e.choices) (run_under e.t kind c e.choices)) test within (small-run e.t kind c e.choices runs laws test e.few e.fit e.ended))
 
-pub printed-short : (kind : ProtocolKind) (c : Configuration) (input out : List ℕ) → AreReadOneWay → Runs → RunLaws → AreShort
-    → IsConfigurationWithinLimits c → IsInputAnswer (settings.Run kind c false) input out Good → length out ≤ longest_report
-printed-short kind c input out texts runs laws short within is = ended-short kind c input out texts runs laws short within (input-ended kind c input out Good refl is)
+pub printed-short : (kind : ProtocolKind) (c : Configuration) (set : Instructions) (input out : List ℕ) → AreReadOneWay → Runs → RunLaws → AreShort
+    → IsConfigurationWithinLimits c → IsInputAnswer (settings.Run kind c set false) input out Good → length out ≤ longest_report
+printed-short kind c set input out texts runs laws short within is = ended-short kind c set input out texts runs laws short within (input-ended kind c set input out Good refl is)
 
-pub rechecked : (kind : ProtocolKind) (c : Configuration) (input out answer : List ℕ) (status : Status) → AreReadOneWay → Runs → RunLaws
+pub rechecked : (kind : ProtocolKind) (c : Configuration) (set : Instructions) (input out answer : List ℕ) (status : Status) → AreReadOneWay → Runs → RunLaws
     → AreShort → IsConfigurationWithinLimits c → parts_of (joined_parts (parts_of input).test out) ≡ record { test = (parts_of input).test; rest = out }
-    → IsInputAnswer (settings.Run kind c false) input out Good → IsInputAnswer settings.Check (joined_parts (parts_of input).test out) answer status → (answer ≡ valid_line) × (status ≡ Good)
-rechecked kind c input out answer status texts runs laws short within separated is answered_so =
-    let e = input-ended kind c input out Good refl is in
-    let test = texts.test (parts_of input).test e.t e.spelled in
-    let size : length out ≤ longest_report = ended-short kind c input out texts runs laws short within e in
-    checked (parts_of input).test out (joined_parts (parts_of input).test out) answer status e.t (run_under e.t kind c e.choices).commits texts refl separated size e.spelled
+    → IsInputAnswer (settings.Run kind c set false) input out Good → IsInputAnswer (settings.Check set) (joined_parts (parts_of input).test out) answer status → (answer ≡ valid_line) × (status ≡ Good)
+rechecked kind c set input out answer status texts runs laws short within separated is answered_so =
+    let e = input-ended kind c set input out Good refl is in
+    let test = texts.test set (parts_of input).test e.t e.spelled in
+    let size : length out ≤ longest_report = ended-short kind c set input out texts runs laws short within e in
+    checked set (parts_of input).test out (joined_parts (parts_of input).test out) answer status e.t (run_under e.t kind c e.choices).commits texts refl separated size e.spelled
     (report-spells e.t kind c false e.choices out runs test within e.fit e.is e.ended refl) (runs.executions (table_of kind) c e.t e.choices test e.fit e.ended).order answered_so

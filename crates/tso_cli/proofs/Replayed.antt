@@ -1,5 +1,5 @@
 -- What `witness` prints, and what `run` answers to it.
-use Rattle.tso_cli.proofs.Vocabulary.{◌≡◌, ◌*◌, ◌≤◌, ◌<◌, ℕ, Bool, true, List, [], ◌∷◌, ◌++◌, length, codes, length-append, refl, sym, ap, subst, ◌∙◌, arith, decimal, Litmus, IsTest, IsTsoExecution, chosen, run, CoresExist, Atomic, Entry, Choice, choices_along, LeadTo, needed, SpellsTest, SpellsChoices, printed_choice, printed_after, printed_choices, SpellsOrder, table_of, ProtocolKind, Configuration, IsConfigurationWithinLimits, Parts, parts_of, joined_parts, run_under, counts_under, report_in, shown_of, witness_line, IsWitness, IsWitnessAnswer, reached, too_small, invalid, judged, IsInputAnswer, too_large, answered, IsRunAnswer, ran, Status, Good, atomic-run, AreReadOneWay}
+use Rattle.tso_cli.proofs.Vocabulary.{◌≡◌, ◌*◌, ◌≤◌, ◌<◌, ℕ, Bool, true, List, [], ◌∷◌, ◌++◌, length, codes, length-append, refl, sym, ap, subst, ◌∙◌, arith, decimal, Litmus, IsTest, IsTsoExecution, chosen, run, CoresExist, Atomic, Entry, Choice, choices_along, LeadTo, needed, Instructions, SpellsTest, SpellsChoices, printed_choice, printed_after, printed_choices, SpellsOrder, table_of, ProtocolKind, Configuration, IsConfigurationWithinLimits, Parts, parts_of, joined_parts, run_under, counts_under, report_in, shown_of, witness_line, IsWitness, IsWitnessAnswer, reached, too_small, invalid, judged, IsInputAnswer, too_large, answered, IsRunAnswer, ran, Status, Good, atomic-run, AreReadOneWay}
 use Rattle.std.proofs.lemmas.Fmt.{length-decimal-le}
 use Rattle.tso_terms.specs.declared.choice.Choice.TheVariants.{Step, Drain}
 use Rattle.litmus_reader.specs.Spelling.{IsRefused as IsRefusedTest}
@@ -41,31 +41,31 @@ line-short t depth choices order laws test lead =
 
 -- ---- where `witness` finds choices
 
-record Found (depth : ℕ) (input out : List ℕ) : Type 0 where
+record Found (set : Instructions) (depth : ℕ) (input out : List ℕ) : Type 0 where
   t : Litmus
   order : List Entry
-  test_spelled : SpellsTest (parts_of input).test t
+  test_spelled : SpellsTest set (parts_of input).test t
   order_spelled : SpellsOrder t (parts_of input).rest order
   execution : IsTsoExecution t order
   enough : needed order ≤ depth
   is : out ≡ witness_line (choices_along t order)
 
-order-found : (t : Litmus) (depth : ℕ) (order : List Entry) (input out : List ℕ) (status : Status) → SpellsTest (parts_of input).test t
-    → SpellsOrder t (parts_of input).rest order → status ≡ Good → IsWitness t depth order out status → Found depth input out
-order-found t depth order input _ _ spelled spells good (reached is enough) =
+order-found : (set : Instructions) (t : Litmus) (depth : ℕ) (order : List Entry) (input out : List ℕ) (status : Status) → SpellsTest set (parts_of input).test t
+    → SpellsOrder t (parts_of input).rest order → status ≡ Good → IsWitness t depth order out status → Found set depth input out
+order-found set t depth order input _ _ spelled spells good (reached is enough) =
     record { t = t; order = order; test_spelled = spelled; order_spelled = spells; execution = is; enough = enough; is = refl }
-order-found t depth order input _ _ spelled spells good (too_small is less) = absurd (let no : ⊥ = cc in no)
-order-found t depth order input _ _ spelled spells good (invalid b first) = absurd (let no : ⊥ = cc in no)
+order-found set t depth order input _ _ spelled spells good (too_small is less) = absurd (let no : ⊥ = cc in no)
+order-found set t depth order input _ _ spelled spells good (invalid b first) = absurd (let no : ⊥ = cc in no)
 
-test-found : (t : Litmus) (depth : ℕ) (input out : List ℕ) (status : Status) → SpellsTest (parts_of input).test t → status ≡ Good
-    → IsWitnessAnswer t depth (parts_of input).rest out status → Found depth input out
-test-found t depth input _ _ spelled good (refused fault h) = absurd (let no : ⊥ = cc in no)
-test-found t depth input _ _ spelled good (judged order out status spells is) = order-found t depth order input out status spelled spells good is
+test-found : (set : Instructions) (t : Litmus) (depth : ℕ) (input out : List ℕ) (status : Status) → SpellsTest set (parts_of input).test t → status ≡ Good
+    → IsWitnessAnswer t depth (parts_of input).rest out status → Found set depth input out
+test-found set t depth input _ _ spelled good (refused fault h) = absurd (let no : ⊥ = cc in no)
+test-found set t depth input _ _ spelled good (judged order out status spells is) = order-found set t depth order input out status spelled spells good is
 
-found : (depth : ℕ) (input out : List ℕ) (status : Status) → status ≡ Good → IsInputAnswer (settings.Witness depth) input out status → Found depth input out
-found depth input _ _ good (too_large large) = absurd (let no : ⊥ = cc in no)
-found depth input _ _ good (refused fault small is) = absurd (let no : ⊥ = cc in no)
-found depth input _ _ good (answered t out status small spelled is) = test-found t depth input out status spelled good is
+found : (set : Instructions) (depth : ℕ) (input out : List ℕ) (status : Status) → status ≡ Good → IsInputAnswer (settings.Witness depth set) input out status → Found set depth input out
+found set depth input _ _ good (too_large large) = absurd (let no : ⊥ = cc in no)
+found set depth input _ _ good (refused fault small is) = absurd (let no : ⊥ = cc in no)
+found set depth input _ _ good (answered t out status small spelled is) = test-found set t depth input out status spelled good is
 
 -- ---- what `run` answers to these choices
 
@@ -84,36 +84,36 @@ replays kind c json t choices out _ _ laws test spells atomic ended (ran others 
     atomic-run (table_of kind) c t others atomic ∙ ap (λ (cs : List Choice). run t c.depth cs) same in
     rw (flat, same, ended) (refl, refl)
 
-pub replayed-joined : (kind : ProtocolKind) (c : Configuration) (json : Bool) (test out input answer : List ℕ) (status : Status) (t : Litmus) (choices : List Choice) → AreReadOneWay
-    → input ≡ joined_parts test out → parts_of (joined_parts test out) ≡ record { test = test; rest = out } → length out ≤ 4000 → SpellsTest test t
+pub replayed-joined : (kind : ProtocolKind) (c : Configuration) (set : Instructions) (json : Bool) (test out input answer : List ℕ) (status : Status) (t : Litmus) (choices : List Choice) → AreReadOneWay
+    → input ≡ joined_parts test out → parts_of (joined_parts test out) ≡ record { test = test; rest = out } → length out ≤ 4000 → SpellsTest set test t
     → SpellsChoices (length t.programs) out choices → c.bus ≡ Atomic → (run t c.depth choices).ended ≡ true
-    → IsInputAnswer (settings.Run kind c json) input answer status → Replays kind c json t choices answer status
-replayed-joined kind c json test out input _ _ t choices laws same separated short spelled spells atomic ended (too_large large) =
-    let size : length test ≤ 65536 = laws.short test t spelled in
+    → IsInputAnswer (settings.Run kind c set json) input answer status → Replays kind c json t choices answer status
+replayed-joined kind c set json test out input _ _ t choices laws same separated short spelled spells atomic ended (too_large large) =
+    let size : length test ≤ 65536 = laws.short set test t spelled in
     absurd (omega (arith, ap (λ (l : List ℕ). length l) same, length-append test (codes "====\n" ++ out), length-append (codes "====\n") out))
-replayed-joined kind c json test out input _ _ t choices laws same separated short spelled spells atomic ended (refused fault small is) =
+replayed-joined kind c set json test out input _ _ t choices laws same separated short spelled spells atomic ended (refused fault small is) =
     let first : (parts_of input).test ≡ test = ap (λ i. (parts_of i).test) same ∙ ap (λ (p : Parts). p.test) separated in
-    absurd (laws.refused_or_not test t fault spelled (subst (λ text. IsRefusedTest text fault) first is))
-replayed-joined kind c json test out input _ _ t choices laws same separated short spelled spells atomic ended (answered other answer status small too is) =
+    absurd (laws.refused_or_not set test t fault spelled (subst (λ text. IsRefusedTest set text fault) first is))
+replayed-joined kind c set json test out input _ _ t choices laws same separated short spelled spells atomic ended (answered other answer status small too is) =
     let first : (parts_of input).test ≡ test = ap (λ i. (parts_of i).test) same ∙ ap (λ (p : Parts). p.test) separated in
     let second : (parts_of input).rest ≡ out = ap (λ i. (parts_of i).rest) same ∙ ap (λ (p : Parts). p.rest) separated in
-    let one : other ≡ t = laws.one_test test other t (subst (λ text. SpellsTest text other) first too) spelled in
-    replays kind c json t choices out answer status laws (laws.test test t spelled) spells atomic ended
+    let one : other ≡ t = laws.one_test set test other t (subst (λ text. SpellsTest set text other) first too) spelled in
+    replays kind c json t choices out answer status laws (laws.test set test t spelled) spells atomic ended
     (subst (λ (u : Litmus). IsRunAnswer u kind c json out answer status) one (subst (λ text. IsRunAnswer other kind c json text answer status) second is))
 
-pub replayed : (kind : ProtocolKind) (c : Configuration) (json : Bool) (input out answer : List ℕ) (status : Status) → AreReadOneWay → Reaching → c.bus ≡ Atomic → IsConfigurationWithinLimits c
+pub replayed : (kind : ProtocolKind) (c : Configuration) (set : Instructions) (json : Bool) (input out answer : List ℕ) (status : Status) → AreReadOneWay → Reaching → c.bus ≡ Atomic → IsConfigurationWithinLimits c
     → parts_of (joined_parts (parts_of input).test out) ≡ record { test = (parts_of input).test; rest = out }
-    → IsInputAnswer (settings.Witness c.depth) input out Good → IsInputAnswer (settings.Run kind c json) (joined_parts (parts_of input).test out) answer status
-    → ReportsOrder kind c json (parts_of input) answer × (status ≡ Good)
-replayed kind c json input out answer status texts reaching atomic within separated is answered_so =
-    let f = found c.depth input out Good refl is in
-    let test = texts.test (parts_of input).test f.t f.test_spelled in
+    → IsInputAnswer (settings.Witness c.depth set) input out Good → IsInputAnswer (settings.Run kind c set json) (joined_parts (parts_of input).test out) answer status
+    → ReportsOrder kind c set json (parts_of input) answer × (status ≡ Good)
+replayed kind c set json input out answer status texts reaching atomic within separated is answered_so =
+    let f = found set c.depth input out Good refl is in
+    let test = texts.test set (parts_of input).test f.t f.test_spelled in
     let choices : List Choice = choices_along f.t f.order in
     let lead = reaching.lead f.t c.depth f.order test f.execution f.enough in
     let spells : SpellsChoices (length f.t.programs) out choices =
     subst (λ text. SpellsChoices (length f.t.programs) text choices) (sym f.is) (line-spells f.t c.depth choices f.order reaching test lead) in
     let short : length out ≤ 4000 = subst (λ (text : List ℕ). length text ≤ 4000) (sym f.is) (line-short f.t c.depth choices f.order reaching test lead) in
-    let answers = replayed-joined kind c json (parts_of input).test out (joined_parts (parts_of input).test out) answer status f.t choices texts refl separated short f.test_spelled spells atomic lead.ended answered_so in (
+    let answers = replayed-joined kind c set json (parts_of input).test out (joined_parts (parts_of input).test out) answer status f.t choices texts refl separated short f.test_spelled spells atomic lead.ended answered_so in (
       record {
         t = f.t;
         order = f.order;

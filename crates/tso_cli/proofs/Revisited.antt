@@ -1,5 +1,5 @@
 -- What `outcomes` prints, once more; and what `run` answers to its choices.
-use Rattle.tso_cli.proofs.Vocabulary.{◌≡◌, ◌∙◌, ℕ, Bool, List, map, length, Contains, Option, Some, None, refl, sym, ap, subst, arith, ForSome, All, All-weaker, All-contains, ◌⊎◌, inl, inr, Litmus, IsTest, Condition, run, Atomic, SpellsTest, printed_choices, ProtocolKind, Configuration, Named, names_shown, values_at, Outcome, shown_values, held_in, failed_in, is_met_in, outcomes_in, OutcomesAreAlike, OutcomesOfTheSameValuesAreAlike, Search, IsInputAnswer, too_large, refused, answered, IsPrinted, ShowTheSameStates, AreAllOutcomes, IsOutcomesAnswer, is_claimed_of, found, too_many, parts_of, joined_parts, counts_under, shown_of, Status, AreReadOneWay}
+use Rattle.tso_cli.proofs.Vocabulary.{◌≡◌, ◌∙◌, ℕ, Bool, List, map, length, Contains, Option, Some, None, refl, sym, ap, subst, arith, ForSome, All, All-weaker, All-contains, ◌⊎◌, inl, inr, Litmus, IsTest, Condition, run, Atomic, SpellsTest, Instructions, printed_choices, ProtocolKind, Configuration, Named, names_shown, values_at, Outcome, shown_values, held_in, failed_in, is_met_in, outcomes_in, OutcomesAreAlike, OutcomesOfTheSameValuesAreAlike, Search, IsInputAnswer, too_large, refused, answered, IsPrinted, ShowTheSameStates, AreAllOutcomes, IsOutcomesAnswer, is_claimed_of, found, too_many, parts_of, joined_parts, counts_under, shown_of, Status, AreReadOneWay}
 use Rattle.tso_cli.specs.Verdicts.{status_of_verdict}
 use Rattle.tso_cli.specs.OneSearch.{ShowsSomeStates}
 use Rattle.tso_cli.specs.OneText.{ShowsPart}
@@ -21,9 +21,9 @@ record Found (t : Litmus) (search : Search) (json assert : Bool) (out : List ℕ
   ended : status ≡ status_of_verdict assert (is_claimed_of t outcomes)
 
 -- all states of a test that is spelled, or some
-record Shows (search : Search) (json assert : Bool) (input out : List ℕ) (status : Status) : Type 0 where
+record Shows (set : Instructions) (search : Search) (json assert : Bool) (input out : List ℕ) (status : Status) : Type 0 where
   t : Litmus
-  spelled : SpellsTest (parts_of input).test t
+  spelled : SpellsTest set (parts_of input).test t
   states : Found t search json assert out status ⊎ ShowsSomeStates t search json out
 
 states-of : (t : Litmus) (search : Search) (json assert : Bool) (out : List ℕ) (status : Status) → IsOutcomesAnswer t search json assert out status
@@ -31,11 +31,11 @@ states-of : (t : Litmus) (search : Search) (json assert : Bool) (out : List ℕ)
 states-of t search json assert _ _ (found outcomes are) = inl (record { outcomes = outcomes; are = are; is = refl; ended = refl })
 states-of t search json assert _ _ (too_many outcomes more are) = inr (record { outcomes = outcomes; more = more; some = are; printed = refl })
 
-states-shown : (search : Search) (json assert : Bool) (input out : List ℕ) (status : Status) → ¬ (status ≡ Refused)
-    → IsInputAnswer (settings.Outcomes search json assert) input out status → Shows search json assert input out status
-states-shown search json assert input _ _ good (too_large large) = absurd (good refl)
-states-shown search json assert input _ _ good (refused fault small is) = absurd (good refl)
-states-shown search json assert input _ _ good (answered t out status small spelled is) =
+states-shown : (set : Instructions) (search : Search) (json assert : Bool) (input out : List ℕ) (status : Status) → ¬ (status ≡ Refused)
+    → IsInputAnswer (settings.Outcomes search set json assert) input out status → Shows set search json assert input out status
+states-shown set search json assert input _ _ good (too_large large) = absurd (good refl)
+states-shown set search json assert input _ _ good (refused fault small is) = absurd (good refl)
+states-shown set search json assert input _ _ good (answered t out status small spelled is) =
     record { t = t; spelled = spelled; states = states-of t search json assert out status is }
 
 -- ---- the same states
@@ -76,39 +76,39 @@ module _ (search : Search) (json assert : Bool) (out other : List ℕ) (status a
 not-refused : (status : Status) → IsPrinted status → ¬ (status ≡ Refused)
 not-refused status good is = refused-is-none (subst IsPrinted is good)
 
-pub same-states-shown : (search : Search) (json assert : Bool) (input out other : List ℕ) (status again : Status) → AreReadOneWay → OutcomesOfTheSameValuesAreAlike
-    → IsPrinted status → IsPrinted again → IsInputAnswer (settings.Outcomes search json assert) input out status
-    → IsInputAnswer (settings.Outcomes search json assert) input other again
+pub same-states-shown : (search : Search) (set : Instructions) (json assert : Bool) (input out other : List ℕ) (status again : Status) → AreReadOneWay → OutcomesOfTheSameValuesAreAlike
+    → IsPrinted status → IsPrinted again → IsInputAnswer (settings.Outcomes search set json assert) input out status
+    → IsInputAnswer (settings.Outcomes search set json assert) input other again
     → (ShowTheSameStates search json out other × (status ≡ again)) ⊎ (ShowsPart search json out ⊎ ShowsPart search json other)
-same-states-shown search json assert input out other status again texts law good fine is too = by f.states states-too
+same-states-shown search set json assert input out other status again texts law good fine is too = by f.states states-too
   where
-    f : Shows search json assert input out status
-    f = states-shown search json assert input out status (not-refused status good) is
+    f : Shows set search json assert input out status
+    f = states-shown set search json assert input out status (not-refused status good) is
 
-    g : Shows search json assert input other again
-    g = states-shown search json assert input other again (not-refused again fine) too
+    g : Shows set search json assert input other again
+    g = states-shown set search json assert input other again (not-refused again fine) too
 
     states-too : Found f.t search json assert other again ⊎ ShowsSomeStates f.t search json other
     states-too =
-        subst (λ t. Found t search json assert other again ⊎ ShowsSomeStates t search json other) (texts.one_test (parts_of input).test g.t f.t g.spelled f.spelled) g.states
+        subst (λ t. Found t search json assert other again ⊎ ShowsSomeStates t search json other) (texts.one_test set (parts_of input).test g.t f.t g.spelled f.spelled) g.states
 
     by : Found f.t search json assert out status ⊎ ShowsSomeStates f.t search json out → Found f.t search json assert other again ⊎ ShowsSomeStates f.t search json other
         → (ShowTheSameStates search json out other × (status ≡ again)) ⊎ (ShowsPart search json out ⊎ ShowsPart search json other)
-    by (inl a) (inl b) = inl (same-found search json assert out other status again law f.t (texts.test (parts_of input).test f.t f.spelled) a b)
+    by (inl a) (inl b) = inl (same-found search json assert out other status again law f.t (texts.test set (parts_of input).test f.t f.spelled) a b)
     by (inl a) (inr q) = inr (inr (f.t, q))
     by (inr p) q = inr (inl (f.t, p))
 
 -- ---- what `run` answers
 
-one-revisited : (kind : ProtocolKind) (c : Configuration) (json : Bool) (test : List ℕ) (t : Litmus) (names : List Named) (o : Outcome) → AreReadOneWay → Reaching → Searches → c.bus ≡ Atomic
-    → SpellsTest test t → (parts_of (joined_parts test (printed_choices o.choices)) ≡ record { test = test; rest = printed_choices o.choices })
-    → Leads t c.depth o → IsRevisited kind c json test t names o
-one-revisited kind c json test t names o texts reaching searches atomic spelled separated lead answer status answered_so =
-    let fits = texts.test test t spelled in
+one-revisited : (kind : ProtocolKind) (c : Configuration) (set : Instructions) (json : Bool) (test : List ℕ) (t : Litmus) (names : List Named) (o : Outcome) → AreReadOneWay → Reaching → Searches → c.bus ≡ Atomic
+    → SpellsTest set test t → (parts_of (joined_parts test (printed_choices o.choices)) ≡ record { test = test; rest = printed_choices o.choices })
+    → Leads t c.depth o → IsRevisited kind c set json test t names o
+one-revisited kind c set json test t names o texts reaching searches atomic spelled separated lead answer status answered_so =
+    let fits = texts.test set test t spelled in
     let cores = fits.cores in
     let few = few-to-end t c.depth o searches.counted fits lead in
     let short = choices-short (length t.programs) o.choices (omega arith) lead.cores in
-    let answers = replayed-joined kind c json test (printed_choices o.choices) (joined_parts test (printed_choices o.choices)) answer status t o.choices texts refl separated
+    let answers = replayed-joined kind c set json test (printed_choices o.choices) (joined_parts test (printed_choices o.choices)) answer status t o.choices texts refl separated
     (omega arith) spelled (choices-spell t c.depth o reaching searches fits lead) atomic lead.ended answered_so in
     let r = run t c.depth o.choices in (
       record {
@@ -132,11 +132,11 @@ states-reached : (t : Litmus) (search : Search) (told assert : Bool) (out : List
 states-reached t search told assert out status (inl f) = record { outcomes = f.outcomes; reached = f.are.reached; shows = inl f.is }
 states-reached t search told assert out status (inr s) = record { outcomes = s.outcomes; reached = s.some.reached; shows = inr s.printed }
 
-pub revisited : (kind : ProtocolKind) (c : Configuration) (search : Search) (json told assert : Bool) (input out : List ℕ) (status : Status) → AreReadOneWay → Reaching → Searches → c.bus ≡ Atomic
+pub revisited : (kind : ProtocolKind) (c : Configuration) (set : Instructions) (search : Search) (json told assert : Bool) (input out : List ℕ) (status : Status) → AreReadOneWay → Reaching → Searches → c.bus ≡ Atomic
     → search.depth ≡ c.depth → ((rest : List ℕ) → parts_of (joined_parts (parts_of input).test rest) ≡ record { test = (parts_of input).test; rest = rest })
-    → ¬ (status ≡ Refused) → IsInputAnswer (settings.Outcomes search told assert) input out status → AreRevisited kind c search json told (parts_of input).test out
-revisited kind c search json told assert input out status texts reaching searches atomic depth separated good is =
-    let f = states-shown search told assert input out status good is in
+    → ¬ (status ≡ Refused) → IsInputAnswer (settings.Outcomes search set told assert) input out status → AreRevisited kind c set search json told (parts_of input).test out
+revisited kind c set search json told assert input out status texts reaching searches atomic depth separated good is =
+    let f = states-shown set search told assert input out status good is in
     let names = names_shown search.show f.t in
     let states = states-reached f.t search told assert out status f.states in
     record {
@@ -144,8 +144,8 @@ revisited kind c search json told assert input out status texts reaching searche
       spelled = f.spelled;
       outcomes = states.outcomes;
       printed = states.shows;
-      each = All-weaker (Leads f.t search.depth) (IsRevisited kind c json (parts_of input).test f.t names)
-          (λ o lead. one-revisited kind c json (parts_of input).test f.t names o texts reaching searches atomic f.spelled (separated (printed_choices o.choices))
+      each = All-weaker (Leads f.t search.depth) (IsRevisited kind c set json (parts_of input).test f.t names)
+          (λ o lead. one-revisited kind c set json (parts_of input).test f.t names o texts reaching searches atomic f.spelled (separated (printed_choices o.choices))
           (subst (λ d. Leads f.t d o) depth lead))
           states.outcomes states.reached;
     }

@@ -33,6 +33,7 @@ pub use Rattle.tso_cli.specs.Answers.{IsAnswerTo, IsInputAnswer, IsAnswer, too_l
 pub use Rattle.tso_cli.specs.CommandAnswers.{run_text, run_status, IsRunAnswer, IsJudgement, IsCheckAnswer, ran, valid, status_under}
 pub use Rattle.tso_cli.specs.Trace.{traced_in, IsTooLong, IsTraceAnswer, too_long, traced, ending_text, FitsForm}
 pub use Rattle.tso_cli.specs.Witness.{IsWitness, IsWitnessAnswer, reached, too_small, witness_line, invalid, judged}
+pub use Rattle.command_line.specs.Instructions.{instructions_of}
 pub use Rattle.command_line.specs.declared.settings.Settings.{Settings}
 pub use Rattle.tso_cli.specs.OneText.{GivesOneAnswer, ShowTheSameStates, ShowOneExecution, AreOneRun, AreOneTrace, AreOneWitness}
 pub use Rattle.tso_cli.specs.inner.ReadOneWay.{AreReadOneWay}
@@ -60,6 +61,7 @@ pub use Rattle.command_line.specs.Explanation.{Explanation}
 pub use Rattle.tso_cli.specs.Why.{IsWhyAnswer, allowed, never}
 pub use Rattle.tso_cli.specs.WhyHeadline.{PrintsRefutation, PrintsExecutionOf, HeadlineOfReasons}
 pub use Rattle.litmus_reader.specs.Spelling.{SpellsTest}
+pub use Rattle.litmus_tokens.specs.declared.instructions.Instructions.{Instructions}
 pub use Rattle.search_report.specs.Verdict.{verdict_line, outcomes_verdict_value}
 pub use Rattle.search_report.specs.MetOutcomes.{PrintsMet, unfinished_search_in}
 pub use Rattle.search_report.specs.PrintedOutcomes.{outcomes_in, PrintsOutcomes}

@@ -14,6 +14,7 @@ use Rattle.tso_cli.specs.Sweep.{IsSweepAnswer}
 use Rattle.tso_cli.specs.Trace.{IsTraceAnswer}
 use Rattle.tso_cli.specs.declared.answer.Status.{Status}
 use Rattle.tso_cli.specs.declared.answer.Status.TheVariants.{Good, NotAsClaimed, Refused}
+use Rattle.command_line.specs.Instructions.{instructions_of}
 use Rattle.command_line.specs.declared.settings.Settings.TheVariants as settings
 
 -- the answer of `tables`
@@ -24,22 +25,22 @@ pub record IsTableAnswer (kind : ProtocolKind) (out : List ℕ) (status : Status
 -- the answer of a command to a test and the second part of its input; a sweep, a count over seeds and both searches look at the test
 -- alone, and `tables` at neither
 abbrev pub IsAnswerTo : Settings → Litmus → List ℕ → List ℕ → Status → Type 0
-IsAnswerTo (settings.Run kind config json) t text out status = IsRunAnswer t kind config json text out status
-IsAnswerTo (settings.Trace kind config json) t text out status = IsTraceAnswer t kind config json text out status
-IsAnswerTo (settings.Sweep kind config plan) t text out status = IsSweepAnswer t kind config plan out status
-IsAnswerTo (settings.Counts kind config plan json) t text out status = IsCountsAnswer t kind config plan json text out status
-IsAnswerTo (settings.Outcomes search json assert) t text out status = IsOutcomesAnswer t search json assert out status
-IsAnswerTo (settings.Why plan json assert) t text out status = IsWhyAnswer t plan json assert out status
-IsAnswerTo settings.Check t text out status = IsCheckAnswer t text out status
-IsAnswerTo (settings.Witness depth) t text out status = IsWitnessAnswer t depth text out status
+IsAnswerTo (settings.Run kind config set json) t text out status = IsRunAnswer t kind config json text out status
+IsAnswerTo (settings.Trace kind config set json) t text out status = IsTraceAnswer t kind config json text out status
+IsAnswerTo (settings.Sweep kind config set plan) t text out status = IsSweepAnswer t kind config plan out status
+IsAnswerTo (settings.Counts kind config set plan json) t text out status = IsCountsAnswer t kind config plan json text out status
+IsAnswerTo (settings.Outcomes search set json assert) t text out status = IsOutcomesAnswer t search json assert out status
+IsAnswerTo (settings.Why plan set json assert) t text out status = IsWhyAnswer t plan json assert out status
+IsAnswerTo (settings.Check set) t text out status = IsCheckAnswer t text out status
+IsAnswerTo (settings.Witness depth set) t text out status = IsWitnessAnswer t depth text out status
 IsAnswerTo (settings.Tables kind) t text out status = IsTableAnswer kind out status
 
 -- the answer to an input that is read: its size is judged first, then its first part, then the second
 pub data IsInputAnswer (s : Settings) (input : List ℕ) : List ℕ → Status → Type 0 where
   too_large : longest_input < length input → IsInputAnswer s input input_refusal Refused
-  refused : (fault : TextFault) → length input ≤ longest_input → IsRefusedTest (parts_of input).test fault
+  refused : (fault : TextFault) → length input ≤ longest_input → IsRefusedTest (instructions_of s) (parts_of input).test fault
       → IsInputAnswer s input (test_refusal fault) Refused
-  answered : (t : Litmus) (out : List ℕ) (status : Status) → length input ≤ longest_input → SpellsTest (parts_of input).test t
+  answered : (t : Litmus) (out : List ℕ) (status : Status) → length input ≤ longest_input → SpellsTest (instructions_of s) (parts_of input).test t
       → IsAnswerTo s t (parts_of input).rest out status → IsInputAnswer s input out status
 
 -- the answer of a command to the bytes that a reader has, where they are known; `tables` reads none, and answers the same to

@@ -1,6 +1,6 @@
 -- The choices that `why` prints, handed to `run`: they end with the order of the execution that was printed, so it can be seen to come up.
 use Rattle.std.specs.Prelude.{◌≡◌, ℕ, Bool, List, Some}
-use Rattle.tso_cli.specs.Vocabulary.{Choice, Configuration, Entry, Litmus, Model, printed_choices, ProtocolKind, ShownRun, SpellsTest}
+use Rattle.tso_cli.specs.Vocabulary.{Choice, Configuration, Entry, Instructions, Litmus, Model, printed_choices, ProtocolKind, ShownRun, SpellsTest}
 use Rattle.command_line.specs.declared.settings.Settings.TheVariants as settings
 use Rattle.tso_cli.specs.Answers.{IsAnswer}
 use Rattle.tso_cli.specs.WhyHeadline.{PrintsRefutation, PrintsExecutionOf}
@@ -18,14 +18,14 @@ pub record ReportsExecution (t : Litmus) (kind : ProtocolKind) (c : Configuratio
   pub unused : shown.unused ≡ 0
 
 -- whatever `run` answers to these choices, put after the test and a dividing line, is such a report, and a success
-abbrev pub AreRunAgain : ProtocolKind → Configuration → Bool → List ℕ → Litmus → List Choice → List Entry → Type 0
-AreRunAgain kind c json test t choices order =
+abbrev pub AreRunAgain : ProtocolKind → Configuration → Instructions → Bool → List ℕ → Litmus → List Choice → List Entry → Type 0
+AreRunAgain kind c set json test t choices order =
     (answer : List ℕ) (status : Status)
-    → IsAnswer (settings.Run kind c json) (Some (joined_parts test (printed_choices choices))) answer status
+    → IsAnswer (settings.Run kind c set json) (Some (joined_parts test (printed_choices choices))) answer status
     → ReportsExecution t kind c json order answer × (status ≡ Good)
 
 -- of the given test a refutation was printed, or an execution whose choices are run again so
-pub data IsExplained (kind : ProtocolKind) (c : Configuration) (json : Bool) (model : Model) (told : Bool) (test out : List ℕ) : Type 0 where
-  never : (t : Litmus) → SpellsTest test t → PrintsRefutation t model told out → IsExplained kind c json model told test out
-  allowed : (t : Litmus) → SpellsTest test t → (said : PrintsExecutionOf t model told out)
-      → AreRunAgain kind c json test t said.choices said.order → IsExplained kind c json model told test out
+pub data IsExplained (kind : ProtocolKind) (c : Configuration) (set : Instructions) (json : Bool) (model : Model) (told : Bool) (test out : List ℕ) : Type 0 where
+  never : (t : Litmus) → SpellsTest set test t → PrintsRefutation t model told out → IsExplained kind c set json model told test out
+  allowed : (t : Litmus) → SpellsTest set test t → (said : PrintsExecutionOf t model told out)
+      → AreRunAgain kind c set json test t said.choices said.order → IsExplained kind c set json model told test out

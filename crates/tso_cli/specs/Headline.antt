@@ -2,6 +2,7 @@
 use Rattle.std.specs.Prelude.{ℕ, ◌<◌, ◌≤◌, ◌≡◌, List, length, Option, IfSome}
 use Rattle.tso_cli.specs.Vocabulary.{Litmus, longest_input, printed_table, protocol_name, ProtocolKind, Settings, table_of, TextFault}
 use Rattle.litmus_reader.specs.Spelling.{SpellsTest, IsRefused as IsRefusedTest}
+use Rattle.command_line.specs.Instructions.{instructions_of}
 use Rattle.command_line.specs.declared.settings.Settings.TheVariants as settings
 use Rattle.tso_cli.specs.RunHeadline.{HeadlineOfRuns}
 use Rattle.tso_cli.specs.TraceHeadline.{HeadlineOfTraces}
@@ -19,21 +20,21 @@ PrintsTable kind out = out ≡ printed_table (protocol_name kind) (table_of kind
 
 -- what the headline says of a test and the second part of its input
 abbrev pub HeadlineOf : Settings → Litmus → List ℕ → List ℕ → Type 0
-HeadlineOf (settings.Run kind config json) t text out = HeadlineOfRuns t kind config json text out
-HeadlineOf (settings.Trace kind config json) t text out = HeadlineOfTraces t kind config json text out
-HeadlineOf (settings.Sweep kind config plan) t text out = HeadlineOfSweeps t kind config plan out
-HeadlineOf (settings.Counts kind config plan json) t text out = HeadlineOfCounts t kind config plan json text out
-HeadlineOf (settings.Outcomes search json assert) t text out = HeadlineOfOutcomes t search json out
-HeadlineOf (settings.Why plan json assert) t text out = HeadlineOfReasons t plan json out
-HeadlineOf settings.Check t text out = JudgesEachOrder t text out
-HeadlineOf (settings.Witness depth) t text out = WitnessesEachOrder t depth text out
+HeadlineOf (settings.Run kind config set json) t text out = HeadlineOfRuns t kind config json text out
+HeadlineOf (settings.Trace kind config set json) t text out = HeadlineOfTraces t kind config json text out
+HeadlineOf (settings.Sweep kind config set plan) t text out = HeadlineOfSweeps t kind config plan out
+HeadlineOf (settings.Counts kind config set plan json) t text out = HeadlineOfCounts t kind config plan json text out
+HeadlineOf (settings.Outcomes search set json assert) t text out = HeadlineOfOutcomes t search json out
+HeadlineOf (settings.Why plan set json assert) t text out = HeadlineOfReasons t plan json out
+HeadlineOf (settings.Check set) t text out = JudgesEachOrder t text out
+HeadlineOf (settings.Witness depth set) t text out = WitnessesEachOrder t depth text out
 HeadlineOf (settings.Tables kind) t text out = PrintsTable kind out
 
--- this is so for every test text; every other text is refused with its line
+-- this is so for every test text, in the set of instructions that is asked for; every other text is refused with its line
 pub record PartsHeadline (s : Settings) (parts : Parts) (out : List ℕ) : Type 0 where
-  pub every_test : (t : Litmus) → SpellsTest parts.test t → HeadlineOf s t parts.rest out
-  pub every_other : ((t : Litmus) → ¬ (SpellsTest parts.test t))
-      → (fault : TextFault) × IsRefusedTest parts.test fault × (out ≡ test_refusal fault)
+  pub every_test : (t : Litmus) → SpellsTest (instructions_of s) parts.test t → HeadlineOf s t parts.rest out
+  pub every_other : ((t : Litmus) → ¬ (SpellsTest (instructions_of s) parts.test t))
+      → (fault : TextFault) × IsRefusedTest (instructions_of s) parts.test fault × (out ≡ test_refusal fault)
 
 -- of an input within its size; a larger one is refused
 pub record InputHeadline (s : Settings) (input out : List ℕ) : Type 0 where

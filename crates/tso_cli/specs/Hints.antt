@@ -12,14 +12,14 @@ use Rattle.command_line.specs.declared.settings.Settings.TheVariants as settings
 -- that no instruction writes and that is asked for another value than it begins with; where a list of the test is left out; or where a
 -- sweep never met what is asked
 abbrev pub may_mislead : Settings → Bool
-may_mislead (settings.Run kind config json) = not json
-may_mislead (settings.Trace kind config json) = not json
-may_mislead (settings.Sweep kind config plan) = true
-may_mislead (settings.Counts kind config plan json) = false
-may_mislead (settings.Outcomes search json assert) = not json
-may_mislead (settings.Why plan json assert) = not json
-may_mislead settings.Check = false
-may_mislead (settings.Witness depth) = false
+may_mislead (settings.Run kind config set json) = not json
+may_mislead (settings.Trace kind config set json) = not json
+may_mislead (settings.Sweep kind config set plan) = true
+may_mislead (settings.Counts kind config set plan json) = false
+may_mislead (settings.Outcomes search set json assert) = not json
+may_mislead (settings.Why plan set json assert) = not json
+may_mislead (settings.Check set) = false
+may_mislead (settings.Witness depth set) = false
 may_mislead (settings.Tables kind) = false
 
 -- a hint or nothing
@@ -33,7 +33,7 @@ IsToldOfGood false text = text ≡ []
 
 -- whether the command searches for final states
 abbrev pub is_searched : Settings → Bool
-is_searched (settings.Outcomes search json assert) = true
+is_searched (settings.Outcomes search set json assert) = true
 is_searched _ = false
 
 -- a hint, and after it nothing or a line that says choices

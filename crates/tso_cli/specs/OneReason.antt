@@ -1,7 +1,7 @@
 -- What the headline leaves open of `why`: two texts of which it holds, for one model, each as lines or as JSON and with a limit of its own.
 -- Both are refutations, or both are executions; which ones they are may differ.
 use Rattle.std.specs.Prelude.{ℕ, ◌<◌, ◌≡◌, Bool, List}
-use Rattle.tso_cli.specs.Vocabulary.{ClosesMoreCases, Explanation, Litmus, most_cases, SpellsTest, unfinished_cases_in}
+use Rattle.tso_cli.specs.Vocabulary.{ClosesMoreCases, Explanation, Instructions, Litmus, most_cases, SpellsTest, unfinished_cases_in}
 use Rattle.tso_cli.specs.WhyHeadline.{PrintsRefutation, PrintsExecutionOf}
 
 -- the text gives no reason: it says that more cases have to be told apart than may be
@@ -12,11 +12,11 @@ pub record GivesNoReason (t : Litmus) (e : Explanation) (json : Bool) (out : Lis
 
 -- two texts are one, the same refusal; or both tell of the test that was given that it never is so; or both tell that it can be; or one of
 -- them gives no reason
-pub data AreOneReason (test : List ℕ) (e f : Explanation) (json again : Bool) (out other : List ℕ) : Type 0 where
-  one_text : out ≡ other → AreOneReason test e f json again out other
-  both_never : (t : Litmus) → SpellsTest test t → PrintsRefutation t e.model json out → PrintsRefutation t f.model again other
-      → AreOneReason test e f json again out other
-  both_allowed : (t : Litmus) → SpellsTest test t → PrintsExecutionOf t e.model json out → PrintsExecutionOf t f.model again other
-      → AreOneReason test e f json again out other
-  first_gives_none : (t : Litmus) → SpellsTest test t → GivesNoReason t e json out → AreOneReason test e f json again out other
-  second_gives_none : (t : Litmus) → SpellsTest test t → GivesNoReason t f again other → AreOneReason test e f json again out other
+pub data AreOneReason (set : Instructions) (test : List ℕ) (e f : Explanation) (json again : Bool) (out other : List ℕ) : Type 0 where
+  one_text : out ≡ other → AreOneReason set test e f json again out other
+  both_never : (t : Litmus) → SpellsTest set test t → PrintsRefutation t e.model json out → PrintsRefutation t f.model again other
+      → AreOneReason set test e f json again out other
+  both_allowed : (t : Litmus) → SpellsTest set test t → PrintsExecutionOf t e.model json out → PrintsExecutionOf t f.model again other
+      → AreOneReason set test e f json again out other
+  first_gives_none : (t : Litmus) → SpellsTest set test t → GivesNoReason t e json out → AreOneReason set test e f json again out other
+  second_gives_none : (t : Litmus) → SpellsTest set test t → GivesNoReason t f again other → AreOneReason set test e f json again out other

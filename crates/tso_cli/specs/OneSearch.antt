@@ -1,7 +1,7 @@
 -- What the headline leaves open of `outcomes`: two texts of which it holds, each as lines or as JSON. They show the same states of the
 -- input's own test, and differ in the choices that lead there alone; or one of them says that it shows some of them.
 use Rattle.std.specs.Prelude.{ℕ, ◌≡◌, Bool, List, [], map}
-use Rattle.tso_cli.specs.Vocabulary.{HasMoreStates, Litmus, names_shown, Outcome, outcomes_in, OutcomesAreAlike, Search, SpellsTest, unfinished_search_in}
+use Rattle.tso_cli.specs.Vocabulary.{HasMoreStates, Instructions, Litmus, names_shown, Outcome, outcomes_in, OutcomesAreAlike, Search, SpellsTest, unfinished_search_in}
 use Rattle.tso_cli.specs.Outcomes.{AreSomeOutcomes}
 
 -- the same state, with no choices
@@ -27,8 +27,8 @@ pub record ShowsSomeStates (t : Litmus) (s : Search) (json : Bool) (out : List �
   pub printed : out ≡ unfinished_search_in json t (names_shown s.show t) s.states outcomes
 
 -- two texts are one, the same refusal; or both show all states of the test that was given; or one of them shows some
-pub data AreOneSearch (test : List ℕ) (s : Search) (json again : Bool) (out other : List ℕ) : Type 0 where
-  one_text : out ≡ other → AreOneSearch test s json again out other
-  both_show : (t : Litmus) → SpellsTest test t → ShowOneSearch t s json again out other → AreOneSearch test s json again out other
-  first_shows_some : (t : Litmus) → SpellsTest test t → ShowsSomeStates t s json out → AreOneSearch test s json again out other
-  second_shows_some : (t : Litmus) → SpellsTest test t → ShowsSomeStates t s again other → AreOneSearch test s json again out other
+pub data AreOneSearch (set : Instructions) (test : List ℕ) (s : Search) (json again : Bool) (out other : List ℕ) : Type 0 where
+  one_text : out ≡ other → AreOneSearch set test s json again out other
+  both_show : (t : Litmus) → SpellsTest set test t → ShowOneSearch t s json again out other → AreOneSearch set test s json again out other
+  first_shows_some : (t : Litmus) → SpellsTest set test t → ShowsSomeStates t s json out → AreOneSearch set test s json again out other
+  second_shows_some : (t : Litmus) → SpellsTest set test t → ShowsSomeStates t s again other → AreOneSearch set test s json again out other

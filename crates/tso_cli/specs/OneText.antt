@@ -10,8 +10,8 @@ use Rattle.command_line.specs.declared.settings.Settings.TheVariants as settings
 -- its answer is one text; of `outcomes` it isn't said which of the choices that lead to a state are printed, nor, where the machine can
 -- reach more states than may be kept, whether some states are printed or all; of `why` not which refutation or which execution is printed
 abbrev pub GivesOneAnswer : Settings → Type 0
-GivesOneAnswer (settings.Outcomes search json assert) = ⊥
-GivesOneAnswer (settings.Why plan json assert) = ⊥
+GivesOneAnswer (settings.Outcomes search set json assert) = ⊥
+GivesOneAnswer (settings.Why plan set json assert) = ⊥
 GivesOneAnswer _ = Unit {0}
 
 -- two reports show the same order, registers, memory and verdict of one test; the counts of choices and of accesses may differ

@@ -11,6 +11,7 @@ pub use Rattle.tso_laws.specs.Outcomes.{IsEnd, LeadToEnd}
 pub use Rattle.refutation_laws.specs.declared.model.Model.{Model}
 pub use Rattle.short_reasons.specs.Reasons.{ClosesMoreCases, most_cases}
 pub use Rattle.litmus_reader.specs.Spelling.{SpellsTest}
+pub use Rattle.litmus_tokens.specs.declared.instructions.Instructions.{Instructions}
 pub use Rattle.litmus_reader.specs.declared.fault.TextFault.{TextFault}
 pub use Rattle.order_breaches.specs.FirstBreach.{IsFirstBreach}
 pub use Rattle.order_breaches.specs.declared.breach.Breach.{Breach}
@@ -48,6 +49,7 @@ pub use Rattle.search_report.specs.Verdict.{is_as_claimed}
 pub use Rattle.search_report.specs.PrintedReasons.{ShowsExecution, unfinished_cases_in}
 pub use Rattle.search_report.specs.ShortReports.{short_refutation_in}
 pub use Rattle.command_line.specs.Explanation.{Explanation}
+pub use Rattle.command_line.specs.Instructions.{instructions_of}
 pub use Rattle.command_line.specs.Search.{Search}
 pub use Rattle.command_line.specs.declared.settings.Settings.{Settings}
 pub use Rattle.counted_io.specs.Limits.{longest_input}

@@ -1,7 +1,7 @@
 -- The answer of `witness`: the choices that reach an order, or the depth that it needs, or its first breach. (Primer,
 -- chapter 4.)
 use Rattle.std.specs.Prelude.{ℕ, ◌≡◌, ◌<◌, ◌≤◌, Bool, List}
-use Rattle.tso_cli.specs.Vocabulary.{Breach, Choice, choices_along, Configuration, Ended, Ending, Entry, HasFault, IsEndingOf, IsFirstBreach, IsTsoExecution, Litmus, OrderFault, ProtocolKind, run, ShownRun, SpellsOrder, Unfinished}
+use Rattle.tso_cli.specs.Vocabulary.{Breach, Choice, choices_along, Configuration, Ended, Ending, Entry, HasFault, Instructions, IsEndingOf, IsFirstBreach, IsTsoExecution, Litmus, OrderFault, ProtocolKind, run, ShownRun, SpellsOrder, Unfinished}
 use Rattle.tso_laws.specs.Depth.{needed}
 use Rattle.scheduler.specs.Printed.{printed_choices}
 use Rattle.litmus_reader.specs.Spelling.{SpellsTest}
@@ -40,10 +40,10 @@ HasEndedWith order (Unfinished used stalled) = ⊥
 
 -- what is written is the report of a run that ended with the very order that the second part spells; none of its choices
 -- stalled, and none was left over
-pub record ReportsOrder (kind : ProtocolKind) (c : Configuration) (json : Bool) (parts : Parts) (out : List ℕ) : Type 0 where
+pub record ReportsOrder (kind : ProtocolKind) (c : Configuration) (set : Instructions) (json : Bool) (parts : Parts) (out : List ℕ) : Type 0 where
   pub t : Litmus
   pub order : List Entry
-  pub test_spelled : SpellsTest parts.test t
+  pub test_spelled : SpellsTest set parts.test t
   pub order_spelled : SpellsOrder t parts.rest order
   pub shown : ShownRun
   pub printed : out ≡ report_in json t kind c shown

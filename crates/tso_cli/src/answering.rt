@@ -22,7 +22,7 @@ use crate::witnessing::witness_answer;
 use command_line::Settings;
 use explorer::{Unwatched, Watcher};
 use hints::{Cause, Reader};
-use litmus_reader::{ReadError, test_or_fault};
+use litmus_reader::{ReadError, test_or_fault_in};
 use protocol_tables::{ProtocolKind, table_text};
 use std::alloc::Global;
 use tso_io::MAX_INPUT;
@@ -63,7 +63,7 @@ pub fn answer_watched<S: Watcher>(
         | Settings::Counts { .. }
         | Settings::Outcomes { .. }
         | Settings::Why { .. }
-        | Settings::Check
+        | Settings::Check { .. }
         | Settings::Witness { .. } => judged_answer(alloc, settings, input, watcher),
         Settings::Tables(kind) => table_answer(alloc, *kind),
     }
@@ -82,7 +82,7 @@ fn judged_answer<S: Watcher>(
         return refused_input(alloc);
     }
     let parts = parts_of(input);
-    match test_or_fault(alloc, parts.test) {
+    match test_or_fault_in(alloc, settings.instructions(), parts.test) {
         Ok(test) => told_answer(alloc, settings, &test, parts.test, parts.rest, watcher),
         Err(ReadError::Fault(fault)) => refused_test(alloc, asked(settings), parts.test, fault),
         Err(ReadError::NoMemory) => Err(NoMemory),
@@ -153,31 +153,38 @@ fn answer_of<S: Watcher>(
             protocol,
             config,
             json,
+            ..
         } => run_answer(alloc, test, *protocol, *config, *json, text),
         Settings::Trace {
             protocol,
             config,
             json,
+            ..
         } => trace_answer(alloc, test, *protocol, *config, *json, text),
         Settings::Sweep {
             protocol,
             config,
             plan,
+            ..
         } => sweep_answer(alloc, test, *protocol, *config, *plan),
         Settings::Counts {
             protocol,
             config,
             plan,
             json,
+            ..
         } => counts_answer(alloc, test, *protocol, *config, *plan, *json, text),
         Settings::Outcomes {
             search,
             json,
             assert,
+            ..
         } => outcomes_answer(alloc, test, *search, *json, *assert, watcher),
-        Settings::Why { plan, json, assert } => why_answer(alloc, test, *plan, *json, *assert),
-        Settings::Check => check_answer(alloc, test, text),
-        Settings::Witness { depth } => witness_answer(alloc, test, *depth, text),
+        Settings::Why {
+            plan, json, assert, ..
+        } => why_answer(alloc, test, *plan, *json, *assert),
+        Settings::Check { .. } => check_answer(alloc, test, text),
+        Settings::Witness { depth, .. } => witness_answer(alloc, test, *depth, text),
         Settings::Tables(kind) => table_answer(alloc, *kind),
     }
 }
@@ -203,7 +210,7 @@ fn asked(settings: &Settings) -> Reader {
         Settings::Counts { .. } => Reader::Counts,
         Settings::Outcomes { .. } => Reader::Outcomes,
         Settings::Why { .. } => Reader::Why,
-        Settings::Check => Reader::Check,
+        Settings::Check { .. } => Reader::Check,
         Settings::Witness { .. } => Reader::Witness,
     }
 }

@@ -10,6 +10,7 @@ ghost use Rattle.tso_cli.specs.inner.ReadOneWay.{AreReadOneWay};
 ghost use Rattle.command_line.specs.Limits.{IsWithinLimits};
 ghost use Rattle.tso_cli.specs.OneText.{GivesOneAnswer, ShowTheSameStates, ShowsPart};
 ghost use Rattle.command_line.specs.Search.{Search};
+ghost use Rattle.litmus_tokens.specs.declared.instructions.Instructions.{Instructions};
 ghost use Rattle.tso_cli.specs.declared.answer.Status.{Status};
 ghost use Rattle.command_line.specs.declared.settings.Settings.{Settings};
 
@@ -62,10 +63,10 @@ pub(crate) fn texts_are_read_one_way()
 pub fn inputs_have_one_answer()
     ensures commands { (s : Settings) (input out other : List ℕ) (status again : Status)
         → GivesOneAnswer s → IsAnswer s (Some input) out status → IsAnswer s (Some input) other again → (out ≡ other) × (status ≡ again) }
-    ensures searches { (search : Search) (json assert : Bool) (input out other : List ℕ) (status again : Status)
+    ensures searches { (search : Search) (set : Instructions) (json assert : Bool) (input out other : List ℕ) (status again : Status)
         → IsPrinted status → IsPrinted again
-        → IsAnswer (Settings.Outcomes search json assert) (Some input) out status
-        → IsAnswer (Settings.Outcomes search json assert) (Some input) other again
+        → IsAnswer (Settings.Outcomes search set json assert) (Some input) out status
+        → IsAnswer (Settings.Outcomes search set json assert) (Some input) other again
         → (ShowTheSameStates search json out other × (status ≡ again)) ⊎ (ShowsPart search json out ⊎ ShowsPart search json other) }
 {
     texts_are_read_one_way();

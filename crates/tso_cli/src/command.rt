@@ -105,7 +105,7 @@ fn most_read(settings: &Settings) -> usize
         | Settings::Counts { .. }
         | Settings::Outcomes { .. }
         | Settings::Why { .. }
-        | Settings::Check
+        | Settings::Check { .. }
         | Settings::Witness { .. } => READ_LIMIT,
         Settings::Tables(_) => 0,
     }

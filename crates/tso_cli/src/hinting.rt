@@ -53,7 +53,7 @@ pub(crate) fn may_mislead(settings: &Settings) -> bool
         Settings::Sweep { .. } => true,
         Settings::Counts { .. } => false,
         Settings::Why { json, .. } => !*json,
-        Settings::Check | Settings::Witness { .. } | Settings::Tables(_) => false,
+        Settings::Check { .. } | Settings::Witness { .. } | Settings::Tables(_) => false,
     }
 }
 
@@ -85,7 +85,7 @@ fn is_searched(settings: &Settings) -> bool
         | Settings::Sweep { .. }
         | Settings::Counts { .. }
         | Settings::Why { .. }
-        | Settings::Check
+        | Settings::Check { .. }
         | Settings::Witness { .. }
         | Settings::Tables(_) => false,
     }

@@ -36,6 +36,7 @@ pub use explaining::why_answer;
 pub use explorer::{STRIDE, Unwatched, Watcher};
 pub use hinting::hint;
 pub use hints::line_hint;
+pub use litmus_reader::Instructions;
 pub use machine_runs::Ending;
 pub use measuring::{refused_trace, word_too_far};
 pub use outcomes::outcomes_answer;

@@ -4,6 +4,7 @@
 ghost use Rattle.std.specs.Prelude.{ℕ, Bool, List, Some};
 ghost use Rattle.protocol_tables.specs.declared.kind.ProtocolKind.{ProtocolKind};
 ghost use Rattle.multiprocessor.specs.Configuration.{Configuration};
+ghost use Rattle.litmus_tokens.specs.declared.instructions.Instructions.{Instructions};
 ghost use Rattle.scheduler.specs.Plan.{Plan};
 ghost use Rattle.command_line.specs.declared.settings.Settings.{Settings};
 ghost use Rattle.tso_cli.specs.Answers.{IsAnswer};
@@ -17,17 +18,17 @@ use crate::answers::texts_are_read_one_way;
 /// in the `Machine` line, of a trace also in the trace's lines, or its member `trace`. Refusals, and unfinished runs without
 /// a trace, are answered with the same bytes, and the status is always the same. The buffers have one depth in both.
 pub fn machines_on_the_atomic_bus_answer_alike()
-    ensures runs { (kind other : ProtocolKind) (c d : Configuration) (json : Bool) (input out again : List ℕ) (status too : Status)
+    ensures runs { (kind other : ProtocolKind) (c d : Configuration) (set : Instructions) (json : Bool) (input out again : List ℕ) (status too : Status)
         → AreAtomicAtOneDepth c d
-        → IsAnswer (Settings.Run kind c json) (Some input) out status → IsAnswer (Settings.Run other d json) (Some input) again too
+        → IsAnswer (Settings.Run kind c set json) (Some input) out status → IsAnswer (Settings.Run other d set json) (Some input) again too
         → RunsAnswerAlike json kind other c d out again status too }
-    ensures traces { (kind other : ProtocolKind) (c d : Configuration) (json : Bool) (input out again : List ℕ) (status too : Status)
+    ensures traces { (kind other : ProtocolKind) (c d : Configuration) (set : Instructions) (json : Bool) (input out again : List ℕ) (status too : Status)
         → AreAtomicAtOneDepth c d
-        → IsAnswer (Settings.Trace kind c json) (Some input) out status → IsAnswer (Settings.Trace other d json) (Some input) again too
+        → IsAnswer (Settings.Trace kind c set json) (Some input) out status → IsAnswer (Settings.Trace other d set json) (Some input) again too
         → TracesAnswerAlike json kind other c d out again status too }
-    ensures sweeps { (kind other : ProtocolKind) (c d : Configuration) (plan : Plan) (input out again : List ℕ) (status too : Status)
+    ensures sweeps { (kind other : ProtocolKind) (c d : Configuration) (set : Instructions) (plan : Plan) (input out again : List ℕ) (status too : Status)
         → AreAtomicAtOneDepth c d
-        → IsAnswer (Settings.Sweep kind c plan) (Some input) out status → IsAnswer (Settings.Sweep other d plan) (Some input) again too
+        → IsAnswer (Settings.Sweep kind c set plan) (Some input) out status → IsAnswer (Settings.Sweep other d set plan) (Some input) again too
         → SweepsAnswerAlike kind other c d out again status too }
 {
     texts_are_read_one_way();

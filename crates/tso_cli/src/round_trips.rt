@@ -12,6 +12,7 @@ ghost use Rattle.tso_terms.specs.declared.execution.Entry.{Entry};
 ghost use Rattle.tso_laws.specs.Along.{choices_along, LeadTo};
 ghost use Rattle.tso_laws.specs.Depth.{needed};
 ghost use Rattle.refutation_laws.specs.Models.{depth_of};
+ghost use Rattle.litmus_tokens.specs.declared.instructions.Instructions.{Instructions};
 ghost use Rattle.protocol_tables.specs.declared.kind.ProtocolKind.{ProtocolKind};
 ghost use Rattle.multiprocessor.specs.Configuration.{Configuration};
 ghost use Rattle.tso_cli.specs.Answers.{IsAnswer, IsPrinted};
@@ -58,10 +59,10 @@ pub fn printed_runs_are_valid()
     ensures tests { (t : Litmus) (kind : ProtocolKind) (c : Configuration) (r : Run) (out answer : List ℕ) (status : Status)
         → IsTest t → length out < 2 ^ 64 → PrintsExecution t kind c false r out → IsCheckAnswer t out answer status
         → (answer ≡ valid_line) × (status ≡ Good) }
-    ensures inputs { (kind : ProtocolKind) (c : Configuration) (input out answer : List ℕ) (status : Status)
-        → IsWithinLimits (Settings.Run kind c false) → IsJoinable (parts_of input).test
-        → IsAnswer (Settings.Run kind c false) (Some input) out Good
-        → IsAnswer Settings.Check (Some (joined_parts (parts_of input).test out)) answer status
+    ensures inputs { (kind : ProtocolKind) (c : Configuration) (set : Instructions) (input out answer : List ℕ) (status : Status)
+        → IsWithinLimits (Settings.Run kind c set false) → IsJoinable (parts_of input).test
+        → IsAnswer (Settings.Run kind c set false) (Some input) out Good
+        → IsAnswer (Settings.Check set) (Some (joined_parts (parts_of input).test out)) answer status
         → (answer ≡ valid_line) × (status ≡ Good) }
 {
     texts_are_read_one_way();
@@ -76,8 +77,8 @@ pub fn printed_runs_are_valid()
 
 /// What `run` prints of a run that ended, but for JSON, has at most 32,768 bytes.
 pub fn printed_runs_are_short()
-    ensures { (kind : ProtocolKind) (c : Configuration) (input out : List ℕ)
-        → IsWithinLimits (Settings.Run kind c false) → IsAnswer (Settings.Run kind c false) (Some input) out Good → length out ≤ 32768 }
+    ensures { (kind : ProtocolKind) (c : Configuration) (set : Instructions) (input out : List ℕ)
+        → IsWithinLimits (Settings.Run kind c set false) → IsAnswer (Settings.Run kind c set false) (Some input) out Good → length out ≤ 32768 }
 {
     texts_are_read_one_way();
     atomic_runs_are_flat_runs();
@@ -115,11 +116,11 @@ pub fn greatest_depth_is_enough()
 /// the status of success, whatever the protocol and the shape of the caches: no choice stalled, and
 /// none was left over.
 pub fn witnesses_reach_their_orders()
-    ensures { (kind : ProtocolKind) (c : Configuration) (json : Bool) (input out answer : List ℕ) (status : Status)
-        → c.bus ≡ Atomic → IsWithinLimits (Settings.Run kind c json) → IsJoinable (parts_of input).test
-        → IsAnswer (Settings.Witness c.depth) (Some input) out Good
-        → IsAnswer (Settings.Run kind c json) (Some (joined_parts (parts_of input).test out)) answer status
-        → ReportsOrder kind c json (parts_of input) answer × (status ≡ Good) }
+    ensures { (kind : ProtocolKind) (c : Configuration) (set : Instructions) (json : Bool) (input out answer : List ℕ) (status : Status)
+        → c.bus ≡ Atomic → IsWithinLimits (Settings.Run kind c set json) → IsJoinable (parts_of input).test
+        → IsAnswer (Settings.Witness c.depth set) (Some input) out Good
+        → IsAnswer (Settings.Run kind c set json) (Some (joined_parts (parts_of input).test out)) answer status
+        → ReportsOrder kind c set json (parts_of input) answer × (status ≡ Good) }
 {
     texts_are_read_one_way();
     every_execution_is_reached();
@@ -133,10 +134,10 @@ pub fn witnesses_reach_their_orders()
 /// answered with the report of a run that ended with the printed values, and with the status of success, whatever the protocol and
 /// the shape of the caches: no choice stalled, and none was left over.
 pub fn searches_reach_their_states()
-    ensures { (kind : ProtocolKind) (c : Configuration) (search : Search) (json told assert : Bool) (input out : List ℕ) (status : Status)
-        → c.bus ≡ Atomic → search.depth ≡ c.depth → IsWithinLimits (Settings.Run kind c json) → IsJoinable (parts_of input).test
-        → ¬ (status ≡ Refused) → IsAnswer (Settings.Outcomes search told assert) (Some input) out status
-        → AreRevisited kind c search json told (parts_of input).test out }
+    ensures { (kind : ProtocolKind) (c : Configuration) (set : Instructions) (search : Search) (json told assert : Bool) (input out : List ℕ) (status : Status)
+        → c.bus ≡ Atomic → search.depth ≡ c.depth → IsWithinLimits (Settings.Run kind c set json) → IsJoinable (parts_of input).test
+        → ¬ (status ≡ Refused) → IsAnswer (Settings.Outcomes search set told assert) (Some input) out status
+        → AreRevisited kind c set search json told (parts_of input).test out }
 {
     texts_are_read_one_way();
     every_execution_is_reached();
@@ -153,10 +154,10 @@ pub fn searches_reach_their_states()
 /// of success, whatever the protocol and the shape of the caches: no choice stalled, and none was left over. Where none is printed, a
 /// refutation is.
 pub fn reasons_reach_their_executions()
-    ensures { (kind : ProtocolKind) (c : Configuration) (plan : Explanation) (json told assert : Bool) (input out : List ℕ) (status : Status)
-        → c.bus ≡ Atomic → c.depth ≡ depth_of plan.model → IsWithinLimits (Settings.Run kind c json) → IsJoinable (parts_of input).test
-        → IsPrinted status → IsAnswer (Settings.Why plan told assert) (Some input) out status
-        → IsExplained kind c json plan.model told (parts_of input).test out }
+    ensures { (kind : ProtocolKind) (c : Configuration) (set : Instructions) (plan : Explanation) (json told assert : Bool) (input out : List ℕ) (status : Status)
+        → c.bus ≡ Atomic → c.depth ≡ depth_of plan.model → IsWithinLimits (Settings.Run kind c set json) → IsJoinable (parts_of input).test
+        → IsPrinted status → IsAnswer (Settings.Why plan set told assert) (Some input) out status
+        → IsExplained kind c set json plan.model told (parts_of input).test out }
 {
     texts_are_read_one_way();
     every_execution_is_reached();

@@ -13,7 +13,7 @@ use crate::measuring::{refused_trace, word_too_far};
 use crate::running::{cause_of, refused_choices};
 use crate::tracing::status_in;
 use hints::Reader;
-use litmus_reader::{ReadError, test_or_fault};
+use litmus_reader::{Instructions, ReadError, test_or_fault_in};
 use machine_core::{Choice, Config};
 use machine_runs::Setup;
 use protocol_tables::ProtocolKind;
@@ -25,22 +25,23 @@ use tso_report::json::line_of;
 use tso_terms::NoMemory;
 
 /// Of the trace that `trace --json` prints of an input the last step alone, with the machine after it; where no choice is
-/// used, the machine before the first choice. What it refuses, how, and the status are those of `trace --json`.
+/// used, the machine before the first choice. The test may have these instructions. What it refuses, how, and the status are those of `trace --json`.
 ///
 /// Errors: out of memory only.
 pub fn step_answer(
     alloc: Global,
     protocol: ProtocolKind,
     config: Config,
+    instructions: Instructions,
     input: &[u8],
 ) -> Result<Answer, NoMemory>
-    ensures { IfOk result (λ a. IsStepAnswer protocol config input.now (string_bytes a.text) a.status) }
+    ensures { IfOk result (λ a. IsStepAnswer protocol config instructions input.now (string_bytes a.text) a.status) }
 {
     if input.len() > MAX_INPUT {
         return refused_input(alloc);
     }
     let parts = parts_of(input);
-    match test_or_fault(alloc, parts.test) {
+    match test_or_fault_in(alloc, instructions, parts.test) {
         Ok(test) => {
             let setup = Setup {
                 test: &test,

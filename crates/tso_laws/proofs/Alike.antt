@@ -1,4 +1,9 @@
 -- States that differ in dead registers alone: a choice does the same in both.
+use Rattle.tso_terms.specs.Thread.{with_taken, with_value, value_in, changed}
+use Rattle.tso_laws.specs.Dead.{unless_used, before_change, before_taking}
+use Rattle.basic_laws.specs.Types.{Held, Replace, Negate, CompareExchange, Change, Keep, Set, Swap}
+use Rattle.tso_terms.specs.declared.action.Update.TheVariants.{Combine}
+use Rattle.tso_laws.proofs.Clearing.{update-live}
 use Rattle.tso_laws.proofs.EagerVocabulary.{◌≡◌, ℕ, ◌+◌, zero, suc, List, [], ◌∷◌, ◌++◌, Bool, true, false, Option, Some, None, length, slice_get, slice_set, slice_index, slice_index_or, drop, arith, ap, sym, ◌∙◌, refl, subst, if◌then◌else◌, nat_lt, drop-at, index_of, action_of, Litmus, entry, value_of, updated, CoreState, State, Effect, idle, program_of, core_of, effect_by, step_of, drain_of, effect_of, applied, after_choice, memory_after, is_none_pending, stored, stalled, when_drained, locked, load_value, chosen, W, LR, LW, Instr, Action, Store, Load, Move, Fence, Lock, Entry, Choice, Step, Drain, Stall, Buffered, Reg, Loc, Update, dead_before, dead_at, cleared, hidden_of, forgotten_core, forgotten_cores, forgotten, AreAlike, cases_Bool, inl, inr}
 use Rattle.tso_terms.specs.declared.choice.Stall.TheVariants as stall
 use Rattle.tso_laws.proofs.Clearing.{clear-none, write-dead, write-any, read-live, operand-live}
@@ -41,14 +46,48 @@ module _ (p : List Instr) (hidden : List Bool) (n : ℕ) (ps : List Entry) (rs s
   waits-agree : (why : Stall) (f g : Effect) → Agree p hidden f g → Agree p hidden (when_drained why (core n rs ps) f) (when_drained why (core n ss ps) g)
   waits-agree why f g h = elim (cases_Bool (is_none_pending ps)) [ inl is ↦ rw is h | inr is ↦ rw is (stays why) ]
 
-  lock-agrees : (k : ℕ) (loc : Loc) (reg : Reg) (update : Update) (word v w : ℕ) → v ≡ w → cleared later rs ≡ cleared later ss
-      → Agree p hidden (locked k (core n rs ps) loc reg word (updated update word v)) (locked k (core n ss ps) loc reg word (updated update word w))
-  lock-agrees k loc reg update word v w q h =
+  takes : (target : Option Reg) (word : ℕ) → cleared (before_taking target later) rs ≡ cleared (before_taking target later) ss
+      → cleared later (with_taken rs target word) ≡ cleared later (with_taken ss target word)
+  takes None word h = h
+  takes (Some reg) word h = write-dead later rs ss (index_of reg) word h
+
+  lock-agrees : (k : ℕ) (loc : Loc) (target : Option Reg) (word v w : ℕ) → v ≡ w → cleared (before_taking target later) rs ≡ cleared (before_taking target later) ss
+      → Agree p hidden (locked k (core n rs ps) loc target word v) (locked k (core n ss ps) loc target word w)
+  lock-agrees k loc target word v w q h =
       waits-agree stall.Lock _ _ (record {
         outcome = refl;
-        commits = ap (λ z. entry k n LR loc word ∷ (entry k n LW loc (updated update word z) ∷ [])) q;
-        after = ap (λ z. core (n + 1) z ps) (write-any later rs ss (index_of reg) word h);
+        commits = ap (λ z. entry k n LR loc word ∷ (entry k n LW loc z ∷ [])) q;
+        after = ap (λ z. core (n + 1) z ps) (takes target word h);
       })
+
+  -- a move whose update reads the register's own value
+  keeps : (update : Update) (reg : Reg) → cleared (unless_used update (slice_set later (index_of reg) false)) rs ≡ cleared (unless_used update (slice_set later (index_of reg) false)) ss
+      → cleared later (changed (Set reg update) rs) ≡ cleared later (changed (Set reg update) ss)
+  keeps update reg h =
+      let w = update-live update (slice_set later (index_of reg) false) rs ss h in
+      let r = read-live later rs ss (index_of reg) w.1 in
+      write-any later rs ss (index_of reg) (updated update rs (value_in rs reg)) r.1
+      ∙ ap (λ v. cleared later (slice_set ss (index_of reg) v)) (w.0 (value_in rs reg) ∙ ap (λ z. updated update ss z) r.0)
+
+  sets : (update : Update) (reg : Reg) → cleared (before_change (Set reg update) later) rs ≡ cleared (before_change (Set reg update) later) ss
+      → cleared later (changed (Set reg update) rs) ≡ cleared later (changed (Set reg update) ss)
+  sets (Replace operand) reg h =
+      let w = operand-live operand (slice_set later (index_of reg) true) rs ss h in
+      write-dead later rs ss (index_of reg) (value_of rs operand) w.1 ∙ ap (λ v. cleared later (slice_set ss (index_of reg) v)) w.0
+  sets (Combine operator operand) reg h = keeps (Combine operator operand) reg h
+  sets Negate reg h = keeps Negate reg h
+  sets (CompareExchange other) reg h = keeps (CompareExchange other) reg h
+
+  changes : (change : Change) → cleared (before_change change later) rs ≡ cleared (before_change change later) ss → cleared later (changed change rs) ≡ cleared later (changed change ss)
+  changes Keep h = h
+  changes (Set reg update) h = sets update reg h
+  changes (Swap reg other) h =
+      let a = operand-live (Held other) (slice_set later (index_of reg) false) rs ss h in
+      let b = operand-live (Held reg) later rs ss a.1 in
+      write-any later (slice_set rs (index_of reg) (value_in rs other)) (slice_set ss (index_of reg) (value_in rs other)) (index_of other) (value_in rs reg)
+      (write-any later rs ss (index_of reg) (value_in rs other) b.1)
+      ∙ (ap (λ v. cleared later (slice_set (slice_set ss (index_of reg) v) (index_of other) (value_in rs reg))) a.0
+      ∙ ap (λ v. cleared later (slice_set (slice_set ss (index_of reg) (value_in ss other)) (index_of other) v)) b.0)
 
   by-action : (d k : ℕ) (memory : List ℕ) (a : Action) → cleared (dead_before a later) rs ≡ cleared (dead_before a later) ss
       → Agree p hidden (effect_by d memory k a (core n rs ps)) (effect_by d memory k a (core n ss ps))
@@ -56,18 +95,12 @@ module _ (p : List Instr) (hidden : List Bool) (n : ℕ) (ps : List Entry) (rs s
       let w = operand-live operand later rs ss h in store-agrees d _ _ (ap (λ v. entry k n W loc v) w.0) w.1
   by-action d k memory (Load reg loc) h =
       record { outcome = refl; commits = refl; after = ap (λ z. core (n + 1) z ps) (write-dead later rs ss (index_of reg) (load_value memory (core n rs ps) loc.0) h) }
-  by-action d k memory (Move reg operand) h =
-      let w = operand-live operand (slice_set later (index_of reg) true) rs ss h in
-      record {
-        outcome = refl;
-        commits = refl;
-        after = ap (λ z. core (n + 1) z ps) (write-dead later rs ss (index_of reg) (value_of rs operand) w.1
-            ∙ ap (λ v. cleared later (slice_set ss (index_of reg) v)) w.0);
-      }
+  by-action d k memory (Move change) h =
+      record { outcome = refl; commits = refl; after = ap (λ z. core (n + 1) z ps) (changes change h) }
   by-action d k memory Fence h =
       waits-agree stall.Fence _ _ (record { outcome = refl; commits = refl; after = ap (λ z. core (n + 1) z ps) h })
   by-action d k memory (Lock loc reg update) h =
-      let w = read-live later rs ss (index_of reg) h in lock-agrees k loc reg update (slice_index memory loc.0) _ _ w.0 w.1
+      let w = update-live update (before_taking reg later) rs ss h in lock-agrees k loc reg (slice_index memory loc.0) _ _ (w.0 (slice_index memory loc.0)) w.1
 
   step-agrees : (d k : ℕ) (memory : List ℕ) → Agree p hidden (step_of d memory k (slice_get p n) (core n rs ps)) (step_of d memory k (slice_get p n) (core n ss ps))
   step-agrees d k memory = go (slice_get p n) refl

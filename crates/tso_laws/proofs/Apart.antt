@@ -35,7 +35,7 @@ module _ (d : ℕ) (t : Litmus) (set : ChoiceSet) (s : State) (st : IsStubborn d
       subst (λ f. HeldZone d t set s k f.commits) (sym (store-full d (core_of s k) _ w.buffered h.0)) (quiet tt)
   zone-by k (Store loc operand) (inr h) = at_one loc.0 (by-store (λ f. Only loc.0 f.commits) d (core_of s k) _ ((λ w. refl), tt) tt tt) h.2
   zone-by k (Load reg loc) h = quiet (refl, tt)
-  zone-by k (Move reg operand) h = absurd h
+  zone-by k (Move change) h = absurd h
   zone-by k Fence h =
       let w = st.drains_apart k h in
       subst (λ f. HeldZone d t set s k f.commits) (sym (waits-when stall.Fence (core_of s k) _ w.oldest w.later w.pending)) (quiet tt)
@@ -72,7 +72,7 @@ module _ (d : ℕ) (t : Litmus) (set : ChoiceSet) (s : State) (st : IsStubborn d
     action-kept : (k : ℕ) (a : Action) → chosen c ≢ k → IsApartBy d t set s k a → effect_by d (after_choice t d s c).memory k a (core_of s k) ≡ effect_by d s.memory k a (core_of s k)
     action-kept k (Store loc operand) n h = refl
     action-kept k (Load reg loc) n h = action-same d k _ _ (Load reg loc) (core_of s k) (read-kept false loc.0 k n h)
-    action-kept k (Move reg operand) n h = refl
+    action-kept k (Move change) n h = refl
     action-kept k Fence n h = refl
     action-kept k (Lock loc reg update) n (inl h) =
         let w = st.drains_apart k h in
@@ -122,7 +122,7 @@ module _ (d : ℕ) (t : Litmus) (set : ChoiceSet) (s : State) (st : IsStubborn d
     held-by-after k (Store loc operand) n (inr h) =
         inr (h.0, subst (λ z. z.pending ≡ []) (sym (core-stays d t s k c n)) h.1, others-held-after true loc.0 k h.2)
     held-by-after k (Load reg loc) n h = others-held-after false loc.0 k h
-    held-by-after k (Move reg operand) n h = h
+    held-by-after k (Move change) n h = h
     held-by-after k Fence n h = h
     held-by-after k (Lock loc reg update) n (inl h) = inl h
     held-by-after k (Lock loc reg update) n (inr h) = inr (subst (λ z. z.pending ≡ []) (sym (core-stays d t s k c n)) h.0, others-held-after true loc.0 k h.1)

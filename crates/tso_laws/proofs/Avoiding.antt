@@ -42,7 +42,7 @@ by-store P (suc n) s e now room full = elim (cases_Bool (nat_lt (length s.pendin
 action-avoids : (loads : Bool) (l d core : ℕ) (memory : List ℕ) (a : Action) (s : CoreState) → meets loads l a ≡ false → NotAt l (effect_by d memory core a s).commits
 action-avoids loads l d core memory (Store loc operand) s h = by-store (λ f. NotAt l f.commits) d s _ ((λ w. differ loc.0 l h), tt) tt tt
 action-avoids loads l d core memory (Load reg loc) s h = ((λ w. absurd (let z : ⊥ = cc in z)), tt)
-action-avoids loads l d core memory (Move reg operand) s h = tt
+action-avoids loads l d core memory (Move change) s h = tt
 action-avoids loads l d core memory Fence s h = by-wait (λ f. NotAt l f.commits) stall.Fence s _ (λ none. ((λ w. absurd (let z : ⊥ = cc in z)), tt)) tt
 action-avoids loads l d core memory (Lock loc reg update) s h =
     by-wait (λ f. NotAt l f.commits) stall.Lock s _ (λ none. ((λ w. absurd (let z : ⊥ = cc in z)), ((λ w. differ loc.0 l h), tt))) tt

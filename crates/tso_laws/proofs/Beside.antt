@@ -113,7 +113,7 @@ module _ (d : ℕ) (t : Litmus) (test : IsTest t) (s : State) (sized : IsSized t
       → (core_of s k).pending ≡ p ∷ ps → IsEagerBy d t s k a → Goes d s.memory (core_of s k) a
   goes-on x (Store loc operand) p ps at e q w = w
   goes-on x (Load reg loc) p ps at e q w = loads x reg loc at e
-  goes-on x (Move reg operand) p ps at e q w = tt
+  goes-on x (Move change) p ps at e q w = tt
   goes-on x Fence p ps at e q w = let y : ⊥ = cc in y
   goes-on x (Lock loc reg update) p ps at e q w = let v = w.0 in let y : ⊥ = cc in y
 
@@ -124,7 +124,7 @@ module _ (d : ℕ) (t : Litmus) (test : IsTest t) (s : State) (sized : IsSized t
       let m : length (core_of s k).pending ≡ suc (length ps) = ap length q in
       omega (arith, n, m, w)
   eager-on x (Load reg loc) p ps c q w = others-kept false loc.0 d t s k (drain k) refl w
-  eager-on x (Move reg operand) p ps c q w = tt
+  eager-on x (Move change) p ps c q w = tt
   eager-on x Fence p ps c q w = absurd (let y : ⊥ = cc in y)
   eager-on x (Lock loc reg update) p ps c q w = absurd (let v = w.0 in let y : ⊥ = cc in y)
 
@@ -165,7 +165,7 @@ module _ (d : ℕ) (t : Litmus) (test : IsTest t) (s : State) (sized : IsSized t
         | inr l ↦ stops stall.Full x at (ap (λ a. effect_by d s.memory k a (core_of s k)) e ∙ store-full d (core_of s k) _ buffers l)
       ]
       by-action x (Load reg loc) at e = passes x (Load reg loc) at e (loads x reg loc at e)
-      by-action x (Move reg operand) at e = passes x (Move reg operand) at e tt
+      by-action x (Move change) at e = passes x (Move change) at e tt
       by-action x Fence at e = stops stall.Fence x at (ap (λ a. effect_by d s.memory k a (core_of s k)) e ∙ waits-when stall.Fence (core_of s k) _ p ps q)
       by-action x (Lock loc reg update) at e = stops stall.Lock x at (ap (λ a. effect_by d s.memory k a (core_of s k)) e ∙ waits-when stall.Lock (core_of s k) _ p ps q)
 

@@ -1,5 +1,11 @@
 -- Registers with 0 in those that are dead, and what is written and read of them.
 use Rattle.tso_laws.proofs.EagerVocabulary.{◌≡◌, ℕ, zero, suc, List, [], ◌∷◌, Bool, true, false, slice_set, slice_index, if◌then◌else◌, ap, refl, index_of, value_of, Operand, Number, Held, unless_read, cleared}
+use Rattle.std.specs.Prelude.{◌==◌}
+use Rattle.std.proofs.Common.{◌∙◌}
+use Rattle.tso_terms.specs.Thread.{updated, combined}
+use Rattle.tso_laws.specs.Dead.{unless_used}
+use Rattle.basic_laws.specs.Types.{Update, Replace, Negate, CompareExchange, Eax}
+use Rattle.tso_terms.specs.declared.action.Update.TheVariants.{Combine}
 
 pub clear-none : (ds : List Bool) → cleared ds [] ≡ []
 clear-none [] = refl
@@ -69,3 +75,15 @@ pub operand-live : (o : Operand) (ds : List Bool) (rs ss : List ℕ) → cleared
     → (value_of rs o ≡ value_of ss o) × (cleared ds rs ≡ cleared ds ss)
 operand-live (Number value) ds rs ss h = (refl, h)
 operand-live (Held reg) ds rs ss h = read-live ds rs ss (index_of reg) h
+
+-- so has what an update makes of a word
+pub update-live : (u : Update) (ds : List Bool) (rs ss : List ℕ) → cleared (unless_used u ds) rs ≡ cleared (unless_used u ds) ss
+    → ((word : ℕ) → updated u rs word ≡ updated u ss word) × (cleared ds rs ≡ cleared ds ss)
+update-live (Replace operand) ds rs ss h = let w = operand-live operand ds rs ss h in (λ word. w.0, w.1)
+update-live (Combine operator operand) ds rs ss h = let w = operand-live operand ds rs ss h in (λ word. ap (λ v. combined operator word v) w.0, w.1)
+update-live Negate ds rs ss h = (λ word. refl, h)
+update-live (CompareExchange reg) ds rs ss h =
+    let a = operand-live (Held Eax) (unless_read (Held reg) ds) rs ss h in
+    let b = operand-live (Held reg) ds rs ss a.1 in
+    (λ word. ap (λ e. if word == e then value_of rs (Held reg) else word) a.0
+        ∙ ap (λ v. if word == value_of ss (Held Eax) then v else word) b.0, b.1)

@@ -1,4 +1,6 @@
 -- What each core's state keeps, and that a choice keeps it.
+use Rattle.tso_terms.specs.Thread.{changed, with_taken}
+use Rattle.tso_terms.specs.FlatMachine.{advanced_taking, advanced_to}
 use Rattle.tso_laws.proofs.Vocabulary.{◌≡◌, ◌≢◌, ◌<◌, ◌≤◌, ℕ, ◌+◌, zero, suc, List, [], ◌∷◌, ◌++◌, Option, Some, None, IfSome, Bool, true, false, length, slice_get, slice_index, take, drop, arith, ap, sym, ◌∙◌, append_assoc, refl, length-append, subst, nat_lt, if◌then◌else◌, slice_get_within, nat_tests, KnownLocation, action_of, location_of, entry, fence, value_in, with_value, value_of, updated, is_write, is_write_kind, rank, IsStorePart, is_at, read_value, made_by, registers_of, CoreState, effect_by, step_of, drain_of, stalled, stored, advanced, advanced_with, load_value, fenced, locked, Reg, Instr, Loc, Action, Store, Load, Move, Fence, Lock, Entry, R, W, LR, LW, Each, each-map, each-append, each-left, append-nil}
 use Rattle.tso_laws.proofs.Draining.{waits-or-acts, drains}
 use Rattle.tso_terms.specs.declared.choice.Stall.TheVariants as stall
@@ -172,14 +174,14 @@ holds-stored c (suc n) program first words commits s i e h at k p w l next = go 
     go false q = same-commits (suc n) c program first words commits s h
 
 -- a register move
-holds-moved : (d c : ℕ) (program : List Instr) (first words : List ℕ) (commits : List Entry) (s : CoreState) (i : Instr) (reg : Reg) (v : ℕ) → CoreInvariant d c program first words commits s
-    → slice_get program s.place ≡ Some i → ((X : List Entry) → Issues c s i X [] (with_value s.registers reg v)) → CoreInvariant d c program first words commits (advanced_with s reg v)
-holds-moved d c program first words commits s i reg v h at next = record {
+holds-moved : (d c : ℕ) (program : List Instr) (first words : List ℕ) (commits : List Entry) (s : CoreState) (i : Instr) (registers : List ℕ) → CoreInvariant d c program first words commits s
+    → slice_get program s.place ≡ Some i → ((X : List Entry) → Issues c s i X [] registers) → CoreInvariant d c program first words commits (advanced_to s registers)
+holds-moved d c program first words commits s i registers h at next = record {
   done = h.done;
   sees = sees-later d c (s.place + s.place) ((s.place + 1) + (s.place + 1)) words h.done (commits ++ s.pending) (omega arith) h.sees;
   queued = h.queued;
   made = λ X. more-made d c program first words commits s i [] h at X (next (commits ++ X)).entries ∙ append-nil h.done;
-  now = λ X. more-now d c program first words commits s i (with_value s.registers reg v) h at X (next (commits ++ X)).registers;
+  now = λ X. more-now d c program first words commits s i registers h at X (next (commits ++ X)).registers;
   fits = h.fits;
   within = next-within program s.place i at;
 }
@@ -208,10 +210,10 @@ holds-fenced d c program first words commits s i h at next =
         }
 
 -- a locked instruction, where nothing is pending
-holds-locked : (d c : ℕ) (program : List Instr) (first words memory : List ℕ) (commits : List Entry) (s : CoreState) (i : Instr) (loc : Loc) (reg : Reg) (w : ℕ) → CoreInvariant d c program first words commits s
+holds-locked : (d c : ℕ) (program : List Instr) (first words memory : List ℕ) (commits : List Entry) (s : CoreState) (i : Instr) (loc : Loc) (reg : Option Reg) (w : ℕ) → CoreInvariant d c program first words commits s
     → slice_get program s.place ≡ Some i → IsMemory words commits memory → loc.0 < length words
     → ((X : List Entry) → read_value c s.place LR X ≡ slice_index memory loc.0
-    → Issues c s i X (entry c s.place LR loc (slice_index memory loc.0) ∷ (entry c s.place LW loc w ∷ [])) (with_value s.registers reg (slice_index memory loc.0)))
+    → Issues c s i X (entry c s.place LR loc (slice_index memory loc.0) ∷ (entry c s.place LW loc w ∷ [])) (with_taken s.registers reg (slice_index memory loc.0)))
     → CoreInvariant d c program first words (commits ++ (locked c s loc reg (slice_index memory loc.0) w).commits) (locked c s loc reg (slice_index memory loc.0) w).after
 holds-locked d c program first words memory commits s i loc reg w h at m l next =
     waits-or-acts (λ f. CoreInvariant d c program first words (commits ++ f.commits) f.after) stall.Lock s _ acts (same-commits d c program first words commits s h)
@@ -219,7 +221,7 @@ holds-locked d c program first words memory commits s i loc reg w h at m l next 
     reads : (c place : ℕ) (loc : Loc) (v : ℕ) → is_at c place LR (entry c place LR loc v) ≡ true
     reads c place loc v = grind (arith, nat_tests)
 
-    acts : s.pending ≡ [] → CoreInvariant d c program first words (commits ++ (entry c s.place LR loc (slice_index memory loc.0) ∷ (entry c s.place LW loc w ∷ []))) (advanced_with s reg (slice_index memory loc.0))
+    acts : s.pending ≡ [] → CoreInvariant d c program first words (commits ++ (entry c s.place LR loc (slice_index memory loc.0) ∷ (entry c s.place LW loc w ∷ []))) (advanced_taking s reg (slice_index memory loc.0))
     acts q =
         let v : ℕ = slice_index memory loc.0 in
         let a : Entry = entry c s.place LR loc v in
@@ -238,7 +240,7 @@ holds-locked d c program first words memory commits s i loc reg w h at m l next 
               (append_assoc commits (a ∷ []) (b ∷ []) ∙ sym (append-nil (commits ++ (a ∷ (b ∷ [])))) ∙ sym (ap (λ z. (commits ++ (a ∷ (b ∷ []))) ++ z) q)) both);
           queued = h.queued;
           made = λ X. rw (append_assoc commits (a ∷ (b ∷ [])) X) (more-made d c program first words commits s i (a ∷ (b ∷ [])) h at (a ∷ (b ∷ X)) (next (commits ++ (a ∷ (b ∷ X))) (value X)).entries);
-          now = λ X. rw (append_assoc commits (a ∷ (b ∷ [])) X) (more-now d c program first words commits s i (with_value s.registers reg v) h at (a ∷ (b ∷ X)) (next (commits ++ (a ∷ (b ∷ X))) (value X)).registers);
+          now = λ X. rw (append_assoc commits (a ∷ (b ∷ [])) X) (more-now d c program first words commits s i (with_taken s.registers reg v) h at (a ∷ (b ∷ X)) (next (commits ++ (a ∷ (b ∷ X))) (value X)).registers);
           fits = h.fits;
           within = next-within program s.place i at;
         }
@@ -258,12 +260,12 @@ holds-step c d program first words memory commits s h m k (Some i) e = by_action
     by_action (Load reg loc) is =
         holds-load d c program first words memory commits s i loc reg h e m (rw is at (k s.place i e))
         (λ X v r. record { entries = rw (is, r) refl; registers = rw (is, r) refl })
-    by_action (Move reg operand) is =
-        same-commits d c program first words commits _ (holds-moved d c program first words commits s i reg (value_of s.registers operand) h e (λ X. record { entries = rw is refl; registers = rw is refl }))
+    by_action (Move change) is =
+        same-commits d c program first words commits _ (holds-moved d c program first words commits s i (changed change s.registers) h e (λ X. record { entries = rw is refl; registers = rw is refl }))
     by_action Fence is =
         holds-fenced d c program first words commits s i h e (λ X. record { entries = rw is refl; registers = rw is refl })
     by_action (Lock loc reg update) is =
-        holds-locked d c program first words memory commits s i loc reg (updated update (slice_index memory loc.0) (value_in s.registers reg)) h e m (rw is at (k s.place i e))
+        holds-locked d c program first words memory commits s i loc reg (updated update s.registers (slice_index memory loc.0)) h e m (rw is at (k s.place i e))
         (λ X r. record { entries = rw (is, r) refl; registers = rw (is, r) refl })
 
 -- a drain of the core itself
@@ -290,7 +292,7 @@ abbrev pub KnownAt : ℕ → Option Instr → Type 0
 KnownAt locations None = Unit {0}
 KnownAt locations (Some i) = KnownLocation locations i
 
-locked-commits : (c locations : ℕ) (s : CoreState) (loc : Loc) (reg : Reg) (v w : ℕ) → loc.0 < locations → Each (Commits c locations) (locked c s loc reg v w).commits
+locked-commits : (c locations : ℕ) (s : CoreState) (loc : Loc) (reg : Option Reg) (v w : ℕ) → loc.0 < locations → Each (Commits c locations) (locked c s loc reg v w).commits
 locked-commits c locations s loc reg v w l =
     waits-or-acts (λ f. Each (Commits c locations) f.commits) stall.Lock s _ (λ e. (record { own = refl; known = λ f. l }, (record { own = refl; known = λ f. l }, tt))) tt
 
@@ -305,7 +307,7 @@ step-commits c depth locations memory (Some i) s known = by_action (action_of i)
     by_action : (a : Action) → IfSome (location_of a) (λ loc. loc.0 < locations) → Each (Commits c locations) (effect_by depth memory c a s).commits
     by_action (Store loc operand) known = stored-commits c locations depth s _ refl known
     by_action (Load reg loc) known = (record { own = refl; known = λ f. absurd (let z : ⊥ = cc in z) }, tt)
-    by_action (Move reg operand) known = tt
+    by_action (Move change) known = tt
     by_action Fence known =
         waits-or-acts (λ f. Each (Commits c locations) f.commits) stall.Fence s _ (λ e. (record { own = refl; known = λ f. absurd (let z : ⊥ = cc in z) }, tt)) tt
     by_action (Lock loc reg update) known = locked-commits c locations s loc _ _ _ known
@@ -335,7 +337,7 @@ stored-paired : (depth : ℕ) (s : CoreState) (e : Entry) → e.kind ≡ W → P
 stored-paired zero s e w = (λ q. absurd (let z : ⊥ = cc in z), tt)
 stored-paired (suc n) s e w = elim (nat_lt (length s.pending) (suc n)) as (λ b. Paired (if b then put s e else stalled stall.Full s).commits) [ true ↦ tt | false ↦ tt ]
 
-locked-paired : (c : ℕ) (s : CoreState) (loc : Loc) (reg : Reg) (v w : ℕ) → Paired (locked c s loc reg v w).commits
+locked-paired : (c : ℕ) (s : CoreState) (loc : Loc) (reg : Option Reg) (v w : ℕ) → Paired (locked c s loc reg v w).commits
 locked-paired c s loc reg v w =
     waits-or-acts (λ f. Paired f.commits) stall.Lock s _
     (λ n. (λ e. record { store = entry c s.place LW loc w; rest = []; is = refl; pair = record { core = refl; place = refl; kind = refl } }, (λ e. absurd (let z : ⊥ = cc in z), tt))) tt
@@ -347,7 +349,7 @@ step-paired c depth memory (Some i) s = by_action (action_of i)
     by_action : (a : Action) → Paired (effect_by depth memory c a s).commits
     by_action (Store loc operand) = stored-paired depth s _ refl
     by_action (Load reg loc) = (λ e. absurd (let z : ⊥ = cc in z), tt)
-    by_action (Move reg operand) = tt
+    by_action (Move change) = tt
     by_action Fence = waits-or-acts (λ f. Paired f.commits) stall.Fence s _ (λ n. (λ e. absurd (let z : ⊥ = cc in z), tt)) tt
     by_action (Lock loc reg update) = locked-paired c s loc _ _ _
 

@@ -22,7 +22,7 @@ module _ (t : Litmus) (hidden : List (List Bool)) (s r : State) (h : AreAlike t 
   by-action : (d k : ℕ) (a : Action) → IsEagerBy d t s k a → IsEagerBy d t r k a
   by-action d k (Store loc operand) w = subst (λ z. length z < d) (pending k) w
   by-action d k (Load reg loc) w = others false loc.0 k w
-  by-action d k (Move reg operand) w = tt
+  by-action d k (Move change) w = tt
   by-action d k Fence w = sym (pending k) ∙ w
   by-action d k (Lock loc reg update) w = (sym (pending k) ∙ w.0, others true loc.0 k w.1)
 
@@ -53,7 +53,7 @@ module _ (t : Litmus) (hidden : List (List Bool)) (s r : State) (h : AreAlike t 
     held-by-same k (Store loc operand) (inl w) = inl (subst (λ z. d ≤ length z) (pending k) w.0, w.1)
     held-by-same k (Store loc operand) (inr w) = inr (w.0, sym (pending k) ∙ w.1, others-held-same true loc.0 k w.2)
     held-by-same k (Load reg loc) w = others-held-same false loc.0 k w
-    held-by-same k (Move reg operand) w = w
+    held-by-same k (Move change) w = w
     held-by-same k Fence w = w
     held-by-same k (Lock loc reg update) (inl w) = inl w
     held-by-same k (Lock loc reg update) (inr w) = inr (sym (pending k) ∙ w.0, others-held-same true loc.0 k w.1)

@@ -54,7 +54,7 @@ module _ (l d k : ℕ) (s : CoreState) (h : HasPending l s) where
           go true = tt
           go false = tt
   silent-by memory (Load reg loc) b = ((λ w. absurd (let z : ⊥ = cc in z)), tt)
-  silent-by memory (Move reg operand) b = tt
+  silent-by memory (Move change) b = tt
   silent-by memory Fence b = by-wait (λ f. NotAt l f.commits) stall.Fence s _ (λ none. ((λ w. absurd (let z : ⊥ = cc in z)), tt)) tt
   silent-by memory (Lock loc reg update) b =
       by-wait (λ f. NotAt l f.commits) stall.Lock s _ (λ none. absurd (let r = pending-some l s h in let q = r.2 in let z : ⊥ = cc in z)) tt
@@ -66,7 +66,7 @@ module _ (l d k : ℕ) (s : CoreState) (h : HasPending l s) where
         (forwards l s.pending (slice_index memory l) (slice_index other l) h.0 h.1 h.2 h.3)
     | inr n ↦ ap (λ w. last_value (filter (writes_to loc.0) s.pending) w) (f loc.0 n)
   ])
-  same-by memory other (Move reg operand) f = refl
+  same-by memory other (Move change) f = refl
   same-by memory other Fence f = refl
   same-by memory other (Lock loc reg update) f =
       let r = pending-some l s h in waits-when stall.Lock s _ r.0 r.1 r.2 ∙ sym (waits-when stall.Lock s _ r.0 r.1 r.2)
@@ -83,7 +83,7 @@ module _ (l d k : ℕ) (s : CoreState) (h : HasPending l s) where
           go true = (h.0, h.1, get-front s.pending _ h.0 h.1 h.2, h.3)
           go false = h
   stays-by memory (Load reg loc) b = h
-  stays-by memory (Move reg operand) b = h
+  stays-by memory (Move change) b = h
   stays-by memory Fence b = by-wait (λ f. HasPending l f.after) stall.Fence s _ (λ none. h) h
   stays-by memory (Lock loc reg update) b = by-wait (λ f. HasPending l f.after) stall.Lock s _ (λ none. h) h
 

@@ -36,7 +36,7 @@ step-lasts d memory k (Some i) s e m = by (action_of i)
     by : (a : Action) → Member e (effect_by d memory k a s).after.pending
     by (Store loc operand) = stored-lasts d s _ e m
     by (Load reg loc) = m
-    by (Move reg operand) = m
+    by (Move change) = m
     by Fence = drained-lasts _ s _ e refl m
     by (Lock loc reg update) = drained-lasts _ s _ e refl m
 

@@ -1,4 +1,6 @@
 -- The machine without store buffers follows a run of the machine with buffers of one that keeps all of program order.
+use Rattle.tso_terms.specs.FlatMachine.{advanced_to}
+use Rattle.tso_terms.specs.Thread.{changed}
 use Rattle.tso_laws.proofs.EndsVocabulary.{◌≡◌, ◌<◌, ℕ, zero, suc, Bool, true, false, List, [], ◌∷◌, ◌++◌, Option, Some, None, slice_get, slice_set, slice_index_or, length, inl, inr, if◌then◌else◌, arith, ap, sym, ◌∙◌, subst, refl, get_or-set_same, get_or-set_other, decide, append-nil, action_of, Litmus, entry, value_of, CoreState, State, Effect, idle, advanced, advanced_with, is_none_pending, stalled, stored, when_drained, effect_by, step_of, drain_of, core_of, program_of, effect_of, memory_after, after_choice, applied, step, drain, Instr, Loc, Reg, Action, Store, Load, Move, Fence, Lock, Entry, W, Choice, Stall, Committed, Buffered, Stalled, CoresExist, state_after, commits_of, steps, StallsChangeNothing}
 use Rattle.tso_terms.specs.declared.choice.Stall.TheVariants as stall
 use Rattle.tso_laws.proofs.Behind.{Moves, moves-more, holding, IsBehind, Trails, Follows, length-set, set-same, set-set, moves-made, steps-exist}
@@ -85,8 +87,8 @@ module _ (law : StallsChangeNothing) (t : Litmus) (a b : State) (h : Follows t a
     level-step s i (Load reg loc) p q e at is =
         both (effect_by 1 b.memory k (Load reg loc) s) (at-step 0 a (Some i) s p at ∙ ap (λ y. effect_by 0 a.memory k y s) is ∙ ap (λ m. effect_by 0 m k (Load reg loc) s) h.memory)
         (at-step 1 b (Some i) s q at ∙ ap (λ y. effect_by 1 b.memory k y s) is) e
-    level-step s i (Move reg operand) p q e at is =
-        both (effect_by 1 b.memory k (Move reg operand) s) (at-step 0 a (Some i) s p at ∙ ap (λ y. effect_by 0 a.memory k y s) is ∙ ap (λ m. effect_by 0 m k (Move reg operand) s) h.memory)
+    level-step s i (Move change) p q e at is =
+        both (effect_by 1 b.memory k (Move change) s) (at-step 0 a (Some i) s p at ∙ ap (λ y. effect_by 0 a.memory k y s) is ∙ ap (λ m. effect_by 0 m k (Move change) s) h.memory)
         (at-step 1 b (Some i) s q at ∙ ap (λ y. effect_by 1 b.memory k y s) is) e
     level-step s i Fence p q e at is =
         both (effect_by 1 b.memory k Fence s) (at-step 0 a (Some i) s p at ∙ ap (λ y. effect_by 0 a.memory k y s) is ∙ ap (λ m. effect_by 0 m k Fence s) h.memory)
@@ -115,9 +117,9 @@ module _ (law : StallsChangeNothing) (t : Litmus) (a b : State) (h : Follows t a
       behind-step i (Store loc operand) at is never =
           waits (step k) stall.Full (ap (λ f. f.outcome) (at-step 1 b (Some i) (core_of b k) refl at ∙ ap (λ y. effect_by 1 b.memory k y (core_of b k)) is) ∙ full (core_of b k) _ _ pending-is)
       behind-step i (Load reg loc) at is never = absurd (never reg loc is)
-      behind-step i (Move reg operand) at is never =
-          let next : CoreState = advanced_with w.after reg (value_of w.after.registers operand) in
-          ahead (effect_by 1 b.memory k (Move reg operand) (core_of b k)) (at-step 1 b (Some i) (core_of b k) refl at ∙ ap (λ y. effect_by 1 b.memory k y (core_of b k)) is) refl
+      behind-step i (Move change) at is never =
+          let next : CoreState = advanced_to w.after (changed change w.after.registers) in
+          ahead (effect_by 1 b.memory k (Move change) (core_of b k)) (at-step 1 b (Some i) (core_of b k) refl at ∙ ap (λ y. effect_by 1 b.memory k y (core_of b k)) is) refl
           (inr (record {
             next = w.next;
             loc = w.loc;
@@ -127,8 +129,8 @@ module _ (law : StallsChangeNothing) (t : Litmus) (a b : State) (h : Follows t a
             stands = w.stands;
             stores = w.stores;
             empty = w.empty;
-            moves = moves-more (program_of t k) w.count (advanced (core_of a k)) w.after i reg operand w.moves (subst (λ z. slice_get (program_of t k) z.place ≡ Some i) w.is at) is;
-            is = ap (λ z. advanced_with z reg (value_of z.registers operand)) w.is;
+            moves = moves-more (program_of t k) w.count (advanced (core_of a k)) w.after i change w.moves (subst (λ z. slice_get (program_of t k) z.place ≡ Some i) w.is at) is;
+            is = ap (λ z. advanced_to z (changed change z.registers)) w.is;
           }))
       behind-step i Fence at is never =
           waits (step k) stall.Fence (ap (λ f. f.outcome) (at-step 1 b (Some i) (core_of b k) refl at ∙ ap (λ y. effect_by 1 b.memory k y (core_of b k)) is) ∙ held-up stall.Fence (core_of b k) _ _ pending-is)
@@ -137,7 +139,7 @@ module _ (law : StallsChangeNothing) (t : Litmus) (a b : State) (h : Follows t a
 
       moves-pending : (p : List Instr) (n : ℕ) (x y : CoreState) → Moves p n x y → y.pending ≡ x.pending
       moves-pending p zero x y q = ap (λ z. z.pending) (sym q)
-      moves-pending p (suc n) x y m = moves-pending p n (advanced_with x m.1 (value_of x.registers m.2)) y m.5
+      moves-pending p (suc n) x y m = moves-pending p n (advanced_to x (changed m.1 x.registers)) y m.4
 
       drain-one : (s : CoreState) (e : Entry) → s.pending ≡ e ∷ [] → drain_of s ≡ record { outcome = Committed; after = holding s []; commits = e ∷ [] }
       drain-one s e q = rw q refl

@@ -61,7 +61,7 @@ module _ (pair : ℕ × ℕ) where
     where
       loaded_with : ℕ → CoreState
       loaded_with v = record { place = s.place + 1; registers = with_value s.registers reg v; pending = s.pending }
-  by-action d k memory (Move reg operand) s = record { outcome = refl; after = refl; memory = λ words. refl }
+  by-action d k memory (Move change) s = record { outcome = refl; after = refl; memory = λ words. refl }
   by-action d k memory Fence s = waits stall.Fence s _ _ (record { outcome = refl; after = refl; memory = λ words. refl })
   by-action d k memory (Lock loc reg update) s = waits stall.Lock s _ _ (record { outcome = refl; after = refl; memory = λ words. refl })
 

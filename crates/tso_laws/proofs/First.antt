@@ -66,7 +66,7 @@ module _ (d : ℕ) (t : Litmus) (test : IsTest t) (set : ChoiceSet) where
               drains = λ r. absurd (let z : ⊥ = cc in z);
               swaps = λ m n r. step-first m n r (either-way d t s k x p ps l at q g);
             }
-        with-step x (Move reg operand) p ps at e q h = absurd h
+        with-step x (Move change) p ps at e q h = absurd h
         with-step x Fence p ps at e q h = absurd (let z : ⊥ = cc in z)
         with-step x (Lock loc reg update) p ps at e q (inl h) = absurd (let z : ⊥ = cc in z)
         with-step x (Lock loc reg update) p ps at e q (inr h) = absurd (let r = h.0 in let z : ⊥ = cc in z)
@@ -128,7 +128,7 @@ module _ (d : ℕ) (t : Litmus) (test : IsTest t) (set : ChoiceSet) where
         by-action k x (Store loc operand) at e (inr h) =
             step-alive k x at (ap (λ a. (effect_by d s.memory k a (core_of s k)).after.place) e ∙ at-once k loc operand h.0) dead
         by-action k x (Load reg loc) at e h = step-alive k x at (ap (λ a. (effect_by d s.memory k a (core_of s k)).after.place) e) dead
-        by-action k x (Move reg operand) at e h = h
+        by-action k x (Move change) at e h = h
         by-action k x Fence at e h = drain-alive k (st.drains_apart k h) dead
         by-action k x (Lock loc reg update) at e (inl h) = drain-alive k (st.drains_apart k h) dead
         by-action k x (Lock loc reg update) at e (inr h) =

@@ -10,7 +10,7 @@ abbrev Placed : ℕ → Entry → Type 0
 Placed n e = (e.kind ≢ F → e.loc.0 < n) × (e.kind ≡ F → (e.loc.0 ≡ 0) × (e.value ≡ 0))
 
 located : (n c place : ℕ) (a : Action) (registers : List ℕ) (word : ℕ) → IfSome (location_of a) (λ loc. loc.0 < n) → Each (Placed n) (entries_by c place a registers word)
-located n c place (Move reg operand) registers word l = tt
+located n c place (Move change) registers word l = tt
 located n c place Fence registers word l = ((λ k. absurd (k refl), λ k. (refl, refl)), tt)
 located n c place (Lock loc reg update) registers word l = ((λ k. l, λ k. absurd (let z : ⊥ = cc in z)), ((λ k. l, λ k. absurd (let z : ⊥ = cc in z)), tt))
 located n c place _ registers word l = ((λ k. l, λ k. absurd (let z : ⊥ = cc in z)), tt)

@@ -1,4 +1,7 @@
 -- What the entry at the head of the back needs, and that it is then committed.
+use Rattle.tso_terms.specs.Thread.{changed, with_taken}
+use Rattle.tso_terms.specs.FlatMachine.{advanced_taking}
+use Rattle.std.specs.Prelude.{Option}
 use Rattle.tso_laws.proofs.Vocabulary.{◌≡◌, ◌≢◌, ◌<◌, ◌≤◌, ℕ, ◌+◌, suc, List, [], ◌∷◌, ◌++◌, Some, Bool, true, false, length, slice_get, slice_index, slice_index_or, drop, arith, ap, sym, ◌∙◌, refl, ◌⊎◌, inl, inr, subst, ◌==◌, ◌&&◌, slice_get-get_or, action_of, entry, value_in, with_value, value_of, updated, entries_by, entries_of, Litmus, le-by, max-left, max-right, and-false, part-small, load-kind, before, core-before, is_write, is_before, may_be_passed, is_store, is_load, is_read_kind, is_store_kind, is_load_kind, rank, read_value, read_values, Entry, Loc, Reg, Kind, R, W, F, LR, LW, Instr, Action, Store, Load, Move, Fence, Lock, core_of, CoreState, State, program_of, advanced, advanced_with, loaded, load_value, fenced, locked, effect_of, after_choice, step, drain, drained, Each, each-map, each-append, Member, drop-at, Committed, false_from_ne_true}
 use Rattle.tso_laws.proofs.Folds.{needs, asks, passed, passes, last_word, last_own, word-is}
 use Rattle.tso_terms.specs.declared.instruction.Instr.TheVariants as instr
@@ -218,7 +221,7 @@ paired-right : (xs ys : List Entry) → Paired (xs ++ ys) → Paired ys
 paired-right [] ys h = h
 paired-right (x ∷ xs) ys h = paired-right xs ys h.1
 
-locked-onward : (d : ℕ) (t : Litmus) (order front back : List Entry) (state : State) (x : Entry) (reg : Reg) (loc : Loc) (rv : ℕ) (f : ℕ → ℕ) → Good d t order → Stands d t order front (x ∷ back) state → x.core.0 < length t.programs
+locked-onward : (d : ℕ) (t : Litmus) (order front back : List Entry) (state : State) (x : Entry) (reg : Option Reg) (loc : Loc) (rv : ℕ) (f : ℕ → ℕ) → Good d t order → Stands d t order front (x ∷ back) state → x.core.0 < length t.programs
     → (core_of state x.core.0).place ≡ x.place → x.place < length (program_of t x.core.0) → loc.0 < length t.words
     → (q : List Instr) (registers reads : List ℕ) → left x.core.0 (program_of t x.core.0) (core_of state x.core.0) order
     ≡ (entry x.core.0 (core_of state x.core.0).place LR loc rv ∷ (entry x.core.0 (core_of state x.core.0).place LW loc (f rv) ∷ [])) ++ entries_of x.core.0 ((core_of state x.core.0).place + 1) q registers reads
@@ -245,7 +248,7 @@ locked-onward d t order front back state x reg loc rv f g st l p u known q regis
     let value : x.value ≡ last_own x back (last_word x.loc.0 front (slice_index t.words x.loc.0)) = g.due front x back st.is (ap is_read_kind kind) in
     let own = own-none x back (last_word x.loc.0 front (slice_index t.words x.loc.0)) (λ z m h. let i = passes-load z.kind x.kind (fine-at d t order front back state x z g st l m h) in let w : ⊥ = cc in w) in
     let word : slice_index state.memory loc.0 ≡ rv = st.world.memory loc.0 known ∙ ap (λ z. last_word z.0 front (slice_index t.words z.0)) (sym where_) ∙ sym own ∙ sym value ∙ ap (λ z. z.value) is in
-    let acts : effect_of t d state (step k) ≡ record { outcome = Committed; after = advanced_with s reg rv; commits = a ∷ (b ∷ []) } = effect ∙ ap (λ z. locked k s loc reg z (f z)) word ∙ acts-when stall.Lock s _ empty in
+    let acts : effect_of t d state (step k) ≡ record { outcome = Committed; after = advanced_taking s reg rv; commits = a ∷ (b ∷ []) } = effect ∙ ap (λ z. locked k s loc reg z (f z)) word ∙ acts-when stall.Lock s _ empty in
     let st' : Stands d t order front ((x ∷ (y ∷ [])) ++ next.rest) state = subst (λ z. Stands d t order front (x ∷ z) state) next.is st in
     record {
       other = y;
@@ -287,16 +290,16 @@ by-instruction d t order front back state x g st l p u i e = by_action (action_o
         let k : ℕ = x.core.0 in let s : CoreState = core_of state k in let q : List Instr = drop (s.place + 1) (program_of t k) in
         let v : ℕ = read_value k s.place R order in
         inl (load-onward d t order front back state x reg loc v g st l p u (rw is at (g.known k s.place i e)) q (with_value s.registers reg v) (read_values k (s.place + 1) q order) (rw (drop-at (program_of t k) s.place i e, is) refl) (rw (e, is) refl))
-    by_action (Move reg operand) is =
+    by_action (Move change) is =
         let k : ℕ = x.core.0 in let s : CoreState = core_of state k in let q : List Instr = drop (s.place + 1) (program_of t k) in
-        absurd (at-place d t order front (x ∷ back) state k g st l [] q (with_value s.registers reg (value_of s.registers operand)) (read_values k (s.place + 1) q order) (rw (drop-at (program_of t k) s.place i e, is) refl) x (x-in-order d t order front back state x x st (inl refl)) refl (sym p))
+        absurd (at-place d t order front (x ∷ back) state k g st l [] q (changed change s.registers) (read_values k (s.place + 1) q order) (rw (drop-at (program_of t k) s.place i e, is) refl) x (x-in-order d t order front back state x x st (inl refl)) refl (sym p))
     by_action Fence is =
         let k : ℕ = x.core.0 in let s : CoreState = core_of state k in let q : List Instr = drop (s.place + 1) (program_of t k) in
         inl (fence-onward d t order front back state x g st l p u q s.registers (read_values k (s.place + 1) q order) (rw (drop-at (program_of t k) s.place i e, is) refl) (rw (e, is) refl))
     by_action (Lock loc reg update) is =
         let k : ℕ = x.core.0 in let s : CoreState = core_of state k in let q : List Instr = drop (s.place + 1) (program_of t k) in
         let v : ℕ = read_value k s.place LR order in
-        inr (locked-onward d t order front back state x reg loc v (λ z. updated update z (value_in s.registers reg)) g st l p u (rw is at (g.known k s.place i e)) q (with_value s.registers reg v) (read_values k (s.place + 1) q order) (rw (drop-at (program_of t k) s.place i e, is) refl) (rw (e, is) refl))
+        inr (locked-onward d t order front back state x reg loc v (λ z. updated update s.registers z) g st l p u (rw is at (g.known k s.place i e)) q (with_taken s.registers reg v) (read_values k (s.place + 1) q order) (rw (drop-at (program_of t k) s.place i e, is) refl) (rw (e, is) refl))
 
 -- an entry of a program has a place within it
 pub entries-below : (c place : ℕ) (p : List Instr) (registers values : List ℕ) → Each (λ e. e.place < place + length p) (entries_of c place p registers values)

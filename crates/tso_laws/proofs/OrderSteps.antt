@@ -98,7 +98,7 @@ choice-goes d t order front done back state a k n g st q l o c m p u w = record 
 
 -- an action's entries are of its core and its place
 pub entries-at : (c place : ℕ) (a : Action) (registers : List ℕ) (word : ℕ) → Each (λ e. (e.core.0 ≡ c) × (e.place ≡ place)) (entries_by c place a registers word)
-entries-at c place (Move reg operand) registers word = tt
+entries-at c place (Move change) registers word = tt
 entries-at c place (Lock loc reg update) registers word = ((refl, refl), ((refl, refl), tt))
 entries-at c place _ registers word = ((refl, refl), tt)
 

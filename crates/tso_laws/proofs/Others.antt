@@ -14,7 +14,7 @@ SameFor memory other _ = Unit {0}
 pub action-same : (d core : ℕ) (memory other : List ℕ) (a : Action) (s : CoreState) → SameFor memory other a → effect_by d memory core a s ≡ effect_by d other core a s
 action-same d core memory other (Load reg loc) s h =
     ap (λ w. loaded s reg (entry core s.place R loc (last_value (filter (writes_to loc.0) s.pending) w))) h
-action-same d core memory other (Lock loc reg update) s h = ap (λ w. locked core s loc reg w (updated update w (value_in s.registers reg))) h
+action-same d core memory other (Lock loc reg update) s h = ap (λ w. locked core s loc reg w (updated update s.registers w)) h
 action-same d core memory other _ s h = refl
 
 pub step-same : (d core : ℕ) (memory other : List ℕ) (p : List Instr) (s r : CoreState) → r ≡ s
@@ -62,7 +62,7 @@ zone-step (suc d) t s k (Store loc operand) h = silent (buffers (nat_lt (length 
     buffers true = tt
     buffers false = tt
 zone-step d t s k (Load reg loc) h = silent (refl, tt)
-zone-step d t s k (Move reg operand) h = silent tt
+zone-step d t s k (Move change) h = silent tt
 zone-step d t s k Fence h = silent (by-wait (λ f. Silent f.commits) stall.Fence (core_of s k) _ (λ none. (refl, tt)) tt)
 zone-step d t s k (Lock loc reg update) h =
     only loc.0 (by-wait (λ f. Only loc.0 f.commits) stall.Lock (core_of s k) _ (λ none. ((λ w. refl), ((λ w. refl), tt))) tt) h.1
@@ -119,7 +119,7 @@ eager-same d t s (Step k) c n h =
 eager-stays : (d : ℕ) (t : Litmus) (s : State) (c : Choice) (k : ℕ) (a : Action) → chosen c ≢ k → chosen c < length s.cores → IsEagerBy d t s k a → IsEagerBy d t (after_choice t d s c) k a
 eager-stays d t s c k (Store loc operand) n m h = subst (λ z. length z.pending < d) (sym (core-stays d t s k c n)) h
 eager-stays d t s c k (Load reg loc) n m h = others-after false loc.0 d t s k c m h
-eager-stays d t s c k (Move reg operand) n m h = tt
+eager-stays d t s c k (Move change) n m h = tt
 eager-stays d t s c k Fence n m h = subst (λ z. z.pending ≡ []) (sym (core-stays d t s k c n)) h
 eager-stays d t s c k (Lock loc reg update) n m h = (subst (λ z. z.pending ≡ []) (sym (core-stays d t s k c n)) h.0, others-after true loc.0 d t s k c m h.1)
 

@@ -42,7 +42,7 @@ store-room (suc n) s e l = elim (cases_Bool (nat_lt (length s.pending) (suc n)))
 abbrev pub Goes : ℕ → List ℕ → CoreState → Action → Type 0
 Goes d memory s (Store loc operand) = length s.pending < d
 Goes d memory s (Load reg loc) = loc.0 < length memory
-Goes d memory s (Move reg operand) = Unit {0}
+Goes d memory s (Move change) = Unit {0}
 Goes d memory s _ = ⊥
 
 slides : (d k : ℕ) (memory : List ℕ) (a : Action) (s : CoreState) (p : Entry) (ps : List Entry) → s.pending ≡ p ∷ ps → Goes d memory s a
@@ -60,7 +60,7 @@ slides d k memory (Load reg loc) s p ps q h = record {
   silent = (refl, tt);
   silent_too = (refl, tt);
 }
-slides d k memory (Move reg operand) s p ps q h = record { later = ps; front = q; after = refl; silent = tt; silent_too = tt }
+slides d k memory (Move change) s p ps q h = record { later = ps; front = q; after = refl; silent = tt; silent_too = tt }
 slides d k memory _ s p ps q h = absurd h
 
 -- a step and a drain of one core, at an instruction that doesn't wait

@@ -99,7 +99,7 @@ moved-form core memory i s f o p q c = makes (record {
   plain = subst (λ z. Each (IsPlain core NoAccess) z) (sym c) tt;
 })
 
-locked-form : (core : ℕ) (memory : List ℕ) (i : Option Instr) (s : CoreState) (loc : Loc) (reg : Reg) (value : ℕ) (q : List Entry) → s.pending ≡ q
+locked-form : (core : ℕ) (memory : List ℕ) (i : Option Instr) (s : CoreState) (loc : Loc) (reg : Option Reg) (value : ℕ) (q : List Entry) → s.pending ≡ q
     → StepForm core memory i (locked_access loc q) s (locked_with core s loc reg (slice_index memory loc.0) value q)
 locked-form core memory i s loc reg value [] e = pairs loc refl (record { empty = e; took = refl; place = refl; pending = refl; value = value; commits = refl })
 locked-form core memory i s loc reg value (p ∷ ps) e = stalls (record { none = refl; why = stall.Lock; is = refl; cause = inr (λ h. let z : ⊥ = cc in z) })
@@ -117,9 +117,9 @@ step-form depth core memory (Some x) s = by_action (action_of x)
       pending = refl;
       plain = (record { mine = refl; no_load_part = refl; no_store_part = refl; place = λ w. absurd (let z : ⊥ = cc in z) }, tt);
     })
-    by_action (Move reg operand) = moved-form core memory (Some x) s _ refl refl refl refl
+    by_action (Move change) = moved-form core memory (Some x) s _ refl refl refl refl
     by_action Fence = fenced-form core memory (Some x) s s.pending refl
-    by_action (Lock loc reg update) = locked-form core memory (Some x) s loc reg (updated update (slice_index memory loc.0) (value_in s.registers reg)) s.pending refl
+    by_action (Lock loc reg update) = locked-form core memory (Some x) s loc reg (updated update s.registers (slice_index memory loc.0)) s.pending refl
 
 -- a drain makes no locked access
 pub drain-no-lock : (q : List Entry) (l : Loc) → drain_access q ≢ Locks l

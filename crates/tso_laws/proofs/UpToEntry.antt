@@ -1,4 +1,5 @@
 -- The steps of a core up to an entry of the order.
+use Rattle.tso_terms.specs.Thread.{changed}
 use Rattle.tso_laws.proofs.Vocabulary.{◌≡◌, ◌<◌, ◌≤◌, ℕ, ◌+◌, zero, suc, List, [], ◌∷◌, ◌++◌, Some, Bool, true, false, length, slice_get, slice_index_or, drop, arith, ap, sym, ◌∙◌, refl, inl, inr, subst, ◌==◌, ◌&&◌, nat_lt, length-append, slice_get-get_or, nat_tests, action_of, entry, fence, with_value, value_of, entries_of, Litmus, is_store, read_value, made_by, read_values, Entry, Reg, R, W, LR, Instr, Action, Store, Load, Move, Fence, Lock, core_of, CoreState, State, Effect, program_of, stored, moved, effect_by, step_of, effect_of, after_choice, step, drain, steps, stall_count, Member, drop-at, append-nil}
 use Rattle.tso_terms.specs.declared.instruction.Instr.TheVariants as instr
 use Rattle.tso_laws.proofs.Entries.{Ordered}
@@ -50,10 +51,10 @@ pub record Quiet (k : ℕ) (s : CoreState) (f : Effect) (back : List Entry) : Ty
 abbrev pub OnlyStores : ℕ → ℕ → List Entry → Type 0
 OnlyStores k n back = (e : Entry) → Member e back → e.core.0 ≡ k → e.place < n → is_store e ≡ true
 
-move-quiet : (d : ℕ) (t : Litmus) (order front back : List Entry) (state : State) (k : ℕ) (reg : Reg) (v : ℕ) → Good d t order → Stands d t order front back state → k < length t.programs
+move-quiet : (d : ℕ) (t : Litmus) (order front back : List Entry) (state : State) (k : ℕ) (next : List ℕ) → Good d t order → Stands d t order front back state → k < length t.programs
     → (q : List Instr) (registers reads : List ℕ) → left k (program_of t k) (core_of state k) order ≡ entries_of k ((core_of state k).place + 1) q registers reads
-    → Quiet k (core_of state k) (moved (core_of state k) reg v) back
-move-quiet d t order front back state k reg v g st l q registers reads e = record {
+    → Quiet k (core_of state k) (moved (core_of state k) next) back
+move-quiet d t order front back state k next g st l q registers reads e = record {
   took = refl;
   none = refl;
   place = refl;
@@ -107,9 +108,9 @@ quiet-step d t order front back state k n i g st l b f r e = by_action (action_o
     by_action (Load reg loc) is =
         let s : CoreState = core_of state k in
         absurd (not-there d t order front back state k n (entry k s.place R loc (read_value k s.place R order)) g st l b f (rw (drop-at (program_of t k) s.place i e, is) (inl refl)) refl refl refl)
-    by_action (Move reg operand) is =
-        let s : CoreState = core_of state k in let v : ℕ = value_of s.registers operand in let q : List Instr = drop (s.place + 1) (program_of t k) in
-        move-quiet d t order front back state k reg v g st l q (with_value s.registers reg v) (read_values k (s.place + 1) q order) (rw (drop-at (program_of t k) s.place i e, is) refl)
+    by_action (Move change) is =
+        let s : CoreState = core_of state k in let v : List ℕ = changed change s.registers in let q : List Instr = drop (s.place + 1) (program_of t k) in
+        move-quiet d t order front back state k v g st l q v (read_values k (s.place + 1) q order) (rw (drop-at (program_of t k) s.place i e, is) refl)
     by_action Fence is =
         let s : CoreState = core_of state k in
         absurd (not-there d t order front back state k n (fence k s.place) g st l b f (rw (drop-at (program_of t k) s.place i e, is) (inl refl)) refl refl refl)

@@ -7,7 +7,7 @@ pub use Rattle.tso_terms.specs.Actions.{action_of, location_of}
 pub use Rattle.tso_terms.specs.Thread.{entries_by, registers_by, values_after, entries_of, registers_after, entry, fence, value_in, value_of, updated, with_value, sum_of}
 pub use Rattle.tso_terms.specs.ProgramEntries.{values_by, made_by, read_values, made_from, made, is_at, read_value}
 pub use Rattle.tso_terms.specs.FinalState.{registers_of, registers_from, final_registers, words_from, word_after}
-pub use Rattle.basic_laws.specs.Types.{Instr, Action, Entry, LR, F, R, W, LW, Kind, Choice, Reg, Loc, Stall, Committed, Buffered, Stalled, StoreImm, SetImm, Operand, Number, Held, Update, Exchange, Add, Step, Drain}
+pub use Rattle.basic_laws.specs.Types.{Instr, Action, Entry, LR, F, R, W, LW, Kind, Choice, Reg, Loc, Stall, Committed, Buffered, Stalled, StoreImm, SetImm, Operand, Number, Held, Update, Step, Drain}
 pub use Rattle.tso_terms.specs.declared.action.Action.TheVariants.{Store, Load, Move, Fence, Lock}
 pub use Rattle.std.proofs.lemmas.Option.{slice_get-get_or, slice_get_within, get_or_from_slice_get}
 pub use Rattle.std.proofs.lemmas.Bool.Decides.{nat_tests}

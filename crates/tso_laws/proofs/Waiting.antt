@@ -47,10 +47,10 @@ later c place e xs l h =
 sorted-by : (c place : ℕ) (a : Action) (registers : List ℕ) (word : ℕ) (xs : List Entry) → Each (λ y. (y.core.0 ≡ c) × (place + 1 ≤ y.place)) xs → Sorted xs → Sorted (entries_by c place a registers word ++ xs)
 sorted-by c place (Store loc operand) registers word xs h s = (later c place (entry c place W loc (value_of registers operand)) xs refl h, s)
 sorted-by c place (Load reg loc) registers word xs h s = (later c place (entry c place R loc word) xs refl h, s)
-sorted-by c place (Move reg operand) registers word xs h s = s
+sorted-by c place (Move change) registers word xs h s = s
 sorted-by c place Fence registers word xs h s = (later c place (fence c place) xs refl h, s)
 sorted-by c place (Lock loc reg update) registers word xs h s =
-    ((omega arith, later c place (entry c place LR loc word) xs refl h), (later c place (entry c place LW loc (updated update word (value_in registers reg))) xs refl h, s))
+    ((omega arith, later c place (entry c place LR loc word) xs refl h), (later c place (entry c place LW loc (updated update registers word)) xs refl h, s))
 
 entries-sorted : (c place : ℕ) (p : List Instr) (registers values : List ℕ) → Sorted (entries_of c place p registers values)
 entries-sorted c place [] registers values = tt

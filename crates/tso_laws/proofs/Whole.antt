@@ -78,10 +78,10 @@ apart-later c place e xs l h =
 distinct-by : (c place : ℕ) (a : Action) (registers : List ℕ) (word : ℕ) (xs : List Entry) → Each (λ y. (y.core.0 ≡ c) × (place + 1 ≤ y.place)) xs → Distinct xs → Distinct (entries_by c place a registers word ++ xs)
 distinct-by c place (Store loc operand) registers word xs h d = (apart-later c place (entry c place W loc (value_of registers operand)) xs refl h, d)
 distinct-by c place (Load reg loc) registers word xs h d = (apart-later c place (entry c place R loc word) xs refl h, d)
-distinct-by c place (Move reg operand) registers word xs h d = d
+distinct-by c place (Move change) registers word xs h d = d
 distinct-by c place Fence registers word xs h d = (apart-later c place (fence c place) xs refl h, d)
 distinct-by c place (Lock loc reg update) registers word xs h d =
-    (((λ k r. omega (arith, r)), apart-later c place (entry c place LR loc word) xs refl h), (apart-later c place (entry c place LW loc (updated update word (value_in registers reg))) xs refl h, d))
+    (((λ k r. omega (arith, r)), apart-later c place (entry c place LR loc word) xs refl h), (apart-later c place (entry c place LW loc (updated update registers word)) xs refl h, d))
 
 pub entries-distinct : (c place : ℕ) (p : List Instr) (registers values : List ℕ) → Distinct (entries_of c place p registers values)
 entries-distinct c place [] registers values = tt

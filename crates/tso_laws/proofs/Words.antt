@@ -1,5 +1,15 @@
 -- Whatever a run commits and leaves are words: the constants of the programs and the first values are, and each choice keeps it.
-use Rattle.tso_laws.proofs.Vocabulary.{◌≡◌, ℕ, ◌+◌, ◌<◌, ◌≤◌, zero, suc, Bool, true, false, cond, ltb, List, [], ◌∷◌, ◌++◌, length, All, Option, Some, None, IfSome, slice_get, slice_index, slice_index_or, slice_set, refl, ◌∙◌, arith, subst, All-nil, All-cons, All-head, All-tail, All-append, All-push, All-set, All-filter, Litmus, IsTest, HasWords, ConstantIsWord, IsWord, AreRegisters, index_of, action_of, entry, fence, value_in, value_of, sum_of, updated, is_write, writes_to, last_value, CoreState, State, Effect, stalled, advanced_with, stored, load_value, loaded, moved, fenced, locked, effect_by, step_of, drain_of, idle, program_of, core_of, chosen, effect_of, memory_after, after_choice, started, start, Run, has_ended, run_from, run, Reg, Loc, Instr, StoreImm, SetImm, Operand, Number, Held, Update, Exchange, Add, Action, Store, Load, Move, Fence, Lock, Entry, R, W, LR, LW, Choice, Step, Drain, Stall, Buffered, HasWord, HoldsWords, cases_Bool, inl, inr}
+use Rattle.std.specs.Prelude.{◌==◌, if◌then◌else◌}
+use Rattle.std.specs.Int.Bits.{and_lt, or_lt}
+use Rattle.std.proofs.lemmas.Nat.{xor_lt}
+use Rattle.std.proofs.Common.{◌-◌, ◌^◌}
+use Rattle.tso_terms.specs.Litmus.{OperandIsWord}
+use Rattle.tso_terms.specs.Thread.{with_taken, changed, combined}
+use Rattle.basic_laws.specs.Types.{Eax, Replace, Negate, CompareExchange, Change, Keep, Set, Swap, Operator, Add, Subtract, And, Or, Xor}
+use Rattle.tso_terms.specs.declared.action.Update.TheVariants.{Combine}
+use Rattle.tso_terms.specs.declared.instruction.Instr.TheVariants as instr
+use Rattle.tso_terms.specs.declared.instruction.Instr.TheVariants.{LockedCombine}
+use Rattle.tso_laws.proofs.Vocabulary.{◌≡◌, ℕ, ◌+◌, ◌<◌, ◌≤◌, zero, suc, Bool, true, false, cond, ltb, List, [], ◌∷◌, ◌++◌, length, All, Option, Some, None, IfSome, slice_get, slice_index, slice_index_or, slice_set, refl, ◌∙◌, arith, subst, All-nil, All-cons, All-head, All-tail, All-append, All-push, All-set, All-filter, Litmus, IsTest, HasWords, ConstantIsWord, IsWord, AreRegisters, index_of, action_of, entry, fence, value_in, value_of, sum_of, updated, is_write, writes_to, last_value, CoreState, State, Effect, stalled, advanced_with, stored, load_value, loaded, moved, fenced, locked, effect_by, step_of, drain_of, idle, program_of, core_of, chosen, effect_of, memory_after, after_choice, started, start, Run, has_ended, run_from, run, Reg, Loc, Instr, StoreImm, SetImm, Operand, Number, Held, Update, Action, Store, Load, Move, Fence, Lock, Entry, R, W, LR, LW, Choice, Step, Drain, Stall, Buffered, HasWord, HoldsWords, cases_Bool, inl, inr}
 use Rattle.std.proofs.Common.{filter}
 use Rattle.std.proofs.lemmas.List.{length-set}
 use Rattle.tso_terms.specs.declared.choice.Stall.TheVariants as stall
@@ -13,7 +23,7 @@ word-at [] i h = no-word
 word-at (w ∷ ws) zero h = All-head IsWord w ws h
 word-at (w ∷ ws) (suc i) h = word-at ws i (All-tail IsWord w ws h)
 
-sum-word : (word value : ℕ) → IsWord (sum_of word value)
+pub sum-word : (word value : ℕ) → IsWord (sum_of word value)
 sum-word word value = omega arith
 
 last-word : (es : List Entry) (word : ℕ) → All HasWord es → IsWord word → IsWord (last_value es word)
@@ -50,8 +60,8 @@ good-stored (suc n) s e h w = by_room (ltb (length s.pending) (suc n))
 good-loaded : (s : CoreState) (reg : Reg) (e : Entry) → GoodCore s → HasWord e → GoodEffect s (loaded s reg e)
 good-loaded s reg e h w = record { core = with-word s reg e.value h w; commits = All-cons HasWord e [] w (All-nil _); size = length-set s.registers (index_of reg) e.value }
 
-good-moved : (s : CoreState) (reg : Reg) (value : ℕ) → GoodCore s → IsWord value → GoodEffect s (moved s reg value)
-good-moved s reg value h w = record { core = with-word s reg value h w; commits = All-nil _; size = length-set s.registers (index_of reg) value }
+good-moved : (s : CoreState) (registers : List ℕ) → GoodCore s → All IsWord registers → length registers ≡ length s.registers → GoodEffect s (moved s registers)
+good-moved s registers h w size = record { core = record { registers = w; pending = h.pending }; commits = All-nil _; size = size }
 
 good-fenced : (core : ℕ) (s : CoreState) → GoodCore s → GoodEffect s (fenced core s)
 good-fenced core s h =
@@ -59,37 +69,84 @@ good-fenced core s h =
     (λ e. record { core = record { registers = h.registers; pending = h.pending }; commits = All-cons HasWord (fence core s.place) [] no-word (All-nil _); size = refl })
     (good-stalled s stall.Fence h)
 
-good-locked : (core : ℕ) (s : CoreState) (loc : Loc) (reg : Reg) (word value : ℕ) → GoodCore s → IsWord word → IsWord value → GoodEffect s (locked core s loc reg word value)
+pub taken-words : (registers : List ℕ) (target : Option Reg) (word : ℕ) → All IsWord registers → IsWord word → All IsWord (with_taken registers target word)
+taken-words registers None word h w = h
+taken-words registers (Some reg) word h w = All-set IsWord registers (index_of reg) word w h
+
+taken-size : (registers : List ℕ) (target : Option Reg) (word : ℕ) → length (with_taken registers target word) ≡ length registers
+taken-size registers None word = refl
+taken-size registers (Some reg) word = length-set registers (index_of reg) word
+
+good-locked : (core : ℕ) (s : CoreState) (loc : Loc) (reg : Option Reg) (word value : ℕ) → GoodCore s → IsWord word → IsWord value → GoodEffect s (locked core s loc reg word value)
 good-locked core s loc reg word value h w v =
     waits-or-acts (λ f. GoodEffect s f) stall.Lock s _
     (λ e. record {
-      core = with-word s reg word h w;
+      core = record { registers = taken-words s.registers reg word h.registers w; pending = h.pending };
       commits = All-cons HasWord (entry core s.place LR loc word) (entry core s.place LW loc value ∷ []) w (All-cons HasWord (entry core s.place LW loc value) [] v (All-nil _));
-      size = length-set s.registers (index_of reg) word;
+      size = taken-size s.registers reg word;
     }) (good-stalled s stall.Lock h)
 
 -- the number in an action, if it has one, is a word
-abbrev OperandIsWord : Operand → Type 0
-OperandIsWord (Number value) = IsWord value
-OperandIsWord (Held reg) = Unit {0}
+abbrev pub UpdateIsWord : Update → Type 0
+UpdateIsWord (Replace operand) = OperandIsWord operand
+UpdateIsWord (Combine operator operand) = OperandIsWord operand
+UpdateIsWord Negate = Unit {0}
+UpdateIsWord (CompareExchange reg) = Unit {0}
 
-abbrev NumberIsWord : Action → Type 0
+abbrev pub ChangeIsWord : Change → Type 0
+ChangeIsWord Keep = Unit {0}
+ChangeIsWord (Set reg update) = UpdateIsWord update
+ChangeIsWord (Swap reg other) = Unit {0}
+
+abbrev pub NumberIsWord : Action → Type 0
 NumberIsWord (Store loc operand) = OperandIsWord operand
-NumberIsWord (Move reg operand) = OperandIsWord operand
+NumberIsWord (Move change) = ChangeIsWord change
+NumberIsWord (Lock loc target update) = UpdateIsWord update
 NumberIsWord _ = Unit {0}
 
-number-word : (i : Instr) → ConstantIsWord i → NumberIsWord (action_of i)
+pub number-word : (i : Instr) → ConstantIsWord i → NumberIsWord (action_of i)
 number-word (StoreImm loc value) w = w
 number-word (SetImm reg value) w = w
+number-word (LockedCombine loc operator operand) w = w
+number-word (instr.Combine reg operator operand) w = w
+number-word instr.Nop w = tt
 number-word _ w = tt
 
-operand-word : (registers : List ℕ) (operand : Operand) → All IsWord registers → OperandIsWord operand → IsWord (value_of registers operand)
+pub operand-word : (registers : List ℕ) (operand : Operand) → All IsWord registers → OperandIsWord operand → IsWord (value_of registers operand)
 operand-word registers (Number value) h w = w
 operand-word registers (Held reg) h w = word-at registers (index_of reg) h
 
-updated-word : (update : Update) (word value : ℕ) → IsWord value → IsWord (updated update word value)
-updated-word Exchange word value w = w
-updated-word Add word value w = sum-word word value
+pub combined-word : (operator : Operator) (word value : ℕ) → IsWord word → IsWord value → IsWord (combined operator word value)
+combined-word Add word value w v = sum-word word value
+combined-word Subtract word value w v = sum-word word (2 ^ 32 - value)
+combined-word And word value w v = and_lt 32 word value w v
+combined-word Or word value w v = or_lt 32 word value w v
+combined-word Xor word value w v = xor_lt 32 word value w v
+
+pub updated-word : (update : Update) (registers : List ℕ) (word : ℕ) → UpdateIsWord update → All IsWord registers → IsWord word → IsWord (updated update registers word)
+updated-word (Replace operand) registers word u h w = operand-word registers operand h u
+updated-word (Combine operator operand) registers word u h w = combined-word operator word (value_of registers operand) w (operand-word registers operand h u)
+updated-word Negate registers word u h w = sum-word 0 (2 ^ 32 - word)
+updated-word (CompareExchange reg) registers word u h w = go (word == value_in registers Eax)
+  where
+    go : (b : Bool) → IsWord (if b then value_in registers reg else word)
+    go true = word-at registers (index_of reg) h
+    go false = w
+
+pub changed-words : (change : Change) (registers : List ℕ) → ChangeIsWord change → All IsWord registers → All IsWord (changed change registers)
+changed-words Keep registers u h = h
+changed-words (Set reg update) registers u h =
+    All-set IsWord registers (index_of reg) (updated update registers (value_in registers reg)) (updated-word update registers (value_in registers reg) u h (word-at registers (index_of reg) h)) h
+changed-words (Swap reg other) registers u h =
+    All-set IsWord (slice_set registers (index_of reg) (value_in registers other)) (index_of other) (value_in registers reg) (word-at registers (index_of reg) h)
+    (All-set IsWord registers (index_of reg) (value_in registers other) (word-at registers (index_of other) h) h)
+
+changed-size : (change : Change) (registers : List ℕ) → length (changed change registers) ≡ length registers
+changed-size Keep registers = refl
+changed-size (Set reg update) registers = length-set registers (index_of reg) (updated update registers (value_in registers reg))
+changed-size (Swap reg other) registers =
+    length-set (slice_set registers (index_of reg) (value_in registers other)) (index_of other) (value_in registers reg)
+    ∙ length-set registers (index_of reg) (value_in registers other)
 
 good-action : (depth : ℕ) (memory : List ℕ) (core : ℕ) (a : Action) (s : CoreState) → All IsWord memory → NumberIsWord a → GoodCore s → GoodEffect s (effect_by depth memory core a s)
 good-action depth memory core (Store loc operand) s m n h =
@@ -97,11 +154,11 @@ good-action depth memory core (Store loc operand) s m n h =
 good-action depth memory core (Load reg loc) s m n h =
     good-loaded s reg (entry core s.place R loc (load_value memory s loc.0)) h
     (last-word (filter (writes_to loc.0) s.pending) (slice_index memory loc.0) (All-filter (writes_to loc.0) HasWord s.pending h.pending) (word-at memory loc.0 m))
-good-action depth memory core (Move reg operand) s m n h = good-moved s reg (value_of s.registers operand) h (operand-word s.registers operand h.registers n)
+good-action depth memory core (Move change) s m n h = good-moved s (changed change s.registers) h (changed-words change s.registers n h.registers) (changed-size change s.registers)
 good-action depth memory core Fence s m n h = good-fenced core s h
 good-action depth memory core (Lock loc reg update) s m n h =
-    good-locked core s loc reg (slice_index memory loc.0) (updated update (slice_index memory loc.0) (value_in s.registers reg)) h (word-at memory loc.0 m)
-    (updated-word update (slice_index memory loc.0) (value_in s.registers reg) (word-at s.registers (index_of reg) h.registers))
+    good-locked core s loc reg (slice_index memory loc.0) (updated update s.registers (slice_index memory loc.0)) h (word-at memory loc.0 m)
+    (updated-word update s.registers (slice_index memory loc.0) n h.registers (word-at memory loc.0 m))
 
 good-step : (depth : ℕ) (memory : List ℕ) (core : ℕ) (next : Option Instr) (s : CoreState) → All IsWord memory → IfSome next ConstantIsWord → GoodCore s
     → GoodEffect s (step_of depth memory core next s)

@@ -1,13 +1,14 @@
 -- Dead registers: those that no instruction still to come reads before one writes them, and that nobody looks at when the
 -- test has ended. What they hold changes nothing that is looked at, so states that differ in them alone may be taken for one.
 -- (The equations are those of live-variable analysis in compilers.)
-use Rattle.std.specs.Prelude.{ℕ, ◌+◌, ◌≡◌, Bool, true, false, if◌then◌else◌, List, [], ◌∷◌, slice_set, slice_index_or, drop}
+use Rattle.std.specs.Prelude.{Option, Some, None, ℕ, ◌+◌, ◌≡◌, Bool, true, false, if◌then◌else◌, List, [], ◌∷◌, slice_set, slice_index_or, drop}
 use Rattle.tso_terms.specs.Registers.{index_of}
 use Rattle.tso_terms.specs.Actions.{action_of}
 use Rattle.tso_terms.specs.Litmus.{Litmus}
 use Rattle.tso_terms.specs.FlatMachine.{CoreState, State, program_of, effect_of, after_choice, registers_in}
 use Rattle.tso_terms.specs.Runs.{has_ended}
-use Rattle.basic_laws.specs.Types.{Instr, Operand, Number, Held, Action, Choice}
+use Rattle.basic_laws.specs.Types.{Reg, Eax, Instr, Operand, Number, Held, Update, Replace, Negate, CompareExchange, Change, Keep, Set, Swap, Action, Choice}
+use Rattle.tso_terms.specs.declared.action.Update.TheVariants.{Combine}
 use Rattle.tso_terms.specs.declared.action.Action.TheVariants.{Store, Load, Move, Fence, Lock}
 
 -- ---- which registers are dead
@@ -17,13 +18,36 @@ abbrev pub unless_read : Operand → List Bool → List Bool
 unless_read (Number value) dead = dead
 unless_read (Held reg) dead = slice_set dead (index_of reg) false
 
+-- a register that the update reads, beside the word that it changes, isn't dead
+abbrev pub unless_used : Update → List Bool → List Bool
+unless_used (Replace operand) dead = unless_read operand dead
+unless_used (Combine operator operand) dead = unless_read operand dead
+unless_used Negate dead = dead
+unless_used (CompareExchange reg) dead = unless_read (Held Eax) (unless_read (Held reg) dead)
+
+-- the word that it changes is of no account to it
+abbrev pub replaces : Update → Bool
+replaces (Replace operand) = true
+replaces _ = false
+
+-- which registers are dead before a move, where these are dead after it
+abbrev pub before_change : Change → List Bool → List Bool
+before_change Keep dead = dead
+before_change (Set reg update) dead = unless_used update (slice_set dead (index_of reg) (replaces update))
+before_change (Swap reg other) dead = unless_read (Held other) (unless_read (Held reg) dead)
+
+-- the register that gets the word that a locked instruction reads, if there is one, is dead before
+abbrev pub before_taking : Option Reg → List Bool → List Bool
+before_taking None dead = dead
+before_taking (Some reg) dead = slice_set dead (index_of reg) true
+
 -- which registers are dead before an action, where these are dead after it: one that it writes is, one that it reads isn't
 abbrev pub dead_before : Action → List Bool → List Bool
 dead_before (Store loc operand) dead = unless_read operand dead
 dead_before (Load reg loc) dead = slice_set dead (index_of reg) true
-dead_before (Move reg operand) dead = unless_read operand (slice_set dead (index_of reg) true)
+dead_before (Move change) dead = before_change change dead
 dead_before Fence dead = dead
-dead_before (Lock loc reg update) dead = slice_set dead (index_of reg) false
+dead_before (Lock loc target update) dead = unless_used update (before_taking target dead)
 
 -- which registers are dead where these instructions are still to come, and these are hidden at the end: nobody looks at them
 abbrev pub dead_at : List Instr → List Bool → List Bool

@@ -12,7 +12,7 @@ use Rattle.tso_terms.specs.declared.action.Action.TheVariants.{Store, Load, Move
 abbrev pub meets : Bool → ℕ → Action → Bool
 meets loads loc (Store l operand) = l.0 == loc
 meets loads loc (Load reg l) = loads && (l.0 == loc)
-meets loads loc (Move reg operand) = false
+meets loads loc (Move change) = false
 meets loads loc Fence = false
 meets loads loc (Lock l reg update) = l.0 == loc
 
@@ -29,7 +29,7 @@ OthersAvoid loads loc t state core = (j : ℕ) → j ≢ core → Avoids loads l
 abbrev pub IsEagerBy : ℕ → Litmus → State → ℕ → Action → Type 0
 IsEagerBy depth t state core (Store loc operand) = length (core_of state core).pending < depth
 IsEagerBy depth t state core (Load reg loc) = OthersAvoid false loc.0 t state core
-IsEagerBy depth t state core (Move reg operand) = Unit {0}
+IsEagerBy depth t state core (Move change) = Unit {0}
 IsEagerBy depth t state core Fence = (core_of state core).pending ≡ []
 IsEagerBy depth t state core (Lock loc reg update) = ((core_of state core).pending ≡ []) × OthersAvoid true loc.0 t state core
 

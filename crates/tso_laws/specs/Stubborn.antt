@@ -51,7 +51,7 @@ IsApartBy depth t set state core (Store loc operand) =
     ((depth ≤ length (core_of state core).pending) × (has_drain set core ≡ true))
     ⊎ ((depth ≡ 0) × ((core_of state core).pending ≡ []) × OthersAreHeldBack depth true loc.0 t set state core)
 IsApartBy depth t set state core (Load reg loc) = OthersAreHeldBack depth false loc.0 t set state core
-IsApartBy depth t set state core (Move reg operand) = ⊥
+IsApartBy depth t set state core (Move change) = ⊥
 IsApartBy depth t set state core Fence = has_drain set core ≡ true
 IsApartBy depth t set state core (Lock loc reg update) =
     (has_drain set core ≡ true) ⊎ (((core_of state core).pending ≡ []) × OthersAreHeldBack depth true loc.0 t set state core)

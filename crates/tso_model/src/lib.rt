@@ -8,8 +8,8 @@ pub mod thread;
 
 pub use thread::{Thread, read_count, thread_entries};
 pub use tso_terms::{
-    Action, Bus, Choice, Cond, Core, Entry, Execution, Instr, Kind, Loc, NoMemory, Operand,
-    Outcome, Prop, Quantifier, Reg, Stall, Test, TestParts, Update, Watched, action, choice,
-    cond_holds, condition, execution, instruction, limits, litmus, names, out_of_memory, register,
-    watched,
+    Action, Bus, Change, Choice, Cond, Core, Entry, Execution, Instr, Kind, Loc, NoMemory, Operand,
+    Operator, Outcome, Prop, Quantifier, Reg, Stall, Test, TestParts, Update, Watched, action,
+    choice, cond_holds, condition, execution, instruction, limits, litmus, names, out_of_memory,
+    register, watched,
 };

@@ -5,7 +5,7 @@ ghost use Rattle.tso_terms.specs.declared.instruction.Instr.{Instr};
 ghost use Rattle.tso_terms.specs.Thread.{entry, entries_of, registers_after, reads_in, entries_with, registers_with};
 
 use std::alloc::Global;
-use tso_terms::{Action, Core, Entry, Instr, Kind, Loc, NoMemory, Test};
+use tso_terms::{Action, Core, Entry, Instr, Kind, Loc, NoMemory, Test, take};
 
 /// What a core's program does: its entries in program order, and its registers at the end.
 #[derive(Drop)]
@@ -83,16 +83,16 @@ fn run_instruction(
             thread.registers[reg.index()] = loaded;
             note(thread, core, place, Kind::R, loc, loaded)
         }
-        Action::Move(reg, operand) => {
-            thread.registers[reg.index()] = operand.value(&thread.registers);
+        Action::Move(change) => {
+            change.apply(&mut thread.registers);
             Ok(())
         }
         Action::Fence => note(thread, core, place, Kind::F, Loc(0), 0),
-        Action::Lock(loc, reg, update) => {
+        Action::Lock(loc, target, update) => {
             let word = reads[0];
             *reads = &reads[1..];
-            let written = update.apply(word, thread.registers[reg.index()]);
-            thread.registers[reg.index()] = word;
+            let written = update.apply(&thread.registers, word);
+            take(&mut thread.registers, target, word);
             note(thread, core, place, Kind::LR, loc, word)?;
             note(thread, core, place, Kind::LW, loc, written)
         }

@@ -1,11 +1,11 @@
 -- Which registers and locations a final state shows, and their values there. States are told apart by what is shown, as herd and
 -- litmus7 tell them apart by what a condition names.
-use Rattle.std.specs.Prelude.{ℕ, ◌==◌, ◌||◌, Bool, true, false, List, [], ◌++◌, length, map, filter, slice_index_or}
+use Rattle.std.specs.Prelude.{ℕ, ◌==◌, ◌||◌, Bool, true, false, Option, Some, None, List, [], ◌++◌, length, map, filter, slice_index_or}
 use Rattle.std.specs.List.{list_any}
 use Rattle.tso_terms.specs.Litmus.{Litmus}
 use Rattle.tso_terms.specs.Registers.{index_of}
 use Rattle.tso_terms.specs.Actions.{action_of}
-use Rattle.basic_laws.specs.Types.{Reg, Instr, Action}
+use Rattle.basic_laws.specs.Types.{Reg, Instr, Action, Change, Keep, Set, Swap}
 use Rattle.tso_terms.specs.declared.action.Action.TheVariants.{Store, Load, Move, Fence, Lock}
 use Rattle.tso_report.specs.Tally.{is_looked_at, named_registers, named_locations, shown_value}
 use Rattle.tso_report.specs.declared.named.Named.{Named}
@@ -13,13 +13,24 @@ use Rattle.tso_report.specs.declared.named.Named.TheVariants.{Register, Location
 use Rattle.tso_report.specs.declared.show.Show.{Show}
 use Rattle.tso_report.specs.declared.show.Show.TheVariants as shows
 
--- whether an action writes this register
+-- whether a move writes this register
+abbrev pub changes_register : Change → Reg → Bool
+changes_register Keep reg = false
+changes_register (Set written update) reg = index_of written == index_of reg
+changes_register (Swap written other) reg = (index_of written == index_of reg) || (index_of other == index_of reg)
+
+-- whether a locked instruction with this register does
+abbrev pub takes_into : Option Reg → Reg → Bool
+takes_into None reg = false
+takes_into (Some written) reg = index_of written == index_of reg
+
+-- whether an action does
 abbrev pub writes : Action → Reg → Bool
 writes (Store loc operand) reg = false
 writes (Load written loc) reg = index_of written == index_of reg
-writes (Move written operand) reg = index_of written == index_of reg
+writes (Move change) reg = changes_register change reg
 writes Fence reg = false
-writes (Lock loc written update) reg = index_of written == index_of reg
+writes (Lock loc target update) reg = takes_into target reg
 
 -- whether an instruction of the program does
 abbrev pub writes_one : List Instr → Reg → Bool

@@ -4,13 +4,13 @@ ghost use Rattle.std.specs.Prelude.{◌≡◌, ◌<◌, ◌∷◌, [], IfOk, OnO
 ghost use Rattle.tso_terms.specs.Actions.{action_of};
 ghost use Rattle.tso_report.specs.Tally.{named_registers};
 ghost use Rattle.tso_report.specs.inner.Tally.{NameExists};
-ghost use Rattle.tso_report.specs.ShownNames.{writes, writes_one, is_written, is_added, is_shown, names_shown};
+ghost use Rattle.tso_report.specs.ShownNames.{changes_register, takes_into, writes, writes_one, is_written, is_added, is_shown, names_shown};
 ghost use Rattle.tso_report.specs.inner.ShownNames.{ShownAreNoted};
 
 use crate::named::{Named, is_looked_at};
 use crate::show::Show;
 use std::alloc::Global;
-use tso_terms::{Action, Core, Instr, Loc, NoMemory, Reg, Test};
+use tso_terms::{Action, Change, Core, Instr, Loc, NoMemory, Reg, Test};
 
 /// What the test's final states show: registers by core and then in their order, and then locations by
 /// number. All of them are cores and locations of the test.
@@ -91,13 +91,34 @@ fn writes_one(program: &[Instr], reg: Reg) -> bool
     false
 }
 
+fn changes_register(change: Change, reg: Reg) -> bool
+    ensures { result ≡ changes_register change reg }
+{
+    match change {
+        Change::Keep => false,
+        Change::Set(written, _) => written.index() == reg.index(),
+        Change::Swap(written, other) => {
+            written.index() == reg.index() || other.index() == reg.index()
+        }
+    }
+}
+
+fn takes_into(target: Option<Reg>, reg: Reg) -> bool
+    ensures { result ≡ takes_into target reg }
+{
+    match target {
+        None => false,
+        Some(written) => written.index() == reg.index(),
+    }
+}
+
 fn writes(instr: Instr, reg: Reg) -> bool
     ensures { result ≡ writes (action_of instr) reg }
 {
     match instr.action() {
-        Action::Load(written, _) | Action::Move(written, _) | Action::Lock(_, written, _) => {
-            written.index() == reg.index()
-        }
+        Action::Load(written, _) => written.index() == reg.index(),
+        Action::Move(change) => changes_register(change, reg),
+        Action::Lock(_, target, _) => takes_into(target, reg),
         Action::Store(..) | Action::Fence => false,
     }
 }

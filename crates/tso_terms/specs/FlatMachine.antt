@@ -4,7 +4,7 @@
 use Rattle.std.specs.Prelude.{ℕ, ◌+◌, nat_lt, if◌then◌else◌, List, [], ◌∷◌, ◌++◌, map, filter, length, Option, Some, true, false}
 use Rattle.std.specs.Prelude.{None, slice_get, slice_index, slice_index_or, slice_set, take, drop, zero, suc, Bool}
 use Rattle.tso_terms.specs.Actions.{action_of}
-use Rattle.tso_terms.specs.Thread.{entry, fence, value_in, with_value, value_of, updated}
+use Rattle.tso_terms.specs.Thread.{entry, fence, value_of, with_value, with_taken, changed, updated}
 use Rattle.tso_terms.specs.ProgramOrder.{is_write, writes_to}
 use Rattle.tso_terms.specs.Axioms.{last_value}
 use Rattle.tso_terms.specs.Litmus.{Litmus}
@@ -53,6 +53,10 @@ advanced s = record { place = s.place + 1; registers = s.registers; pending = s.
 abbrev pub advanced_with : CoreState → Reg → ℕ → CoreState
 advanced_with s reg value = record { place = s.place + 1; registers = with_value s.registers reg value; pending = s.pending }
 
+-- the core at its next instruction, with this word in the register, if there is one
+abbrev pub advanced_taking : CoreState → Option Reg → ℕ → CoreState
+advanced_taking s target word = record { place = s.place + 1; registers = with_taken s.registers target word; pending = s.pending }
+
 -- a plain store becomes pending where fewer than `depth` are; at depth 0 it is committed at once
 abbrev pub stored : ℕ → CoreState → Entry → Effect
 stored zero s e = record { outcome = Committed; after = advanced s; commits = e ∷ [] }
@@ -72,8 +76,12 @@ load_value memory s loc = last_value (filter (writes_to loc) s.pending) (slice_i
 abbrev pub loaded : CoreState → Reg → Entry → Effect
 loaded s reg e = record { outcome = Committed; after = advanced_with s reg e.value; commits = e ∷ [] }
 
-abbrev pub moved : CoreState → Reg → ℕ → Effect
-moved s reg value = record { outcome = Moved; after = advanced_with s reg value; commits = [] }
+-- the core at its next instruction, with these registers
+abbrev pub advanced_to : CoreState → List ℕ → CoreState
+advanced_to s registers = record { place = s.place + 1; registers = registers; pending = s.pending }
+
+abbrev pub moved : CoreState → List ℕ → Effect
+moved s registers = record { outcome = Moved; after = advanced_to s registers; commits = [] }
 
 -- this effect once nothing is pending; until then a stall
 abbrev pub when_drained : Stall → CoreState → Effect → Effect
@@ -84,11 +92,11 @@ abbrev pub fenced : ℕ → CoreState → Effect
 fenced core s = when_drained stall.Fence s (record { outcome = Committed; after = advanced s; commits = fence core s.place ∷ [] })
 
 -- a locked instruction waits until nothing is pending; it reads the word and writes this value in one step
-abbrev pub locked : ℕ → CoreState → Loc → Reg → ℕ → ℕ → Effect
-locked core s loc reg word value =
+abbrev pub locked : ℕ → CoreState → Loc → Option Reg → ℕ → ℕ → Effect
+locked core s loc target word value =
     when_drained stall.Lock s (record {
       outcome = Committed;
-      after = advanced_with s reg word;
+      after = advanced_taking s target word;
       commits = entry core s.place LR loc word ∷ (entry core s.place LW loc value ∷ []);
     })
 
@@ -96,10 +104,10 @@ locked core s loc reg word value =
 abbrev pub effect_by : ℕ → List ℕ → ℕ → Action → CoreState → Effect
 effect_by depth memory core (Store loc operand) s = stored depth s (entry core s.place W loc (value_of s.registers operand))
 effect_by depth memory core (Load reg loc) s = loaded s reg (entry core s.place R loc (load_value memory s loc.0))
-effect_by depth memory core (Move reg operand) s = moved s reg (value_of s.registers operand)
+effect_by depth memory core (Move change) s = moved s (changed change s.registers)
 effect_by depth memory core Fence s = fenced core s
-effect_by depth memory core (Lock loc reg update) s =
-    locked core s loc reg (slice_index memory loc.0) (updated update (slice_index memory loc.0) (value_in s.registers reg))
+effect_by depth memory core (Lock loc target update) s =
+    locked core s loc target (slice_index memory loc.0) (updated update s.registers (slice_index memory loc.0))
 
 -- a step of a core at its next instruction, if there is one
 abbrev pub step_of : ℕ → List ℕ → ℕ → Option Instr → CoreState → Effect

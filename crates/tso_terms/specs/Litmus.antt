@@ -9,7 +9,9 @@ use Rattle.tso_terms.specs.Actions.{action_of, location_of}
 use Rattle.tso_terms.specs.Condition.{Condition, NamesExist, atoms_in, negations_in}
 use Rattle.tso_terms.specs.Names.{is_test_name, is_location_name, is_among}
 use Rattle.tso_terms.specs.declared.instruction.Instr.{Instr}
-use Rattle.tso_terms.specs.declared.instruction.Instr.TheVariants.{StoreImm, SetImm}
+use Rattle.tso_terms.specs.declared.instruction.Instr.TheVariants.{StoreImm, SetImm, LockedCombine, Combine}
+use Rattle.tso_terms.specs.declared.action.Operand.{Operand}
+use Rattle.tso_terms.specs.declared.action.Operand.TheVariants.{Number, Held}
 
 -- a test: the names of its locations and their first words, and for each core its first registers and its program
 pub record Litmus : Type 0 where
@@ -24,10 +26,17 @@ pub record Litmus : Type 0 where
 abbrev pub KnownLocation : ℕ → Instr → Type 0
 KnownLocation locations i = IfSome (location_of (action_of i)) (λ loc. loc.0 < locations)
 
+-- the operand is a word, if it is a number
+abbrev pub OperandIsWord : Operand → Type 0
+OperandIsWord (Number value) = IsWord value
+OperandIsWord (Held reg) = Unit {0}
+
 -- the constant of the instruction, if it has one, is a word
 abbrev pub ConstantIsWord : Instr → Type 0
 ConstantIsWord (StoreImm loc value) = IsWord value
 ConstantIsWord (SetImm reg value) = IsWord value
+ConstantIsWord (LockedCombine loc operator operand) = OperandIsWord operand
+ConstantIsWord (Combine reg operator operand) = OperandIsWord operand
 ConstantIsWord _ = Unit {0}
 
 -- a program within the limits, over so many locations

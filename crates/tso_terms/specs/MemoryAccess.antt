@@ -39,9 +39,9 @@ locked_access loc (p ∷ ps) = NoAccess
 abbrev pub access_by : ℕ → Action → List Entry → MemoryAccess
 access_by depth (Store loc operand) pending = store_access depth loc
 access_by depth (Load reg loc) pending = load_access loc (filter (writes_to loc.0) pending)
-access_by depth (Move reg operand) pending = NoAccess
+access_by depth (Move change) pending = NoAccess
 access_by depth Fence pending = NoAccess
-access_by depth (Lock loc reg update) pending = locked_access loc pending
+access_by depth (Lock loc target update) pending = locked_access loc pending
 
 -- the access of a step, at this instruction with these stores pending
 abbrev pub step_access : ℕ → Option Instr → List Entry → MemoryAccess

@@ -24,7 +24,7 @@ read_value core place kind (e ∷ es) = if is_at core place kind e then e.value 
 -- the value that the order itself gives what an action reads, if it reads
 abbrev pub values_by : ℕ → ℕ → Action → List Entry → List ℕ
 values_by core place (Load reg loc) order = read_value core place R order ∷ []
-values_by core place (Lock loc reg update) order = read_value core place LR order ∷ []
+values_by core place (Lock loc target update) order = read_value core place LR order ∷ []
 values_by core place _ order = []
 
 -- the order's own values for the reads of a program from a place on, in program order

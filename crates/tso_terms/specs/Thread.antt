@@ -1,6 +1,6 @@
 -- What a core's program does, given the values that its reads return.
 -- (x86-TSO, section 3: a thread's memory actions; the instructions by Intel's manual.)
-use Rattle.std.specs.Prelude.{ℕ, ◌+◌, ◌%◌, ◌^◌, suc, Bool, true, false, if◌then◌else◌, List, [], ◌∷◌, ◌++◌, slice_index, slice_index_or, slice_set, drop}
+use Rattle.std.specs.Prelude.{ℕ, ◌+◌, ◌-◌, ◌%◌, ◌^◌, ◌==◌, suc, Bool, true, false, if◌then◌else◌, Option, Some, None, List, [], ◌∷◌, ◌++◌, slice_index, slice_index_or, slice_set, drop}
 use Rattle.tso_terms.specs.Registers.{index_of}
 use Rattle.tso_terms.specs.Actions.{action_of}
 use Rattle.tso_terms.specs.Litmus.{Litmus}
@@ -9,8 +9,14 @@ use Rattle.tso_terms.specs.declared.instruction.Loc.{Loc}
 use Rattle.tso_terms.specs.declared.instruction.Instr.{Instr}
 use Rattle.tso_terms.specs.declared.action.Operand.{Operand}
 use Rattle.tso_terms.specs.declared.action.Operand.TheVariants.{Number, Held}
+use Rattle.std.specs.Int.Bits.{bit_and, bit_or, bit_xor}
+use Rattle.tso_terms.specs.declared.register.Reg.TheVariants.{Eax}
+use Rattle.tso_terms.specs.declared.action.Operator.{Operator}
+use Rattle.tso_terms.specs.declared.action.Operator.TheVariants.{Add, Subtract, And, Or, Xor}
 use Rattle.tso_terms.specs.declared.action.Update.{Update}
-use Rattle.tso_terms.specs.declared.action.Update.TheVariants.{Exchange, Add}
+use Rattle.tso_terms.specs.declared.action.Update.TheVariants.{Replace, Combine, Negate, CompareExchange}
+use Rattle.tso_terms.specs.declared.action.Change.{Change}
+use Rattle.tso_terms.specs.declared.action.Change.TheVariants.{Keep, Set, Swap}
 use Rattle.tso_terms.specs.declared.action.Action.{Action}
 use Rattle.tso_terms.specs.declared.action.Action.TheVariants.{Store, Load, Move, Fence, Lock}
 use Rattle.tso_terms.specs.declared.execution.Entry.{Entry}
@@ -39,31 +45,57 @@ value_of registers (Held reg) = value_in registers reg
 abbrev pub sum_of : ℕ → ℕ → ℕ
 sum_of word value = (word + value) % 2 ^ 32
 
--- what a locked instruction writes, where it has read this word and its register had this value
-abbrev pub updated : Update → ℕ → ℕ → ℕ
-updated Exchange word value = value
-updated Add word value = sum_of word value
+-- the first word without the second, modulo 2^32
+abbrev pub difference_of : ℕ → ℕ → ℕ
+difference_of word value = (word + (2 ^ 32 - value)) % 2 ^ 32
+
+-- what an operator makes of a word and a value
+abbrev pub combined : Operator → ℕ → ℕ → ℕ
+combined Add word value = sum_of word value
+combined Subtract word value = difference_of word value
+combined And word value = bit_and word value
+combined Or word value = bit_or word value
+combined Xor word value = bit_xor word value
+
+-- what becomes of a word, the one of the location that a locked instruction writes or of the register that a move does, with these
+-- registers
+abbrev pub updated : Update → List ℕ → ℕ → ℕ
+updated (Replace operand) registers word = value_of registers operand
+updated (Combine operator operand) registers word = combined operator word (value_of registers operand)
+updated Negate registers word = difference_of 0 word
+updated (CompareExchange reg) registers word = if word == value_in registers Eax then value_in registers reg else word
+
+-- the registers after a change: its register has what the update makes of its value; or two registers have exchanged their values
+abbrev pub changed : Change → List ℕ → List ℕ
+changed Keep registers = registers
+changed (Set reg update) registers = with_value registers reg (updated update registers (value_in registers reg))
+changed (Swap reg other) registers = with_value (with_value registers reg (value_in registers other)) other (value_in registers reg)
+
+-- the registers after a locked instruction has read this word: its register has it, if it has a register
+abbrev pub with_taken : List ℕ → Option Reg → ℕ → List ℕ
+with_taken registers None word = registers
+with_taken registers (Some reg) word = with_value registers reg word
 
 -- the entries that an action makes at its place, with these registers; what it reads, if it does, returns `word`
 abbrev pub entries_by : ℕ → ℕ → Action → List ℕ → ℕ → List Entry
 entries_by core place (Store loc operand) registers word = entry core place W loc (value_of registers operand) ∷ []
 entries_by core place (Load reg loc) registers word = entry core place R loc word ∷ []
-entries_by core place (Move reg operand) registers word = []
+entries_by core place (Move change) registers word = []
 entries_by core place Fence registers word = fence core place ∷ []
-entries_by core place (Lock loc reg update) registers word =
-    entry core place LR loc word ∷ (entry core place LW loc (updated update word (value_in registers reg)) ∷ [])
+entries_by core place (Lock loc target update) registers word =
+    entry core place LR loc word ∷ (entry core place LW loc (updated update registers word) ∷ [])
 
 -- the registers after it
 abbrev pub registers_by : Action → List ℕ → ℕ → List ℕ
 registers_by (Load reg loc) registers word = with_value registers reg word
-registers_by (Move reg operand) registers word = with_value registers reg (value_of registers operand)
-registers_by (Lock loc reg update) registers word = with_value registers reg word
+registers_by (Move change) registers word = changed change registers
+registers_by (Lock loc target update) registers word = with_taken registers target word
 registers_by _ registers word = registers
 
 -- whether it reads a location
 abbrev pub is_reading : Action → Bool
 is_reading (Load reg loc) = true
-is_reading (Lock loc reg update) = true
+is_reading (Lock loc target update) = true
 is_reading _ = false
 
 -- the values that are left for what comes after an action

@@ -20,7 +20,7 @@ mod validity;
 pub mod watched;
 mod words;
 
-pub use action::{Action, Operand, Update};
+pub use action::{Action, Change, Operand, Operator, Update, take};
 pub use choice::{Bus, Choice, Outcome, Stall};
 pub use condition::{Cond, Prop, Quantifier, cond_holds};
 pub use execution::{Entry, Execution, Kind};

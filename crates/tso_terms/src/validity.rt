@@ -92,13 +92,20 @@ fn program_fits(program: &[Instr], locations: usize) -> bool
         return false;
     }
     for instr in program {
-        if let Some(loc) = instr.action().location() {
-            if usize::from(loc.0) >= locations {
-                return false;
-            }
+        if !is_location_known(*instr, locations) {
+            return false;
         }
     }
     true
+}
+
+fn is_location_known(instr: Instr, locations: usize) -> bool
+    ensures { IsTrue result ↔ KnownLocation locations instr }
+{
+    match instr.action().location() {
+        None => true,
+        Some(loc) => usize::from(loc.0) < locations,
+    }
 }
 
 fn condition_fits(cond: &Option<Cond>, cores: usize, locations: usize) -> bool

@@ -3,9 +3,10 @@
 
 ghost use Rattle.std.specs.Prelude.{All};
 ghost use Rattle.tso_terms.specs.Registers.{IsWord, AreRegisters};
-ghost use Rattle.tso_terms.specs.Litmus.{ConstantIsWord, HasWords};
+ghost use Rattle.tso_terms.specs.Litmus.{ConstantIsWord, OperandIsWord, HasWords};
 ghost use Rattle.tso_terms.specs.LitmusParts.{litmus_of};
 
+use crate::action::Operand;
 use crate::instruction::Instr;
 use crate::litmus::TestParts;
 
@@ -53,6 +54,20 @@ fn know_constant(instr: &Instr)
         Instr::StoreImm(_, value) | Instr::SetImm(_, value) => {
             let _known = *value;
         }
+        Instr::LockedCombine(_, _, operand) | Instr::Combine(_, _, operand) => {
+            know_operand(operand);
+        }
         _ => {}
+    }
+}
+
+fn know_operand(operand: &Operand)
+    ensures { OperandIsWord operand.now }
+{
+    match operand {
+        Operand::Number(value) => {
+            let _known = *value;
+        }
+        Operand::Held(_) => {}
     }
 }

@@ -5,11 +5,12 @@ use Rattle.litmus_tokens.specs.declared.fault.Why.TheVariants.{TooLarge}
 use Rattle.worked_examples.specs.RefusedTexts.{told, refused}
 use Rattle.tso_terms.specs.Litmus.{Litmus}
 use Rattle.litmus_tokens.specs.declared.fault.Fault.{Fault}
-use Rattle.litmus_tokens.specs.Front.{is_symbol, symbol_at, name_at, number_at}
+use Rattle.litmus_tokens.specs.declared.instructions.Instructions.{Instructions}
+use Rattle.litmus_tokens.specs.Front.{is_symbol, symbol_at, name_at, number_at, unsigned_at, numeral_at}
 use Rattle.litmus_tokens.specs.Gap.{is_space, gap_end}
 use Rattle.litmus_tokens.specs.Pieces.{piece_at, pieces_within, pieces_of}
 use Rattle.litmus_tokens.specs.Terms.{symbols, symbol_of, term_at}
-use Rattle.litmus_tokens.specs.Arguments.{argument_at, two_arguments}
+use Rattle.litmus_tokens.specs.Arguments.{argument_at, one_argument, two_arguments}
 use Rattle.litmus_cells.specs.Cells.{instr_of, cell_in}
 use Rattle.litmus_tokens.specs.Forms.{locked_at, spelled_in}
 use Rattle.litmus_tokens.specs.Locations.{located}
@@ -30,16 +31,16 @@ use Rattle.litmus_reader.specs.Sections.{section_of}
 use Rattle.litmus_reader.specs.Settings.{value_at, register_setting, square_setting, plain_setting, setting_at}
 use Rattle.tso_terms.specs.Decimals.{decimal_from}
 
-unfoldable pub computed_reading : List ℕ → Result Litmus Fault
-unfolding is_symbol symbol_at name_at number_at is_space gap_end piece_at pieces_within pieces_of symbols symbol_of
-    term_at argument_at two_arguments instr_of cell_in locked_at spelled_in located location_at register_at cells_in
+unfoldable pub computed_reading : Instructions → List ℕ → Result Litmus Fault
+unfolding is_symbol symbol_at name_at number_at unsigned_at numeral_at is_space gap_end piece_at pieces_within pieces_of symbols
+    symbol_of term_at argument_at one_argument two_arguments instr_of cell_in locked_at spelled_in located location_at register_at cells_in
     columns claim_in truth_at setting_atom atom_at chain chain_of negation_at opens_unit unit_by
     unit_at quantified condition_at ends_rows first_line trimmed name_in continues_key judged header_at
     quotation_end information_end begins_initial braces_within braces_at judged_setting item_end item_in
     items_within initial_at registers_with word_after square_within square_end brackets_end ending_tokens
     end_at tail_at body_of reading_of row_at row_in rows_within table_at section_of value_at register_setting
     square_setting plain_setting setting_at decimal_from
-computed_reading text = reading_of text
+computed_reading set text = reading_of set text
 
 -- a text that is too long is refused at its first byte, whatever stands in it
 pub long-is_told : (text : List ℕ) → 65536 < length text → told text ≡ refused 1 TooLarge text

@@ -3,6 +3,8 @@ use Rattle.std.specs.Prelude.{ℕ, zero, suc, List, [], ◌++◌, codes, Option,
 use Rattle.worked_examples.specs.Vocabulary.{Litmus}
 use Rattle.litmus_tokens.specs.declared.fault.Why.{Why}
 use Rattle.litmus_tokens.specs.declared.fault.Fault.{Fault}
+use Rattle.litmus_tokens.specs.declared.instructions.Instructions.{Instructions}
+use Rattle.litmus_tokens.specs.declared.instructions.Instructions.TheVariants.{Basic}
 use Rattle.litmus_reader.specs.declared.fault.TextFault.{TextFault}
 use Rattle.litmus_reader.specs.Places.{from_place}
 use Rattle.litmus_reader.specs.Reading.{reading_of, refusal}
@@ -11,9 +13,13 @@ abbrev pub told_by : List ℕ → Result Litmus Fault → Option (TextFault × L
 told_by text (Ok t) = None
 told_by text (Err f) = Some (refusal text f, from_place text f.remaining)
 
--- the refusal of a text that spells no test, and what stands from the place of its fault on
+-- the refusal of a text that spells no test in a set of instructions, and what stands from the place of its fault on
+abbrev pub told_in : Instructions → List ℕ → Option (TextFault × List ℕ)
+told_in set text = told_by text (reading_of set text)
+
+-- the same in the basic set
 abbrev pub told : List ℕ → Option (TextFault × List ℕ)
-told text = told_by text (reading_of text)
+told text = told_in Basic text
 
 -- refused on this line, for this, where these bytes stand
 abbrev pub refused : ℕ → Why → List ℕ → Option (TextFault × List ℕ)

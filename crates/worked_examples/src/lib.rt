@@ -9,6 +9,7 @@
 pub mod accesses;
 pub mod caches;
 pub mod conditions;
+pub mod larger_set;
 pub mod limits;
 pub mod names;
 pub mod order;
@@ -30,6 +31,10 @@ pub use caches::{
     worked_sharing, worked_words,
 };
 pub use conditions::{worked_atoms, worked_propositions};
+pub use larger_set::{
+    worked_changes, worked_compare_exchange, worked_larger_actions, worked_operators,
+    worked_updates,
+};
 pub use limits::{numbers_of_machines, numbers_of_tests, numbers_of_texts};
 pub use names::{worked_location_names, worked_register_names, worked_test_names};
 pub use order::{worked_due_values, worked_kinds_of_entries, worked_pairs, worked_program_order};
@@ -40,7 +45,7 @@ pub use printed_outcomes::{
 };
 pub use refusals::{
     worked_ending_refusals, worked_header_refusals, worked_initial_refusals,
-    worked_limits_of_texts, worked_table_refusals,
+    worked_larger_refusals, worked_limits_of_texts, worked_table_refusals,
 };
 pub use searches::worked_reachable_states;
 pub use sets::{worked_fills, worked_set_calls};

@@ -6,7 +6,8 @@ ghost use Rattle.litmus_tokens.specs.declared.fault.Why.TheVariants.{NoHeader, U
 ghost use Rattle.litmus_tokens.specs.declared.fault.Why.TheVariants.{BadInstruction, BadNumber, TwiceInit, NoSuchCore, TooLarge};
 ghost use Rattle.litmus_tokens.specs.declared.fault.Why.TheVariants.{BadCondition, Trailing};
 ghost use Rattle.litmus_reader.specs.Header.{sized};
-ghost use Rattle.worked_examples.specs.RefusedTexts.{told, refused, times, one_core, sixteen, long_test_name, long_name};
+ghost use Rattle.litmus_tokens.specs.declared.instructions.Instructions.TheVariants.{Basic, All};
+ghost use Rattle.worked_examples.specs.RefusedTexts.{told, told_in, refused, times, one_core, sixteen, long_test_name, long_name};
 
 /// Refusals before the initial state.
 pub fn worked_header_refusals()
@@ -111,4 +112,38 @@ pub fn worked_limits_of_texts()
     ensures sixty_fifth_negation { told (one_core ++ codes "exists " ++ times 32 (codes "~(") ++ codes "\nnot x=1") ≡ refused 5 TooLarge (codes "not x=1") }
     ensures atoms_256 { told (one_core ++ codes "exists x=1" ++ times 255 (codes "/\\true")) ≡ None }
     ensures atom_257 { told (one_core ++ codes "exists false" ++ times 255 (codes "\\/true") ++ codes "/\\\nx=1") ≡ refused 5 TooLarge (codes "x=1") }
+{}
+
+/// The larger set: what the basic one refuses of it, and what it refuses itself.
+pub fn worked_larger_refusals()
+    // each is read in the larger set alone
+    ensures hexadecimal { told_in Basic (one_core ++ codes "MOV [x],$0x1;") ≡ refused 4 BadInstruction (codes "MOV [x],$0x1;") }
+    ensures hexadecimal_is_read { told_in All (one_core ++ codes "MOV [x],$0x1;") ≡ None }
+    ensures negative { told_in Basic (one_core ++ codes "MOV [x],\n-1;") ≡ refused 5 BadToken (codes "-1;") }
+    ensures negative_is_read { told_in All (one_core ++ codes "MOV [x],\n-1;") ≡ None }
+    ensures locked { told_in Basic (one_core ++ codes "LOCK INC [x];") ≡ refused 4 BadInstruction (codes "LOCK INC [x];") }
+    ensures locked_is_read { told_in All (one_core ++ codes "LOCK INC [x];") ≡ None }
+    ensures swap { told_in Basic (one_core ++ codes "XCHG EAX,EBX;") ≡ refused 4 BadInstruction (codes "XCHG EAX,EBX;") }
+    ensures swap_is_read { told_in All (one_core ++ codes "XCHG EAX,EBX;") ≡ None }
+
+    // numbers: the least and the greatest, and one beyond each; a digit after `0x`, and one sign
+    ensures least { told_in All (one_core ++ codes "MOV [x],$-2147483648;") ≡ None }
+    ensures less { told_in All (one_core ++ codes "MOV [x],$-2147483649;") ≡ refused 4 BadNumber (codes "MOV [x],$-2147483649;") }
+    ensures greatest { told_in All (one_core ++ codes "MOV [x],$0xffffffff;") ≡ None }
+    ensures greater { told_in All (one_core ++ codes "MOV [x],$0x100000000;") ≡ refused 4 BadNumber (codes "MOV [x],$0x100000000;") }
+    ensures no_digit { told_in All (one_core ++ codes "MOV [x],$0x;") ≡ refused 4 BadInstruction (codes "MOV [x],$0x;") }
+    ensures two_signs { told_in All (one_core ++ codes "MOV [x],$--1;") ≡ refused 4 BadInstruction (codes "MOV [x],$--1;") }
+    ensures hexadecimal_core { told_in All (codes "X86 T\n{\n0x0:EAX=1 }") ≡ refused 3 BadInit (codes "0x0:EAX=1 }") }
+
+    // a change of memory that isn't locked, and `LOCK` before what changes no memory
+    ensures not_locked { told_in All (one_core ++ codes "INC [x];") ≡ refused 4 BadInstruction (codes "INC [x];") }
+    ensures compare_not_locked { told_in All (one_core ++ codes "CMPXCHG [x],EBX;") ≡ refused 4 BadInstruction (codes "CMPXCHG [x],EBX;") }
+    ensures register_locked { told_in All (one_core ++ codes "LOCK INC EAX;") ≡ refused 4 BadInstruction (codes "LOCK INC EAX;") }
+    ensures swap_locked { told_in All (one_core ++ codes "LOCK XCHG EAX,EBX;") ≡ refused 4 BadInstruction (codes "LOCK XCHG EAX,EBX;") }
+
+    // operands that don't fit
+    ensures number_compared { told_in All (one_core ++ codes "LOCK CMPXCHG [x],$1;") ≡ refused 4 BadInstruction (codes "LOCK CMPXCHG [x],$1;") }
+    ensures from_memory { told_in All (one_core ++ codes "ADD EAX,[x];") ≡ refused 4 BadInstruction (codes "ADD EAX,[x];") }
+    ensures one_too_many { told_in All (one_core ++ codes "LOCK NEG [x],EAX;") ≡ refused 4 BadInstruction (codes "LOCK NEG [x],EAX;") }
+    ensures one_for_none { told_in All (one_core ++ codes "NOP EAX;") ≡ refused 4 BadInstruction (codes "NOP EAX;") }
 {}

@@ -8,7 +8,9 @@ ghost use Rattle.tso_terms.specs.Thread.{entries_with, registers_with, reads_in}
 ghost use Rattle.tso_terms.specs.FinalState.{final_words, final_registers};
 ghost use Rattle.tso_terms.specs.FlatMachine.{registers_in};
 ghost use Rattle.tso_terms.specs.Runs.{run};
-ghost use Rattle.basic_laws.specs.Types.{Eax, Ebx, Ecx, Edx, Esi, Edi, Number, Held, Exchange, Add};
+ghost use Rattle.basic_laws.specs.Types.{Eax, Ebx, Ecx, Edx, Esi, Edi, Number, Held, Replace, Add, Set};
+ghost use Rattle.std.specs.Prelude.{Some};
+ghost use Rattle.tso_terms.specs.declared.action.Update.TheVariants.{Combine};
 ghost use Rattle.tso_terms.specs.declared.instruction.Instr.TheVariants as instr;
 ghost use Rattle.tso_terms.specs.declared.action.Action.TheVariants.{Store, Load, Move, Fence, Lock};
 ghost use Rattle.worked_examples.specs.Written.{loc_x, loc_y, loc_z, six};
@@ -26,15 +28,15 @@ pub fn worked_actions()
     ensures word_is_loaded { action_of (instr.Load Ecx loc_z) ≡ Load Ecx loc_z }
 
     // MOV EDX,$22, and MOV ESI,EDI
-    ensures number_is_moved { action_of (instr.SetImm Edx 22) ≡ Move Edx (Number 22) }
-    ensures register_is_moved { action_of (instr.SetReg Esi Edi) ≡ Move Esi (Held Edi) }
+    ensures number_is_moved { action_of (instr.SetImm Edx 22) ≡ Move (Set Edx (Replace (Number 22))) }
+    ensures register_is_moved { action_of (instr.SetReg Esi Edi) ≡ Move (Set Esi (Replace (Held Edi))) }
 
     // MFENCE
     ensures fence_is_one { action_of instr.Fence ≡ Fence }
 
     // XCHG [x],EAX, and LOCK XADD [y],EDI
-    ensures exchange_locks { action_of (instr.Xchg loc_x Eax) ≡ Lock loc_x Eax Exchange }
-    ensures addition_locks { action_of (instr.Xadd loc_y Edi) ≡ Lock loc_y Edi Add }
+    ensures exchange_locks { action_of (instr.Xchg loc_x Eax) ≡ Lock loc_x (Some Eax) (Replace (Held Eax)) }
+    ensures addition_locks { action_of (instr.Xadd loc_y Edi) ≡ Lock loc_y (Some Edi) (Combine Add (Held Edi)) }
 {}
 
 /// The thread of these eight, by the values that its three reads return, and by an order that has them.

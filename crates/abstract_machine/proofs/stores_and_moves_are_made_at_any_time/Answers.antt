@@ -5,5 +5,5 @@ pub returns : goal.returns
 returns c = record {
   store = λ t m p h loc operand st. (_, write loc operand st, refl, refl);
   locked_write = λ t m p h loc reg update v st. (_, locked_write loc reg update v st, refl, refl);
-  move = λ t m p h reg operand st. (_, move reg operand st, refl, refl);
+  move = λ t m p h change st. (_, move change st, refl, refl);
 }

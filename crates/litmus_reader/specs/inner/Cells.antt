@@ -1,6 +1,6 @@
 -- The cells of a row, read from left to right: in this order names get their numbers, and the first fault is found.
 use Rattle.std.specs.Prelude.{ℕ, List, [], Option, Some, None, Result}
-use Rattle.litmus_reader.specs.Vocabulary.{CoreInstr, Fault, Piece, pieces, Token}
+use Rattle.litmus_reader.specs.Vocabulary.{CoreInstr, Fault, Instructions, Piece, pieces, Token}
 use denote.Ref.{Bor}
 use Rattle.litmus_reader.specs.Cells.{cells_in, cells_of}
 
@@ -10,5 +10,5 @@ cells_after None = []
 cells_after (Some after) = cells_of (pieces after.now)
 
 -- all cells of a row
-abbrev pub row_cells : List CoreInstr → List (List ℕ) → List Piece → Result (List CoreInstr × List (List ℕ)) Fault
-row_cells instrs names row = cells_in 0 instrs names (cells_of row)
+abbrev pub row_cells : Instructions → List CoreInstr → List (List ℕ) → List Piece → Result (List CoreInstr × List (List ℕ)) Fault
+row_cells set instrs names row = cells_in set 0 instrs names (cells_of row)

@@ -1,7 +1,7 @@
 -- What the functions that read return: what a reading gives, unless memory ran out.
 use Rattle.std.specs.Prelude.{◌≡◌, ◌≢◌, ℕ, Bool, List, map, Option, Result}
 use denote.Ref.{Bor}
-use Rattle.litmus_reader.specs.Vocabulary.{claim_of, Cond, Condition, Fault, Piece, pieces, Token}
+use Rattle.litmus_reader.specs.Vocabulary.{claim_of, Cond, Condition, Fault, Instructions, Piece, pieces, Token}
 use Rattle.tso_terms.specs.declared.condition.Prop.{Prop}
 use Rattle.litmus_tokens.specs.declared.fault.ReadError.{ReadError}
 use Rattle.litmus_reader.specs.declared.fault.TextFault.{TextFault}
@@ -50,20 +50,20 @@ abbrev pub GivesItem : Result Bool ReadError → List (Bor (List ℕ)) → state
 GivesItem result names i read = Gives (λ is_last. (so_far names i, is_last)) result read
 
 -- the whole initial state, and what stands after it
-abbrev pub GivesInitial : Result (Bor (List ℕ)) ReadError → List (Bor (List ℕ)) → state.Initial
+abbrev pub GivesInitial : Instructions → Result (Bor (List ℕ)) ReadError → List (Bor (List ℕ)) → state.Initial
     → Result (Initial × List Piece) Fault → Type 0
-GivesInitial result names i read = Gives (λ x. (so_far names i, tokens_in x.now)) result read
+GivesInitial set result names i read = Gives (λ x. (so_far names i, tokens_in set x.now)) result read
 
 -- the header row and all rows, the names of locations, and what stands after the rows
-abbrev pub table_read : code.Table → List (Bor (List ℕ)) → List ℕ → Table
-table_read t names rest = table t.cores t.registers.items (rows t.instrs.items (texts names) (tokens_in rest))
+abbrev pub table_read : Instructions → code.Table → List (Bor (List ℕ)) → List ℕ → Table
+table_read set t names rest = table t.cores t.registers.items (rows t.instrs.items (texts names) (tokens_in set rest))
 
 -- The reading of a text's tokens, after these names of locations, gives the header row and all rows, the names, and what stands
 -- after the rows.
-abbrev pub GivesTable : (List (List ℕ) → List Piece → Result Table Fault) → List (Bor (List ℕ)) → List ℕ
+abbrev pub GivesTable : Instructions → (List (List ℕ) → List Piece → Result Table Fault) → List (Bor (List ℕ)) → List ℕ
     → Result (Bor (List ℕ)) ReadError → List (Bor (List ℕ)) → code.Table → Type 0
-GivesTable reading names text result names_new t =
-    Gives (λ x. table_read t names_new x.now) result (reading (texts names) (tokens_in text))
+GivesTable set reading names text result names_new t =
+    Gives (λ x. table_read set t names_new x.now) result (reading (texts names) (tokens_in set text))
 
 -- this refusal, unless memory ran out
 abbrev pub IsUnlessMemory : TextFault → TextFault → Type 0

@@ -1,6 +1,6 @@
 -- A core of the code as the flat machine has it, and what each of its calls does: an action of the flat machine, at the
 -- depth of the core's own buffer, with memory as the words that the bus shows.
-use Rattle.std.specs.Prelude.{ℕ, ◌+◌, List, [], ◌∷◌, map, filter, slice_index}
+use Rattle.std.specs.Prelude.{ℕ, Option, ◌+◌, List, [], ◌∷◌, map, filter, slice_index}
 use Rattle.tso_terms.specs.Actions.{action_of}
 use Rattle.multiprocessor.specs.Vocabulary.{access_by, BusModel, drain_of, Effect, effect_by, entry, fenced, MemoryAccess, stored, Stores, stores, words_of, writes_to}
 use Rattle.tso_terms.specs.Axioms.{last_value}
@@ -28,7 +28,7 @@ step_by instr = action_by (action_of instr)
 abbrev pub effect_of_load : Reg → Loc → ℕ → Processor → List ℕ → Effect
 effect_of_load reg loc = action_by (Load reg loc)
 
-abbrev pub effect_of_lock : Loc → Reg → Update → ℕ → Processor → List ℕ → Effect
+abbrev pub effect_of_lock : Loc → Option Reg → Update → ℕ → Processor → List ℕ → Effect
 effect_of_lock loc reg update = action_by (Lock loc reg update)
 
 -- a plain store of this value

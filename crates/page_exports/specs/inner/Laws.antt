@@ -4,15 +4,15 @@ use Rattle.page_exports.specs.declared.AnswerLengths.{AnswerLengths}
 use Rattle.page_exports.specs.declared.question.Numbers.{Numbers}
 use Rattle.page_exports.specs.declared.question.Question.{Question}
 use Rattle.page_exports.specs.declared.question.Question.TheVariants.{Command, Step}
-use Rattle.page_exports.specs.Questions.{AsksQuestion, IsAskable, IsMachineAsked, AnswersAsked}
+use Rattle.page_exports.specs.Questions.{AsksQuestion, IsAskable, IsMachineAsked, IsSetAsked, AnswersAsked}
 
 abbrev pub IsStepQuestion : Question → Type 0
 IsStepQuestion (Command settings) = ⊥
-IsStepQuestion (Step kind config) = Unit {0}
+IsStepQuestion (Step kind config set) = Unit {0}
 
--- 7 asks for the last step of a trace: wherever there is a machine that the numbers ask for, and for nothing else
+-- 7 asks for the last step of a trace: wherever there are a machine and a set of instructions that the numbers ask for, and for nothing else
 pub record SevenAsksForAStep : Type 0 where
-  pub askable : (a : Numbers) → a.command ≡ 7 → IsMachineAsked a → IsAskable a
+  pub askable : (a : Numbers) → a.command ≡ 7 → IsMachineAsked a → IsSetAsked a → IsAskable a
   pub step : (a : Numbers) (question : Question) → a.command ≡ 7 → AsksQuestion a question → IsStepQuestion question
 
 -- beside the last step of a trace of a run that ended, which has status 0, no hint stands: it is JSON

@@ -5,10 +5,11 @@ use Rattle.std.specs.Global.{Global}
 use Rattle.tso_terms.specs.Litmus.{Litmus}
 use Rattle.basic_laws.specs.Types.{Entry}
 use Rattle.refutation_laws.specs.Known.{events_of}
-use Rattle.reading_tables.specs.inner.Told.{expression_of, written_of, known_of, AreExpressions}
+use Rattle.reading_tables.specs.inner.Told.{held_of, all_made, written_of, known_of, AreExpressions}
 use Rattle.reading_tables.specs.declared.expressions.Written.{Written}
 use Rattle.reading_tables.specs.declared.tables.Problem.{Problem}
 use Rattle.reading_tables.specs.declared.tables.Reading.{Reading}
+use Rattle.reading_tables.specs.declared.tables.Table.{Table}
 use Rattle.reading_tables.specs.declared.tables.Told.{Told}
 use Rattle.possible_reads.specs.Expressions as expressions
 use Rattle.possible_reads.specs.Possible as spec
@@ -24,16 +25,25 @@ reading_of x = record { read = x.read; sources = x.sources.items; values = known
 abbrev pub readings_of : List Reading → List spec.Reading
 readings_of xs = map reading_of xs
 
--- what each of these writes can write, and what one writes that isn't there
-abbrev pub AreValues : List spec.Reading → List Written → List (Option (Vec ℕ Global)) → Type 0
-AreValues table written values =
+-- what all that was made can be
+abbrev pub AreMadeValues : List spec.Reading → List expressions.Expression → List (Option (Vec ℕ Global)) → Type 0
+AreMadeValues table made values = map known_of values ≡ map (spec.values_of (spec.values_read table)) made
+
+-- what each of these writes can write, where these were made, and what one writes that isn't there
+abbrev pub AreValues : List spec.Reading → List expressions.Expression → List Written → List (Option (Vec ℕ Global)) → Type 0
+AreValues table made written values =
     map known_of values
-    ≡ map (λ x. spec.values_of (spec.values_read table) (expression_of x.value)) written ++ (Some (0 ∷ []) ∷ [])
+    ≡ map (λ x. spec.values_of (spec.values_read table) (held_of made x.value)) written ++ (Some (0 ∷ []) ∷ [])
+
+pub record AreTableValues (p : Problem) (x : Table) : Type 0 where
+  pub made : AreMadeValues (readings_of x.readings.items) (all_made p.expressions.makings.items) x.made.items
+  pub written : AreValues (readings_of x.readings.items) (all_made p.expressions.makings.items) p.expressions.written.items x.values.items
 
 pub record IsTold (told : Told) : Type 0 where
   pub events : told.events.now ≡ events_of told.test.now
-  pub written : map written_of told.written.now ≡ expressions.written told.test.now
-  pub values : AreValues (readings_of told.readings.now) told.written.now told.values.now
+  pub written : map (written_of (all_made told.makings.now)) told.written.now ≡ expressions.written told.test.now
+  pub made : AreMadeValues (readings_of told.readings.now) (all_made told.makings.now) told.made.now
+  pub values : AreValues (readings_of told.readings.now) (all_made told.makings.now) told.written.now told.values.now
 
 abbrev pub sources_or : List (Option Entry) → Option (Bor Reading) → List (Option Entry)
 sources_or others None = others

@@ -14,3 +14,4 @@ pub record IsCase (problem : Problem) (told : Told) : Type 0 where
   pub is_told : IsTold told
   pub is_problem : IsProblem problem.test.now problem
   pub same_test : problem.test.now ≡ told.test.now
+  pub same_makings : problem.expressions.makings.items ≡ told.makings.now

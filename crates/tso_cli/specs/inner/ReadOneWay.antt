@@ -1,16 +1,16 @@
 -- What the crates below say of texts and orders, put together: each is read in one way.
 use Rattle.std.specs.Prelude.{ℕ, ◌≡◌, ◌<◌, ◌≤◌, ◌^◌, List, length}
-use Rattle.tso_cli.specs.Vocabulary.{Breach, Entry, HasFault, IsDecidedAsChoices, IsFirstBreach, IsTest, IsTsoExecution, Litmus, OrderFault, SpellsOrder, TextFault}
+use Rattle.tso_cli.specs.Vocabulary.{Breach, Entry, HasFault, Instructions, IsDecidedAsChoices, IsFirstBreach, IsTest, IsTsoExecution, Litmus, OrderFault, SpellsOrder, TextFault}
 use Rattle.litmus_reader.specs.Limits.{longest_text}
 use Rattle.litmus_reader.specs.Spelling.{SpellsTest, IsRefused as IsRefusedTest}
 
 pub record AreReadOneWay : Type 0 where
   -- a text spells one test, which is within the limits, or gets one refusal
-  pub one_test : (text : List ℕ) (t other : Litmus) → SpellsTest text t → SpellsTest text other → t ≡ other
-  pub refused_or_not : (text : List ℕ) (t : Litmus) (fault : TextFault) → SpellsTest text t → IsRefusedTest text fault → ⊥
-  pub one_refusal : (text : List ℕ) (fault other : TextFault) → IsRefusedTest text fault → IsRefusedTest text other → fault ≡ other
-  pub test : (text : List ℕ) (t : Litmus) → SpellsTest text t → IsTest t
-  pub short : (text : List ℕ) (t : Litmus) → SpellsTest text t → length text ≤ longest_text
+  pub one_test : (set : Instructions) (text : List ℕ) (t other : Litmus) → SpellsTest set text t → SpellsTest set text other → t ≡ other
+  pub refused_or_not : (set : Instructions) (text : List ℕ) (t : Litmus) (fault : TextFault) → SpellsTest set text t → IsRefusedTest set text fault → ⊥
+  pub one_refusal : (set : Instructions) (text : List ℕ) (fault other : TextFault) → IsRefusedTest set text fault → IsRefusedTest set text other → fault ≡ other
+  pub test : (set : Instructions) (text : List ℕ) (t : Litmus) → SpellsTest set text t → IsTest t
+  pub short : (set : Instructions) (text : List ℕ) (t : Litmus) → SpellsTest set text t → length text ≤ longest_text
   -- a text spells one list of choices, or gets one refusal
   pub decided : (cores : ℕ) (text : List ℕ) → 0 < cores → IsDecidedAsChoices cores text
   -- a text spells one order of a test, or has one fault

@@ -5,7 +5,7 @@ use Rattle.litmus_tokens.proofs.Pieces.{goes_on}
 use Rattle.litmus_tokens.proofs.lexing.tokens_of.Given as goal
 
 abbrev pub invariant-loop-token : goal.invariant-loop-token
-invariant-loop-token l = goes_on (map piece_of l.items.items) l.rest (pieces_of l.bytes)
+invariant-loop-token l = goes_on l.set (map piece_of l.items.items) l.rest (pieces_of l.set l.bytes)
 
 abbrev pub decreases-loop-token : goal.decreases-loop-token
 decreases-loop-token l = length l.rest

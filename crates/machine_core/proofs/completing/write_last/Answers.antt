@@ -24,8 +24,8 @@ unreachable-requires g c =
     c.program.ensures.value c.instruction_at.ensures c.unwrap-instr.ensures c.action.ensures refl in
     other-locks _ (is-lock p.stores.depth c.action.result (pending_in e.core.0 p) e.loc (sym (access-next c.args.test.now c.args.hardware.now e.core p c.action.result next) ∙ read.access)) c.in_default.not-Lock
 
-pub advance-requires : goal.advance-requires
-advance-requires g c =
+pub advance_taking-requires : goal.advance_taking-requires
+advance_taking-requires g c =
     place-within c.program.result.now c.instruction_at.result c.unwrap-instr.result c.index_mut-processor.result.now.place c.instruction_at.ensures c.unwrap-instr.ensures c.program.ensures.size
 
 pub complete_write-requires : goal.complete_write-requires
@@ -39,7 +39,7 @@ returns-in_err-note-clause-commits_at_once g c =
     let next : IsNext c.args.test.now c.args.hardware.now e.core p c.action.result =
     is-next c.args.test.now c.args.hardware.now e.core p c.program.result.now c.instruction_at.result c.unwrap-instr.result c.action.result c.action.result c.requires.consistent.fits c.requires.core c.index_mut-processor.ensures.value
     c.program.ensures.value c.instruction_at.ensures c.unwrap-instr.ensures c.action.ensures refl in
-    ap (λ f. f.effect.outcome) (writes-last c.args.test.now c.args.hardware.now e p c.action.result c.in-Lock.reg c.apply-value.result next read (subst (λ a. WritesAs a p.registers e.value c.in-Lock.reg c.apply-value.result) (sym c.in-Lock.is) (refl, c.apply-value.ensures ∙ ap (updated c.in-Lock.update e.value) c.register.ensures)))
+    ap (λ f. f.effect.outcome) (writes-last c.args.test.now c.args.hardware.now e p c.action.result c.in-Lock.reg c.apply-value.result next read (subst (λ a. WritesAs a p.registers e.value c.in-Lock.reg c.apply-value.result) (sym c.in-Lock.is) (refl, c.apply-value.ensures)))
 
 pub returns : goal.returns
 returns g c =
@@ -50,13 +50,13 @@ returns g c =
     let next : IsNext c.args.test.now m e.core p c.action.result =
     is-next c.args.test.now m e.core p c.program.result.now c.instruction_at.result c.unwrap-instr.result c.action.result c.action.result c.requires.consistent.fits c.requires.core c.index_mut-processor.ensures.value
     c.program.ensures.value c.instruction_at.ensures c.unwrap-instr.ensures c.action.ensures refl in
-    let writes = writes-last c.args.test.now m e p c.action.result c.in-Lock.reg c.apply-value.result next read (subst (λ a. WritesAs a p.registers e.value c.in-Lock.reg c.apply-value.result) (sym c.in-Lock.is) (refl, c.apply-value.ensures ∙ ap (updated c.in-Lock.update e.value) c.register.ensures)) in
+    let writes = writes-last c.args.test.now m e p c.action.result c.in-Lock.reg c.apply-value.result next read (subst (λ a. WritesAs a p.registers e.value c.in-Lock.reg c.apply-value.result) (sym c.in-Lock.is) (refl, c.apply-value.ensures)) in
     let core = IsCore-at c.args.test.now m e.core.0 p c.requires.consistent.fits c.requires.core c.index_mut-processor.ensures.value in
     record {
       makes = record {
-        ok = Performs-by m _ (Step e.core) Committed c.advance.new.processor (writes_last_in c.args.test.now m e)
+        ok = Performs-by m _ (Step e.core) Committed c.advance_taking.new.processor (writes_last_in c.args.test.now m e)
             (acts (last_part e.core.0 e.place (core_state e.core.0 p) e.loc c.in-Lock.reg e.value c.apply-value.result) Free) writes refl
-            (ap (core_state e.core.0) c.advance.ensures) c.complete_write.ensures.words (rw c.entry.ensures at c.in_ok-note.ensures.ok) (ap (held-with m.next) c.complete_write.ensures.free) refl;
+            (ap (core_state e.core.0) c.advance_taking.ensures) c.complete_write.ensures.words (rw c.entry.ensures at c.in_ok-note.ensures.ok) (ap (held-with m.next) c.complete_write.ensures.free) refl;
         caches = subst (λ u. HasUsed u c.complete_write.new.self Unused) (sym (use-last c.args.test.now m e (writes_last_in c.args.test.now m e) p c.in-Lock.reg c.apply-value.result c.requires.between writes))
             (rests-last m.bus c.complete_write.new.self c.complete_write.ensures.contents c.complete_write.ensures.machine c.complete_write.ensures.free c.complete_write.ensures.nothing_awaited);
       };
@@ -64,10 +64,10 @@ returns g c =
       err = tt;
       keeps = record { config = refl; counts = refl };
       of_test = record {
-        fits = PartsFitTest-next c.args.test.now m _ e.core.0 c.advance.new.processor c.requires.consistent.fits refl refl c.complete_write.ensures.machine.cores
+        fits = PartsFitTest-next c.args.test.now m _ e.core.0 c.advance_taking.new.processor c.requires.consistent.fits refl refl c.complete_write.ensures.machine.cores
             (ap length c.complete_write.ensures.words ∙ length-set (words_of m.bus) e.loc.0 c.apply-value.result)
-            (ap (λ (q : Processor). q.stores.depth) c.advance.ensures ∙ core.depth_is)
-            (subst (λ (q : Processor). AreKnown (length (words_of m.bus)) q.stores) (sym c.advance.ensures) core.known);
-        held = held-freed c.args.test.now m.config.depth (state_of_cores (slice_set m.processors.items e.core.0 c.advance.new.processor) (words_of c.complete_write.new.self)) m.next (holder_of c.complete_write.new.self) c.complete_write.ensures.free;
+            (ap (λ (q : Processor). q.stores.depth) c.advance_taking.ensures ∙ core.depth_is)
+            (subst (λ (q : Processor). AreKnown (length (words_of m.bus)) q.stores) (sym c.advance_taking.ensures) core.known);
+        held = held-freed c.args.test.now m.config.depth (state_of_cores (slice_set m.processors.items e.core.0 c.advance_taking.new.processor) (words_of c.complete_write.new.self)) m.next (holder_of c.complete_write.new.self) c.complete_write.ensures.free;
       };
     }

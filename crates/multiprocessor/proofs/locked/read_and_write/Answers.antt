@@ -13,12 +13,12 @@ returns-then-not-is_empty-clause-acts g c =
 
 pub returns-clause-acts : goal.returns-clause-acts
 returns-clause-acts g c =
-    acts-locks c.args.core c.args.locked.loc c.args.locked.reg c.args.locked.update c.args.processor.now c.advance.new.processor c.args.bus.now c.update-updated.new.self
-    c.register-value.result c.update-updated.result (c.is_empty.ensures.0 c.if-not-is_empty.false) c.register-value.ensures c.update-updated.ensures.before c.update-updated.ensures.after c.update-updated.ensures.done c.update-updated.ensures.machine
+    acts-locks c.args.core c.args.locked.loc c.args.locked.reg c.args.locked.update c.args.processor.now c.advance_taking.new.processor c.args.bus.now c.update-updated.new.self
+    c.update-updated.result (c.is_empty.ensures.0 c.if-not-is_empty.false) c.update-updated.ensures.before c.update-updated.ensures.after c.update-updated.ensures.done c.update-updated.ensures.machine
     c.args.commits.now c.make_room.new.self c.note-2.new.self c.make_room.ensures.same
     (both-noted c.args.core.0 c.args.processor.now.place c.args.locked.loc c.update-updated.result.before c.update-updated.result.after c.make_room.new.self c.note.new.self c.note-2.new.self c.entry-load_part.result c.entry-store_part.result
     c.entry-load_part.ensures c.entry-store_part.ensures (rw c.unwrap.ensures at c.note.ensures.ok) (rw c.unwrap-2.ensures at c.note-2.ensures.ok))
-    c.advance.ensures
+    c.advance_taking.ensures
 
 pub returns-in_err-make_room-clause-succeeds : goal.returns-in_err-make_room-clause-succeeds
 returns-in_err-make_room-clause-succeeds g c =
@@ -35,7 +35,7 @@ returns-clause-sizes g c = record {
 }
 
 pub returns-clause-stores : goal.returns-clause-stores
-returns-clause-stores g c = ap (λ p. p.stores) c.advance.ensures
+returns-clause-stores g c = ap (λ p. p.stores) c.advance_taking.ensures
 
 -- there is room for both parts
 pub unwrap-requires : goal.unwrap-requires

@@ -57,10 +57,10 @@ returns-in-Lock g c = record {
 
 pub returns-in-Move : goal.returns-in-Move
 returns-in-Move g c = record {
-  acts = acts-set c.args.turn c.args.instr c.args.processor.now c.args.bus.now c.in-Move.reg c.in-Move.operand c.value-value-in-Move.result c.advance.new.processor c.args.commits.now Moved (sym c.action.ensures ∙ c.in-Move.is) c.value-value-in-Move.ensures c.requires.free refl c.advance.ensures;
+  acts = acts-set c.args.turn c.args.instr c.args.processor.now c.args.bus.now c.in-Move.change c.apply.new.registers _ c.args.commits.now Moved (sym c.action.ensures ∙ c.in-Move.is) c.apply.ensures c.requires.free refl refl;
   succeeds = λ _. refl;
   err = tt;
   sizes = record { cores = refl; count = refl };
-  depth = ap (λ p. p.stores.depth) c.advance.ensures;
-  stores = rw c.advance.ensures c.requires.stores;
+  depth = refl;
+  stores = c.requires.stores;
 }

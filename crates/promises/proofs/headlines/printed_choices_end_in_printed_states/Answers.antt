@@ -1,10 +1,10 @@
 use Rattle.promises.proofs.headlines.printed_choices_end_in_printed_states.Goals as goal
 
 pub returns-clause-printed_states : goal.returns-clause-printed_states
-returns-clause-printed_states given = λ kind c show json told test out said. said.printed
+returns-clause-printed_states given = λ kind c set show json told test out said. said.printed
 
 pub returns-clause-each : goal.returns-clause-each
-returns-clause-each given = λ kind c show json told test out said. said.each
+returns-clause-each given = λ kind c set show json told test out said. said.each
 
 pub returns-clause-printed : goal.returns-clause-printed
 returns-clause-printed given = λ t names kind c json values out said. said.printed

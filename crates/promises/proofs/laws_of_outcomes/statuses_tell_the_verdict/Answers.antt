@@ -9,11 +9,11 @@ returns c =
       never_both = c.test_is_spelled_once.ensures.never_both;
     } in
     record {
-      outcomes_no = λ search json. outcomes-tell search json false decided;
-      outcomes_ok = λ search json. outcomes-tell search json true decided;
-      outcomes_unasserted = λ search json verdict. outcomes-tell-nothing search json verdict decided;
-      why_no = λ plan json. why-tells plan json true false decided;
-      why_ok = λ plan json assert input out status t condition small spelled is answer says.
-          why-tells plan json assert true decided input out status t condition small spelled is answer says ∙ ok-is-good assert;
-      why_unasserted = λ plan json. why-tells plan json false false decided;
+      outcomes_no = λ search set json. outcomes-tell search set json false decided;
+      outcomes_ok = λ search set json. outcomes-tell search set json true decided;
+      outcomes_unasserted = λ search set json verdict. outcomes-tell-nothing search set json verdict decided;
+      why_no = λ plan set json. why-tells plan set json true false decided;
+      why_ok = λ plan set json assert input out status t condition small spelled is answer says.
+          why-tells plan set json assert true decided input out status t condition small spelled is answer says ∙ ok-is-good assert;
+      why_unasserted = λ plan set json. why-tells plan set json false false decided;
     }

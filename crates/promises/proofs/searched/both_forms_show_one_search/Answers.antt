@@ -4,7 +4,7 @@ use Rattle.promises.proofs.searched.both_forms_show_one_search.Goals as goal
 
 pub returns : goal.returns
 returns c =
-    λ search assert asserted input out object status again within too is as_object.
-    c.headlines_leave_one_text.ensures.outcomes search false true assert asserted input out object
-    (c.answers_meet_the_headline.ensures (settings.Outcomes search false assert) (Some input) out status within is)
-    (c.answers_meet_the_headline.ensures (settings.Outcomes search true asserted) (Some input) object again too as_object)
+    λ search set assert asserted input out object status again within too is as_object.
+    c.headlines_leave_one_text.ensures.outcomes search set false true assert asserted input out object
+    (c.answers_meet_the_headline.ensures (settings.Outcomes search set false assert) (Some input) out status within is)
+    (c.answers_meet_the_headline.ensures (settings.Outcomes search set true asserted) (Some input) object again too as_object)

@@ -4,6 +4,6 @@ use Rattle.promises.proofs.searched.each_line_by_leads_to_the_line_above.Goals a
 
 pub returns : goal.returns
 returns c =
-    λ kind config search json assert input out status atomic depth within joinable good is.
-    lines-again kind config search json (parts_of input).test out
-    (c.searches_reach_their_states.ensures kind config search json false assert input out status atomic depth within joinable good is)
+    λ kind config set search json assert input out status atomic depth within joinable good is.
+    lines-again kind config set search json (parts_of input).test out
+    (c.searches_reach_their_states.ensures kind config set search json false assert input out status atomic depth within joinable good is)

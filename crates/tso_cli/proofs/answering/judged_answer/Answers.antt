@@ -13,7 +13,7 @@ returns-in-Ok g c =
     let input = c.args.input.now in
     let small : length input ≤ longest_input = omega arith in
     answer-means (IsAnswerTo s c.in-Ok.test (parts_of input).rest) (IsInputAnswer s input) c.told_answer.result
-    (λ out status is. answered c.in-Ok.test out status small (rw c.parts_of-parts.ensures.test at c.in-Ok.ensures.found) is)
+    (λ out status is. answered c.in-Ok.test out status small (rw (c.parts_of-parts.ensures.test, c.instructions.ensures) at c.in-Ok.ensures.found) is)
     (rw c.parts_of-parts.ensures.rest at c.told_answer.ensures)
 
 pub returns-in-Err-Fault : goal.returns-in-Err-Fault
@@ -23,4 +23,4 @@ returns-in-Err-Fault g c =
     let fault = c.in-Err-Fault.fault in
     answer-is (IsInputAnswer c.args.settings.now c.args.input.now) c.refused_test.result (test_refusal (refusal text fault)) Refused
     (rw c.parts_of-parts.ensures.test at c.refused_test.ensures)
-    (refused (refusal text fault) small (record { at_fault = fault; is = rw c.parts_of-parts.ensures.test at (c.in-Err-Fault.ensures.fault fault (rw c.in-Err-Fault.field-0-is refl)); line = refl; why = refl }))
+    (refused (refusal text fault) small (record { at_fault = fault; is = rw (c.parts_of-parts.ensures.test, c.instructions.ensures) at (c.in-Err-Fault.ensures.fault fault (rw c.in-Err-Fault.field-0-is refl)); line = refl; why = refl }))

@@ -7,6 +7,6 @@ returns c =
     let texts = c.texts_are_read_one_way.ensures in
     record {
       commands = λ s input out other status again one. one_answer s input out other status again texts one;
-      searches = λ search json assert input out other status again.
-          same-states-shown search json assert input out other status again texts c.outcomes_of_the_same_values_are_alike.ensures;
+      searches = λ search set json assert input out other status again.
+          same-states-shown search set json assert input out other status again texts c.outcomes_of_the_same_values_are_alike.ensures;
     }

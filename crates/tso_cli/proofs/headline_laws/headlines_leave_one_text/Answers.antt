@@ -12,13 +12,13 @@ returns c =
       judged = c.each_order_is_judged.ensures;
     } in
     record {
-      runs = λ kind config json input out other. runs-one kind config json input out other law decided;
-      traces = λ kind config json input out other. traces-one kind config json input out other law decided;
-      sweeps = λ kind config plan input out other. sweeps-one kind config plan input out other law decided;
-      counts = λ kind config plan json input out other. counts-one kind config plan json input out other law decided;
-      witnesses = λ depth input out other. witnesses-one depth input out other law decided;
-      checks = λ input out other. checks-one input out other law decided;
-      outcomes = λ search json again assert asserted input out other.
-          searches-one search json again assert asserted input out other law decided c.outcomes_of_the_same_values_are_alike.ensures;
-      reasons = λ plan another json again assert asserted input out other. reasons-one plan another json again assert asserted input out other law decided;
+      runs = λ kind config set json input out other. runs-one kind config set json input out other law decided;
+      traces = λ kind config set json input out other. traces-one kind config set json input out other law decided;
+      sweeps = λ kind config set plan input out other. sweeps-one kind config set plan input out other law decided;
+      counts = λ kind config set plan json input out other. counts-one kind config set plan json input out other law decided;
+      witnesses = λ depth set input out other. witnesses-one depth set input out other law decided;
+      checks = λ set input out other. checks-one set input out other law decided;
+      outcomes = λ search set json again assert asserted input out other.
+          searches-one search set json again assert asserted input out other law decided c.outcomes_of_the_same_values_are_alike.ensures;
+      reasons = λ plan another set json again assert asserted input out other. reasons-one plan another set json again assert asserted input out other law decided;
     }

@@ -5,7 +5,7 @@ pub returns : goal.returns
 returns c =
     let texts = c.texts_are_read_one_way.ensures in
     record {
-      runs = λ kind other config third json input out again status too. runs-alike kind other config third json input out again status too texts;
-      traces = λ kind other config third json input out again status too. traces-alike kind other config third json input out again status too texts;
-      sweeps = λ kind other config third plan input out again status too. sweeps-alike kind other config third plan input out again status too texts;
+      runs = λ kind other config third set json input out again status too. runs-alike kind other config third set json input out again status too texts;
+      traces = λ kind other config third set json input out again status too. traces-alike kind other config third set json input out again status too texts;
+      sweeps = λ kind other config third set plan input out again status too. sweeps-alike kind other config third set plan input out again status too texts;
     }

@@ -19,6 +19,6 @@ returns c =
       tso = c.no_run_meets_what_is_refuted.ensures.tso;
       sequential = c.no_run_meets_what_is_refuted.ensures.sequential;
     } in
-    λ kind config plan json told assert input out status atomic depth within joinable good is.
-    explained kind config plan json told assert input texts reaching laws atomic depth
+    λ kind config set plan json told assert input out status atomic depth within joinable good is.
+    explained kind config set plan json told assert input texts reaching laws atomic depth
     (λ rest. c.joined_parts_are_separated.ensures (parts_of input).test rest joinable) out status good is

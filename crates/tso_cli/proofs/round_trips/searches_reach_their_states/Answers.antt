@@ -17,6 +17,6 @@ returns c =
       ends = c.ends_are_what_tso_allows.ensures;
       counted = c.choices_to_an_end_are_counted.ensures;
     } in
-    λ kind config search json told assert input out status atomic depth within joinable good is.
-    revisited kind config search json told assert input out status texts reaching searches atomic depth
+    λ kind config set search json told assert input out status atomic depth within joinable good is.
+    revisited kind config set search json told assert input out status texts reaching searches atomic depth
     (λ rest. c.joined_parts_are_separated.ensures (parts_of input).test rest joinable) good is

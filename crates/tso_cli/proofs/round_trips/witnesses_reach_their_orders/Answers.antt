@@ -12,5 +12,5 @@ returns c =
       counted = λ t depth choices. choices-counted t depth choices c.runs_are_counted.ensures.buffered c.runs_are_counted.ensures.unbuffered;
       spelled = c.printed_choices_are_spelled.ensures;
     } in
-    λ kind config json input out answer status atomic within joinable is ran.
-    replayed kind config json input out answer status texts reaching atomic within (c.joined_parts_are_separated.ensures (parts_of input).test out joinable) is ran
+    λ kind config set json input out answer status atomic within joinable is ran.
+    replayed kind config set json input out answer status texts reaching atomic within (c.joined_parts_are_separated.ensures (parts_of input).test out joinable) is ran

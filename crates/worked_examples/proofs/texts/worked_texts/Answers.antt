@@ -13,3 +13,11 @@ returns-clause-least c = refl
 pub returns-clause-eight : goal.returns-clause-eight
 unfolding computed_reading
 returns-clause-eight c = refl
+
+pub returns-clause-whole_in_larger_set : goal.returns-clause-whole_in_larger_set
+unfolding computed_reading
+returns-clause-whole_in_larger_set c = refl
+
+pub returns-clause-larger : goal.returns-clause-larger
+unfolding computed_reading
+returns-clause-larger c = refl
