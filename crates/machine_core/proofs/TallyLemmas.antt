@@ -1,16 +1,24 @@
 -- The counts of a machine's hardware from choice to choice.
-use Rattle.machine_core.proofs.Vocabulary.{◌≡◌, ◌<◌, ◌+◌, ℕ, zero, suc, List, [], ◌∷◌, ◌++◌, None, length, replicate, take, All, sym, ap, ◌∙◌, subst, arith, length-map, length-replicate, Litmus, IsTest, chosen, core_of, started, idle, access_of, BusState, Instr, Choice, Outcome, HolderFits, BusModel, contents_of, Counts, CacheUse, Hardware, caches_of, is_awaited, Statistics, with_use_counted, no_counts, HardwareFitsTest, IsAtMost, state_in, HasIssuedItsStores, IsTallied, IsFlusherAmong, done_in, most_counted, statistics_in, HasUsed, HasEffect, attempt_in, effect_in, use_by, All-replicate}
+use Rattle.machine_core.proofs.Vocabulary.{◌≡◌, ◌≢◌, ◌<◌, ◌+◌, ℕ, zero, suc, List, [], ◌∷◌, ◌++◌, None, length, replicate, take, All, sym, ap, ◌∙◌, subst, arith, length-map, length-replicate, Litmus, IsTest, chosen, core_of, started, idle, access_of, BusState, Instr, Choice, Outcome, Committed, HolderFits, BusModel, contents_of, Counts, CacheUse, Hardware, caches_of, is_awaited, Statistics, with_use_counted, no_counts, HardwareFitsTest, IsAtMost, state_in, HasIssuedItsStores, IsTallied, IsFlusherAmong, IsUncounted, done_in, most_counted, statistics_in, HasUsed, HasEffect, attempt_in, effect_in, use_by, All-replicate}
 use Rattle.std.proofs.Math.Seq.{take-append_seam}
 use Rattle.multiprocessor.proofs.Advancing.{advances-on}
 use Rattle.multiprocessor.proofs.CoreLemmas.{length-core_states}
 use Rattle.multiprocessor.proofs.CountBounds.{length-counted, none-counted}
-use Rattle.multiprocessor.proofs.CountsOnBus.{senders, few-counted, tallied-after}
+use Rattle.multiprocessor.proofs.CountsOnBus.{AdvancesOn, senders, few-counted, tallied-after}
 
 length-cores : {P : Type 0} (t : Litmus) (m : Hardware P) → HardwareFitsTest t m → length (state_in m).flat.cores ≡ length t.programs
 length-cores t m fits = length-core_states 0 m.processors.items ∙ fits.cores
 
 length-contents : {P : Type 0} (t : Litmus) (m : Hardware P) → HardwareFitsTest t m → length (contents_of m.bus) ≡ length t.programs
 length-contents t m fits = length-map m.bus.caches _ ∙ fits.on_bus
+
+-- what a choice makes of its core, and what it counts
+advances : {P : Type 0} (t : Litmus) (m : Hardware P) (choice : Choice) → HardwareFitsTest t m → chosen choice < length t.programs
+    → HolderFits m.config.bus t m.config.depth (state_in m).flat (state_in m).holder → IsTallied t (state_in m) (statistics_in m)
+    → AdvancesOn (core_of (state_in m).flat (chosen choice)) (state_in m).holder (effect_in t m choice) (use_by t m choice (effect_in t m choice)).how
+advances t m choice fits h holder tallied =
+    advances-on m.config.bus t m.config.depth (state_in m).flat (state_in m).holder (attempt_in t m choice) (caches_of m.bus) holder tallied.test h
+    (tallied.issued (chosen choice) idle (subst (λ n. chosen choice < n) (sym (length-cores t m fits)) h))
 
 pub flusher-next : {P : Type 0} (t : Litmus) (m : Hardware P) (choice : Choice) (bus : BusModel) (how : CacheUse) (counts : List Counts) → HardwareFitsTest t m → IsTallied t (state_in m) (statistics_in m)
     → HasUsed (use_by t m choice (effect_in t m choice)) bus how → counts ≡ m.counts.items → IsFlusherAmong (length counts) how
@@ -26,6 +34,13 @@ pub few-next : {P : Type 0} (t : Litmus) (m : Hardware P) (counts : List Counts)
     → All (IsAtMost most_counted) counts
 few-next t m counts fits tallied same = subst (All (IsAtMost most_counted)) (sym same) (few-counted t (state_in m) (statistics_in m) (length-cores t m fits) tallied)
 
+-- nothing is counted of a choice that commits nothing
+pub uncounted-next : {P : Type 0} (t : Litmus) (m : Hardware P) (choice : Choice) (bus : BusModel) (how : CacheUse) → HardwareFitsTest t m → chosen choice < length t.programs
+    → HolderFits m.config.bus t m.config.depth (state_in m).flat (state_in m).holder → IsTallied t (state_in m) (statistics_in m) → HasUsed (use_by t m choice (effect_in t m choice)) bus how
+    → (effect_in t m choice).effect.outcome ≢ Committed → IsUncounted how
+uncounted-next t m choice bus how fits h holder tallied used other =
+    subst IsUncounted (sym used.how_is) ((advances t m choice fits h holder tallied).uncommitted other)
+
 pub tallied-next : {P : Type 0} (t : Litmus) (m new : Hardware P) (choice : Choice) (o : Outcome) (how : CacheUse) (core len : ℕ) (before after rest : List Counts)
     → HardwareFitsTest t m → chosen choice < length t.programs → HolderFits m.config.bus t m.config.depth (state_in m).flat (state_in m).holder → IsTallied t (state_in m) (statistics_in m)
     → HasEffect m new choice (effect_in t m choice) o → HasUsed (use_by t m choice (effect_in t m choice)) new.bus how → core ≡ chosen choice → before ≡ m.counts.items → after ≡ with_use_counted core how before → len ≡ length before
@@ -38,8 +53,7 @@ tallied-next t m new choice o how core len before after rest fits h holder talli
     let all : items ≡ with_use_counted (chosen choice) u.how m.counts.items =
     written ∙ counts ∙ ap (λ i. with_use_counted i how before) is ∙ ap (λ w. with_use_counted (chosen choice) w before) used.how_is ∙ ap (with_use_counted (chosen choice) u.how) same in
     let f = effect_in t m choice in
-    let go = advances-on m.config.bus t m.config.depth (state_in m).flat (state_in m).holder (attempt_in t m choice) (caches_of m.bus) holder tallied.test h
-    (tallied.issued (chosen choice) idle (subst (λ n. chosen choice < n) (sym (length-cores t m fits)) h)) in
+    let go = advances t m choice fits h holder tallied in
     let among = senders (is_awaited (state_in m).holder) (is_awaited f.holder) (caches_of m.bus) (chosen choice) (access_of t m.config.depth (state_in m).flat choice) (core_of (state_in m).flat (chosen choice)).pending f.effect.commits
     (rw (length-contents t m fits) tallied.sender) in
     let next = tallied-after t (state_in m) (state_in new) choice f (statistics_in m) u (length-cores t m fits) (length-contents t m fits) h tallied go among (ap (λ s. s.cores) done.flat) done.holder in

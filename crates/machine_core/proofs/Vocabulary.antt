@@ -81,6 +81,6 @@ pub use Rattle.tso_terms.specs.declared.action.Action.TheVariants.{Store, Load, 
 pub use Rattle.std.proofs.lemmas.List.Elements.{All-set, All-replicate}
 pub use Rattle.tso_terms.specs.Limits.{most_instructions}
 pub use Rattle.multiprocessor.specs.declared.counts.Counts.{Counts}
-pub use Rattle.multiprocessor.specs.inner.Keeping.{HasIssuedItsStores, IsFlusherAmong, IsTallied, done_in, most_counted, memory_access_in}
+pub use Rattle.multiprocessor.specs.inner.Keeping.{HasIssuedItsStores, IsFlusherAmong, IsUncounted, IsTallied, done_in, most_counted, memory_access_in}
 pub use Rattle.tso_terms.specs.Runs.{is_done, all_done}
 pub use Rattle.store_buffer.specs.inner.Stores.{stores}

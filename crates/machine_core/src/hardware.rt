@@ -134,7 +134,7 @@ pub fn make_choice<P: Protocol>(
     ensures tallied { IsTallied test.now (state_in hardware.new) (statistics_in hardware.new) }
 {
     let (outcome, cache_use) = act_on_bus(hardware, test, choice)?;
-    tally(&mut hardware.counts, core_of(choice), cache_use);
+    tally(&mut hardware.counts, core_of(choice), outcome, cache_use);
     Ok((outcome, cache_use))
 }
 

@@ -49,7 +49,7 @@ goes-completes : (t : Litmus) (depth : ℕ) (state : State) (choice : Choice) (c
 goes-completes t depth state choice c some test h issued =
     completes-by (λ x f. HasIssuedItsStores (core_of state (chosen x)) → Goes t depth state (HeldBy x) x c f) t depth state choice
     (λ n issued. advances-frees (core_of state (chosen choice)) choice (effect_of t depth state choice) _ (commits-at-once t depth state choice some).some (effect-advances t depth state choice test h issued))
-    (λ core loc reads issued. advances-reads (core_of state core.0) (Step core) _ _ _ issued refl refl) issued
+    (λ core loc reads issued. advances-reads (core_of state core.0) (Step core) _ _ _ issued refl refl refl) issued
 
 goes-writes : (t : Litmus) (depth : ℕ) (state : State) (e : Entry) (c : Caches) → HasRead t depth state e → IsTest t → e.core.0 < length t.programs → HasIssuedItsStores (core_of state e.core.0)
     → Goes t depth state (HeldBetween e) (Step e.core) c (writes_last t depth state e)

@@ -1,8 +1,9 @@
 -- Why counting never overflows: no count is larger than the number of instructions that the cores are done with.
 use Rattle.tso_terms.specs.Thread.{with_taken}
 use Rattle.snoop_bus.specs.declared.access.Access.{Access}
-use Rattle.multiprocessor.proofs.Vocabulary.{◌≡◌, ◌≤◌, ◌<◌, ◌+◌, ◌-◌, ◌⊎◌, inl, inr, ℕ, zero, suc, Bool, true, false, nat_lt, if◌then◌else◌, List, [], ◌∷◌, ◌++◌, length, length-append, length-set, slice_get, slice_index, slice_index_or, Option, Some, None, All, refl, ap, ◌∙◌, arith, All-set, most_instructions, Litmus, IsTest, action_of, entry, value_in, with_value, value_of, updated, CoreState, State, Effect, stalled, stored, effect_by, step_of, effect_of, chosen, core_of, program_of, Reg, Core, Loc, Instr, Action, Store, Fence, Lock, Entry, W, Choice, Step, Drain, Outcome, Buffered, Stalled, Counts, CacheUse, Unused, Forwarded, Asked, Through, no_counts, with_access, with_write_back, with_forward, with_flush, counts_at_core, flush_counted, with_use_counted, IsAtMost, HasIssuedItsStores, done_by, drain_with, fenced_with, locked_with, All-head, All-tail, All-weaker}
+use Rattle.multiprocessor.proofs.Vocabulary.{◌≡◌, ◌≢◌, ◌≤◌, ◌<◌, ◌+◌, ◌-◌, ◌⊎◌, inl, inr, ℕ, zero, suc, Bool, true, false, nat_lt, if◌then◌else◌, List, [], ◌∷◌, ◌++◌, length, length-append, length-set, slice_get, slice_index, slice_index_or, Option, Some, None, All, refl, ap, ◌∙◌, arith, All-set, most_instructions, Litmus, IsTest, action_of, entry, value_in, with_value, value_of, updated, CoreState, State, Effect, stalled, stored, effect_by, step_of, effect_of, chosen, core_of, program_of, Reg, Core, Loc, Instr, Action, Store, Load, Fence, Lock, Entry, W, Choice, Step, Drain, Outcome, Committed, Buffered, Stalled, Counts, CacheUse, Unused, Forwarded, Asked, Through, no_counts, with_access, with_write_back, with_forward, with_flush, counts_at_core, flush_counted, with_use_counted, IsAtMost, HasIssuedItsStores, done_by, drain_with, fenced_with, locked_with, All-head, All-tail, All-weaker}
 use Rattle.tso_terms.specs.declared.choice.Stall.TheVariants as stall
+use Rattle.tso_terms.specs.declared.action.Action.TheVariants.{Move}
 use Rattle.snoop_bus.specs.declared.access.AccessKind.{AccessKind}
 use Rattle.snoop_bus.specs.declared.access.AccessKind.TheVariants.{Hit, Upgrade, Miss}
 
@@ -92,23 +93,26 @@ length-counted core Forwarded cs = length-set cs core _
 length-counted core (Asked request) cs = refl
 length-counted core (Through r) cs = length-flush r.access.flushed _ ∙ length-set cs core _
 
--- a core after an effect: it is done with no fewer instructions, and with one more where something was committed
+-- a core after an effect: it is done with no fewer instructions, and with one more where something was committed; nothing is unless
+-- the outcome says so
 pub record Advances (s : CoreState) (f : Effect) : Type 0 where
   pub issued : HasIssuedItsStores f.after
   pub done : done_by s ≤ done_by f.after
   pub more : (f.commits ≡ []) ⊎ (done_by s + 1 ≤ done_by f.after)
+  pub uncommitted : f.outcome ≢ Committed → f.commits ≡ []
 
 rests : (s : CoreState) (o : Outcome) → HasIssuedItsStores s → Advances s (record { outcome = o; after = s; commits = [] })
-rests s o i = record { issued = i; done = (let z : done_by s ≤ done_by s = omega arith in z); more = inl refl }
+rests s o i = record { issued = i; done = (let z : done_by s ≤ done_by s = omega arith in z); more = inl refl; uncommitted = λ _. refl }
 
 goes_on : (s : CoreState) (o : Outcome) (registers : List ℕ) (commits : List Entry) → HasIssuedItsStores s → s.place < most_instructions
-    → Advances s (record { outcome = o; after = record { place = s.place + 1; registers = registers; pending = s.pending }; commits = commits })
-goes_on s o registers commits i h =
+    → (o ≢ Committed → commits ≡ []) → Advances s (record { outcome = o; after = record { place = s.place + 1; registers = registers; pending = s.pending }; commits = commits })
+goes_on s o registers commits i h none =
     let waiting = i.pending in
     record {
       issued = record { place = (let z : s.place + 1 ≤ most_instructions = omega arith in z); pending = (let z : length s.pending ≤ s.place + 1 = omega arith in z) };
       done = (let z : s.place - length s.pending ≤ s.place + 1 - length s.pending = omega arith in z);
       more = inr (let z : s.place - length s.pending + 1 ≤ s.place + 1 - length s.pending = omega arith in z);
+      uncommitted = none;
     }
 
 buffered : (s : CoreState) (o : Outcome) (e : Entry) → HasIssuedItsStores s → s.place < most_instructions
@@ -120,10 +124,11 @@ buffered s o e i h =
       issued = record { place = (let z : s.place + 1 ≤ most_instructions = omega arith in z); pending = (let z : length (s.pending ++ e ∷ []) ≤ s.place + 1 = omega arith in z) };
       done = (let z : s.place - length s.pending ≤ s.place + 1 - length (s.pending ++ e ∷ []) = omega arith in z);
       more = inl refl;
+      uncommitted = λ _. refl;
     }
 
 stored-advances : (depth : ℕ) (s : CoreState) (e : Entry) → HasIssuedItsStores s → s.place < most_instructions → Advances s (stored depth s e)
-stored-advances zero s e i h = goes_on s _ s.registers (e ∷ []) i h
+stored-advances zero s e i h = goes_on s _ s.registers (e ∷ []) i h (λ other. absurd (other refl))
 stored-advances (suc n) s e i h =
     elim (nat_lt (length s.pending) (suc n)) as (λ b. Advances s (if b
     then record { outcome = Buffered; after = record { place = s.place + 1; registers = s.registers; pending = s.pending ++ e ∷ [] }; commits = [] }
@@ -131,12 +136,12 @@ stored-advances (suc n) s e i h =
     [ true ↦ buffered s Buffered e i h | false ↦ rests s (Stalled stall.Full) i ]
 
 fenced-advances : (core : ℕ) (s : CoreState) (pending : List Entry) → HasIssuedItsStores s → s.place < most_instructions → Advances s (fenced_with core s pending)
-fenced-advances core s [] i h = goes_on s _ s.registers _ i h
+fenced-advances core s [] i h = goes_on s _ s.registers _ i h (λ other. absurd (other refl))
 fenced-advances core s (p ∷ ps) i h = rests s (Stalled stall.Fence) i
 
 locked-advances : (core : ℕ) (s : CoreState) (loc : Loc) (reg : Option Reg) (word value : ℕ) (pending : List Entry) → HasIssuedItsStores s → s.place < most_instructions
     → Advances s (locked_with core s loc reg word value pending)
-locked-advances core s loc reg word value [] i h = goes_on s _ (with_taken s.registers reg word) _ i h
+locked-advances core s loc reg word value [] i h = goes_on s _ (with_taken s.registers reg word) _ i h (λ other. absurd (other refl))
 locked-advances core s loc reg word value (p ∷ ps) i h = rests s (Stalled stall.Lock) i
 
 got-below : (xs : List Instr) (i : ℕ) (x : Instr) → slice_get xs i ≡ Some x → i < length xs
@@ -150,7 +155,8 @@ action-advances depth memory core (Store loc operand) s i h = stored-advances de
 action-advances depth memory core Fence s i h = fenced-advances core s s.pending i h
 action-advances depth memory core (Lock loc reg update) s i h =
     locked-advances core s loc reg (slice_index memory loc.0) (updated update s.registers (slice_index memory loc.0)) s.pending i h
-action-advances depth memory core _ s i h = goes_on s _ _ _ i h
+action-advances depth memory core (Load reg loc) s i h = goes_on s _ _ _ i h (λ other. absurd (other refl))
+action-advances depth memory core (Move change) s i h = goes_on s _ _ _ i h (λ _. refl)
 
 step-advances : (depth : ℕ) (memory : List ℕ) (core : ℕ) (program : List Instr) (o : Option Instr) (s : CoreState) → slice_get program s.place ≡ o
     → length program ≤ most_instructions → HasIssuedItsStores s → Advances s (step_of depth memory core o s)
@@ -170,6 +176,7 @@ drain-advances place registers pending (p ∷ ps) h i =
       issued = record { place = bound; pending = (let z : length ps ≤ place = omega arith in z) };
       done = (let z : place - length pending ≤ place - length ps = omega arith in z);
       more = inr (let z : place - length pending + 1 ≤ place - length ps = omega arith in z);
+      uncommitted = λ other. absurd (other refl);
     }
 
 pub effect-advances : (t : Litmus) (depth : ℕ) (state : State) (choice : Choice) → IsTest t → chosen choice < length t.programs → HasIssuedItsStores (core_of state (chosen choice))

@@ -1,5 +1,5 @@
 -- The counts after a choice on either bus.
-use Rattle.multiprocessor.proofs.Vocabulary.{BusRequest, asking_use, ◌≡◌, ◌≢◌, ◌≤◌, ◌<◌, ◌+◌, ◌*◌, ◌⊎◌, inl, inr, ℕ, Bool, true, false, if◌then◌else◌, List, [], ◌∷◌, length, slice_set, Option, Some, None, All, refl, sym, ap, ◌∙◌, subst, arith, sum_by, option_map, All-set, most_instructions, Litmus, CoreState, Effect, chosen, core_of, idle, MemoryAccess, Holder, Free, HeldBy, HeldBetween, BusEffect, acts, BusState, Entry, Choice, Table, table_of_rows, TagSets, flusher_from, Awaited, asking, asked_for, awaiting, completed, completed_in, flusher_of, Counts, CacheUse, Unused, Caches, Used, use_of, used_between, Statistics, with_use_counted, IsAtMost, HasIssuedItsStores, IsAmong, IsFlusherAmong, IsSenderAmong, IsTallied, done_by, done_in, half_done, most_counted, suc, request_for, awaited_as, whole_in, sends_in, tags_at}
+use Rattle.multiprocessor.proofs.Vocabulary.{BusRequest, asking_use, ◌≡◌, ◌≢◌, ◌≤◌, ◌<◌, ◌+◌, ◌*◌, ◌⊎◌, inl, inr, ℕ, Bool, true, false, if◌then◌else◌, List, [], ◌∷◌, length, slice_set, Option, Some, None, All, refl, sym, ap, ◌∙◌, subst, arith, sum_by, option_map, All-set, most_instructions, Litmus, CoreState, Effect, chosen, core_of, idle, MemoryAccess, Holder, Free, HeldBy, HeldBetween, BusEffect, acts, BusState, Entry, Choice, Committed, Table, table_of_rows, TagSets, flusher_from, Awaited, asking, asked_for, awaiting, completed, completed_in, flusher_of, Counts, CacheUse, Unused, Caches, Used, use_of, used_between, Statistics, with_use_counted, IsAtMost, HasIssuedItsStores, IsAmong, IsFlusherAmong, IsUncounted, IsSenderAmong, IsTallied, done_by, done_in, half_done, most_counted, suc, request_for, awaited_as, whole_in, sends_in, tags_at}
 use Rattle.std.proofs.lemmas.List.Sums.{sum_by-set, sum_by-le}
 use Rattle.protocol_tables.specs.declared.state.State as protocol
 use Rattle.protocol_tables.specs.declared.state.Snoop.{Snoop}
@@ -9,7 +9,7 @@ use Rattle.protocol_tables.specs.declared.requests.Request.TheVariants.{GetS, Ge
 use Rattle.protocol_tables.specs.declared.requests.Transient.{Transient}
 use Rattle.protocol_tables.specs.declared.requests.Transient.TheVariants.{SmD}
 use Rattle.multiprocessor.proofs.CountBounds.{Advances, IsAtMost-more, use-counted, length-counted}
-use Rattle.multiprocessor.proofs.EachUse.{each-use, IsUncounted, unused-uncounted}
+use Rattle.multiprocessor.proofs.EachUse.{each-use, unused-uncounted}
 
 -- the core whose copy is sent to memory is on the bus
 flusher-among : (k : ℕ) (f : protocol.State → Snoop) (line : ℕ) (caches : List TagSets) → IsAmong (k + length caches) (flusher_from k f line caches)
@@ -61,11 +61,13 @@ senders before after c core what pending commits h =
     (λ loc write. (asking-among (length c.contents) _, asked-among (table_of_rows c.rows) (request_for write) core _ c.contents))
     (λ loc. (completed-among (table_of_rows c.rows) core _ (length c.contents) c.awaited c.contents h, tt)) before after what pending commits
 
--- a core after an effect on either bus: no fewer instructions have made their accesses, and one more where an access is counted
+-- a core after an effect on either bus: no fewer instructions have made their accesses, and one more where an access is counted; none is
+-- unless the outcome says that something was committed
 pub record AdvancesOn (s : CoreState) (holder : Holder) (f : BusEffect) (how : CacheUse) : Type 0 where
   pub issued : HasIssuedItsStores f.effect.after
   pub done : done_by s + half_done holder ≤ done_by f.effect.after + half_done f.holder
   pub more : IsUncounted how ⊎ (done_by s + half_done holder + 1 ≤ done_by f.effect.after + half_done f.holder)
+  pub uncommitted : f.effect.outcome ≢ Committed → IsUncounted how
 
 -- how many instructions all cores are done with
 done-bound : (cores : List CoreState) → All HasIssuedItsStores cores → sum_by done_by cores ≤ length cores * most_instructions
@@ -126,10 +128,14 @@ advances-whole s holder f c pending go =
       issued = go.issued;
       done = (let z : done_by s + half_done holder ≤ done_by f.after + half_done holder = omega arith in z);
       more = by_commits go.more;
+      uncommitted = λ other. uncounted (go.uncommitted other);
     }
   where
+    uncounted : f.commits ≡ [] → IsUncounted (use_of c pending f.commits).how
+    uncounted none = unused-uncounted _ (ap (λ es. (use_of c pending es).how) none)
+
     by_commits : (f.commits ≡ []) ⊎ (done_by s + 1 ≤ done_by f.after) → IsUncounted (use_of c pending f.commits).how ⊎ (done_by s + half_done holder + 1 ≤ done_by f.after + half_done holder)
-    by_commits (inl none) = inl (unused-uncounted _ (ap (λ es. (use_of c pending es).how) none))
+    by_commits (inl none) = inl (uncounted none)
     by_commits (inr more) = inr (omega arith)
 
 pub advances-acts : (s : CoreState) (holder : Holder) (b : Bool) (f : Effect) (c : Caches) (core : ℕ) (what : MemoryAccess) (pending : List Entry) → Advances s f
@@ -145,6 +151,7 @@ advances-frees s choice f how some go =
       issued = go.issued;
       done = (let z : done_by s + 0 ≤ done_by f.after + 0 = omega arith in z);
       more = by_commits go.more;
+      uncommitted = λ other. absurd (some (go.uncommitted other));
     }
   where
     by_commits : (f.commits ≡ []) ⊎ (done_by s + 1 ≤ done_by f.after) → IsUncounted how ⊎ (done_by s + 0 + 1 ≤ done_by f.after + 0)
@@ -152,11 +159,13 @@ advances-frees s choice f how some go =
     by_commits (inr more) = inr (omega arith)
 
 -- a locked instruction is counted at its load part, and not at its store part
-pub advances-reads : (s : CoreState) (choice : Choice) (e : Entry) (f : BusEffect) (how : CacheUse) → HasIssuedItsStores s → f.effect.after ≡ s → f.holder ≡ HeldBetween e → AdvancesOn s (HeldBy choice) f how
-advances-reads s choice e f how issued after holder = record {
+pub advances-reads : (s : CoreState) (choice : Choice) (e : Entry) (f : BusEffect) (how : CacheUse) → HasIssuedItsStores s → f.effect.outcome ≡ Committed → f.effect.after ≡ s → f.holder ≡ HeldBetween e
+    → AdvancesOn s (HeldBy choice) f how
+advances-reads s choice e f how issued outcome after holder = record {
   issued = rw after issued;
   done = rw (after, holder) (let z : done_by s + 0 ≤ done_by s + 1 = omega arith in z);
   more = inr (rw (after, holder) (let z : done_by s + 0 + 1 ≤ done_by s + 1 = omega arith in z));
+  uncommitted = λ other. absurd (other outcome);
 }
 
 pub advances-writes : (s : CoreState) (e : Entry) (f : Effect) (g : BusEffect) (how : CacheUse) → how ≡ Unused → f.commits ≢ [] → Advances s f → g.effect.after ≡ f.after → g.holder ≡ Free → AdvancesOn s (HeldBetween e) g how
@@ -164,6 +173,7 @@ advances-writes s e f g how unused some go after holder = record {
   issued = rw after go.issued;
   done = rw (after, holder) (by_commits go.more);
   more = inl (unused-uncounted how unused);
+  uncommitted = λ _. unused-uncounted how unused;
 }
   where
     by_commits : (f.commits ≡ []) ⊎ (done_by s + 1 ≤ done_by f.after) → done_by s + 1 ≤ done_by f.after + 0
@@ -176,4 +186,5 @@ advances-rests s holder f how issued after half uncounted = record {
   issued = rw after issued;
   done = rw after (let z : done_by s + half_done holder ≤ done_by s + half_done f.holder = omega arith in z);
   more = inl uncounted;
+  uncommitted = λ _. uncounted;
 }

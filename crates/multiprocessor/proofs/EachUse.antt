@@ -1,6 +1,6 @@
 -- What holds of each use of the caches: of none, of a load that a core's own stores answer, and of an access, whole or in its two
 -- halves.
-use Rattle.multiprocessor.proofs.Vocabulary.{ap, Option, None, Some, BusRequest, CacheUse, Counts, asking_use, with_use_counted, ℕ, List, ◌∷◌, Bool, if◌then◌else◌, list_any, writes_to, Entry, Unused, Forwarded, Caches, not_through, use_of, Used, ask_by, used_between, completion_by, use_by_kind, whole_by, MemoryAccess, Kind, [], true, false, NoAccess, R, F, LW, ◌≡◌, refl, asking_by, at_access}
+use Rattle.multiprocessor.proofs.Vocabulary.{ap, Option, None, Some, BusRequest, CacheUse, IsUncounted, asking_use, with_use_counted, ℕ, List, ◌∷◌, Bool, if◌then◌else◌, list_any, writes_to, Entry, Unused, Forwarded, Caches, not_through, use_of, Used, ask_by, used_between, completion_by, use_by_kind, whole_by, MemoryAccess, Kind, [], true, false, NoAccess, R, F, LW, ◌≡◌, refl, asking_by, at_access}
 
 module _ (P : Used → Type 0) (c : Caches) (unused : P (not_through Unused c)) (forwarded : P (not_through Forwarded c)) (whole : (core loc : ℕ) (write : Bool) → P (whole_by c core loc write)) where
   pub each-whole : (pending commits : List Entry) → P (use_of c pending commits)
@@ -27,10 +27,6 @@ pub used-machine : (before after : Bool) (c : Caches) (core : ℕ) (what : Memor
     → ((used_between before after c core what pending commits).caches.rows ≡ c.rows) × ((used_between before after c core what pending commits).caches.shape ≡ c.shape)
 used-machine before after c core what pending commits =
     each-use (λ u. (u.caches.rows ≡ c.rows) × (u.caches.shape ≡ c.shape)) c (refl, refl) (refl, refl) (λ k loc write. (refl, refl)) core (λ loc write. (refl, refl)) (λ loc. (refl, refl)) before after what pending commits
-
--- a use of which nothing is counted
-abbrev pub IsUncounted : CacheUse → Type 0
-IsUncounted how = (core : ℕ) (cs : List Counts) → with_use_counted core how cs ≡ cs
 
 pub unused-uncounted : (how : CacheUse) → how ≡ Unused → IsUncounted how
 unused-uncounted how e = λ core cs. ap (λ u. with_use_counted core u cs) e

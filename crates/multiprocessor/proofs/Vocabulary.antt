@@ -46,7 +46,7 @@ pub use Rattle.snoop_bus.specs.Rows.{table_of_rows}
 pub use Rattle.cache_set.specs.CacheTags.{TagSets, sends_in, flusher_from, tags_at}
 pub use Rattle.multiprocessor.specs.declared.counts.Counts.{Counts}
 pub use Rattle.multiprocessor.specs.Statistics.{no_counts, with_access, with_write_back, with_forward, with_flush, counts_at_core, flush_counted, with_use_counted, Statistics}
-pub use Rattle.multiprocessor.specs.inner.Keeping.{HasIssuedItsStores, IsAmong, IsFlusherAmong, done_by, IsSenderAmong, IsTallied, done_in, half_done, most_counted}
+pub use Rattle.multiprocessor.specs.inner.Keeping.{HasIssuedItsStores, IsAmong, IsFlusherAmong, IsUncounted, done_by, IsSenderAmong, IsTallied, done_in, half_done, most_counted}
 pub use Rattle.store_buffer.specs.inner.Stores.{stores}
 pub use Rattle.snoop_bus.specs.inner.Accesses.{MayGoOn, memory_words_of}
 pub use Rattle.tso_laws.proofs.Ways.{if-by, begins-by, completes-by, split-by}

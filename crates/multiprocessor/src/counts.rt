@@ -3,14 +3,14 @@
 //! acting core's, but for a flush: that is the core's whose copy was sent to memory when another one loaded the line.
 //! (Primer, chapters 6 and 7, for hits, misses and upgrades.)
 
-ghost use Rattle.std.specs.Prelude.{◌≡◌, ◌<◌, All, IfSome, length};
+ghost use Rattle.std.specs.Prelude.{◌≡◌, ◌≢◌, ◌<◌, All, IfSome, length};
 ghost use Rattle.multiprocessor.specs.Statistics.{with_use_counted, counts_at_core, with_access, with_write_back, with_forward, with_flush};
 ghost use Rattle.multiprocessor.specs.Keeping.{IsAtMost};
-ghost use Rattle.multiprocessor.specs.inner.Keeping.{IsFlusherAmong, most_counted};
+ghost use Rattle.multiprocessor.specs.inner.Keeping.{IsFlusherAmong, IsUncounted, most_counted};
 
 use crate::accesses::CacheUse;
 use snoop_bus::{Access, AccessKind};
-use tso_terms::Core;
+use tso_terms::{Core, Outcome};
 
 /// What the accesses of one core's cache were, counted over a run. A load that the core's own pending
 /// stores answer is no access; a locked instruction is one write access.
@@ -42,9 +42,25 @@ impl Counts {
     };
 }
 
-/// Counts what a choice of this core had to do with the caches.
+/// Counts what a choice of this core had to do with the caches, which had this outcome.
 #[inline(always)]
-pub fn tally(counts: &mut [Counts], core: Core, cache_use: CacheUse)
+pub fn tally(counts: &mut [Counts], core: Core, outcome: Outcome, cache_use: CacheUse)
+    requires core { core.0 < length counts.old }
+    requires flusher { IsFlusherAmong (length counts.old) cache_use }
+    requires few { All (IsAtMost most_counted) counts.old }
+    requires committed { outcome ≢ Outcome.Committed → IsUncounted cache_use }
+    ensures { counts.new ≡ with_use_counted core.0 cache_use counts.old }
+{
+    // Most choices of a run on a split bus stall. They pass by their outcome, which is at hand; their use of the caches would have
+    // to be read.
+    if let Outcome::Committed = outcome {
+        tally_use(counts, core, cache_use);
+    }
+}
+
+/// Counts a use of the caches by a choice of this core.
+#[inline(always)]
+fn tally_use(counts: &mut [Counts], core: Core, cache_use: CacheUse)
     requires core { core.0 < length counts.old }
     requires flusher { IsFlusherAmong (length counts.old) cache_use }
     requires few { All (IsAtMost most_counted) counts.old }

@@ -1,6 +1,6 @@
 -- What a machine keeps from choice to choice, for counting: no count is larger than the number of instructions that have
 -- made their accesses. So no counter can overflow.
-use Rattle.std.specs.Prelude.{ℕ, ◌≡◌, ◌<◌, ◌≤◌, ◌+◌, ◌-◌, ◌*◌, length, All, Option, None, Some}
+use Rattle.std.specs.Prelude.{ℕ, ◌≡◌, ◌<◌, ◌≤◌, ◌+◌, ◌-◌, ◌*◌, List, length, All, Option, None, Some}
 use Rattle.std.specs.List.{sum_by}
 use Rattle.multiprocessor.specs.Vocabulary.{Awaited, BusState, CoreState, Free, HeldBetween, HeldBy, Holder, IsTest, Litmus, Locks, MemoryAccess, most_cores, most_instructions, NoAccess, Reads, Writes}
 use Rattle.tso_terms.specs.declared.instruction.Core.{Core}
@@ -8,7 +8,8 @@ use Rattle.multiprocessor.specs.declared.accesses.CacheUse.{CacheUse}
 use Rattle.multiprocessor.specs.declared.accesses.CacheUse.TheVariants.{Unused, Forwarded, Asked, Through}
 use Rattle.multiprocessor.specs.declared.accesses.MemoryAccess as code
 use Rattle.multiprocessor.specs.declared.accesses.MemoryAccess.TheVariants.{Nothing, Read, Write, Lock}
-use Rattle.multiprocessor.specs.Statistics.{Statistics}
+use Rattle.multiprocessor.specs.declared.counts.Counts.{Counts}
+use Rattle.multiprocessor.specs.Statistics.{Statistics, with_use_counted}
 use Rattle.multiprocessor.specs.Keeping.{IsAtMost}
 
 -- how many of a core's instructions it is done with: those that it has issued and that wait in no buffer
@@ -44,6 +45,10 @@ IsFlusherAmong cores Unused = Unit {0}
 IsFlusherAmong cores Forwarded = Unit {0}
 IsFlusherAmong cores (Asked request) = Unit {0}
 IsFlusherAmong cores (Through r) = IsAmong cores r.access.flushed
+
+-- a use of which nothing is counted
+abbrev pub IsUncounted : CacheUse → Type 0
+IsUncounted how = (core : ℕ) (cs : List Counts) → with_use_counted core how cs ≡ cs
 
 -- what an action that holds the bus awaits was sent by one of so many cores
 abbrev pub IsSenderAmong : ℕ → Option Awaited → Type 0

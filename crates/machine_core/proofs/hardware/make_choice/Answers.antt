@@ -1,5 +1,5 @@
 use Rattle.machine_core.proofs.Vocabulary.{◌≡◌, arith, refl, sym, ◌∙◌, ap, length}
-use Rattle.machine_core.proofs.TallyLemmas.{flusher-next, few-next, tallied-next}
+use Rattle.machine_core.proofs.TallyLemmas.{flusher-next, few-next, uncounted-next, tallied-next}
 use Rattle.machine_core.proofs.hardware.make_choice.Goals as goal
 
 pub tally-requires-clause-flusher : goal.tally-requires-clause-flusher
@@ -10,6 +10,11 @@ tally-requires-clause-flusher g c =
 pub tally-requires-clause-few : goal.tally-requires-clause-few
 tally-requires-clause-few g c =
     few-next c.args.test.now c.args.hardware.now c.deref_mut.result.now c.requires.consistent.fits c.requires.tallied (c.deref_mut.ensures.value ∙ c.act_on_bus.ensures.keeps.counts)
+
+pub tally-requires-clause-committed : goal.tally-requires-clause-committed
+tally-requires-clause-committed g c = λ other.
+    uncounted-next c.args.test.now c.args.hardware.now c.args.choice c.act_on_bus.new.hardware.bus c.in_ok-outcome.cache_use c.requires.consistent.fits c.requires.core c.requires.consistent.holder
+    c.requires.tallied c.in_ok-outcome.ensures.makes.caches (λ is. other (c.in_ok-outcome.ensures.makes.ok.outcome ∙ is))
 
 pub returns-clause-tallied : goal.returns-clause-tallied
 returns-clause-tallied g c =
