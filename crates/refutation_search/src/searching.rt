@@ -1,5 +1,5 @@
 //! The whole search: runs by chance for an execution; depth first for a refutation, again and again with what was learnt, and a few times
-//! more for a shorter one; and at last the search over sources and orders alone.
+//! more for a shorter one; between two parts of it the search over sources and orders alone.
 
 use crate::borrowing::take_over;
 use crate::hunt::{Find, Hunt, hunt_for, make_hunt};
@@ -44,6 +44,10 @@ const MOST_WORK: usize = 30_000_000;
 
 const FEW_CASES: usize = 4_000;
 
+/// Into how many parts looks are divided. After the first part the search over sources and orders alone has its turn, and only what was
+/// found in that part is made shorter.
+const FIRST_PART: usize = 8;
+
 /// Searches for so many cases, with pauses, after each of which it begins anew with what it learnt.
 fn hunt_again(setting: &Setting<'_>, hunt: &mut Hunt, limit: usize) -> Find {
     let mut step = FIRST_CASES;
@@ -81,26 +85,36 @@ fn refutation<'t>(
     }
 }
 
-/// Searches with this twist: what it proposes, and how many cases it looked at.
+/// Searches on: what is proposed by then.
+fn hunt_on<'t>(
+    alloc: Global,
+    setting: &Setting<'t>,
+    problem: &Problem<'t>,
+    hunt: &mut Hunt,
+    limit: usize,
+) -> Result<Proposed<'t>, NoMemory> {
+    let found = hunt_again(setting, hunt, limit);
+    if hunt.is_refused() {
+        return Err(NoMemory);
+    }
+    match found {
+        Find::Refuted(node) => refutation(alloc, setting, problem, hunt, node),
+        Find::Open => open_order(setting, hunt),
+        Find::Late => Ok(Proposed::Nothing),
+    }
+}
+
+/// Searches with this twist for so many cases.
 fn try_twist<'t>(
     alloc: Global,
     setting: &Setting<'t>,
     problem: &Problem<'t>,
     twist: usize,
     limit: usize,
-) -> Result<(Proposed<'t>, usize), NoMemory> {
+) -> Result<Proposed<'t>, NoMemory> {
     let mut hunt = make_hunt(alloc, setting, limit);
     hunt.look.twist = twist;
-    let found = hunt_again(setting, &mut hunt, limit);
-    if hunt.is_refused() {
-        return Err(NoMemory);
-    }
-    let proposed = match found {
-        Find::Refuted(node) => refutation(alloc, setting, problem, &hunt, node)?,
-        Find::Open => open_order(setting, &hunt)?,
-        Find::Late => Proposed::Nothing,
-    };
-    Ok((proposed, hunt.cases))
+    hunt_on(alloc, setting, problem, &mut hunt, limit)
 }
 
 /// What the search over sources and orders alone proposes.
@@ -158,7 +172,7 @@ fn shorten<'t>(
         if is_over | (best.lines <= FEW_LINES) {
             break;
         }
-        let (other, _) = try_twist(alloc, setting, problem, twist, cases)?;
+        let other = try_twist(alloc, setting, problem, twist, cases)?;
         best = shorter(best, other);
     }
     if best.lines > MANY_LINES {
@@ -166,6 +180,48 @@ fn shorten<'t>(
         best = shorter(best, other);
     }
     Ok(best)
+}
+
+/// A refutation that was found, or a shorter one where finding it took no more than a part of the looks.
+fn shortened<'t>(
+    alloc: Global,
+    setting: &Setting<'t>,
+    problem: &Problem<'t>,
+    model: Model,
+    hunt: &Hunt,
+    found: Proposed<'t>,
+    limit: usize,
+) -> Result<Proposed<'t>, NoMemory> {
+    match found {
+        Proposed::Refutation(first) if hunt.look.made <= hunt.looks / FIRST_PART => {
+            let best = shorten(alloc, setting, problem, model, first, hunt.cases, limit)?;
+            Ok(Proposed::Refutation(best))
+        }
+        other => Ok(other),
+    }
+}
+
+/// Searches for a part of the looks; then over sources and orders alone; then for all looks.
+fn propose_reason<'t>(
+    alloc: Global,
+    setting: &Setting<'t>,
+    problem: &Problem<'t>,
+    model: Model,
+    limit: usize,
+) -> Result<Proposed<'t>, NoMemory> {
+    let mut hunt = make_hunt(alloc, setting, limit);
+    let looks = hunt.looks;
+    hunt.looks = looks / FIRST_PART;
+    let first = hunt_on(alloc, setting, problem, &mut hunt, limit)?;
+    hunt.looks = looks;
+    if !matches!(first, Proposed::Nothing) {
+        return shortened(alloc, setting, problem, model, &hunt, first, limit);
+    }
+    let second = borrow(alloc, setting, problem, model, limit)?;
+    if !matches!(second, Proposed::Nothing) {
+        return Ok(second);
+    }
+    hunt_on(alloc, setting, problem, &mut hunt, limit)
 }
 
 /// Searches for an execution in which what a test asks is true, or a short refutation of it, for so many cases: what it proposes, if it
@@ -186,13 +242,5 @@ pub fn propose_answer<'t>(
     if let Some(execution) = find_run(alloc, &setting, steps)? {
         return Ok(Proposed::Execution(execution));
     }
-    let (first, cases) = try_twist(alloc, &setting, problem, 0, limit)?;
-    match first {
-        Proposed::Refutation(found) => {
-            let best = shorten(alloc, &setting, problem, model, found, cases, limit)?;
-            Ok(Proposed::Refutation(best))
-        }
-        Proposed::Execution(execution) => Ok(Proposed::Execution(execution)),
-        Proposed::Nothing => borrow(alloc, &setting, problem, model, limit),
-    }
+    propose_reason(alloc, &setting, problem, model, limit)
 }
