@@ -3,7 +3,9 @@
 use crate::line::Line;
 use crate::quotes::{first_bytes, is_all_digits, last_bytes};
 use crate::tables::is_one_of;
-use litmus_tokens::{Instructions, Lexeme, Symbol, is_symbol, numeral_at, tokens_of, word, word_at};
+use litmus_tokens::{
+    Instructions, Lexeme, Symbol, is_symbol, numeral_at, tokens_of, word, word_at,
+};
 use std::alloc::Global;
 use tso_terms::NoMemory;
 

@@ -19,7 +19,8 @@ ghost use Rattle.scheduler.specs.declared.fault.ChoiceFault.{ChoiceFault as Choi
 
 use litmus_reader::test_texts::spelled_tests_follow_the_grammar;
 use litmus_reader::{
-    Instructions, ReadError, TextFault, Why, read_test, read_test_in, test_or_fault, test_or_fault_in,
+    Instructions, ReadError, TextFault, Why, read_test, read_test_in, test_or_fault,
+    test_or_fault_in,
 };
 use order_builder::{OrderFault, read_order};
 use scheduler::{ChoiceFault, read_choices, seeded_choices};

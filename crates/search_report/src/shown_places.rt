@@ -103,9 +103,11 @@ fn words_by_events(alloc: Global, told: Told<'_>, loc: u8) -> Result<Option<Vec<
     let by_events = Told {
         test: told.test,
         events: told.events,
+        makings: told.makings,
         written: told.written,
         facts: &facts,
         readings: told.readings,
+        made: told.made,
         values: told.values,
     };
     last_words(alloc, by_events, loc)

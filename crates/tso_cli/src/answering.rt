@@ -181,7 +181,10 @@ fn answer_of<S: Watcher>(
             ..
         } => outcomes_answer(alloc, test, *search, *json, *assert, watcher),
         Settings::Why {
-            plan, json, assert, ..
+            plan,
+            json,
+            assert,
+            ..
         } => why_answer(alloc, test, *plan, *json, *assert),
         Settings::Check { .. } => check_answer(alloc, test, text),
         Settings::Witness { depth, .. } => witness_answer(alloc, test, *depth, text),

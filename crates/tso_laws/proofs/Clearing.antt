@@ -84,6 +84,8 @@ update-live (Combine operator operand) ds rs ss h = let w = operand-live operand
 update-live Negate ds rs ss h = (λ word. refl, h)
 update-live (CompareExchange reg) ds rs ss h =
     let a = operand-live (Held Eax) (unless_read (Held reg) ds) rs ss h in
-    let b = operand-live (Held reg) ds rs ss a.1 in
-    (λ word. ap (λ e. if word == e then value_of rs (Held reg) else word) a.0
-        ∙ ap (λ v. if word == value_of ss (Held Eax) then v else word) b.0, b.1)
+    let b = operand-live (Held reg) ds rs ss a.1 in (
+      λ word. ap (λ e. if word == e then value_of rs (Held reg) else word) a.0
+          ∙ ap (λ v. if word == value_of ss (Held Eax) then v else word) b.0,
+      b.1,
+    )
