@@ -22,7 +22,7 @@ set-same [] k x e = refl
 set-same (y ∷ ys) zero x e = let q : y ≡ x = cc in ap (λ z. z ∷ ys) (sym q)
 set-same (y ∷ ys) (suc k) x e = ap (λ z. y ∷ z) (set-same ys k x e)
 
--- what stands in the list at a place after a write there or elsewhere
+-- what is in the list at a place after a write there or elsewhere
 pub each-set : {A : Type 0} (P : A → Type 0) (xs : List A) (k : ℕ) (v : A) → Each P xs → P v → Each P (slice_set xs k v)
 each-set P [] k v h p = tt
 each-set P (x ∷ xs) zero v h p = (p, h.1)

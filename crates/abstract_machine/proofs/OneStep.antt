@@ -1,7 +1,7 @@
 -- One step of a thread in any machine, rule by rule, against the lock.
 use Rattle.abstract_machine.proofs.Vocabulary.{◌≡◌, ℕ, zero, suc, List, [], ◌∷◌, Some, None, slice_get, slice_set, ap, sym, refl, ◌⊎◌, inl, inr, Litmus, Entry, NotLocked, HasWritten, HardwareThread, Machine, IsNotBlocked, with_buffer, ThreadStep, read, write, flush, move, mfence, lock, locked_read, locked_write, unlock, IsBlocked, KeepsBuffer, ReadsAndFlushesNothing, Unlocks, append-nil}
 
--- what stands at a place that was written
+-- what is at a place that was written
 put : (xs : List HardwareThread) (p : ℕ) (h after : HardwareThread) → slice_get (slice_set xs p h) p ≡ Some after → h ≡ after
 put [] p h after e = absurd (let z : ⊥ = cc in z)
 put (x ∷ xs) zero h after e = let z : h ≡ after = cc in z

@@ -10,7 +10,7 @@ use Rattle.tso_terms.specs.declared.action.Action.TheVariants.{Store, Load, Move
 use Rattle.abstract_machine.specs.Machine.{Progress, NotLocked, HasBegun, HasRead, HasWritten, HardwareThread, Machine, IsNotBlocked}
 use Rattle.abstract_machine.specs.Machine.{with_thread, with_lock, with_write, passed, taking, with_register, with_registers, with_buffer, with_progress}
 
--- thread p stands at an instruction with this action, and is so far with it
+-- thread p is at an instruction with this action, and is so far with it
 pub record StandsAt (t : Litmus) (p : ℕ) (h : HardwareThread) (progress : Progress) (action : Action) : Type 0 where
   pub instruction : Instr
   pub is : slice_get (slice_index_or t.programs p []) h.place ≡ Some instruction

@@ -2,7 +2,7 @@
 //! executions.
 //!
 //! Nothing here computes. Each public function has no code of its own, and its contract is a law on
-//! the definitions. The machine stands in `specs/`, rule by rule as the paper has it: write buffers
+//! the definitions. The machine is in `specs/`, rule by rule as the paper has it: write buffers
 //! without a bound, a global lock, and threads that are blocked while another one holds it. It names
 //! tests, threads and entries, but none of this project's axioms and none of its machines; only the
 //! laws name both sides.

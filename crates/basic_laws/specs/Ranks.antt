@@ -1,4 +1,4 @@
--- Where an entry stands among those of its program, as one number. (This project's.)
+-- Where an entry is among those of its program, as one number. (This project's.)
 use Rattle.std.specs.Prelude.{ℕ, ◌+◌, ◌≡◌, ◌==◌, ◌&&◌, nat_lt}
 use Rattle.tso_terms.specs.ProgramOrder.{is_before}
 use Rattle.basic_laws.specs.Types.{Entry, Kind, LW}
@@ -8,7 +8,7 @@ abbrev pub part_of : Kind → ℕ
 part_of LW = 1
 part_of _ = 0
 
--- entries of one core stand in their program as these numbers do
+-- entries of one core are in their program as these numbers do
 abbrev pub rank : Entry → ℕ
 rank e = e.place + e.place + part_of e.kind
 

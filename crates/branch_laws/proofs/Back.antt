@@ -13,7 +13,7 @@ use Rattle.branch_laws.proofs.Splitting.{still-long, moved-in}
 use Rattle.branch_laws.proofs.Values.{reads-left, fences-left, locks-left, left, IsOwn, drain-told}
 use Rattle.branch_laws.proofs.Core.{flat, Even, at-drop, even-other, left-other, even-drain}
 
--- the flat core has moved the number of a locked instruction, and the tree stands before that
+-- the flat core has moved the number of a locked instruction, and the tree comes before that
 pub record Half (c : ℕ) (program : List Instr) (xs : List Entry) (f : CoreState) (s : TreeCore) : Type 0 where
   pub place : ℕ
   pub loc : Loc

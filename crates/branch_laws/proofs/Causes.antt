@@ -40,7 +40,7 @@ each-among P x (y ∷ xs) h (inr k) = each-among P x xs h.1 k
 abbrev pub IsOf : (ℕ → List ℕ) → Entry → Type 0
 IsOf domain e = StandsAmong e.value (domain e.loc.0)
 
--- the reads of these entries that stand before w have values of the domains
+-- the reads of these entries that come before w have values of the domains
 abbrev pub ReadsBefore : (ℕ → List ℕ) → Entry → List Entry → Type 0
 ReadsBefore domain w es = (r : Entry) → StandsAmong r es → is_read r ≡ true → is_before r w ≡ true → IsOf domain r
 

@@ -15,7 +15,7 @@ use Rattle.branch_laws.proofs.Values.{Unseen, unseen-other, skip, reads-left, fe
 abbrev pub flat : TreeCore → List ℕ → CoreState
 flat s regs = record { place = s.place; registers = regs; pending = s.pending }
 
--- the flat core stands where the tree does, and what is left of its program is the path of what is still to come
+-- the flat core is where the tree is, and what is left of its program is the path of what is still to come
 pub record Even (c : ℕ) (program : List Instr) (xs : List Entry) (f : CoreState) (s : TreeCore) : Type 0 where
   pub registers : List ℕ
   pub is : f ≡ flat s registers

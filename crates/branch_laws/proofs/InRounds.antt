@@ -249,7 +249,7 @@ by-source b order j x f g ir earlier (from h w gw iw at q sees) = go (count (can
     goal_at : ℕ → Type 0
     goal_at n = StandsAmong x.value (round b n x.loc.0)
 
-    -- the reads before w stand before x, and are of earlier rounds
+    -- the reads before w come before x, and are of earlier rounds
     rests : (m : ℕ) → count (can_see j x) 0 order ≡ suc m → (r : Entry)
         → StandsAmong r (entries_along own.0 0 (slice_index_or b.trees own.0 Cut) (values_along own.0 0 (slice_index_or b.trees own.0 Cut) order))
         → is_read r ≡ true → is_before r w ≡ true → IsOf (round b m) r

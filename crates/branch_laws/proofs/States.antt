@@ -114,7 +114,7 @@ follows-more P t d n F S1 S2 es fs xs ys a b = record {
   rel = subst (λ z. Rel P n xs z S2) (sym (after-append t d F a.choices b.choices)) b.rel;
 }
 
--- the relation in which each core stands where its tree does
+-- the relation in which each core is where its tree does
 abbrev pub Level : Litmus → ℕ → List Entry → CoreState → TreeCore → Type 0
 Level t k xs f s = Even k (program_of t k) xs f s
 

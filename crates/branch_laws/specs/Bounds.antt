@@ -38,7 +38,7 @@ pub record BoundedOutcomesAreOutcomes : Type 0 where
   pub all : (b whole : Branching) (outputs : List (List ℕ)) (memory : List ℕ)
       → IsBounded b whole → NoneIsCutOff b whole → IsBranchOutcome whole outputs memory ↔ IsBranchOutcome b outputs memory
 
--- the tree with an end in each place where it is cut off: its outputs are 1 alone there, and elsewhere they stand after a 0
+-- the tree with an end in each place where it is cut off: its outputs are 1 alone there, and elsewhere they come after a 0
 abbrev pub marked : Tree → Tree
 marked (Done outputs) = Done (0 ∷ outputs)
 marked Cut = Done (1 ∷ [])

@@ -6,7 +6,7 @@ use Rattle.std.specs.Borrow.{MutBor}
 use Rattle.std.specs.List.{IsDistinct, AllByRecursion}
 use Rattle.protocol_tables.specs.declared.state.State.{State}
 
--- no number stands twice
+-- no number comes twice
 abbrev pub NoNumberTwice : List (ℕ × Way) → Type 0
 NoNumberTwice [] = ⊤
 NoNumberTwice (e ∷ es) = (lookup (nat_eq e.0) es ≡ None) × NoNumberTwice es
@@ -312,7 +312,7 @@ remove-last (suc n) x (e ∷ es) d l h =
       | inr p ↦ rw p.0 (let shorter : length es ≡ suc n = omega arith in ap (λ l. e ∷ l) (remove-last n x es d.1 shorter h))
     ]
 
--- nothing stands past a list's end
+-- nothing is past a list's end
 pub past-end : {X : Type 0} (n : ℕ) (xs : List X) → length xs ≤ n → slice_get xs n ≡ None
 past-end n [] h = refl
 past-end zero (x ∷ xs) h = absurd (omega arith)

@@ -60,7 +60,7 @@ pub struct Victim {
 /// (`copies`), and that the above still holds (`valid`).
 ///
 /// A call that changes a way asks for the number of ways first, and makes nothing of the answer: the map tells with it that
-/// each way stands there once, without which the way that is found by its number could be another one.
+/// each way is there once, without which the way that is found by its number could be another one.
 pub struct CacheSet {
     ways: Ways,
 }

@@ -39,7 +39,7 @@ pub fn put_lines(lines: &mut [[u32; MAX_WORDS]], shape: Shape, words: &[u32])
     }
 }
 
-/// The line with this number of these words, where a line has so many; 0 stands past its words.
+/// The line with this number of these words, where a line has so many; 0 is past its words.
 fn line_at(words: &[u32], size: usize, line: usize) -> [u32; MAX_WORDS]
     requires size { size ≤ most_words }
     requires line { line ≤ most_locations }

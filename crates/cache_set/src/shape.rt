@@ -1,4 +1,4 @@
-//! The shape of a cache, and where a location stands in it. A shape is made only within the limits; the line, its set and
+//! The shape of a cache, and where a location is in it. A shape is made only within the limits; the line, its set and
 //! the offset in it come from the location alone, so that all cores agree on them.
 
 ghost use Rattle.std.specs.Prelude.{◌≡◌, ◌<◌, ◌≤◌, ◌/◌, ◌%◌, ◌↔◌, IsSome, IfSome};

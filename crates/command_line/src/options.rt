@@ -6,7 +6,7 @@ use command_table::{DeclaredOption, SUBCOMMANDS, Subcommand, Value, help};
 use std::alloc::{AllocError, Global};
 
 /// The program for a command line of these words, whose first is its name. Where the second names a command, that command
-/// stands alone: no other can follow it, and nothing that is printed of it shows the others. Else all of them are there.
+/// is alone: no other can follow it, and nothing that is printed of it shows the others. Else all of them are there.
 pub fn command_line<'a>(alloc: Global, words: &[&str]) -> Result<Command<'a>, AllocError> {
     if let [_, word, ..] = words
         && let Some(called) = Subcommand::named(word)

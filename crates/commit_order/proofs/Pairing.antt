@@ -48,7 +48,7 @@ answered-together x (e ∷ es) h = by_core (e.core.0 == x.core.0) refl (answered
         let c = isn't_core e.core.0 x.core.0 q in
         by_kind (same_kind e.kind LR) c (rest (sym (skipped x e es c) ∙ h))
 
--- what stands directly after a load part
+-- what comes directly after a load part
 abbrev Next : Entry → List Entry → Type 0
 Next x es = (y : Entry) × (slice_get es 0 ≡ Some y) × IsStorePart x y
 

@@ -1,5 +1,5 @@
 -- The two parts of locked instructions in a list of commits.
--- (Primer, chapter 4: the load part and the store part of a read-modify-write stand together in the order.)
+-- (Primer, chapter 4: the load part and the store part of a read-modify-write are together in the order.)
 use Rattle.std.specs.Prelude.{◌==◌, ◌&&◌, Bool, true, false, IsTrue, if◌then◌else◌, List, [], ◌∷◌}
 use Rattle.tso_terms.specs.ProgramOrder.{same_kind}
 use Rattle.tso_terms.specs.ProgramEntries.{is_at}

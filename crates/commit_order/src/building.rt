@@ -13,7 +13,7 @@ use std::alloc::Global;
 use tso_terms::{Core, Entry, Execution, Kind, NoMemory};
 
 /// The order that the commits make: the entries as they were noted, but for each load part of a
-/// locked instruction, which stands directly before its store part.
+/// locked instruction, which comes directly before its store part.
 ///
 /// Errors: out of memory only.
 pub fn build(alloc: Global, commits: &Commits) -> Result<Execution, NoMemory>

@@ -1,4 +1,4 @@
--- An order keeps all of program order exactly where no entry stands behind one that comes later in its program.
+-- An order keeps all of program order exactly where no entry comes after one that comes later in its program.
 use Rattle.std.proofs.Common.{◌≡◌, ◌<◌, ◌&&◌, ◌||◌, ℕ, zero, suc, true, false, not, Bool, List, [], ◌∷◌, Some, slice_get, arith, sym, refl, subst}
 use Rattle.std.specs.List.{list_any}
 use Rattle.tso_terms.specs.ProgramOrder.{is_before}

@@ -15,7 +15,7 @@ use refutations::events::is_before;
 use std::alloc::Global;
 use tso_terms::{Entry, Execution, NoMemory, Quantifier, Test, cond_holds};
 
-/// Whether one of these entries stands before x in its program.
+/// Whether one of these entries comes before x in its program.
 fn is_preceded_by(x: &Entry, later: &[Entry]) -> bool
     ensures { result ≡ spec.is_preceded_by x.now later.now }
 {
@@ -27,7 +27,7 @@ fn is_preceded_by(x: &Entry, later: &[Entry]) -> bool
     false
 }
 
-/// Whether no entry stands behind one that comes later in its program.
+/// Whether no entry comes after one that comes later in its program.
 fn keeps_all_order(order: &[Entry]) -> bool
     ensures { result ≡ spec.keeps order.now }
 {

@@ -12,7 +12,7 @@ differs x (y ∷ xs) zero b h p q =
     let f = h.0 in let z : ⊥ = cc in z
 differs x (y ∷ xs) (suc j) b h p q = differs x xs j b h.1 p q
 
--- the same bytes stand once
+-- the same bytes come once
 apart : (xs : List Packed) → IsDistinct (packed_eq.eq-value).it xs → (i j : ℕ) (a b : Packed) → slice_get xs i ≡ Some a → slice_get xs j ≡ Some b
     → a.bytes.items ≡ b.bytes.items → i ≡ j
 apart [] d i j a b p q e = absurd (let z : ⊥ = cc in z)

@@ -35,7 +35,7 @@ struct Manner {
 const NONE_IS_LATE: [bool; 8] = [false; 8];
 
 /// The manner of the run of this number. Runs that come one after the other are far from alike. In the first one the cores
-/// stand in the order of their numbers, and all are late.
+/// are in the order of their numbers, and all are late.
 fn manner_of(number: u32) -> Manner {
     // A multiplication by the golden ratio's share of 2^32 spreads the numbers.
     let spread = u64::from(number) * 2_654_435_769 % 4_294_967_296;

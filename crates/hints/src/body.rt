@@ -1,4 +1,4 @@
-//! What stands after the information lines of a test, and in its condition: a hint needs such parts of a text that was
+//! What comes after the information lines of a test, and in its condition: a hint needs such parts of a text that was
 //! refused, so they are found without a reader.
 
 use crate::quotes::last_bytes;
@@ -17,10 +17,10 @@ pub fn body_of(text: &[u8]) -> &[u8] {
 
 /// What stands from the last `exists` or `forall` on, which begins the condition, or nothing where there is
 /// none; `tokens` are those of the body. They end before it only where they stop in `locations [..]`, in which
-/// any bytes may stand: then what stands after these brackets.
+/// any bytes may stand: then what comes after these brackets.
 pub fn ending_of<'a>(body: &'a [u8], tokens: &Tokens<'a>) -> &'a [u8] {
     if let Stop::BadToken(remaining) = tokens.stop {
-        // What stands after the next `]`, comments passed over.
+        // What comes after the next `]`, comments passed over.
         let mut rest = last_bytes(body, remaining);
         for _ in 0..remaining {
             let Ok(at) = after_gap(rest) else {

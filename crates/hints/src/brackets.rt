@@ -1,4 +1,4 @@
-//! What is said of the brackets of a location in a cell: one name stands in them, and nothing else does.
+//! What is said of the brackets of a location in a cell: one name is in them, and nothing else does.
 
 use crate::faults::NO_ARRAYS;
 use crate::instructions::WORDS;
@@ -63,7 +63,7 @@ fn says_of_content(line: &mut Line, cell: &[u8], tokens: &[Token<'_>]) -> bool {
     false
 }
 
-/// What is said of two tokens that stand side by side, in brackets or not, and of which one.
+/// What is said of two tokens that are side by side, in brackets or not, and of which one.
 fn misfit<'a>(
     is_open: bool,
     before: Token<'a>,

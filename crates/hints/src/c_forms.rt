@@ -7,7 +7,7 @@ use crate::quotes::{begins_with_letter, last_bytes, last_word, token};
 use crate::tables::{Alike, is_exactly_one_of, is_one_of, said_of, said_of_front};
 use tso_terms::names::is_location_name;
 
-/// Types of variables, and what stands with them.
+/// Types of variables, and what is with them.
 const TYPES: &str =
     "int char short long unsigned signed volatile const struct static auto bool atomic_int \
      _Atomic";
@@ -45,7 +45,7 @@ static METHODS: [Alike; 4] = [
 const ADDRESS_OF: &str =
     "&{}: a location is written [x] in an instruction: a store is MOV [x],$1, a load MOV EAX,[x]; no register can hold an address";
 
-/// Whether a word is a type of C's, or stands with one.
+/// Whether a word is a type of C's, or is with one.
 pub fn is_type(word: &[u8]) -> bool {
     is_one_of(TYPES, word) || (word.ends_with(b"_t") && is_location_name(word))
 }
@@ -65,7 +65,7 @@ pub fn said_of_function(name: &[u8]) -> Option<&'static str> {
     said_of_access(name).or(said_of(&FORMS, name))
 }
 
-/// Says of a method, at the point before its name. Whether one stands there.
+/// Says of a method, at the point before its name. Whether one is there.
 pub fn says_method(line: &mut Line, place: &Place<'_>) -> bool {
     let name = token(after_first(place.rest));
     let after = last_bytes(
@@ -87,8 +87,8 @@ pub fn says_method(line: &mut Line, place: &Place<'_>) -> bool {
     true
 }
 
-/// Says of an address that is taken by `&`: of the function that gets it, where one does. Whether a location stands after the
-/// sign, and what may stand before an operand before it.
+/// Says of an address that is taken by `&`: of the function that gets it, where one does. Whether a location comes after the
+/// sign, and what may come before an operand before it.
 pub fn says_address_of(line: &mut Line, place: &Place<'_>) -> bool {
     let name = token(after_first(place.rest));
     if !begins_with_letter(name) || !may_begin_operand(place.last_word) {
@@ -105,7 +105,7 @@ pub fn says_address_of(line: &mut Line, place: &Place<'_>) -> bool {
     true
 }
 
-/// Whether an operand may stand after a word or a sign.
+/// Whether an operand may come after a word or a sign.
 fn may_begin_operand(last: &[u8]) -> bool {
     is_exactly_one_of("( , = [ | ;", last) || said_of(&FORMS, last).is_some()
 }

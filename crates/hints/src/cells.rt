@@ -196,7 +196,7 @@ fn begins_with_brace(tokens: &[Token<'_>]) -> bool {
     }
 }
 
-/// The name that stands first, or no bytes, and what stands after it.
+/// The name that comes first, or no bytes, and what comes after it.
 fn first_name<'a, 'b>(tokens: &'b [Token<'a>]) -> (&'a [u8], &'b [Token<'a>]) {
     match tokens.split_first() {
         Some((first, rest)) => (name_of(first), rest),
@@ -204,7 +204,7 @@ fn first_name<'a, 'b>(tokens: &'b [Token<'a>]) -> (&'a [u8], &'b [Token<'a>]) {
     }
 }
 
-/// Says of an instruction, by its name and what stands after it; this table has names that aren't read. Whether something is
+/// Says of an instruction, by its name and what comes after it; this table has names that aren't read. Whether something is
 /// known of it.
 fn says_of_instruction(
     line: &mut Line,

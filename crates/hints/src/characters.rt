@@ -117,7 +117,7 @@ pub fn says_foreign_in(line: &mut Line, place: &Place<'_>, word: &[u8], said: &s
     false
 }
 
-/// Says of a character that isn't ASCII what stands for it where it is blank, and else this. Whether one stands there.
+/// Says of a character that isn't ASCII what stands for it where it is blank, and else this. Whether one is there.
 fn says_foreign_at(line: &mut Line, place: &Place<'_>, said: &str) -> bool {
     let Some(character) = character_at(place.rest) else {
         return false;

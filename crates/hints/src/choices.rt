@@ -1,4 +1,4 @@
-//! What is said of choices: the word at fault, and which words may stand there.
+//! What is said of choices: the word at fault, and which words may be there.
 
 use crate::characters::says_foreign;
 use crate::divider::begins_order;
@@ -219,7 +219,7 @@ fn after_no_digits(word: &[u8]) -> &[u8] {
     &[]
 }
 
-/// Whether one of these letters stands in a word.
+/// Whether one of these letters is in a word.
 fn has_letter(word: &[u8], letters: &[u8]) -> bool {
     for letter in word {
         if letters.contains(letter) {

@@ -51,7 +51,7 @@ static COMPARISONS: [Alike; 3] = [
     ),
 ];
 
-/// What is said of a token that stands after the end of a condition.
+/// What is said of a token that comes after the end of a condition.
 static AFTER: [Alike; 5] = [
     Alike(
         "locations location",
@@ -143,7 +143,7 @@ fn line_of_open_bracket(alloc: Global, place: &Place<'_>) -> Result<Option<usize
     Ok(None)
 }
 
-/// Says of a number, a value or a connective of another form, within a condition or after it. Whether one stands there.
+/// Says of a number, a value or a connective of another form, within a condition or after it. Whether one is there.
 fn says_foreign_form(line: &mut Line, place: &Place<'_>) -> bool {
     if says_digit_first(line, place) {
         return true;
@@ -172,7 +172,7 @@ fn said_of_connective(place: &Place<'_>) -> Option<&'static str> {
     }
 }
 
-/// Says of a token that doesn't fit, by what stands before it, where that tells what was meant. Whether it does.
+/// Says of a token that doesn't fit, by what comes before it, where that tells what was meant. Whether it does.
 fn says_misfit(line: &mut Line, place: &Place<'_>) -> bool {
     let (token, last) = (place.token, place.last_word);
     let (sentence, named) = match token.first() {
@@ -240,7 +240,7 @@ fn says_misfit(line: &mut Line, place: &Place<'_>) -> bool {
     true
 }
 
-/// Says of a name without a value before an end, or of a truth in capitals. Whether that is what stands there.
+/// Says of a name without a value before an end, or of a truth in capitals. Whether that is what is there.
 fn says_valueless(line: &mut Line, last: &[u8]) -> bool {
     if let Some(meant) = near_word("true false", last) {
         line.say_with(
@@ -327,7 +327,7 @@ fn is_place(word: &[u8]) -> bool {
     is_location_name(word) || Reg::from_name(word).is_some() || is_exactly_one_of("]", word)
 }
 
-/// Of what stands after the end of a test.
+/// Of what comes after the end of a test.
 pub fn trailing(line: &mut Line, asked: Asked, place: &Place<'_>) {
     if says_missing_divider(line, asked, place) || says_foreign_form(line, place) {
         return;

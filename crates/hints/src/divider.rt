@@ -7,7 +7,7 @@ use crate::quotes::{is_choice, word};
 use crate::reader::Reader;
 use crate::tables::is_exactly_one_of;
 
-/// For which command a test was read, and whether a dividing line stands after it.
+/// For which command a test was read, and whether a dividing line comes after it.
 #[derive(Clone, Copy)]
 pub struct Asked {
     pub reader: Reader,

@@ -1,4 +1,4 @@
-//! What is said of a fault in a test: each name of a refusal has its words, chosen by what stands at the place of the fault.
+//! What is said of a fault in a test: each name of a refusal has its words, chosen by what is at the place of the fault.
 
 use crate::body::body_of;
 use crate::cells::bad_instruction;
@@ -192,7 +192,7 @@ pub fn unfit(line: &mut Line, place: &Place<'_>, end: &str, form: &str) {
 }
 
 /// Says of a word that begins with digits, at the first letter after these: of a number to base 16, or else of a name or a number of
-/// another form. Whether such a word stands there.
+/// another form. Whether such a word is there.
 pub fn says_digit_first(line: &mut Line, place: &Place<'_>) -> bool {
     let word = place.bare_word();
     let is_of_digits = ends_with_name(place.before) && is_all_digits(place.last_word);

@@ -100,7 +100,7 @@ fn lacks_value(place: &Place<'_>) -> bool {
         && (is_bare(last) || is_exactly_one_of("]", last))
 }
 
-/// Whether a place stands in the row of cores, which the end of the initial state has to stand before.
+/// Whether a place is in the row of cores, which the end of the initial state has to come before.
 fn is_in_row_of_cores(place: &Place<'_>) -> bool {
     (place.rest.starts_with(b"|") && is_core(place.last_word))
         || is_row_of_cores(place.whole_line())
@@ -220,7 +220,7 @@ fn is_of_register(place: &Place<'_>) -> bool {
     after_last(place.before, b"{;").contains(&b':')
 }
 
-/// Says of a location's address in a register of another name. Whether one stands there.
+/// Says of a location's address in a register of another name. Whether one is there.
 fn says_address_in_register(line: &mut Line, place: &Place<'_>) -> bool {
     let value = name_as_value(place);
     let is_known = is_renamed(place.token);
@@ -235,7 +235,7 @@ fn says_address_in_register(line: &mut Line, place: &Place<'_>) -> bool {
 }
 
 /// Says of a register of another form: of one that isn't read, of a location after a core, or of the `P` of its core. Whether one
-/// stands there.
+/// is there.
 pub fn says_foreign_register(line: &mut Line, place: &Place<'_>) -> bool {
     let last = place.last_word;
     let written = up_to_any(place.rest, b" =;)}\n");

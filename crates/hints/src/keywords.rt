@@ -20,7 +20,7 @@ const SOMETIMES: &str =
 
 const LISTED: &str = "{} is no instruction: write locations, and [ .. ] after it";
 
-/// Words that stand after the rows of a test as it isn't read.
+/// Words that come after the rows of a test as it isn't read.
 static KEYWORDS: [Alike; 11] = [
     Alike(
         "exists exsist exisist exitst",
@@ -177,7 +177,7 @@ fn says_of_two_words(line: &mut Line, first: &[u8], second: &[u8]) -> bool {
     true
 }
 
-/// Whether the end of a row stands before a place on its line.
+/// Whether the end of a row comes before a place on its line.
 fn follows_row(place: &Place<'_>) -> bool {
     place.line_before().ends_with(b";")
 }

@@ -2,7 +2,7 @@
 //! what may mislead in an answer; of a search that ended at its limit a second line may say choices.
 //!
 //! A hint is made of what is known at the fault: its place, the name of the refusal, and the bytes that
-//! stand there. What is promised of it is its form; which words it has is held by tests.
+//! are there. What is promised of it is its form; which words it has is held by tests.
 #![tactic(auto)]
 
 mod above;

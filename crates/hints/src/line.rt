@@ -1,4 +1,4 @@
-//! The line of a hint while it is written: sentences, and what stands in their gaps. A hint is short, so it is written into
+//! The line of a hint while it is written: sentences, and what is in their gaps. A hint is short, so it is written into
 //! an array, and no step takes memory.
 
 use crate::quotes::{first_bytes, is_bare};
@@ -12,7 +12,7 @@ const MAX_SHOWN: usize = 32;
 /// The digits to base 16.
 const DIGITS: &[u8; 16] = b"0123456789ABCDEF";
 
-/// What stands in a gap of a sentence.
+/// What is in a gap of a sentence.
 #[derive(Clone, Copy)]
 pub enum Piece<'a> {
     /// These words.

@@ -1,4 +1,4 @@
-//! What is said of a command line that was refused: that a file stands where a command belongs, that an option is another
+//! What is said of a command line that was refused: that a file is where a command belongs, that an option is another
 //! command's, and the like. The commands and their options are those by which lines are read.
 
 ghost use Rattle.std.specs.Prelude.{IfOk, IfSome, string_bytes};
@@ -177,7 +177,7 @@ fn is_three(before: &str, word: &str) -> bool {
     word == "--words=3" || (before == "--words" && word == "3")
 }
 
-/// Of an option, which the next word stands after.
+/// Of an option, which the next word comes after.
 fn say_option<'a>(line: &mut Line, command: Subcommand, word: &'a str, next: &'a str) {
     let bytes = word.as_bytes();
     let option = up_to(bytes, b'=');

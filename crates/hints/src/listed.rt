@@ -48,7 +48,7 @@ pub fn listed_in(alloc: Global, test: &Test, text: &[u8]) -> Result<Vec<Listed>,
     Ok(found)
 }
 
-/// What stands after `locations [`, or nothing where the test has no list.
+/// What comes after `locations [`, or nothing where the test has no list.
 fn after_opening<'a, 'b>(tokens: &'b [Token<'a>]) -> &'b [Token<'a>] {
     for at in 1..tokens.len() {
         if is_name(&tokens[at - 1], b"locations") && is_symbol(Symbol::OpenSquare, &tokens[at]) {

@@ -93,7 +93,7 @@ fn is_known(word: &[u8]) -> bool {
 }
 
 /// Says of a location in C behind a bracket, as in `(*x)`, which begins a comment here; of the function that gets it, where one does.
-/// Whether one stands there.
+/// Whether one is there.
 fn says_pointer(line: &mut Line, place: &Place<'_>) -> bool {
     let Some(after) = place.rest.strip_prefix(b"(*") else {
         return false;
@@ -130,7 +130,7 @@ fn is_bare_condition(place: &Place<'_>) -> bool {
         || (place.after_token().starts_with(b"=") && !has(line, b":="))
 }
 
-/// Of what begins no token, or stands where it can't before the initial state.
+/// Of what begins no token, or is where it can't before the initial state.
 pub fn bad_token(line: &mut Line, place: &Place<'_>) {
     let token = place.token;
     if is_exactly_one_of("locations", place.last_word) {
@@ -153,7 +153,7 @@ pub fn bad_token(line: &mut Line, place: &Place<'_>) {
         [byte, ..] if continues_name(*byte) || b"=;:[]{}|,$~()".contains(byte) => {}
         [byte, ..] => return bad_byte(line, place, *byte),
     }
-    // What stands there begins a token.
+    // What is there begins a token.
     if has(up_to(place.rest, b'\n'), b"*)") {
         line.say(NESTED);
     } else {
@@ -167,7 +167,7 @@ fn has_items(before: &[u8]) -> bool {
     last.contains(&b'=') && last.contains(&b';')
 }
 
-/// What is said of a token that stands before the initial state.
+/// What is said of a token that comes before the initial state.
 fn said_before_braces(place: &Place<'_>) -> &'static str {
     if up_to(place.text.trim_ascii_start(), b'\n').contains(&b'{') {
         return "the { in the first line is a part of the test's name: begin a line with it";

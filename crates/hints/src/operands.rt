@@ -13,7 +13,7 @@ const OF_STATEMENT: &str =
 const PERCENT: &str =
     "{} is in AT&T's syntax: here a register has no %, a location stands in [ ], and the destination stands first, as in MOV EAX,[y]";
 
-/// What ends a cell of a row, or what stands before rows.
+/// What ends a cell of a row, or what comes before rows.
 pub const ENDS_OF_CELL: &[u8] = b"|;}\n";
 
 /// The cell in which a place stands.
@@ -40,7 +40,7 @@ pub fn is_in_brackets(place: &Place<'_>) -> bool {
     outside.ends_with(b"[")
 }
 
-/// Says of a sum in the brackets of a location. Whether a sign stands in one.
+/// Says of a sum in the brackets of a location. Whether a sign is in one.
 pub fn says_sum(line: &mut Line, place: &Place<'_>) -> bool {
     if !is_in_brackets(place) {
         return false;

@@ -159,7 +159,7 @@ fn is_over_a_byte(digits: &[u8]) -> bool {
         }
 }
 
-/// What stands before `=` in the third of three pieces, which one space separates.
+/// What comes before `=` in the third of three pieces, which one space separates.
 pub fn location_in(entry: &[u8]) -> Option<&[u8]> {
     let access = after_byte(after_byte(entry, b' '), b' ');
     if access.contains(&b' ') || !access.contains(&b'=') {

@@ -1,5 +1,5 @@
 //! Which limit a place of a test passes: of cores, of locations, of instructions or of atoms. The refusal has one name for
-//! all of them, so what stands before the place is counted.
+//! all of them, so what comes before the place is counted.
 
 use crate::body::{body_of, ending_of, is_name};
 use crate::place::Place;
@@ -21,7 +21,7 @@ pub enum Limit {
     Atoms,
 }
 
-/// The limit that what stands at a place passes, by what stands before it from the initial state on.
+/// The limit that what is at a place passes, by what comes before it from the initial state on.
 ///
 /// Errors: out of memory only.
 pub fn limit_at(alloc: Global, place: &Place<'_>) -> Result<Limit, NoMemory> {
@@ -38,7 +38,7 @@ pub fn limit_at(alloc: Global, place: &Place<'_>) -> Result<Limit, NoMemory> {
     Ok(limit)
 }
 
-/// What stands after the initial state, where that ends.
+/// What comes after the initial state, where that ends.
 pub fn after_curly<'a, 'b>(tokens: &'b [Token<'a>]) -> Option<&'b [Token<'a>]> {
     for at in 0..tokens.len() {
         if is_symbol(Symbol::CloseCurly, &tokens[at]) {
@@ -63,7 +63,7 @@ fn limit_in_condition(tokens: &[Token<'_>]) -> Limit {
     }
 }
 
-/// The limit that what stands after these tokens of rows passes; the first row is that of the cores. A core has as many
+/// The limit that what comes after these tokens of rows passes; the first row is that of the cores. A core has as many
 /// instructions as cells have something in them in the rows that end, in the column in which the last row stops, which doesn't end.
 fn limit_in_rows(tokens: &[Token<'_>]) -> Limit {
     let mut has_row = false;

@@ -1,19 +1,19 @@
-//! The place of a fault in a text: a refusal has the line alone, and a hint names what stands there.
+//! The place of a fault in a text: a refusal has the line alone, and a hint names what is there.
 
 use crate::quotes::{
     after_last, digits_and_letters, ends_with_name, last_bytes, last_word, token, up_to,
 };
 use litmus_tokens::line_of;
 
-/// A text in two: what stands before a place, and what stands from there on.
+/// A text in two: what comes before a place, and what stands from there on.
 #[derive(Clone, Copy)]
 pub struct Place<'a> {
     pub text: &'a [u8],
     pub before: &'a [u8],
     pub rest: &'a [u8],
-    /// The word or the byte that stands before it.
+    /// The word or the byte that comes before it.
     pub last_word: &'a [u8],
-    /// The token that stands there.
+    /// The token that is there.
     pub token: &'a [u8],
 }
 
@@ -45,7 +45,7 @@ impl<'a> Place<'a> {
         }
     }
 
-    /// What stands after the last of these bytes before it.
+    /// What comes after the last of these bytes before it.
     pub fn from_last(&self, stops: &[u8]) -> &'a [u8] {
         let count = after_last(self.before, stops).len();
         last_bytes(self.text, self.rest.len().saturating_add(count))
@@ -56,12 +56,12 @@ impl<'a> Place<'a> {
         up_to(self.from_last(b"\n"), b'\n')
     }
 
-    /// What stands before it on its line, without white space at its end.
+    /// What comes before it on its line, without white space at its end.
     pub fn line_before(&self) -> &'a [u8] {
         after_last(self.before, b"\n").trim_ascii_end()
     }
 
-    /// Whether nothing but white space stands before it on its line.
+    /// Whether nothing but white space comes before it on its line.
     pub fn is_first_on_line(&self) -> bool {
         self.line_before().is_empty()
     }
@@ -74,7 +74,7 @@ impl<'a> Place<'a> {
             .is_empty()
     }
 
-    /// What stands after its token, without white space before it.
+    /// What comes after its token, without white space before it.
     pub fn after_token(&self) -> &'a [u8] {
         let count = self.rest.len().saturating_sub(self.token.len());
         last_bytes(self.rest, count).trim_ascii_start()

@@ -1,4 +1,4 @@
-//! What stands at a place of a text: the bytes that a hint names. They go by white space and names alone, since the text
+//! What is at a place of a text: the bytes that a hint names. They go by white space and names alone, since the text
 //! may be none that a lexer takes.
 
 use crate::tables::is_exactly_one_of;
@@ -64,7 +64,7 @@ pub fn digits_and_letters(text: &[u8]) -> &[u8] {
     text
 }
 
-/// What stands before the next white space.
+/// What comes before the next white space.
 pub fn word(text: &[u8]) -> &[u8] {
     up_to_any(text, SPACES)
 }
@@ -74,7 +74,7 @@ pub fn first_word(text: &[u8]) -> &[u8] {
     word(text.trim_ascii_start())
 }
 
-/// What stands before the first such byte, or all where there is none.
+/// What comes before the first such byte, or all where there is none.
 pub fn up_to(text: &[u8], stop: u8) -> &[u8] {
     for at in 0..text.len() {
         if text[at] == stop {
@@ -84,7 +84,7 @@ pub fn up_to(text: &[u8], stop: u8) -> &[u8] {
     text
 }
 
-/// What stands before the first of these bytes, or all where there is none.
+/// What comes before the first of these bytes, or all where there is none.
 pub fn up_to_any<'a>(text: &'a [u8], stops: &[u8]) -> &'a [u8] {
     for at in 0..text.len() {
         if stops.contains(&text[at]) {
@@ -94,7 +94,7 @@ pub fn up_to_any<'a>(text: &'a [u8], stops: &[u8]) -> &'a [u8] {
     text
 }
 
-/// What stands after the last of these bytes, or all where there is none.
+/// What comes after the last of these bytes, or all where there is none.
 pub fn after_last<'a>(text: &'a [u8], stops: &[u8]) -> &'a [u8] {
     for at in (0..text.len()).rev() {
         if stops.contains(&text[at]) {
@@ -104,7 +104,7 @@ pub fn after_last<'a>(text: &'a [u8], stops: &[u8]) -> &'a [u8] {
     text
 }
 
-/// What stands after the first such byte, or no bytes where there is none.
+/// What comes after the first such byte, or no bytes where there is none.
 pub fn after_byte(text: &[u8], byte: u8) -> &[u8] {
     for at in 0..text.len() {
         if text[at] == byte {

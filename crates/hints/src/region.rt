@@ -31,7 +31,7 @@ pub fn region_of(place: &Place<'_>) -> Region {
     }
 }
 
-/// Whether a text that stands after the end of a row is of a condition. No row has an equals sign, but one in C has; then its line goes
+/// Whether a text that comes after the end of a row is of a condition. No row has an equals sign, but one in C has; then its line goes
 /// on to the end of a row.
 fn begins_condition(text: &[u8], rest_of_line: &[u8]) -> bool {
     text.trim_ascii_start().starts_with(b"~")

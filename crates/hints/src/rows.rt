@@ -252,7 +252,7 @@ pub fn too_large(alloc: Global, line: &mut Line, place: &Place<'_>) -> Result<()
             &[Piece::Number(length), Piece::Number(MAX_TEXT)],
         );
     } else if matches!(after_gap(place.text), Ok(rest) if rest.len() == place.rest.len()) {
-        // Nothing stands before it but white space and comments.
+        // Nothing comes before it but white space and comments.
         line.say_number(
             "the test's name has more than {} bytes: write a shorter one",
             MAX_TEST_NAME,
@@ -264,7 +264,7 @@ pub fn too_large(alloc: Global, line: &mut Line, place: &Place<'_>) -> Result<()
             MAX_OPEN,
         );
     } else {
-        // What stands before the end of a cell, of an item or of an atom.
+        // What comes before the end of a cell, of an item or of an atom.
         let item = up_to_any(place.rest, b"|;}/\\)").trim_ascii_end();
         let (sentence, named, most) = match limit_at(alloc, place)? {
             Limit::Cores => (

@@ -11,7 +11,7 @@ use crate::unused::location_named;
 use litmus_tokens::{Lexeme, Symbol, Token, is_symbol, numeral_at, word, word_at};
 use tso_terms::{Action, Change, Core, Loc, Reg, Test};
 
-/// Says that a register, which stands after so many bytes of an input, keeps this value.
+/// Says that a register, which comes after so many bytes of an input, keeps this value.
 pub fn keeps_register(line: &mut Line, input: &[u8], first: usize, named: (Core, Reg), value: u32) {
     let (core, reg) = named;
     let core = Piece::Number(usize::from(core.0));

@@ -329,7 +329,7 @@ other_word x one another is apart =
     let same : lower x ≡ lower one = (bytes_eq-Decides (lower x) (lower one)).0 is in
     rw same apart
 
--- a word, and what stands after it
+-- a word, and what comes after it
 record Called (word : List ℕ) (ps : List Piece) (both : ArgumentTerm × ArgumentTerm) : Type 0 where
   pub letters : List ℕ
   pub rest : List Piece

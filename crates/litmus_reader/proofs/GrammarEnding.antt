@@ -1,4 +1,4 @@
--- What stands after the rows is read as it is spelled.
+-- What comes after the rows is read as it is spelled.
 use Rattle.litmus_reader.proofs.Vocabulary.{◌≡◌, ℕ, ◌≤◌, List, [], ◌∷◌, length, Option, Some, None, Ok, refl, sym, ap, subst, ◌∙◌, inl, inr, codes, Condition, Stop, End, OpenSquare, Tilde, Term, name, symbol, Piece, pieces_of, is_symbol, symbol_at, name_at, ◌>>=◌, or_unfit, word_after, square_end, brackets_end, ending_tokens, Conditioned, condition_at, end_at, tail_at, terms, numbered, ClosesBrackets, condition, says_exists, says_forall, says_not_exists, MayAsk, nothing, a_condition, IsEnding, at_once, after_locations, names_asked, condition_of, IsAskedWithin, remaining_of, from_place, WrittenCondition, Phrase, Quantifier, part_of, Result, Fault, Instructions}
 use Rattle.std.proofs.Common.{append-nil}
 use Rattle.litmus_tokens.specs.declared.token.Stop.TheVariants.{BadToken, Unclosed}

@@ -183,7 +183,7 @@ item_taken part i ps done after is_last e h fits =
           }
     ]
 
--- what stands before the `}`
+-- what comes before the `}`
 record ItemsTaken (done : List Setting) (ps rest : List Piece) (i : Initial) : Type 0 where
   pub further : List Piece
   pub last : Piece

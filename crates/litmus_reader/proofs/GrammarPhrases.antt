@@ -248,11 +248,11 @@ joined_finds s join phrases IsPart j cores unit After finds separated ts p are a
     let none : begins_with (is_symbol_term s) (terms c.rest) ≡ false = ap (λ (l : List Term). begins_with (is_symbol_term s) l) c.after_it ∙ ok.1 in
     record { rest = c.rest; is = c.same ∙ chain_ends s join unit c.count (given_by atoms names p c.rest) (no_symbol s c.rest none); after_it = c.after_it }
 
--- where anything may stand after
+-- where anything may come after
 abbrev pub Anything : List Term → Type 0
 Anything back = Unit {0}
 
--- neither `/\` nor `\/` stands after
+-- neither `/\` nor `\/` comes after
 abbrev pub EndsThere : List Term → Type 0
 EndsThere back = (Anything back × (begins_with (is_symbol_term And) back ≡ false)) × (begins_with (is_symbol_term Or) back ≡ false)
 

@@ -78,7 +78,7 @@ fields_lack set _ _ (more ts us c cs is are) = lacks-append Semicolon ts (symbol
 
 -- ---- tokens cut at a symbol
 
--- what stands before a symbol, and what stands after it
+-- what comes before a symbol, and what comes after it
 record Cut (s : Symbol) (us back : List Term) (ps : List Piece) : Type 0 where
   pub front : List Piece
   pub rest : List Piece

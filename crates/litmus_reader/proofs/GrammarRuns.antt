@@ -19,7 +19,7 @@ differs p b c other e = not-true (eqb b c) (by_test (eqb b c) refl)
 
 -- ---- runs
 
--- no byte that passes stands at the front
+-- no byte that passes is at the front
 abbrev pub Stops : (ℕ → Bool) → List ℕ → Type 0
 Stops p [] = Unit {0}
 Stops p (b ∷ bs) = p b ≡ false
@@ -45,7 +45,7 @@ run_len p [] [] all stops = refl
 run_len p [] (b ∷ bs) all stops = rw stops refl
 run_len p (b ∷ bs) back all stops = let parts = both (p b) (list_all p bs) all in rw (parts.0, run_len p bs back parts.1 stops) (omega arith)
 
--- what stands after a run
+-- what comes after a run
 pub run_after : (p : ℕ → Bool) (front back : List ℕ) → list_all p front ≡ true → Stops p back → drop (prefix_len p (front ++ back)) (front ++ back) ≡ back
 run_after p front back all stops = ap (λ (n : ℕ). drop n (front ++ back)) (run_len p front back all stops) ∙ drop-append_seam front back
 

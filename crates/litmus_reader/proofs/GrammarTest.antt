@@ -40,7 +40,7 @@ record AreLast (ps rest : List Piece) : Type 0 where
 all_left : (ps : List Piece) → AreLast ps ps
 all_left ps = record { taken = []; parts = refl }
 
--- what stands after a part has these as its last
+-- what comes after a part has these as its last
 left : {Is : List Term → Type 0} {ps after rest : List Piece} → Passes Is ps after → AreLast after rest → AreLast ps rest
 left {Is} {ps} {after} {rest} p last = record { taken = p.front ++ last.taken; parts = p.parts ∙ ap (λ (l : List Piece). p.front ++ l) last.parts ∙ sym (append_assoc p.front last.taken rest) }
 

@@ -64,7 +64,7 @@ pub terms_append : (xs ys : List Piece) → terms (xs ++ ys) ≡ terms xs ++ ter
 terms_append [] ys = refl
 terms_append (x ∷ xs) ys = ap (λ (l : List Term). x.term ∷ l) (terms_append xs ys)
 
--- this token stands at the front, and after it the rest
+-- this token is at the front, and after it the rest
 abbrev pub Takes : Term → List Piece → List Piece → Type 0
 Takes t ps rest = (p : Piece) × (ps ≡ p ∷ rest) × (p.term ≡ t)
 

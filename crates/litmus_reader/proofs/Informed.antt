@@ -36,7 +36,7 @@ braces_line_fails f bytes at total is more line b = shown bytes (Err f) total (�
 
 -- ---- a key line, byte by byte
 
--- what stands after the key stands after the rest of it
+-- what comes after the key comes after the rest of it
 pub key_on : (rest after : List ℕ) (first : ℕ) → rest ≡ first ∷ after → continues_key first ≡ true → drop (prefix_len continues_key rest) rest ≡ drop (prefix_len continues_key after) after
 key_on rest after first is q =
     let one : 1 + prefix_len continues_key after ≡ suc (prefix_len continues_key after) = omega arith in

@@ -1,4 +1,4 @@
--- All tokens of a text: those from a place on are those of the bytes that stand there.
+-- All tokens of a text: those from a place on are those of the bytes that are there.
 use Rattle.litmus_reader.proofs.Vocabulary.{◌≡◌, ℕ, zero, suc, ◌≤◌, ◌<◌, List, [], ◌∷◌, length, None, Result, Ok, Err, refl, sym, ap, ◌∙◌, arith, Stop, End, gap_end, Term, term_at, Piece, piece_at, onto, pieces_within, pieces_of, Bool, true, ltb, ltb-true, and_parts, list_all, inl, inr, drop, prefix_len, length-drop, Option, Some, Symbol, symbol, spelling_of, symbol_among, symbols, starts_with, nat_eq, is_ascii_digit, begins_name, continues_name, longest_name, run_of, symbol_or_bad, symbol_of, ◌+◌, Instructions, is_hexadecimal, is_minus, Minus}
 use Rattle.std.specs.Char.{is_ascii_hexdigit}
 use Rattle.litmus_tokens.proofs.Pieces.{begins_in_name}
@@ -122,7 +122,7 @@ first_again set (b ∷ bs) p ps stop after is e =
     let shorter = piece_shorter set (b ∷ bs) p after is in
     ap (onto p) (e ∙ pieces_same set (length after) (length bs) after (omega arith) (omega (arith, shorter))) ∙ sym (one_step set (length bs) (b ∷ bs) ∙ ap (onward (pieces_within set (length bs))) is)
 
--- where no token stands at the front, there are none
+-- where no token is at the front, there are none
 pub none_again : (set : Instructions) (bytes : List ℕ) (stop : Stop) → piece_at set bytes ≡ Err stop → ([], stop) ≡ pieces_of set bytes
 unfolding pieces_of
 none_again set [] stop is = let same : (let q : Result (Piece × List ℕ) Stop = Err End in q) ≡ Err stop = sym (nothing_there set) ∙ is in ap (λ (s : Stop). ([], s)) (sym (piece_stop End stop same)) ∙ sym (no_bytes set zero)

@@ -3,7 +3,7 @@ use Rattle.std.specs.Prelude.{◌≡◌, List, ◌++◌, Result, Ok, ℕ, true, 
 use Rattle.litmus_reader.proofs.Vocabulary.{row_ends, section_of, Section, Term, Piece, Passes, Fault, Initial, words_of, registers_of, numbered, Stop, row_at, Rows, rows, terms, spelled_in, Claimed, claimed, Proposition, Conditioned, conditioned, Quantifier, AreRows, ends_rows, ends_rows_term, IsCondition, IsWithin, locations_in, atoms_of, claim_by, has_cores, names_in, first_words, first_registers, Shape, Setting, Phrase, cells_of, is_symbol_term, Tilde, Instructions}
 use Rattle.litmus_reader.proofs.Placed.{Placed, placed_in, instrs_with, locations_of, EntriesWithin}
 
--- nothing stands there, or a token with which no row begins
+-- nothing is there, or a token with which no row begins
 abbrev pub ends_table : List Term → Bool
 ends_table [] = true
 ends_table (t ∷ ts) = ends_rows_term t || is_symbol_term Tilde t
@@ -45,7 +45,7 @@ pub record ReadsRow (set : Instructions) (stop : Stop) (ps : List Piece) (cells 
   pub cells_are : AreReadAs set (cells_of row) cells
   pub after_it : terms s.rest ≡ back
 
--- what is read of entries after these names, where this stands after them
+-- what is read of entries after these names, where this comes after them
 abbrev pub rows_by : List (List ℕ) → List Placed → List Piece → Rows
 rows_by names entries rest = rows (instrs_with (numbered names (locations_of entries)) entries) (numbered names (locations_of entries)) rest
 
@@ -55,7 +55,7 @@ pub record ReadsPlaced (reading : Result Rows Fault) (names : List (List ℕ)) (
   pub is : reading ≡ Ok (rows_by names entries rest)
   pub after_it : terms rest ≡ back
 
--- what was read are rows within the limits that the tokens at the front spell, and no row stands after them
+-- what was read are rows within the limits that the tokens at the front spell, and no row comes after them
 pub record SpellsRows (set : Instructions) (cores : ℕ) (names : List (List ℕ)) (ps : List Piece) (r : Rows) : Type 0 where
   pub table : List (List (Option Shape))
   pub spelled : Passes (λ ts. AreRows set cores ts table) ps r.rest
@@ -63,7 +63,7 @@ pub record SpellsRows (set : Instructions) (cores : ℕ) (names : List (List ℕ
   pub given : r ≡ rows_by names (placed_in table) r.rest
   pub ended : ends_rows r.rest ≡ true
 
--- what is read of a phrase, where this stands after it
+-- what is read of a phrase, where this comes after it
 abbrev pub given_by : ℕ → List (List ℕ) → Phrase → List Piece → Claimed
 given_by atoms names p rest = claimed (claim_by (numbered names (locations_in p)) p) (atoms + atoms_of p) (numbered names (locations_in p)) rest
 
@@ -85,7 +85,7 @@ pub record SpellsPhrase (Is : List Term → Phrase → Type 0) (cores atoms : �
 abbrev pub with_claim : Quantifier → Claimed → Conditioned
 with_claim quantifier c = conditioned (Some (record { quantifier = quantifier; claim = c.claim })) c.names c.rest
 
--- what is read of a condition, where this stands after it
+-- what is read of a condition, where this comes after it
 abbrev pub condition_by : List (List ℕ) → Quantifier → Phrase → List Piece → Conditioned
 condition_by names quantifier p rest = with_claim quantifier (given_by 0 names p rest)
 

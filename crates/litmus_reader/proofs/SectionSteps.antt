@@ -26,7 +26,7 @@ section_shorter ends stop ps some =
     let s = section_of ends stop ps in
     omega (arith, some, ap (λ (l : List Piece). length l) (section_parts ends stop ps), length-append s.tokens s.rest)
 
--- one of the symbols stands last, if it stands there
+-- one of the symbols comes last, if it is there
 pub section_last : (ends : List Symbol) (stop : Stop) (ps front back : List Piece) (p : Piece) → (section_of ends stop ps).tokens ≡ front ++ p ∷ back → is_one_of ends p ≡ true → back ≡ []
 unfolding section_of
 section_last ends stop [] [] back p e is = absurd cc
@@ -44,7 +44,7 @@ section_last ends stop (q ∷ qs) front back p e is = by_test (is_one_of ends q)
     by_test false none [] e further = let same : q ≡ p = cc in let also : is_one_of ends q ≡ true = ap (is_one_of ends) same ∙ is in absurd cc
     by_test false none (x ∷ front) e further = further front cc
 
--- where a symbol stands after some tokens that are none of these, there the section ends
+-- where a symbol comes after some tokens that are none of these, there the section ends
 pub record SectionFound (ends : List Symbol) (stop : Stop) (us : List Term) (t : Term) (back : List Term) (ps : List Piece) : Type 0 where
   pub front : List Piece
   pub last : Piece
@@ -83,7 +83,7 @@ section_found ends stop (u ∷ us) back t lacks one (p ∷ ps) e =
 pub section_terms : (ends : List Symbol) (stop : Stop) (us back : List Term) (t : Term) (ps : List Piece) → (f : SectionFound ends stop us t back ps) → terms (f.front ++ f.last ∷ []) ≡ us ++ t ∷ []
 section_terms ends stop us back t ps f = terms_append f.front (f.last ∷ []) ∙ rw (f.is_front, f.is_last) refl
 
--- what a section has, where one of its symbols stands in it
+-- what a section has, where one of its symbols is in it
 pub section_taken : (ends : List Symbol) (stop : Stop) (ps front back : List Piece) (end : Piece) (t : Term) → (section_of ends stop ps).tokens ≡ front ++ end ∷ back → end.term ≡ t → ends_with ends t ≡ true
     → terms (section_of ends stop ps).tokens ≡ terms front ++ t ∷ []
 unfolding is_symbol

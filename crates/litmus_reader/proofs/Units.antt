@@ -6,7 +6,7 @@ use Rattle.litmus_reader.specs.declared.condition.Opening.{Opening}
 use Rattle.litmus_reader.specs.declared.condition.Opening.TheVariants as openings
 use Rattle.litmus_tokens.specs.declared.fault.ReadError.TheVariants as errors
 
--- ---- what begins a unit, by what stands after a negation and after a bracket
+-- ---- what begins a unit, by what comes after a negation and after a bracket
 
 abbrev Begun : Type 0
 Begun = Option (Opening × List Piece)

@@ -48,7 +48,7 @@ test_text (c ∷ cs) h =
 
 -- ---- phrases
 
--- so many negations stand within one another at most, and each location's name is one
+-- so many negations are within one another at most, and each location's name is one
 record KeepsPhrase (d : ℕ) (p : Phrase) : Type 0 where
   pub spelled : Spelled (locations_in p)
   pub negations : (names : List (List ℕ)) → negations_in (claim_by names p) ≤ d

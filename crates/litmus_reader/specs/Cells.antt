@@ -4,7 +4,7 @@ use Rattle.litmus_reader.specs.Vocabulary.{Bar, CoreInstr, Fault, Instructions, 
 use Rattle.litmus_cells.specs.Cells.{cell_in}
 use Rattle.std.specs.List.{slice_split}
 
--- the cells of a row: what stands between its bars
+-- the cells of a row: what comes between its bars
 abbrev pub cells_of : List Piece → List (List Piece)
 cells_of row = slice_split (is_symbol Bar) row
 

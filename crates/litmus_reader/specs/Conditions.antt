@@ -21,7 +21,7 @@ claim_in cores remaining names (of_location x v) = do
   Ok (LocClaim loc.0.0 value, loc.1)
 
 -- what has been read of a proposition: the claim, how many atoms there are so far, the names of locations, and what
--- stands after the claim
+-- comes after the claim
 pub record Claimed : Type 0 where
   pub claim : Claim
   pub atoms : ℕ
@@ -75,7 +75,7 @@ chain_of symbol join unit atoms names ps = do
 abbrev pub disjunction : Proposition → Proposition
 disjunction unit = chain_of Or OrClaim (chain_of And AndClaim unit)
 
--- what stands after a `~` or a `not`
+-- what comes after a `~` or a `not`
 unfoldable pub negation_at : List Piece → Option (List Piece)
 negation_at ps = there (symbol_at Tilde ps) (λ rest. Some rest) (word_after (codes "not") ps)
 
@@ -102,7 +102,7 @@ unfoldable pub unit_at : Stop → ℕ → ℕ → Proposition
 unit_at stop cores zero atoms names ps = if opens_unit ps then Err (fault TooLarge (remaining_of ps)) else atom_at stop cores atoms names ps
 unit_at stop cores (suc n) atoms names ps = unit_by stop cores (unit_at stop cores n) atoms names ps
 
--- what the condition gives, and what stands after it
+-- what the condition gives, and what comes after it
 pub record Conditioned : Type 0 where
   pub condition : Option Condition
   pub names : List (List ℕ)

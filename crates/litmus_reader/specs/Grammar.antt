@@ -6,7 +6,7 @@ use Rattle.litmus_reader.specs.Vocabulary.{Piece, Term}
 abbrev pub terms : List Piece → List Term
 terms ps = map (λ p. p.term) ps
 
--- something of this kind stands in front of the rest
+-- something of this kind is in front of the rest
 pub record Passes (Is : List Term → Type 0) (ps rest : List Piece) : Type 0 where
   pub front : List Piece
   pub parts : ps ≡ front ++ rest

@@ -114,7 +114,7 @@ pub data IsCellMore : List Term → Shape → Type 0 where
 
 -- ---- a whole cell
 
--- what may stand after `LOCK`
+-- what may come after `LOCK`
 pub data IsLocked (set : Instructions) : List Term → Shape → Type 0 where
   locked_exchange : (ts : List Term) (a b : ArgumentTerm) (shape : Shape) → IsCall (codes "XCHG") ts a b
       → IsExchange a b shape → IsLocked set ts shape

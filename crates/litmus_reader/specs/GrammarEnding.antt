@@ -1,4 +1,4 @@
--- Which tokens and bytes spell what stands after the rows: perhaps `locations [..]`, which has no effect, and perhaps a
+-- Which tokens and bytes spell what comes after the rows: perhaps `locations [..]`, which has no effect, and perhaps a
 -- condition, up to the end of the text.
 use Rattle.std.specs.Prelude.{◌≡◌, ◌≤◌, ℕ, List, [], ◌∷◌, length, codes, Option, Some, None}
 use Rattle.litmus_reader.specs.Vocabulary.{Condition, End, Instructions, most_locations, OpenSquare, Piece, pieces_of, Quantifier, Stop}
@@ -15,11 +15,11 @@ pub data MayAsk : List Term → Option WrittenCondition → Type 0 where
   a_condition : (ts : List Term) (q : Quantifier) (p : Phrase) → IsCondition ts q p
       → MayAsk ts (Some (record { quantifier = q; phrase = p }))
 
--- what stands after the rows of a text whose tokens are these: up to the end of the text nothing, or a condition
+-- what comes after the rows of a text whose tokens are these: up to the end of the text nothing, or a condition
 pub data IsEnding (set : Instructions) (text : List ℕ) (stop : Stop) : List Piece → Option WrittenCondition → Type 0 where
   at_once : (ps : List Piece) (c : Option WrittenCondition) → stop ≡ End → MayAsk (terms ps) c
       → IsEnding set text stop ps c
-  -- after `locations [..]`; any bytes may stand in the brackets, and after them tokens begin anew
+  -- after `locations [..]`; any bytes may be in the brackets, and after them tokens begin anew
   after_locations : (w o : Piece) (ps : List Piece) (bytes : List ℕ) (c : Option WrittenCondition)
       → w.term ≡ name (codes "locations") → o.term ≡ symbol OpenSquare
       → ClosesBrackets (from_place text o.remaining) bytes → (pieces_of set bytes).1 ≡ End

@@ -14,7 +14,7 @@ use Rattle.litmus_reader.specs.Written.{Written}
 
 -- ---- the text
 
--- the initial state and the header row of what is written stand in front of the rest
+-- the initial state and the header row of what is written are in front of the rest
 pub record HasColumns (w : Written) (ps rest : List Piece) : Type 0 where
   pub columns : List Piece
   pub initial : Passes (λ ts. IsInitialState ts w.settings) ps columns
@@ -47,7 +47,7 @@ first_names w = numbered [] (names_in w.settings)
 abbrev pub located_in_rows : Written → List (List ℕ)
 located_in_rows w = numbered (first_names w) (named_in w.table)
 
--- all locations: those of the condition stand last
+-- all locations: those of the condition come last
 abbrev pub located : Written → List (List ℕ)
 located w = numbered (located_in_rows w) (names_asked w.asked)
 

@@ -11,7 +11,7 @@ IsAfterGap bytes at = gap_end None bytes ≡ Ok at
 
 -- ---- the header line
 
--- the line at the front without its LF, and what stands after it
+-- the line at the front without its LF, and what comes after it
 unfoldable pub first_line : List ℕ → List ℕ × List ℕ
 first_line bytes = (before_first (λ b. b == 10) bytes, after_first (λ b. b == 10) bytes)
 
@@ -37,7 +37,7 @@ begins_blank (b ∷ bs) = is_blank b
 unfoldable pub name_in : List ℕ → Option (List ℕ)
 name_in line = if starts_with nat_eq line (codes "X86") && begins_blank (drop 3 line) then Some (trimmed (drop 3 line)) else None
 
--- a text that begins with a header line of this name, and what stands after that line
+-- a text that begins with a header line of this name, and what comes after that line
 pub record IsHeaderLine (text name after : List ℕ) : Type 0 where
   pub at : List ℕ
   pub gap : IsAfterGap text at
@@ -55,7 +55,7 @@ continues_key b = is_ascii_alphanumeric b || (b == 95) || (b == 45) || (b == 32)
 abbrev pub is_quoted : ℕ → Bool
 is_quoted b = not (b == 34)
 
--- bytes that begin with a quotation or a key line, and what stands after it
+-- bytes that begin with a quotation or a key line, and what comes after it
 pub data IsInformation : List ℕ → List ℕ → Type 0 where
   -- `"..."`
   quotation : (inside after : List ℕ) → IsTrue (list_all is_quoted inside)
@@ -72,7 +72,7 @@ pub data AreInformationLines : List ℕ → List ℕ → Type 0 where
 
 -- ---- `locations [..]`
 
--- bytes with a `]` outside comments, and what stands after the first
+-- bytes with a `]` outside comments, and what comes after the first
 pub data ClosesBrackets : List ℕ → List ℕ → Type 0 where
   here : (bytes rest : List ℕ) → IsAfterGap bytes (93 ∷ rest) → ClosesBrackets bytes rest
   further : (bytes : List ℕ) (b : ℕ) (bs rest : List ℕ) → IsAfterGap bytes (b ∷ bs)

@@ -23,7 +23,7 @@ judged remaining (Some name) =
     else if nat_lt longest_test_name (length name) && list_all is_printable name then Err (fault TooLarge remaining)
     else Err (fault NoHeader remaining)
 
--- the name of the test, and what stands after the header line
+-- the name of the test, and what comes after the header line
 unfoldable pub header_at : List ℕ → Result (List ℕ × List ℕ) Fault
 header_at text = do
   at ← from_gap (gap_end None text)

@@ -1,4 +1,4 @@
--- Information lines, between the header line and the initial state. They are read as bytes, for anything may stand in
+-- Information lines, between the header line and the initial state. They are read as bytes, for anything may be in
 -- quotation marks.
 use Rattle.std.specs.Prelude.{ℕ, zero, suc, Bool, false, List, [], ◌∷◌, length, drop, Option, Some, None, Result, Ok, Err, ◌==◌, if◌then◌else◌}
 use Rattle.std.specs.List.{prefix_len}
@@ -7,21 +7,21 @@ use Rattle.litmus_reader.specs.Vocabulary.{BadToken, Fault, fault, gap_end, or_f
 use Rattle.litmus_reader.specs.Header.{from_gap}
 use Rattle.litmus_reader.specs.GrammarText.{first_line, continues_key}
 
--- what stands after the next quotation mark; no comment is looked for before it
+-- what comes after the next quotation mark; no comment is looked for before it
 unfoldable pub quotation_end : List ℕ → Option (List ℕ)
 quotation_end [] = None
 quotation_end (b ∷ bs) = if b == 34 then Some bs else quotation_end bs
 
--- what stands after a key's `=` and the rest of its line
+-- what comes after a key's `=` and the rest of its line
 abbrev pub key_value : ℕ → List ℕ → Result (List ℕ) Fault
 key_value remaining [] = Err (fault BadToken remaining)
 key_value remaining (b ∷ bs) = if b == 61 then Ok (first_line bs).1 else Err (fault BadToken remaining)
 
--- what stands after the key line that begins here
+-- what comes after the key line that begins here
 abbrev pub key_line_end : List ℕ → Result (List ℕ) Fault
 key_line_end bytes = key_value (length bytes) (drop (prefix_len continues_key bytes) bytes)
 
--- What stands after the quotation or the key line at the front; the text must not end here. A quotation without its end is
+-- What comes after the quotation or the key line at the front; the text must not end here. A quotation without its end is
 -- unclosed at its opener.
 unfoldable pub information_end : List ℕ → Result (List ℕ) Fault
 information_end [] = Err (fault Unclosed 0)

@@ -53,7 +53,7 @@ item_in part i ps =
     or_unfit part setting.1 (item_end setting.1) >>= λ is_last.
     judged (remaining_of ps) i setting.0 >>= λ after. Ok (after, is_last))
 
--- what stands before the `}`, in fewer than n items, and what stands after it; an item is first taken to its end
+-- what comes before the `}`, in fewer than n items, and what comes after it; an item is first taken to its end
 unfoldable pub items_within : ℕ → ℕ → Stop → Initial → List Piece → Result (Initial × List Piece) Fault
 items_within zero remaining stop i ps = Err (fault Unclosed remaining)
 items_within (suc n) remaining stop i ps =
@@ -61,7 +61,7 @@ items_within (suc n) remaining stop i ps =
     item_in (in_initial remaining section.stop) i section.tokens >>= λ read.
     if read.1 then Ok (read.0, section.rest) else items_within n remaining stop read.0 section.rest
 
--- The initial state, and what stands after it; there are no names before it. Another token than its `{` is a bad one, and a
+-- The initial state, and what comes after it; there are no names before it. Another token than its `{` is a bad one, and a
 -- text that ends before it is unclosed.
 unfoldable pub initial_at : Stop → List (List ℕ) → List Piece → Result (Initial × List Piece) Fault
 initial_at stop names ps = do

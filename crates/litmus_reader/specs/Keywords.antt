@@ -4,7 +4,7 @@ use Rattle.std.specs.Str.{bytes_eq}
 use Rattle.litmus_tokens.specs.Terms.{Term, name}
 use Rattle.litmus_reader.specs.Vocabulary.{name_at, Piece, there}
 
--- what stands after this word, if it is at the front
+-- what comes after this word, if it is at the front
 unfoldable pub word_after : List ℕ → List Piece → Option (List Piece)
 word_after word ps = there (name_at ps) (λ x. if bytes_eq x.0 word then Some x.1 else None) None
 

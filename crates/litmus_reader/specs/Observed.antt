@@ -1,4 +1,4 @@
--- `locations [..]`, which is read and has no effect: any bytes may stand in the brackets, so tokens begin anew after them.
+-- `locations [..]`, which is read and has no effect: any bytes may be in the brackets, so tokens begin anew after them.
 use Rattle.std.specs.Prelude.{ℕ, zero, suc, List, [], ◌∷◌, length, codes, None, Result, Ok, Err, ◌==◌, if◌then◌else◌}
 use Rattle.litmus_reader.specs.Vocabulary.{BadToken, Fault, fault, gap_end, Instructions, OpenSquare, Piece, pieces_of, Stop, symbol_at, there, Unclosed, ◌>>=◌}
 use Rattle.litmus_reader.specs.Faults.{or_unfit}
@@ -11,22 +11,22 @@ abbrev pub square_by : (List ℕ → Result (List ℕ) Fault) → ℕ → List �
 square_by further remaining [] = Err (fault Unclosed remaining)
 square_by further remaining (b ∷ bs) = if b == 93 then Ok bs else further bs
 
--- what stands after the next `]`, over fewer than n bytes; comments are passed over
+-- what comes after the next `]`, over fewer than n bytes; comments are passed over
 unfoldable pub square_within : ℕ → ℕ → List ℕ → Result (List ℕ) Fault
 square_within zero remaining bytes = Err (fault Unclosed remaining)
 square_within (suc n) remaining bytes = from_gap (gap_end None bytes) >>= λ at. square_by (square_within n remaining) remaining at
 
--- what stands after the next `]`
+-- what comes after the next `]`
 unfoldable pub square_end : ℕ → List ℕ → Result (List ℕ) Fault
 square_end remaining bytes = square_within (suc (length bytes)) remaining bytes
 
--- what stands after the brackets that have to begin after the word, any bytes being allowed in them
+-- what comes after the brackets that have to begin after the word, any bytes being allowed in them
 unfoldable pub brackets_end : List ℕ → Stop → List Piece → Result (List ℕ) Fault
 brackets_end text stop ps = do
   inside ← or_unfit (part_of BadToken stop) ps (symbol_at OpenSquare ps)
   square_end (remaining_of ps) (from_place text (remaining_of ps))
 
--- the tokens after `locations [..]`, if it stands here, and else those from here on
+-- the tokens after `locations [..]`, if it is here, and else those from here on
 unfoldable pub ending_tokens : Instructions → List ℕ → Stop → List Piece → Result (List Piece × Stop) Fault
 ending_tokens set text stop ps =
     there (word_after (codes "locations") ps) (λ rest. brackets_end text stop rest >>= λ bytes. Ok (pieces_of set bytes)) (Ok (ps, stop))

@@ -20,7 +20,7 @@ abbrev pub unfit : Part → List Piece → Fault
 unfit part [] = part.missing
 unfit part (p ∷ ps) = fault part.why p.remaining
 
--- in the initial state, whose `{` stands at `remaining`
+-- in the initial state, whose `{` is at `remaining`
 abbrev pub in_initial : ℕ → Stop → Part
 in_initial remaining stop = record { why = BadInit; missing = at_stop (fault Unclosed remaining) stop }
 

@@ -38,7 +38,7 @@ test_of name names words registers instrs condition = record {
   condition = condition;
 }
 
--- what stands after the rows: the condition, and then the end
+-- what comes after the rows: the condition, and then the end
 unfoldable pub tail_at : Instructions → List ℕ → Stop → ℕ → List (List ℕ) → List Piece → Result (Option Condition × List (List ℕ)) Fault
 tail_at set text stop cores names ps = do
   rest ← ending_tokens set text stop ps
@@ -46,7 +46,7 @@ tail_at set text stop cores names ps = do
   end ← end_at rest.1 c.rest
   Ok (c.condition, c.names)
 
--- the initial state, the table and what stands after it; the tokens are those of this end of the text
+-- the initial state, the table and what comes after it; the tokens are those of this end of the text
 unfoldable pub body_of : Instructions → List ℕ → List ℕ → Stop → List Piece → Result Litmus Fault
 body_of set name text stop ps = do
   initial ← initial_at stop [] ps

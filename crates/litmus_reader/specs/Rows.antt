@@ -21,7 +21,7 @@ row_in set cores stop instrs names ps =
     row_at stop ps >>= λ row.
     if length (cells_of row) == cores then cells_in set 0 instrs names (cells_of row) else Err (fault WrongCells (remaining_of ps))
 
--- what all rows give: the instructions, the names of locations, and what stands after the rows
+-- what all rows give: the instructions, the names of locations, and what comes after the rows
 pub record Rows : Type 0 where
   pub instrs : List CoreInstr
   pub names : List (List ℕ)

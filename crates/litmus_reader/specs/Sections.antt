@@ -4,7 +4,7 @@ use Rattle.std.specs.Prelude.{List, [], ◌∷◌, if◌then◌else◌}
 use Rattle.std.specs.List.{list_any}
 use Rattle.litmus_reader.specs.Vocabulary.{End, is_symbol, Piece, Stop, Symbol}
 
--- some tokens, why there are no more of them, and those that stand after them
+-- some tokens, why there are no more of them, and those that come after them
 pub record Section : Type 0 where
   pub tokens : List Piece
   pub stop : Stop

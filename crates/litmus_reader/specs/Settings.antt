@@ -1,4 +1,4 @@
--- `c:REG=v`, `x=v` and `[x]=v`, as they stand in the initial state and in conditions.
+-- `c:REG=v`, `x=v` and `[x]=v`, as they are in the initial state and in conditions.
 use Rattle.std.specs.Prelude.{ℕ, List, Result, Ok, Err, nat_lt, if◌then◌else◌}
 use Rattle.litmus_reader.specs.Vocabulary.{CloseSquare, Colon, decimal_value, Equals, Fault, fault, NoSuchCore, number_at, numeral_at, OpenSquare, Piece, symbol_at, there, ◌>>=◌}
 use Rattle.litmus_tokens.specs.Names.{location_at, register_at}

@@ -24,7 +24,7 @@ pub fn argument_of(symbol: Symbol, tokens: &[Token<'_>]) -> Option<usize>
     None
 }
 
-/// The first cell of a row, and what stands after its bar, if it has one.
+/// The first cell of a row, and what comes after its bar, if it has one.
 fn first_cell<'a, 'b>(row: &'b [Token<'a>]) -> (&'b [Token<'a>], Option<&'b [Token<'a>]>)
     ensures cells { cells_of (pieces row.now) ≡ pieces result.0.now ∷ cells_after result.1 }
     ensures shorter { IfSome result.1 (λ after. length after.now < length row.now) }

@@ -25,7 +25,7 @@ pub fn columns_at<'a, 'b>(stop: Stop, tokens: &'b [Token<'a>]) -> Result<usize, 
 {
     let part = part_of(Why::BadHeaderRow, stop);
     let mut core = 0;
-    // The columns that are read, none yet, and what stands after them.
+    // The columns that are read, none yet, and what comes after them.
     let (_, mut rest) = tokens.split_at(0);
     'columns: loop {
         let name = [b'P', b'0' + core as u8];

@@ -163,7 +163,7 @@ fn closed<'a, 'b>(
     }
 }
 
-/// What stands between two propositions.
+/// What comes between two propositions.
 #[derive(Clone, Copy)]
 enum Joint {
     And,
@@ -310,7 +310,7 @@ fn proposition_at<'a, 'b>(
 
 /// The condition, if there is one, and the tokens after it.
 ///
-/// What stands in a condition and doesn't fit is `BadCondition`.
+/// What is in a condition and doesn't fit is `BadCondition`.
 #[tactic(auto, unfolding(crate::specs::Conditions::condition_at, crate::specs::Conditions::quantified))]
 pub fn condition_at<'a, 'b>(
     alloc: Global,

@@ -16,7 +16,7 @@ use litmus_cells::{Fault, Why};
 use litmus_tokens::after_gap;
 use tso_terms::names::is_test_name;
 
-/// What stands after white space and comments; `Unclosed` at a comment that doesn't end.
+/// What comes after white space and comments; `Unclosed` at a comment that doesn't end.
 pub fn past_gap(bytes: &[u8]) -> Result<&[u8], Fault>
     ensures value { mapped (λ x. x.now) result ≡ header.from_gap (gap_end None bytes.now) }
     ensures within { IfOk result (λ x. length x.now ≤ length bytes.now) }
@@ -79,7 +79,7 @@ fn trimmed(bytes: &[u8]) -> &[u8]
     front
 }
 
-/// The line at the front without its LF, and what stands after it.
+/// The line at the front without its LF, and what comes after it.
 pub fn first_line(bytes: &[u8]) -> (&[u8], &[u8])
     ensures value { (result.0.now, result.1.now) ≡ grammar.first_line bytes.now }
     ensures within { length result.1.now ≤ length bytes.now }
@@ -143,7 +143,7 @@ fn judged<'a>(remaining: usize, name: Option<&'a [u8]>) -> Result<&'a [u8], Faul
     }
 }
 
-/// The name of the test, and what stands after the header line.
+/// The name of the test, and what comes after the header line.
 ///
 /// `NoHeader` and, for a name of more than 64 bytes, `TooLarge`, at the first byte that isn't white
 /// space; `Unclosed` at a comment before it that doesn't end.

@@ -1,4 +1,4 @@
-//! Information lines: quoted text and keys, which are passed over. Anything may stand in quotation marks, so these lines
+//! Information lines: quoted text and keys, which are passed over. Anything may be in quotation marks, so these lines
 //! are read as bytes, before there are tokens.
 
 ghost use Rattle.std.specs.Prelude.{◌≡◌, ◌≤◌, ◌<◌, length, IfOk, IfSome};
@@ -11,7 +11,7 @@ ghost use Rattle.litmus_reader.specs.GrammarText as grammar;
 use crate::header::{first_line, past_gap};
 use litmus_cells::{Fault, Why};
 
-/// What stands after the next quotation mark.
+/// What comes after the next quotation mark.
 #[tactic(auto, unfolding(crate::specs::Information::quotation_end))]
 fn after_quotation(bytes: &[u8]) -> Option<&[u8]>
     ensures value { option_map (λ x. x.now) result ≡ spec.quotation_end bytes.now }
@@ -34,7 +34,7 @@ fn continues_key(byte: u8) -> bool
     byte.is_ascii_alphanumeric() || matches!(byte, b'_' | b'-' | b' ' | b'\t')
 }
 
-/// What stands after the key line that begins here; `BadToken` at a key without its `=`.
+/// What comes after the key line that begins here; `BadToken` at a key without its `=`.
 fn after_key_line(bytes: &[u8]) -> Result<&[u8], Fault>
     ensures value { mapped (λ x. x.now) result ≡ spec.key_line_end bytes.now }
     ensures shorter { IfOk result (λ x. length x.now < length bytes.now) }
@@ -56,7 +56,7 @@ fn after_key_line(bytes: &[u8]) -> Result<&[u8], Fault>
     })
 }
 
-/// What stands after the quotation or the key line at the front.
+/// What comes after the quotation or the key line at the front.
 ///
 /// `Unclosed` at a quotation that doesn't end and at the end of the text, `BadToken` at a key
 /// without its `=` and at anything else.

@@ -43,7 +43,7 @@ pub struct Initial<'a> {
     given: IndexSet<(&'a [u8], usize)>,
 }
 
-/// Notes an item whose first token stands at `remaining`.
+/// Notes an item whose first token is at `remaining`.
 ///
 /// `BadNumber`, then `TooLarge` for a location too many, then `TwiceInit`, all at `remaining`.
 #[tactic(auto, using(crate::proofs::Listed::judged_twice, crate::proofs::Listed::judged_new), unfolding(crate::specs::Initial::judged))]
@@ -147,11 +147,11 @@ pub fn nothing_given<'a>(alloc: Global) -> Initial<'a>
     }
 }
 
-/// Reads the initial state with which a text begins, puts what it gives where nothing is yet, and answers what stands after it.
+/// Reads the initial state with which a text begins, puts what it gives where nothing is yet, and answers what comes after it.
 /// There are no names of locations before it. `tokens` has room for those of an item.
 ///
 /// `BadInit` at a token that doesn't fit, `Unclosed` at its `{` where the text ends; as an item's
-/// `;` or `}` stands there, at the item's first token, `BadNumber`, `TooLarge` for a location too
+/// `;` or `}` is there, at the item's first token, `BadNumber`, `TooLarge` for a location too
 /// many, and `TwiceInit`.
 pub fn read_initial<'a>(
     set: Instructions,

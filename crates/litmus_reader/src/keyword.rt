@@ -7,7 +7,7 @@ ghost use Rattle.litmus_reader.specs.Keywords as spec;
 
 use litmus_tokens::{Token, name_at};
 
-/// What stands after this word, if it is at the front.
+/// What comes after this word, if it is at the front.
 #[tactic(auto, unfolding(crate::specs::Keywords::word_after))]
 pub fn after_word<'a, 'b>(word: &[u8], tokens: &'b [Token<'a>]) -> Option<&'b [Token<'a>]>
     ensures value { option_map (λ x. pieces x.now) result ≡ spec.word_after word.now (pieces tokens.now) }

@@ -1,4 +1,4 @@
-//! The locations between square brackets, which are passed over: they have no effect, and any bytes may stand there. Tokens
+//! The locations between square brackets, which are passed over: they have no effect, and any bytes may be there. Tokens
 //! begin anew after them.
 
 ghost use Rattle.std.specs.Prelude.{◌≡◌, codes, IfSome};
@@ -15,7 +15,7 @@ use crate::section::after_opening;
 use litmus_cells::{Fault, Why};
 use litmus_tokens::{Instructions, Lexeme, Symbol, token_at};
 
-/// What stands after the next `]`, comments passed over; without it, `Unclosed` at `remaining`.
+/// What comes after the next `]`, comments passed over; without it, `Unclosed` at `remaining`.
 #[tactic(auto, using(crate::proofs::Squares::square_start, crate::proofs::Squares::square_further))]
 fn after_square(remaining: usize, bytes: &[u8]) -> Result<&[u8], Fault>
     ensures { mapped (λ x. x.now) result ≡ spec.square_end remaining bytes.now }
@@ -36,7 +36,7 @@ fn after_square(remaining: usize, bytes: &[u8]) -> Result<&[u8], Fault>
     }
 }
 
-/// What stands after the brackets with which `rest` has to begin.
+/// What comes after the brackets with which `rest` has to begin.
 #[tactic(auto, unfolding(crate::specs::Observed::brackets_end))]
 fn after_brackets<'a>(set: Instructions, text: &'a [u8], rest: &[u8]) -> Result<&'a [u8], Fault>
     ensures { mapped (λ x. x.now) result ≡ spec.brackets_end text.now (stop_of set rest.now) (tokens_in set rest.now) }
@@ -55,7 +55,7 @@ fn is_locations(lexeme: Lexeme<'_>) -> bool
     }
 }
 
-/// What stands after the word `locations`, if a text begins with it.
+/// What comes after the word `locations`, if a text begins with it.
 #[tactic(auto, using(crate::proofs::SectionSteps::word_missing, crate::proofs::SectionSteps::stop_there))]
 fn after_locations(set: Instructions, text: &[u8]) -> Option<&[u8]>
     ensures value { option_map (λ x. tokens_in set x.now) result ≡ keywords.word_after (codes "locations") (tokens_in set text.now) }
@@ -73,10 +73,10 @@ fn after_locations(set: Instructions, text: &[u8]) -> Option<&[u8]>
     }
 }
 
-/// What stands after `locations [..]`, if `rest` begins with it, and else all of `rest`, which is an end of
+/// What comes after `locations [..]`, if `rest` begins with it, and else all of `rest`, which is an end of
 /// the text.
 ///
-/// `BadToken` where no `[` stands after the word, `Unclosed` at a `[` that doesn't end and at a
+/// `BadToken` where no `[` comes after the word, `Unclosed` at a `[` that doesn't end and at a
 /// comment that doesn't.
 #[tactic(auto, unfolding(crate::specs::Observed::ending_tokens))]
 pub fn after_observed<'a>(

@@ -61,7 +61,7 @@ fn end_at(stop: Stop, tokens: &[Token<'_>]) -> Result<(), Fault>
     }
 }
 
-/// What stands after the rows of a text: `locations [..]`, the condition and the end.
+/// What comes after the rows of a text: `locations [..]`, the condition and the end.
 #[tactic(auto, unfolding(crate::specs::Reading::tail_at))]
 fn tail_at<'a>(
     alloc: Global,
@@ -81,7 +81,7 @@ fn tail_at<'a>(
     Ok(cond)
 }
 
-/// The parts of the test: the initial state, the table and what stands after it. What is read on the way is lent, so that
+/// The parts of the test: the initial state, the table and what comes after it. What is read on the way is lent, so that
 /// no refusal has to let go of it.
 #[tactic(auto, unfolding(crate::specs::Reading::body_of))]
 fn body_with<'a>(
@@ -151,7 +151,7 @@ pub fn read_test(alloc: Global, text: &[u8]) -> Result<Test, TextFault>
     // A refusal is the one that the text gets, and a text that gets one is answered with it.
     ensures refused { IfErr result (λ f. f.why ≢ Why.NoMemory → IsRefused Basic text.now f) }
     ensures refuses { (fault : TextFault) → IsRefused Basic text.now fault → MatchResult result (λ _. ⊥) (λ f. f.why ≢ Why.NoMemory → f ≡ fault) }
-    // Out of memory stands at no line.
+    // Out of memory is at no line.
     ensures no_memory { IfErr result (λ f. f.why ≡ Why.NoMemory → f.line ≡ 0) }
 {
     read_test_in(alloc, Instructions::Basic, text)
@@ -234,7 +234,7 @@ fn with_line(
     }
 }
 
-/// The refusal for a fault of a text, with the line of its place; out of memory stands at no line.
+/// The refusal for a fault of a text, with the line of its place; out of memory is at no line.
 pub fn refusal_for(text: &[u8], fault: Fault) -> TextFault
     ensures refusal { fault.why ≢ Why.NoMemory → result ≡ refusal text.now fault }
     ensures why { result.why ≡ fault.why }

@@ -115,7 +115,7 @@ pub struct Table {
 }
 
 /// Reads the header row and all rows with which a text begins, puts what they give where nothing is yet, and answers what
-/// stands after them. `tokens` has room for those of a row.
+/// comes after them. `tokens` has room for those of a row.
 ///
 /// As the header row ends, `NoSuchCore` at the first item of the initial state whose core isn't
 /// there. A row is first taken to its `;` (`Unclosed` at its first token where the text ends), then

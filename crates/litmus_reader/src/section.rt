@@ -14,7 +14,7 @@ use litmus_cells::{Fault, Why};
 use litmus_tokens::{Instructions, Stop, Symbol, Token, is_symbol, token_at};
 use tso_terms::NoMemory;
 
-/// What stands after a section.
+/// What comes after a section.
 #[derive(Clone, Copy)]
 pub struct Onward<'a> {
     pub rest: &'a [u8],
@@ -92,7 +92,7 @@ pub fn read_row_tokens<'a>(
     read_section(set, tokens, &[Symbol::Semicolon], text)
 }
 
-/// The place of the symbol with which a text has to begin, and what stands after it.
+/// The place of the symbol with which a text has to begin, and what comes after it.
 ///
 /// `BadToken` at another token, and at the end of the text `end`.
 pub fn after_opening(

@@ -20,7 +20,7 @@ as_constant found = Some (constant found.0, found.1)
 abbrev pub memory_at : List Piece → Option (ArgumentTerm × List Piece)
 memory_at ps = there (location_at ps) (λ x. there (symbol_at CloseSquare x.1) (λ rest. Some (in_memory x.0, rest)) None) None
 
--- `v`, `$v`, `[x]` or `REG` at the front, and what stands after it
+-- `v`, `$v`, `[x]` or `REG` at the front, and what comes after it
 unfoldable pub argument_at : List Piece → Option (ArgumentTerm × List Piece)
 argument_at ps =
     there (numeral_at ps) as_constant
@@ -28,7 +28,7 @@ argument_at ps =
     (there (symbol_at OpenSquare ps) memory_at
     (there (register_at ps) (λ reg. Some (in_register reg.0, reg.1)) None)))
 
--- both operands, if nothing more stands after the second
+-- both operands, if nothing more comes after the second
 abbrev pub if_last : ArgumentTerm → ArgumentTerm × List Piece → Option (ArgumentTerm × ArgumentTerm)
 if_last first (second, []) = Some (first, second)
 if_last first (second, p ∷ ps) = None

@@ -1,4 +1,4 @@
--- Which token stands at the front of some tokens, and what stands after it.
+-- Which token is at the front of some tokens, and what comes after it.
 use Rattle.std.specs.Prelude.{Bool, false, ℕ, List, [], ◌∷◌, Option, Some, None, if◌then◌else◌}
 use Rattle.std.specs.Str.{bytes_eq}
 use Rattle.litmus_tokens.specs.declared.token.Symbol.{Symbol}
@@ -17,7 +17,7 @@ is_symbol_term s other = false
 unfoldable pub is_symbol : Symbol → Piece → Bool
 is_symbol s p = is_symbol_term s p.term
 
--- what stands after this symbol, if it is at the front
+-- what comes after this symbol, if it is at the front
 unfoldable pub symbol_at : Symbol → List Piece → Option (List Piece)
 symbol_at s [] = None
 symbol_at s (p ∷ ps) = if is_symbol s p then Some ps else None
@@ -26,7 +26,7 @@ abbrev pub name_then : Term → List Piece → Option (List ℕ × List Piece)
 name_then (name x) ps = Some (x, ps)
 name_then other ps = None
 
--- the name at the front, and what stands after it
+-- the name at the front, and what comes after it
 unfoldable pub name_at : List Piece → Option (List ℕ × List Piece)
 name_at [] = None
 name_at (p ∷ ps) = name_then p.term ps
@@ -35,7 +35,7 @@ abbrev pub number_then : Term → List Piece → Option (List ℕ × List Piece)
 number_then (number digits) ps = Some (digits, ps)
 number_then other ps = None
 
--- the digits of the number at the front, and what stands after it
+-- the digits of the number at the front, and what comes after it
 unfoldable pub number_at : List Piece → Option (List ℕ × List Piece)
 number_at [] = None
 number_at (p ∷ ps) = number_then p.term ps

@@ -16,7 +16,7 @@ opens_comment b c = (b == 40) && (c == 42)
 abbrev pub closes_comment : ℕ → ℕ → Bool
 closes_comment b c = (b == 42) && (c == 41)
 
--- What stands after white space and comments. A comment begins with `(*`, ends with the first `*)` after these two
+-- What comes after white space and comments. A comment begins with `(*`, ends with the first `*)` after these two
 -- bytes, and has no comments in it. Inside one the number says how many bytes of the text stand from its `(*` on.
 unfoldable pub gap_end : Option ℕ → List ℕ → Result (List ℕ) Stop
 gap_end None [] = Ok []

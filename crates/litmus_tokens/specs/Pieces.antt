@@ -17,7 +17,7 @@ abbrev pub ◌>>=◌ : {A B : Type 0} → Result A Stop → (A → Result B Stop
 (Ok x) >>= f = f x
 (Err e) >>= f = Err e
 
--- the next token after white space and comments, and what stands after it
+-- the next token after white space and comments, and what comes after it
 unfoldable pub piece_at : Instructions → List ℕ → Result (Piece × List ℕ) Stop
 piece_at set bytes = do
   rest ← gap_end None bytes

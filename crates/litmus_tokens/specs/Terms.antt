@@ -52,13 +52,13 @@ unfoldable pub symbols : List Symbol
 symbols = Equals ∷ Semicolon ∷ Colon ∷ OpenSquare ∷ CloseSquare ∷ OpenCurly ∷ CloseCurly ∷ Bar ∷ Comma ∷ Dollar ∷ Tilde
     ∷ OpenRound ∷ CloseRound ∷ And ∷ Or ∷ []
 
--- the one of these symbols that is spelled at the front, and what stands after it
+-- the one of these symbols that is spelled at the front, and what comes after it
 abbrev pub symbol_among : List Symbol → List ℕ → Option (Symbol × List ℕ)
 symbol_among [] bytes = None
 symbol_among (s ∷ others) bytes =
     if starts_with nat_eq bytes (spelling_of s) then Some (s, drop (length (spelling_of s)) bytes) else symbol_among others bytes
 
--- the symbol at the front, and what stands after it
+-- the symbol at the front, and what comes after it
 unfoldable pub symbol_of : List ℕ → Option (Symbol × List ℕ)
 symbol_of bytes = symbol_among symbols bytes
 
@@ -99,7 +99,7 @@ abbrev pub symbol_or_bad : ℕ → Option (Symbol × List ℕ) → Result (Term 
 symbol_or_bad remaining (Some found) = Ok (symbol found.0, found.1)
 symbol_or_bad remaining None = Err (BadToken remaining)
 
--- the token at the very front of some bytes, and what stands after it
+-- the token at the very front of some bytes, and what comes after it
 unfoldable pub term_at : Instructions → List ℕ → Result (Term × List ℕ) Stop
 term_at set [] = Err End
 term_at set (b ∷ bs) =

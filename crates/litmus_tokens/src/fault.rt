@@ -16,7 +16,7 @@ pub enum Why {
     /// A comment, an initial state or a row that doesn't end.
     Unclosed,
     /// A byte that begins no token, a name of more than 32 bytes, or anything before the initial
-    /// state that can't stand there.
+    /// state that can't be there.
     BadToken,
     /// A token that doesn't fit in the initial state.
     BadInit,

@@ -253,7 +253,7 @@ fn more_by<'a>(word: &[u8], rest: &[Token<'a>]) -> Option<Form<'a>>
     }
 }
 
-/// What may stand after `LOCK`.
+/// What may come after `LOCK`.
 #[tactic(auto, unfolding(crate::specs::Forms::locked_at))]
 fn locked_form<'a>(set: Instructions, tokens: &[Token<'a>]) -> Option<Form<'a>>
     ensures { option_map shape_of result ≡ spec.locked_at set (pieces tokens.now) }

@@ -1,4 +1,4 @@
-//! What stands at the front of a list of tokens: a symbol, a name or a number with what is left after it, or nothing.
+//! What is at the front of a list of tokens: a symbol, a name or a number with what is left after it, or nothing.
 
 ghost use Rattle.std.specs.Prelude.{◌≡◌, ◌<◌, length, IfSome};
 ghost use Rattle.std.specs.Option.{option_map};

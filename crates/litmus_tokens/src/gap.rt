@@ -16,7 +16,7 @@ fn is_space(byte: u8) -> bool
     matches!(byte, b' ' | b'\t' | b'\n' | b'\r')
 }
 
-/// What stands after the first `*)`.
+/// What comes after the first `*)`.
 fn after_comment(bytes: &[u8]) -> Option<&[u8]>
     ensures value { option_map (λ x. x.now) result ≡ comment_end bytes.now }
     ensures shorter { IfSome result (λ x. length x.now < length bytes.now) }
@@ -31,7 +31,7 @@ fn after_comment(bytes: &[u8]) -> Option<&[u8]>
     None
 }
 
-/// What stands after one byte of white space or one comment; `None` where neither is there.
+/// What comes after one byte of white space or one comment; `None` where neither is there.
 #[tactic(auto, using(crate::proofs::Gaps::gap_after_space), unfolding(crate::specs::Gap::gap_end))]
 fn after_one(bytes: &[u8]) -> Result<Option<&[u8]>, Stop>
     ensures { Steps result bytes.now (gap_end None bytes.now) }
@@ -58,7 +58,7 @@ fn after_one(bytes: &[u8]) -> Result<Option<&[u8]>, Stop>
     }
 }
 
-/// What stands after white space and comments. The only stop is a comment that doesn't end.
+/// What comes after white space and comments. The only stop is a comment that doesn't end.
 pub fn after_gap(bytes: &[u8]) -> Result<&[u8], Stop>
     ensures value { mapped (λ x. x.now) result ≡ gap_end None bytes.now }
     ensures within { IfOk result (λ x. length x.now ≤ length bytes.now) }

@@ -134,7 +134,7 @@ fn single(byte: u8) -> Option<Symbol>
     }
 }
 
-/// The symbol at the very front, and what stands after it.
+/// The symbol at the very front, and what comes after it.
 #[inline(always)]
 fn symbol_of(bytes: &[u8]) -> Option<(Symbol, &[u8])>
     ensures value { option_map (λ x. (x.0, x.1.now)) result ≡ terms.symbol_of bytes.now }
@@ -244,7 +244,7 @@ fn is_minus(set: Instructions, byte: u8) -> bool
     }
 }
 
-/// The token at the very front, and what stands after it.
+/// The token at the very front, and what comes after it.
 #[inline(always)]
 fn lexeme_at(set: Instructions, bytes: &[u8]) -> Result<(Lexeme<'_>, &[u8]), Stop>
     ensures value { mapped (λ x. (term_of x.0, x.1.now)) result ≡ terms.term_at set bytes.now }
@@ -273,9 +273,9 @@ fn lexeme_at(set: Instructions, bytes: &[u8]) -> Result<(Lexeme<'_>, &[u8]), Sto
     }
 }
 
-/// The next token after white space and comments, and what stands after it.
+/// The next token after white space and comments, and what comes after it.
 ///
-/// The stop says why no token stands there.
+/// The stop says why no token is there.
 #[inline(always)]
 #[tactic(auto, unfolding(crate::specs::Pieces::piece_at))]
 pub fn token_at(set: Instructions, bytes: &[u8]) -> Result<(Token<'_>, &[u8]), Stop>

@@ -67,7 +67,7 @@ pub struct Token<'a> {
 pub enum Stop {
     /// The text is at its end.
     End,
-    /// A byte that begins no token stands there, or a name of more than 32 bytes.
+    /// A byte that begins no token is there, or a name of more than 32 bytes.
     BadToken(usize),
     /// A comment begins there that doesn't end.
     Unclosed(usize),

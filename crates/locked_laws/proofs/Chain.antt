@@ -1,4 +1,4 @@
--- What follows from the turns of locked instructions: each stands directly after what its load part reads, so what stands directly
+-- What follows from the turns of locked instructions: each comes directly after what its load part reads, so what comes directly
 -- after one source is one instruction.
 use Rattle.relational_model.proofs.Vocabulary.{◌≡◌, ℕ, zero, suc, true, List, [], ◌∷◌, ◌++◌, Option, Some, None, slice_get, arith, refl, sym, ap, ◌∙◌, ◌⊎◌, inl, inr, subst, length, Litmus, writes_to, Entry, IsIn, Candidate, events, last_in, IsAllowed, ArePair, part_of}
 use Rattle.relational_model.proofs.Sources.{StandOnce}
@@ -34,7 +34,7 @@ last-at (x ∷ []) (suc j) w p q = let z : ⊥ = cc in absurd z
 last-at (x ∷ (y ∷ ys)) zero w p q = let z : ⊥ = cc in absurd z
 last-at (x ∷ (y ∷ ys)) (suc j) w p q = last-at (y ∷ ys) j w p q
 
--- where one source stands once, what follows it stands at one place
+-- where one source comes once, what follows it is at one place
 one-place : (xs : List Entry) → StandOnce xs → (s : Option Entry) (m n : ℕ) → Follows xs s m → Follows xs s n → m ≡ n
 one-place xs once None m n p q = p ∙ sym q
 one-place xs once (Some v) m n (i, (e, p)) (j, (f, q)) = let same : i ≡ j = once i j v p q in omega arith
@@ -96,7 +96,7 @@ module _ (turns : LockedInstructionsTakeTurns) (t : Litmus) (c : Candidate) (a :
               let p : slice_get (c.coherence r.loc.0) x.place ≡ Some v = subst (λ n. slice_get (c.coherence r.loc.0) n ≡ Some v) place stands in
               let q : Some v ≡ Some w = sym p ∙ x.stands in cc
 
-  -- what the load part reads whose store part stands at this place
+  -- what the load part reads whose store part is at this place
   pub record ReadAt (loc n : ℕ) (w : Entry) : Type 0 where
     pub reader : Entry
     pub part : IsLoadPart t c loc reader

@@ -64,7 +64,7 @@ module _ (turns : LockedInstructionsTakeTurns) (t : Litmus) (c : Candidate) (a :
   abbrev word : ℕ
   word = slice_index t.words loc
 
-  -- the word that stands directly before this place of coherence
+  -- the word that comes directly before this place of coherence
   data StandsBefore (n m : ℕ) : Type 0 where
     at_first : n ≡ 0 → word ≡ m → StandsBefore n m
     after : (i : ℕ) (v : Entry) → suc i ≡ n → slice_get (c.coherence loc) i ≡ Some v → v.value ≡ m → StandsBefore n m

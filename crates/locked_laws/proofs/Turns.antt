@@ -75,7 +75,7 @@ module _ (t : Litmus) (order : List Entry) (c : Candidate) (known : Known t orde
   in-events : (x : Entry) → IsIn order x → IsIn (events t c) x
   in-events x i = subst (λ xs. IsIn xs x) (sym known.of.events) (whole.made x i)
 
-  -- of what stands after a load part in the order nothing is before it in its program
+  -- of what comes after a load part in the order nothing is before it in its program
   none-before : (front back : List Entry) (r : Entry) → order ≡ front ++ (r ∷ back) → IsIn order r → r.kind ≡ LR
       → filter (λ e. is_before e r) back ≡ []
   none-before front back r is i k = filter-none (λ e. is_before e r) back go

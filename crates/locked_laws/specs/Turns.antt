@@ -10,7 +10,7 @@ use Rattle.relational_model.specs.Candidates.{Candidate, events}
 use Rattle.relational_model.specs.CandidatesOfOrders.{last_in}
 use Rattle.relational_model.specs.Model.{IsAllowed, ArePair}
 
--- r and w are the two parts of a locked instruction, and r reads from what stands directly before w in coherence: the write there,
+-- r and w are the two parts of a locked instruction, and r reads from what comes directly before w in coherence: the write there,
 -- or the initial one where w is the first
 pub record TakesItsTurn (t : Litmus) (c : Candidate) (r w : Entry) : Type 0 where
   pub inside : IsIn (events t c) w

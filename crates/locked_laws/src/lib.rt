@@ -18,7 +18,7 @@ ghost use Rattle.relational_model.specs.WorkedCandidates.{two_cores};
 use relational_model::allowed_candidates_are_executions;
 use tso_laws::whole_orders_have_each_entry_once;
 
-/// What the load part of a locked instruction reads stands directly before its own store part in coherence.
+/// What the load part of a locked instruction reads comes directly before its own store part in coherence.
 pub fn locked_instructions_take_turns()
     ensures { LockedInstructionsTakeTurns }
 {

@@ -1,4 +1,4 @@
--- Which two states stand together: no two dirty ones.
+-- Which two states are together: no two dirty ones.
 use Rattle.machine_core.proofs.Vocabulary.{◌≡◌, ◌≢◌, ℕ, true, false, None, List, length, ap, inl, inr, is_dirty, State, I, O, M, Words, state_of_copy, may_share, Sets, copy_at, AllCoherent, lt-or, IsOwner}
 
 pub apart : (s t : State) → may_share s t ≡ true → is_dirty s ≡ true → is_dirty t ≡ true → ⊥

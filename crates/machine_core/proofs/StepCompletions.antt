@@ -1,8 +1,8 @@
--- The instruction that a core stands at, when it holds a split bus.
+-- The instruction that a core is at, when it holds a split bus.
 use Rattle.machine_core.proofs.Vocabulary.{◌≡◌, ◌≢◌, ◌<◌, ◌≤◌, ℕ, List, Option, None, Some, length, slice_get, slice_index_or, refl, sym, ap, ◌∙◌, arith, IsSome, slice_get_within, most_instructions, Litmus, action_of, program_of, NoAccess, access_by, access_of, Core, Instr, Action, Step, words_of, Processor, Hardware, pending_in, action_by, HardwareFitsTest, state_in, flat_effect_in}
 use Rattle.machine_core.proofs.ChoiceEffects.{effect_in-step, access_of-step, access_of-done, IsCore-at, within-cores}
 
--- a core whose step makes an access stands at an instruction
+-- a core whose step makes an access is at an instruction
 pub next-some : {P : Type 0} (t : Litmus) (m : Hardware P) (core : Core) (p : Processor) (o : Option Instr) → core.0 < length m.processors.items → p ≡ slice_index_or m.processors.items core.0 p
     → slice_get (program_of t core.0) p.place ≡ o → access_of t m.config.depth (state_in m).flat (Step core) ≢ NoAccess → IsSome o
 next-some t m core p None h q g some = absurd (some (access_of-done t m core p h q g))

@@ -39,7 +39,7 @@ impl<'a, P: Protocol> Machine<'a, P> {
         self.hardware.processors.get(usize::from(core.0))
     }
 
-    /// Where a core stands in its program: the number of its next instruction, from 0. `None` where the test
+    /// Where a core is in its program: the number of its next instruction, from 0. `None` where the test
     /// has no such core.
     pub fn place(&self, core: Core) -> Option<u8>
         ensures { result ≡ option_map (λ s. s.place) (core_numbered self.now core.0) }

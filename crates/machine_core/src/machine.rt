@@ -27,7 +27,7 @@ use tso_terms::{Choice, Execution, NoMemory, Outcome, Stall, Test};
 #[derive(Drop)]
 pub struct Final {
     /// The entries in the order of their commits, but for each load part of a locked instruction, which
-    /// stands directly before its store part.
+    /// comes directly before its store part.
     pub execution: Execution,
     /// The registers of each core, and the word of each location.
     pub state: FinalState,

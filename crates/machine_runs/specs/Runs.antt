@@ -1,5 +1,5 @@
 -- The run of a test under choices, on a machine of a protocol and a configuration. (Primer, chapter 4, for the two parts of
--- a locked instruction, which stand together in the order; the rest is this project's profile.)
+-- a locked instruction, which are together in the order; the rest is this project's profile.)
 use Rattle.std.specs.Prelude.{List}
 use Rattle.tso_terms.specs.Litmus.{Litmus}
 use Rattle.tso_terms.specs.FlatMachine.{start}

@@ -21,7 +21,7 @@ there-or-not (Some x) = inr (x, refl)
 pub index-within : (list : List Entry) (slots : List (Option ℕ)) → IsIndex list slots → (s k : ℕ) → kept_in slots s ≡ Some k → k < length list
 index-within list slots index s k h = let r = index.only s k h in slice_get_within list k r.0 r.1
 
--- the entry that is the same as x but for its value stands where the index says
+-- the entry that is the same as x but for its value is where the index says
 pub index-tells : (list : List Entry) (slots : List (Option ℕ)) → IsIndex list slots → (x e : Entry) (k : ℕ) → slice_get list k ≡ Some e → same_but_value e x ≡ true → kept_in slots (slot_of x) ≡ Some k
 index-tells list slots index x e k f s = ap (λ n. kept_in slots n) (sym (same-slot e x (same_but_value-parts e x s).action)) ∙ index.has k e f
 

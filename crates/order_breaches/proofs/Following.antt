@@ -78,7 +78,7 @@ module _ (t : Litmus) (order : List Entry) (at : ℕ) (x : Entry) (here : slice_
       let s : SameAction e d = record { core = ap (λ z. z.core.0) p; place = ap (λ z. z.place) p; kind = ap (λ z. z.kind) p } in
       (one-place order (none-twice (made t order) order (whole-clean t order whole).no_stray) k j e d f g s, p)
 
-  -- a write of the read's program that stands after the read
+  -- a write of the read's program that comes after the read
   abbrev Follows : ℕ → Entry → Type 0
   Follows k e = (at < k) × (slice_get order k ≡ Some e) × Before e x × (writes_to x.loc.0 e ≡ true)
 

@@ -1,4 +1,4 @@
--- Distinct members that all stand in a list which is no longer leave room for no other.
+-- Distinct members that all are in a list which is no longer leave room for no other.
 use Rattle.order_breaches.proofs.Vocabulary.{◌≡◌, ◌<◌, ◌≤◌, ℕ, ◌+◌, suc, zero, List, [], ◌∷◌, ◌++◌, length, Some, slice_get, arith, ap, sym, ◌∙◌, ◌⊎◌, inl, inr, subst, refl, length-append, Member, member-at, Entry}
 
 pub at-member : (xs : List Entry) (i : ℕ) (e : Entry) → slice_get xs i ≡ Some e → Member e xs
@@ -10,7 +10,7 @@ abbrev pub Distinct : List Entry → Type 0
 Distinct [] = Unit {0}
 Distinct (x ∷ xs) = (Member x xs → ⊥) × Distinct xs
 
--- no entry stands at two places of a list
+-- no entry is at two places of a list
 abbrev pub OnePlace : List Entry → Type 0
 OnePlace list = (i j : ℕ) (x : Entry) → j < i → slice_get list i ≡ Some x → slice_get list j ≡ Some x → ⊥
 
@@ -46,7 +46,7 @@ removed z x [] back m = m
 removed z x (y ∷ ys) back (inl e) = inr (inl e)
 removed z x (y ∷ ys) back (inr m) = elim (removed z x ys back m) [ inl e ↦ inl e | inr k ↦ inr (inr k) ]
 
--- without the first of them, the others stand in what is left
+-- without the first of them, the others are in what is left
 rest-within : (x : Entry) (xs ys : List Entry) (c : Cut x ys) → (Member x xs → ⊥) → ((z : Entry) → Member z xs → Member z ys) → Within xs (c.front ++ c.back)
 rest-within x xs ys c d w z m =
     elim (removed z x c.front c.back (subst (λ v. Member z v) c.is (w z m))) [ inl e ↦ absurd (d (subst (λ v. Member v xs) e m)) | inr k ↦ k ]

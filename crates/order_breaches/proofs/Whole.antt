@@ -53,7 +53,7 @@ module _ (made order : List Entry) (one : NoneTwice made) (own : Each (ReadsOwn 
       let q : m.entry ≡ x = entry-is m.entry x m.same.action (sym m.same.loc) (sym v) in
       (m.place, m.stands ∙ ap Some q)
 
-  -- each entry of the programs stands in the order
+  -- each entry of the programs is in the order
   in-order : IsClean made order → (k : ℕ) (e : Entry) → slice_get made k ≡ Some e → StandsIn order e
   in-order c k e h = elim (passing (λ x. same_action e x) order) [
     | inr none ↦ absurd (c.no_missing k e h none)

@@ -6,11 +6,11 @@ use Rattle.tso_terms.specs.ProgramOrder.{is_before, may_be_passed, is_read, IsSt
 use Rattle.tso_terms.specs.Axioms.{due_value}
 use Rattle.basic_laws.specs.Types.{Entry, LR}
 
--- a stands before b in their program, and the axioms keep the two in order: a plain load alone may pass a plain store
+-- a comes before b in their program, and the axioms keep the two in order: a plain load alone may pass a plain store
 abbrev pub must_stand_before : Entry → Entry → Bool
 must_stand_before a b = is_before a b && not (may_be_passed a b)
 
--- b, at place j, stands before the place `at` of a, though a must stand before it
+-- b, at place j, comes before the place `at` of a, though a must come before it
 pub record Overtakes (at : ℕ) (a : Entry) (j : ℕ) (b : Entry) : Type 0 where
   pub sooner : j < at
   pub swapped : must_stand_before a b ≡ true
@@ -24,7 +24,7 @@ pub record IsSeparated (order : List Entry) (at : ℕ) (x : Entry) : Type 0 wher
   pub load_part : x.kind ≡ LR
   pub separated : (y : Entry) → slice_get order (suc at) ≡ Some y → ¬ IsStorePart x y
 
--- the value that is due to a read at its place: what stands before it there, and what stands after it
+-- the value that is due to a read at its place: what comes before it there, and what comes after it
 abbrev pub due_at : Litmus → List Entry → ℕ → Entry → ℕ
 due_at t order at x = due_value t x (take at order) (drop (suc at) order)
 

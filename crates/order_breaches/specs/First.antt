@@ -6,7 +6,7 @@ use Rattle.tso_terms.specs.declared.execution.Entry.{Entry}
 abbrev pub NoneBefore : List Entry → (ℕ → Entry → Type 0) → ℕ → Type 0
 NoneBefore list Fact at = (k : ℕ) (y : Entry) → k < at → slice_get list k ≡ Some y → ¬ Fact k y
 
--- x stands at this place of the list, the fact holds of it there, and of no entry before it
+-- x is at this place of the list, the fact holds of it there, and of no entry before it
 pub record IsFirst (list : List Entry) (Fact : ℕ → Entry → Type 0) (at : ℕ) (x : Entry) : Type 0 where
   pub stands : slice_get list at ≡ Some x
   pub holds : Fact at x

@@ -12,7 +12,7 @@ use crate::index::{find, kept};
 use std::sync::ledger::Ledger;
 use tso_terms::{Entry, Watched};
 
-/// The earliest entry of the order that is extra or stands twice. `came` has the value with which
+/// The earliest entry of the order that is extra or comes twice. `came` has the value with which
 /// each entry of the programs came.
 pub fn first_stray<L: Ledger>(
     shape: &[Entry],

@@ -20,7 +20,7 @@ pub enum Breach {
     /// A write of another value than its program gives it, by the read values of the order itself;
     /// that value is the second part.
     WrongValue(Entry, u32),
-    /// The first entry stands after the second, though its program has it before, and isn't a
+    /// The first entry comes after the second, though its program has it before, and isn't a
     /// plain store that a plain load passed.
     ProgramOrder(Entry, Entry),
     /// The load part of a locked instruction, not followed at once by its store part.

@@ -1,4 +1,4 @@
-//! Tests on one entry or two: reads, writes, and what must stand before what. The one pair that may change places is a
+//! Tests on one entry or two: reads, writes, and what must come before what. The one pair that may change places is a
 //! plain store and a later plain load. (Primer, chapter 4.)
 ghost use Rattle.std.specs.Prelude.{◌≡◌, ◌≤◌, ◌↔◌, IsTrue};
 ghost use Rattle.tso_terms.specs.ProgramOrder as program_order;
@@ -41,7 +41,7 @@ pub fn is_store_part(x: &Entry, y: &Entry) -> bool
     y.core == x.core && y.place == x.place && y.kind == Kind::LW
 }
 
-/// Where an entry stands among those of its program: the store part of a locked instruction
+/// Where an entry is among those of its program: the store part of a locked instruction
 /// after its load part.
 pub fn rank(x: &Entry) -> u32
     ensures value { result ≡ ranks.rank x.now }
@@ -51,7 +51,7 @@ pub fn rank(x: &Entry) -> u32
     place + place + u32::from(x.kind == Kind::LW)
 }
 
-/// Whether a must stand before b: it does in their program, and isn't a plain store that a plain
+/// Whether a must come before b: it does in their program, and isn't a plain store that a plain
 /// load b may pass.
 pub fn must_stand_before(a: &Entry, b: &Entry) -> bool
     ensures { result ≡ axioms.must_stand_before a.now b.now }

@@ -18,7 +18,7 @@ use tso_terms::{Entry, Kind};
 pub struct Programs<'a> {
     /// The entries with the order's own read values, core by core and in program order.
     pub made: &'a [Entry],
-    /// Where the entry of each slot stands among them.
+    /// Where the entry of each slot is among them.
     pub slots: &'a [Option<usize>],
     /// For each of them the last write to its location that its own program has before it.
     pub sources: &'a [Option<Entry>],

@@ -28,7 +28,7 @@ const MAX_READS: usize = MAX_CORES * MAX_INSTRUCTIONS;
 pub struct Layout {
     /// The entries, core by core and in program order.
     pub made: Vec<Entry>,
-    /// Where the entry of each slot stands among them.
+    /// Where the entry of each slot is among them.
     pub slots: Vec<Option<usize>>,
     /// For each of them the last write to its location that its own program has before it.
     pub sources: Vec<Option<Entry>>,

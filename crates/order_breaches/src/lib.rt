@@ -1,8 +1,8 @@
 //! What breaks the axioms in an order of memory actions, which breach is the first, and what one needs to find it: where an
-//! entry stands among those of the programs, whether it came, which write its program has before it, and how far its core
+//! entry is among those of the programs, whether it came, which write its program has before it, and how far its core
 //! has come.
 //!
-//! What a breach is and which one is the first stands in `specs/`, as facts about orders. Here single entries are judged, by
+//! What a breach is and which one is the first is in `specs/`, as facts about orders. Here single entries are judged, by
 //! tables; `axiom_checker` goes over the order with these.
 #![tactic(auto)]
 

@@ -7,7 +7,7 @@ use Rattle.order_builder.proofs.NameLaws.{lacks_from_all, lacks-decimal, lacks-n
 
 -- ---- parts of an entry
 
--- what stands after a text at the front
+-- what comes after a text at the front
 after-again : (front rest : List ℕ) → without_prefix front (front ++ rest) ≡ Some rest
 unfolding without_prefix
 after-again front rest =
@@ -161,7 +161,7 @@ printed_word_is : (t : Litmus) (kind : Kind) (loc value : ℕ) → IsAccess kind
 printed_word_is t F loc value is = absurd is
 printed_word_is t kind loc value is = refl
 
--- an entry with this core and place, printed with what stands after them
+-- an entry with this core and place, printed with what comes after them
 record IsActionOf (t : Litmus) (at : ℕ × ℕ) (text : List ℕ) (e : Entry) : Type 0 where
   core : at.0 ≡ e.core.0
   place : at.1 ≡ e.place

@@ -17,6 +17,6 @@ is_line_feed b = b == 10
 unfoldable pub lines_of : List ℕ → List (List ℕ)
 lines_of text = lines_in (slice_split is_line_feed text)
 
--- no line feed stands in the line
+-- no line feed is in the line
 abbrev pub is_line : List ℕ → Bool
 is_line line = list_all (λ b. not (b == 10)) line

@@ -43,7 +43,7 @@ printed_lines (line ∷ lines) = line ++ 10 ∷ printed_lines lines
 abbrev pub printed_order : Litmus → List Entry → List ℕ
 printed_order t order = printed_lines (order_lines t order)
 
--- what stands in an entry of this kind in the place of a location: one of the test's, but for a fence
+-- what is in an entry of this kind in the place of a location: one of the test's, but for a fence
 abbrev pub IsLocationFor : Litmus → Kind → ℕ → Type 0
 IsLocationFor t F loc = Unit {0}
 IsLocationFor t _ loc = loc < length t.locations

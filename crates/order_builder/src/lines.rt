@@ -6,7 +6,7 @@ ghost use Rattle.std.specs.Str.Lines.{strip_carriage_return};
 ghost use Rattle.order_builder.specs.Lines.{lines_of};
 ghost use Rattle.order_builder.specs.inner.Reading.{split_once, without_prefix};
 
-/// What stands before the first such byte, and what after it; `None` where there is no such byte.
+/// What comes before the first such byte, and what after it; `None` where there is no such byte.
 pub fn split_once(text: &[u8], byte: u8) -> Option<(&[u8], &[u8])>
     ensures value { option_map (λ halves. (halves.0.now, halves.1.now)) result ≡ split_once byte text.now }
     ensures shorter { IfSome result (λ halves. length halves.1.now < length text.now) }
@@ -19,7 +19,7 @@ pub fn split_once(text: &[u8], byte: u8) -> Option<(&[u8], &[u8])>
     None
 }
 
-/// What stands after the prefix, where the text begins with it.
+/// What comes after the prefix, where the text begins with it.
 #[tactic(auto, unfolding(crate::specs::inner::Reading::without_prefix))]
 pub fn without_prefix<'a>(text: &'a [u8], prefix: &[u8]) -> Option<&'a [u8]>
     ensures { option_map (λ rest. rest.now) result ≡ without_prefix prefix.now text.now }
@@ -27,7 +27,7 @@ pub fn without_prefix<'a>(text: &'a [u8], prefix: &[u8]) -> Option<&'a [u8]>
     text.strip_prefix(prefix)
 }
 
-/// The first line of a text, without a carriage return at its end, and what stands after it;
+/// The first line of a text, without a carriage return at its end, and what comes after it;
 /// `None` where the text is empty.
 pub fn next_line(text: &[u8]) -> Option<(&[u8], &[u8])>
     ensures some { IfSome result (λ found. lines_of text.now ≡ found.0.now ∷ lines_of found.1.now) }

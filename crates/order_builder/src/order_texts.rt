@@ -10,7 +10,7 @@ ghost use Rattle.order_builder.specs.Spelling.{HasFault, IsLineBeforeOrder, IsOr
 ghost use Rattle.order_builder.specs.declared.fault.OrderFault.{OrderFault};
 
 /// What is printed of an order of a test spells that order, by itself, and also whatever stands
-/// after it, and whatever lines stand before it, none of which is `Order`.
+/// after it, and whatever lines come before it, none of which is `Order`.
 pub fn printed_order_is_spelled()
     ensures alone { (t : Litmus) (order : List Entry) → IsTest t → IsOrderFor t order → SpellsOrder t (printed_order t order) order }
     ensures amid { (t : Litmus) (order : List Entry) (front : List (List ℕ)) (rest text : List ℕ)

@@ -44,7 +44,7 @@ pub fn read_order(alloc: Global, test: &Test, text: &[u8]) -> Result<Execution, 
     }
 }
 
-/// What stands after the first line that is `Order`, and how many lines there are up to it.
+/// What comes after the first line that is `Order`, and how many lines there are up to it.
 #[tactic(auto, unfolding(crate::specs::inner::Reading::order_start))]
 fn after_order_line(text: &[u8]) -> Option<(&[u8], usize)>
     ensures value { option_map (λ found. (found.1, lines_of found.0.now)) result ≡ order_start 0 (lines_of text.now) }
@@ -62,7 +62,7 @@ fn after_order_line(text: &[u8]) -> Option<(&[u8], usize)>
     None
 }
 
-/// The entries of a text that stands after some lines, the last of which is `Order`.
+/// The entries of a text that comes after some lines, the last of which is `Order`.
 fn read_entries(
     alloc: Global,
     test: &Test,

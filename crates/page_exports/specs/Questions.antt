@@ -120,7 +120,7 @@ IsCommandAskable a =
 abbrev pub IsAskable : Numbers → Type 0
 IsAskable a = IsCommandAskable a ⊎ ((a.command ≡ 7) × IsMachineAsked a × IsSetAsked a)
 
--- the settings of the command whose hints stand beside the answer: of a step, those of the trace that it is of
+-- the settings of the command whose hints are beside the answer: of a step, those of the trace that it is of
 abbrev pub settings_of : Question → Settings
 settings_of (questions.Command command) = command
 settings_of (questions.Step kind config set) = settings.Trace kind config set true
@@ -148,7 +148,7 @@ pub record AnswersAsked (a : Numbers) (input out hint : List ℕ) (number : ℕ)
   pub asked : AsksQuestion a question
   pub answers : Answers question input out hint number
 
--- what is told of an answer to the question and of the hint beside it is how long they are, and that they stand at the start of
+-- what is told of an answer to the question and of the hint beside it is how long they are, and that they are at the start of
 -- these rooms, where it says so
 pub record TellsOf (question : Question) (input room hint_room : List ℕ) (told : AnswerLengths) : Type 0 where
   pub out : List ℕ

@@ -72,7 +72,7 @@ pub enum Question {
 }
 
 impl Question {
-    /// The settings of the command whose hints stand beside the answer.
+    /// The settings of the command whose hints are beside the answer.
     pub fn settings(&self) -> Settings
         ensures { result ≡ settings_of self.now }
     {

@@ -36,7 +36,7 @@ module _ (t : Litmus) (c : Candidate) (d : Sound t c) where
   stands-in e x i h = record { inside = i; same = ap bare h }
 
 module _ (t : Litmus) (c : Candidate) (d : Sound t c) (uniproc : IsAcyclic (events t c) (IsBeforeOnLocation c)) where
-  -- of two writes to a location the one that stands first in their program is first in coherence
+  -- of two writes to a location the one that comes first in their program is first in coherence
   pub in-program : (w v : Entry) → IsIn (events t c) w → IsIn (events t c) v → is_write w ≡ true → writes_to w.loc.0 v ≡ true
       → is_before w v ≡ true → IsBefore c w v
   in-program w v i j write to b =
@@ -54,7 +54,7 @@ module _ (t : Litmus) (c : Candidate) (d : Sound t c) (uniproc : IsAcyclic (even
           (sym (location w.loc.0 v to))))
           (at_once v w j i (co v w back))))
 
-  -- what overwrites a read's source doesn't stand before the read in its program
+  -- what overwrites a read's source doesn't come before the read in its program
   pub not-overwritten : (r v : Entry) → IsIn (events t c) r → IsIn (events t c) v → is_read r ≡ true → writes_to r.loc.0 v ≡ true
       → is_before v r ≡ true → StandsAfter (c.coherence r.loc.0) (c.source r) v → ⊥
   not-overwritten r v i j read to b after =

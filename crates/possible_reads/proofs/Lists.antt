@@ -1,7 +1,7 @@
--- Where members of a list stand in what is made of it.
+-- Where members of a list are in what is made of it.
 use Rattle.possible_reads.proofs.Vocabulary.{◌≡◌, ℕ, zero, suc, Bool, true, false, if◌then◌else◌, List, [], ◌∷◌, ◌++◌, Some, refl, ap, subst, map, filter, list_any, list_all, slice_get, and-both, or-either, inl, inr}
 
--- x stands in this list
+-- x is in this list
 abbrev pub Among : {A : Type 0} → List A → A → Type 0
 Among xs x = (i : ℕ) × (slice_get xs i ≡ Some x)
 

@@ -33,7 +33,7 @@ pub fn written_values_are_possible()
     reads_add_up();
 }
 
-/// Of two writes the one that is known to come first stands before the other in coherence.
+/// Of two writes the one that is known to come first comes before the other in coherence.
 pub fn known_order_is_right()
     ensures { KnownOrderIsRight }
 {

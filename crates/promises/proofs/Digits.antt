@@ -1,4 +1,4 @@
--- The digits of a number, however great, and texts that are cut where a byte stands last.
+-- The digits of a number, however great, and texts that are cut where a byte comes last.
 use Rattle.promises.proofs.PrintedVocabulary.{◌≡◌, ℕ, ◌<◌, Bool, true, false, List, [], ◌∷◌, ◌++◌, get_or, drop, refl, sym, ap, subst, ◌∙◌, zero, suc, arith, ◌+◌, ◌==◌, cond, not, ◌/◌, ◌%◌, lt-ltb, le-leb, eq-eqb, decimal, list_all, is_ascii_digit, and_parts, and_from, nat_tests, list_all-append, digits, digits_onto, digit_glyph}
 
 -- ---- digits
@@ -43,7 +43,7 @@ there byte [] ys all = clash (byte == byte) (eq-eqb byte byte refl) (and_parts _
     clash b is isnt = cc
 there byte (x ∷ xs) ys all = there byte xs ys (and_parts _ _ all).1
 
--- of texts that are cut where the byte stands last
+-- of texts that are cut where the byte comes last
 pub last-cut : (byte : ℕ) (xs ys a b : List ℕ) → list_all (is_other byte) a ≡ true → list_all (is_other byte) b ≡ true → xs ++ byte ∷ a ≡ ys ++ byte ∷ b → (xs ≡ ys) × (a ≡ b)
 last-cut byte [] [] a b p q e = (refl, ap (λ (l : List ℕ). drop 1 l) e)
 last-cut byte [] (y ∷ ys) a b p q e = absurd (there byte ys b (subst (λ (l : List ℕ). list_all (is_other byte) l ≡ true) (ap (λ (l : List ℕ). drop 1 l) e) p))

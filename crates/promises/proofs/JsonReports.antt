@@ -44,7 +44,7 @@ order-told once spelled short t kind c s o test within p q same =
     (omega (arith, size, length-append (head t kind c) (printed_order t o.order ++ rest), length-append (printed_order t o.order) rest))
     (subst (λ (text : List ℕ). SpellsOrder t text s.order) alike (spelled t s.order test p.small.order)) (spelled t o.order test q.small.order)
 
--- the registers: the members stand in the order of their names' bytes
+-- the registers: the members are in the order of their names' bytes
 abbrev member_of : Reg → ℕ
 member_of Edx = 4
 member_of Esi = 5

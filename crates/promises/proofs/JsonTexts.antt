@@ -1,4 +1,4 @@
--- What stands where in a JSON value.
+-- What is where in a JSON value.
 use Rattle.promises.proofs.PrintedVocabulary.{◌≡◌, ℕ, Bool, true, false, List, [], ◌∷◌, refl, sym, ap, zero, suc, All, map, Data, string, outline, items_outline, All-head, All-tail, items_of}
 use Rattle.json.specs.Json as json
 use Rattle.promises.proofs.Lists.{all-told}

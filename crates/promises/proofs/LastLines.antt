@@ -1,4 +1,4 @@
--- The verdict that stands at the end of what `outcomes` and `why` print.
+-- The verdict that is at the end of what `outcomes` and `why` print.
 use Rattle.promises.proofs.PrintedVocabulary.{◌≡◌, ℕ, Bool, true, false, List, [], ◌∷◌, ◌++◌, refl, sym, ap, subst, length, Some, decimal, append_assoc, string, no_members, member, compact_text, codes, line, test_line, Litmus, Condition, Named, frequency, escape_byte, Outcome, outcomes_line, outcome_lines, condition_lines, held_in, failed_in, true_in, is_met_in, printed_numbers, observation_line, true_line, verdict_word, is_well, outcomes_verdict_value, verdict_line, EndsInNumbers, outcomes_in, outcomes_value}
 use Rattle.promises.proofs.Digits.{both-other, number-in-line}
 use Rattle.promises.proofs.Endings.{EndsIn, behind, with-more, verdict_tail, object-ends}
@@ -10,7 +10,7 @@ behind-feed text verdict e = with-more text (10 ∷ []) (codes "Verdict " ++ lin
 
 -- ---- of `outcomes`
 
--- the two last lines behind all that stands before
+-- the two last lines behind all that comes before
 two-flat : (test first states name seen numbers verdict : List ℕ)
     → test ++ (first ++ (states ++ ((codes "Observation " ++ (name ++ line seen)) ++ ((codes "True" ++ line numbers) ++ verdict))))
     ≡ (test ++ (first ++ (states ++ (codes "Observation " ++ (name ++ seen))))) ++ (10 ∷ (codes "True" ++ (line numbers ++ verdict)))

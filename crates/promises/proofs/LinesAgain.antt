@@ -1,4 +1,4 @@
--- The two lines of each state stand in the text of `outcomes`.
+-- The two lines of each state are in the text of `outcomes`.
 use Rattle.litmus_tokens.specs.declared.instructions.Instructions.{Instructions}
 use Rattle.promises.proofs.Vocabulary.{◌≡◌, ◌∙◌, ℕ, Bool, false, List, [], ◌∷◌, ◌++◌, ◌⊎◌, inl, inr, length, refl, sym, ap, subst, codes, append_assoc, Litmus, Choice, Step, Drain, ProtocolKind, Configuration}
 use Rattle.std.specs.Fmt.{decimal}

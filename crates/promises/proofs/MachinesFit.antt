@@ -1,5 +1,5 @@
 -- What a machine holds fits its test, whatever the choices: its words are words, its pending stores and what it commits are entries
--- that an order of the test may have, and no core stands past its program.
+-- that an order of the test may have, and no core is past its program.
 use Rattle.promises.proofs.PrintedVocabulary.{◌≡◌, ℕ, ◌<◌, Bool, true, false, List, [], ◌∷◌, ◌++◌, drop, refl, sym, subst, zero, suc, ◌≤◌, Option, arith, inl, inr, ◌+◌, length, slice_index, All, Some, None, slice_index_or, if◌then◌else◌, take, IfSome, nat_lt, slice_get, slice_set, Litmus, IsTest, IsProgram, KnownLocation, ConstantIsWord, Bus, Atomic, Split, All-head, All-tail, All-cons, All-nil, All-push, All-set, All-filter, All-drop, IsWord, AreRegisters, index_of, entry, fence, value_of, updated, Reg, Entry, HasAccess, IsEntryFor, Choice, Drain, chosen, CoreState, State, Effect, is_none_pending, stalled, advanced_with, stored, load_value, effect_by, idle, program_of, core_of, effect_of, memory_after, applied, started, start, Kind, R, W, F, LR, LW, Stall, Committed, Buffered, action_of, is_write, writes_to, MemoryAccess, Locks, access_of, Holder, Free, HeldBy, HeldBetween, Attempt, BusEffect, same_choice, needs_bus, acts, asks, begins, completes, as_read, writes_last, split_effect, Instr, Action, Store, Load, Move, Fence, Lock, ActionKnown, AccessKnown, step_of, next_of}
 use Rattle.std.proofs.Common.{filter}
 use Rattle.tso_terms.specs.Axioms.{last_value}

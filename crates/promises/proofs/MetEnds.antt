@@ -163,7 +163,7 @@ met-ends true t names condition limit outcomes is met =
     object-ends (is_well condition.quantifier true) (met_value t names limit outcomes)
     (ap (λ b. member (codes "verdict") (decided_value t.condition b) no_members) met ∙ ap (λ c. member (codes "verdict") (decided_value c true) no_members) is)
 
--- ---- no line `True` stands before a verdict
+-- ---- no line `True` comes before a verdict
 
 pub numbers-in-line : (numbers : List ℕ) → list_all (is_other 10) (printed_numbers numbers) ≡ true
 numbers-in-line [] = refl

@@ -68,7 +68,7 @@ module _ (show : Show) (t : Litmus) (test : IsTest t) where
       ap members_outline (sym (as-memory t names xs)) ∙ (same ∙ ap members_outline (as-memory t names ys)) in
       memory-told keys xs ys (keys-distinct show t test) (p.each ∙ sym size) (q.each ∙ sym size) p.words q.words each
 
-  -- where a test has a condition `holds` stands before the values
+  -- where a test has a condition `holds` comes before the values
   values-in : (condition : Option Condition) (x y : Outcome) (a b : Members)
       → members_outline (with_holds (holds_in condition x) (member (codes "values") (object a) no_members))
       ≡ members_outline (with_holds (holds_in condition y) (member (codes "values") (object b) no_members))

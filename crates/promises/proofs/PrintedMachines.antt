@@ -68,7 +68,7 @@ sweep-flat : (from seeds size ends rest : List ℕ) → (codes "Sweep from=" ++ 
     ≡ codes "Sweep from=" ++ (from ++ (codes " seeds=" ++ (seeds ++ (codes " length=" ++ (size ++ (ends ++ rest))))))
 sweep-flat from seeds size ends rest = simp append_assoc
 
--- what stands behind the numbers of a plan, on their line and after it
+-- what comes after the numbers of a plan, on their line and after it
 abbrev ends-of : RunCounts → List ℕ
 ends-of r = line (ends_text (ended_in r) r.unfinished)
 

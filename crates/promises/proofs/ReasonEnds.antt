@@ -1,4 +1,4 @@
--- The verdict that stands at the end of what `why` prints.
+-- The verdict that is at the end of what `why` prints.
 use Rattle.promises.proofs.PrintedVocabulary.{◌≡◌, ℕ, Bool, true, false, List, [], ◌∷◌, ◌++◌, refl, sym, ap, subst, Option, Some, decimal, flat_map, append_assoc, string, no_members, member, compact_text, codes, line, printed_quantifier, printed_truth, test_line, Litmus, Condition, looked_at, printed_values, escape_byte, Choice, by_line, state_line, is_well, outcomes_verdict_value, verdict_line, Candidate, asked_claim, Model, model_name, truth_asked, asked_line, never_line, blanks, from_line, reads_of, coherence_lines, values_left, allowed_value, unfinished_reason_json}
 use Rattle.short_refutations.specs.Refutations.{Lemma, Node}
 use Rattle.search_report.specs.PrintedReasons.{allowed_in, unfinished_cases_in}

@@ -34,7 +34,7 @@ StoreFits t e = (e.loc.0 < length t.locations) × (e.value < 2 ^ 32)
 store-flat : (name value more : List ℕ) → (codes " " ++ (name ++ (codes "=" ++ value))) ++ more ≡ codes " " ++ (name ++ (codes "=" ++ (value ++ more)))
 store-flat name value more = simp append_assoc
 
--- the text begins as what stands behind a list of stores does
+-- the text begins as what comes after a list of stores does
 abbrev EndsStores : List ℕ → Type 0
 EndsStores rest = Ends rest × ((32 == get_or rest 0 0) ≡ false)
 

@@ -129,7 +129,7 @@ trace-back t kind c choices test exist =
     let f = fits-first (table_of kind) c t test in
     (deeper 7 9 (outline (machine_json m t.words)) (omega arith) (machine-back m t.words f test.values.words), (steps-back m t.words choices test exist f test.values.words, tt))
 
--- ---- what stands beside it
+-- ---- what is beside it
 
 pub programs-back : (t : Litmus) → ReadsBack 2 (outline (programs_value t))
 programs-back t = each-back 1 (program_value t) t.programs (λ p. strings-back 0 (map (instruction_text t) p))

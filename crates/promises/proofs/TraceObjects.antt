@@ -13,7 +13,7 @@ use Rattle.promises.proofs.TraceWords.{choice-cut}
 use Rattle.promises.proofs.TraceParts.{Follows, entries-cut, moved-cut, access-cut, request-cut, flush-cut, write-back-cut, changes-cut}
 use Rattle.promises.proofs.TraceLines.{core-small, changes-fit, stall_by}
 
--- ---- what stands in a value
+-- ---- what is in a value
 
 -- a text, or none
 abbrev text_of : json.Json → Option (List ℕ)
@@ -213,7 +213,7 @@ supplied-told (Some a) (Some b) p q same = ap Some (source-told a b p q (ap text
     text_or_nothing None = []
     text_or_nothing (Some text) = text
 
--- of a value that stands in the object
+-- of a value that is in the object
 inner-back : (d : Data) → IsReadable 100 d → ReadsBack 127 (outline d)
 inner-back d readable = let deep = readable.depth in back-at 127 (outline d) readable.numbers (omega (arith, deep))
 

@@ -1,5 +1,5 @@
 -- The parts of a step's line, each after a space: what each begins a text with is told by the text. A part may be missing; which one
--- stands there is told by its first letters, or behind a core's number by the byte after it.
+-- is there is told by its first letters, or behind a core's number by the byte after it.
 use Rattle.promises.proofs.PrintedVocabulary.{◌≡◌, ℕ, ◌<◌, Bool, true, false, List, [], ◌∷◌, ◌++◌, get_or, drop, refl, sym, ap, ◌∙◌, ◌≤◌, Option, arith, ◌+◌, length, All, Some, None, ◌==◌, ◌||◌, ◌/◌, if◌then◌else◌, ◌*◌, take, IfSome, decimal, list_all, is_ascii_digit, and_parts, append_cancel_left, append_assoc, drop_more, get_or-take, length-take, codes, Litmus, IsTest, continues_name, IsWord, name_of, Reg, Entry, printed_entry, letters_of, printed_access, IsOrderFor, IsEntryFor, Eax, Core, IsD, ImD, SmD, AccessKind, IsLine, access_name, request_name, state_name, after_plus, joined_by_plus, line_name, entries_text, moved_text, forwarded_text, access_text, request_text, flush_text, write_back_text, changes_text, printed_change, LineRequest, LineState, StateChange}
 use Rattle.std.proofs.Math.Nat.{mul-div_cancel}
 use Rattle.protocol_tables.specs.declared.requests.Request.{Request}
@@ -17,7 +17,7 @@ use Rattle.promises.proofs.Digits.{all-digits}
 use Rattle.promises.proofs.Lists.{Tells, list-cut, all-told}
 use Rattle.promises.proofs.TraceWords.{Ends, ends-stop, word-cut, read-cut, register-cut, same-core, location-cut, entry-cut}
 
--- ---- which part stands there
+-- ---- which part is there
 
 -- the first byte after the digits that a text begins with
 abbrev behind : List ℕ → ℕ

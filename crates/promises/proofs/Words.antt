@@ -18,12 +18,12 @@ frequency-is p never always sometimes held failed = by (held == 0) (failed == 0)
 frequency-no-space : (held failed : ℕ) → list_all (is_other 32) (frequency held failed) ≡ true
 frequency-no-space = frequency-is (list_all (is_other 32)) refl refl refl
 
--- the last words of a line: what stands before, the word, and two numbers
+-- the last words of a line: what comes before, the word, and two numbers
 grouped : (front word held failed : List ℕ) → front ++ (codes " " ++ (word ++ (codes " " ++ (held ++ (codes " " ++ line failed)))))
     ≡ ((front ++ 32 ∷ word) ++ 32 ∷ held) ++ 32 ∷ (failed ++ 10 ∷ [])
 grouped front word held failed = simp append_assoc
 
--- the three last lines, behind all that stands before
+-- the three last lines, behind all that comes before
 three-flat : (test first states name word held failed numbers verdict : List ℕ)
     → test ++ (first ++ (states ++ ((codes "Observation " ++ (name ++ line (codes " " ++ (word ++ (codes " " ++ (held ++ (codes " " ++ failed)))))))
     ++ ((codes "True" ++ line numbers) ++ (codes "Verdict " ++ line verdict)))))
@@ -109,7 +109,7 @@ object-text : (t : Litmus) (names : List Named) (condition : Condition) (depth :
 unfolding escape_byte
 object-text t names condition depth outcomes = refl
 
--- the word of an object stands before a quotation mark, and has none
+-- the word of an object comes before a quotation mark, and has none
 abbrev pub is_unquoted : ℕ → Bool
 is_unquoted = is_other 34
 

@@ -26,7 +26,7 @@ abbrev pub line_by : List ℕ → List ℕ
 line_by [] = codes "By\n"
 line_by (b ∷ bs) = codes "By " ++ line (b ∷ bs)
 
--- a run ended with this report, no choice stalled, and none was left over; its values stand in the text of `outcomes`, on a `State`
+-- a run ended with this report, no choice stalled, and none was left over; its values are in the text of `outcomes`, on a `State`
 -- line, and the next line is `By` with the choices that were given
 pub record StandsAbove (t : Litmus) (names : List Named) (kind : ProtocolKind) (c : Configuration) (json : Bool) (out choices answer : List ℕ)
     : Type 0 where

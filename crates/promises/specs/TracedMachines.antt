@@ -1,4 +1,4 @@
--- What the JSON value of a machine tells, as it stands in a trace before the first choice and after each step.
+-- What the JSON value of a machine tells, as it is in a trace before the first choice and after each step.
 use Rattle.std.specs.Prelude.{ℕ, zero, suc, ◌+◌, ◌/◌, ◌≡◌, ◌<◌, List, [], ◌∷◌, map, length, take, All, Option}
 use Rattle.std.specs.Fmt.{decimal}
 use Rattle.std.specs.Option.{option_map}

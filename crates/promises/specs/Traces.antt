@@ -40,7 +40,7 @@ told_by_line s = record {
   buffer = option_map (map bare_store) s.buffer;
 }
 
--- what the members of its JSON object tell: all but its pending stores, which stand in the machine after it
+-- what the members of its JSON object tell: all but its pending stores, which are in the machine after it
 abbrev pub told_by_object : ShownStep → ShownStep
 told_by_object s = record {
   choice = s.choice;

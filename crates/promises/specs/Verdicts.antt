@@ -87,7 +87,7 @@ pub record EndsInNumbers (numbers out : List ℕ) : Type 0 where
   pub as_claimed : Bool
   pub text : out ≡ front ++ (codes "\nTrue" ++ (line (printed_numbers numbers) ++ (codes "Verdict " ++ line (verdict_word as_claimed))))
 
--- the lines of the states are numbered from 1. A number stands there exactly where the claim is true in each state that has the values
+-- the lines of the states are numbered from 1. A number is there exactly where the claim is true in each state that has the values
 -- of its line, and there is no other number
 pub record NumbersOfTrueStates (claim : Claim) (names : List Named) (outcomes : List Outcome) (numbers : List ℕ) : Type 0 where
   pub named : (i : ℕ) (o : Outcome) (registers : List (List ℕ)) (memory : List ℕ) → slice_get outcomes i ≡ Some o

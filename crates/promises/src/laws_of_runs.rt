@@ -1,6 +1,6 @@
 //! What is printed of runs and sweeps tells what it shows: no form of an answer loses a part of it, and none prints two things alike.
 //! So it is of final states (`laws_of_outcomes`), of the steps of a trace (`laws_of_traces`), and of those of a refutation
-//! (`laws_of_reasons`). What the laws say stands in `specs/`: of what may be shown and counted, of the runs of a machine, of what is
+//! (`laws_of_reasons`). What the laws say is in `specs/`: of what may be shown and counted, of the runs of a machine, of what is
 //! observed of final states, and of the tree that is read back from a refutation's steps.
 ghost use Rattle.std.specs.Prelude.{true, false};
 ghost use Rattle.promises.specs.OfRuns.{PrintedRunsAreTold};

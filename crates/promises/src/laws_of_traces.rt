@@ -19,7 +19,7 @@ pub fn traces_tell_their_steps()
     ensures json { TraceValuesTellTheirSteps }
 {}
 
-/// The JSON value of a machine, as it stands in a trace before the first choice and after each step, tells who holds the bus, with
+/// The JSON value of a machine, as it is in a trace before the first choice and after each step, tells who holds the bus, with
 /// its line and what that is in; of each core its place, its registers, the location and the value of each pending store, and the
 /// copies in its cache, set by set, with their states; memory's own words; and those that a program sees.
 pub fn values_of_machines_tell_them()

@@ -15,7 +15,7 @@ use locked_laws::{
     reads_add_up, somebody_reads_the_initial_word, words_add_up,
 };
 
-/// What a load part reads stands directly before its own store part in coherence.
+/// What a load part reads comes directly before its own store part in coherence.
 pub fn a_load_part_reads_what_stands_before()
     ensures { (t : Litmus) (c : Candidate) (r : Entry) → IsAllowed t c → IsIn (events t c) r → r.kind ≡ LR
         → (w : Entry) × (earlier : List Entry) × (later : List Entry) × IsIn (events t c) w × ArePair r w × (w.loc.0 ≡ r.loc.0)

@@ -24,7 +24,7 @@ pub fn a_bad_count_follows_the_entries()
     ensures no_count { (t : Litmus) (text : List ℕ) (said : HasBadCount t text) → HasNoCount (length said.order) said.rest }
 {}
 
-/// Who overtakes stands sooner, though the other must stand before.
+/// Who overtakes stands sooner, though the other must come before.
 pub fn an_entry_overtook_another()
     ensures sooner { (at : ℕ) (a : Entry) (j : ℕ) (b : Entry) → Overtakes at a j b → j < at }
     ensures swapped { (at : ℕ) (a : Entry) (j : ℕ) (b : Entry) → Overtakes at a j b → must_stand_before a b ≡ true }

@@ -1,4 +1,4 @@
-//! What holds at each moment of a run, field by field: the commits meet the axioms as far as they go, each core stands within its
+//! What holds at each moment of a run, field by field: the commits meet the axioms as far as they go, each core is within its
 //! program, and all values are words. (Primer, chapter 4.)
 
 ghost use Rattle.std.specs.Prelude.{◌++◌, ◌<◌, ◌≡◌, ◌≢◌, ◌≤◌, All, List, false, filter, length, ℕ};

@@ -53,7 +53,7 @@ pub fn a_search_finds_what_needs_no_more(
 }
 
 /// Whoever watches, a search that comes to its end keeps no more states than it was to keep, and one that ends at its limit has kept
-/// more, as many as the machine can reach at least. Either way the final states that it met are reached, and none stands twice.
+/// more, as many as the machine can reach at least. Either way the final states that it met are reached, and none comes twice.
 pub fn a_search_ends_at_its_limit<W: Watcher>(
     alloc: Global,
     test: &Test,
@@ -111,7 +111,7 @@ pub fn what_is_not_shown_is_hidden(
     hidden_registers(alloc, test, show)
 }
 
-/// What stands behind `By` in the text of `outcomes`, handed to `run` at the same depth on the atomic bus with the same test, ends
+/// What comes after `By` in the text of `outcomes`, handed to `run` at the same depth on the atomic bus with the same test, ends
 /// with the values of the line above.
 pub fn each_line_by_leads_to_the_line_above()
     ensures { (kind : ProtocolKind) (c : Configuration) (set : Instructions) (search : Search) (json assert : Bool) (input out : List ℕ) (status : Status)

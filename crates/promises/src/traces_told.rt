@@ -26,7 +26,7 @@ use crate::{
     traces_tell_their_steps,
 };
 
-/// Lines that are the same tell the same steps, and the same stands behind them; so do objects, and with them where the words were
+/// Lines that are the same tell the same steps, and the same comes after them; so do objects, and with them where the words were
 /// found and the machines after the steps; and so do values of whole traces.
 pub fn steps_are_told_apart()
     ensures lines { (t : Litmus) (words : ℕ) (steps others : List ShownStep) (rest other_rest : List ℕ)

@@ -1,4 +1,4 @@
-//! The states of a line in a cache: M, O, E, S and I. Which of them may stand together in two caches is coherence; in M and
+//! The states of a line in a cache: M, O, E, S and I. Which of them may be together in two caches is coherence; in M and
 //! O the copy is dirty, and memory may be stale. (Primer, chapter 6.)
 
 /// The state of a line in a cache. M and O are the dirty states: memory may be stale.

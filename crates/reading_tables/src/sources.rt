@@ -37,7 +37,7 @@ pub fn can_return(values: &Option<Vec<u32>>, facts: &[Fact<'_>], read: &Entry) -
     some_returned(values, facts, read)
 }
 
-/// Whether a write to the read's location stands before it in its program.
+/// Whether a write to the read's location comes before it in its program.
 fn is_hidden(events: &[Entry], read: &Entry) -> bool
     ensures { result ≡ list_any (λ w. program_order.writes_to read.now.loc.0 w && program_order.is_before w read.now) events.now }
 {
@@ -49,7 +49,7 @@ fn is_hidden(events: &[Entry], read: &Entry) -> bool
     false
 }
 
-/// Whether another write to the read's location stands between w and the read in their program.
+/// Whether another write to the read's location comes between w and the read in their program.
 fn is_overwritten(events: &[Entry], read: &Entry, w: &Entry) -> bool
     ensures { result ≡ list_any (λ v. program_order.writes_to read.now.loc.0 v && program_order.is_before w.now v && program_order.is_before v read.now) events.now }
 {

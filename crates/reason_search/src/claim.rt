@@ -1,4 +1,4 @@
-//! What is asked of the final state, as a list of parts. A part that is made of two stands before them, the first one right behind it.
+//! What is asked of the final state, as a list of parts. A part that is made of two comes before them, the first one right behind it.
 
 use crate::lists::{List, NONE};
 use crate::problem::{Problem, RELEVANT, STORED};

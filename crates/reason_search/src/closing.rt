@@ -44,7 +44,7 @@ pub fn add_leaf(desk: &mut Desk) -> usize {
 
 /// The tree of the best reason, for a read of `s`, or where this order is supposed to be turned; what it uses is used then. A write
 /// between two parts goes by two orders. Where an answer above says one of them, that is used. Where none does, and it isn't the one that
-/// is turned, it follows from a chain: then the question stands above the tree, and the other order is a cycle.
+/// is turned, it follows from a chain: then the question is above the tree, and the other order is a cycle.
 pub fn add_best(
     problem: &Problem,
     branch: &Branch,

@@ -134,7 +134,7 @@ pub fn put_program(problem: &Problem, branch: &mut Branch) {
     for a in problem.locations..problem.size {
         let event = problem.events.at(a);
         if event.writes {
-            // It comes before those to its location that stand later in its program.
+            // It comes before those to its location that come later in its program.
             let row = Relations::OnLocation.row(branch.size, a);
             for b in a.wrapping_add(1)..problem.size {
                 if problem.program.has(row, b) & problem.writes_to.has(event.location, b) {

@@ -44,14 +44,14 @@ pub struct Turned {
     pub edges: usize,
 }
 
-/// What stands where there is no fact.
+/// What is where there is no fact.
 pub const NO_FACT: Fact = Fact {
     answer: Answer::Before(NONE, NONE),
     tried: true,
     edges: 0,
 };
 
-/// What stands where there is no edge.
+/// What is where there is no edge.
 pub const NO_EDGE: Edge = Edge {
     link: Link {
         from: NONE,

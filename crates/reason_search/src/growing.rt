@@ -4,7 +4,7 @@ use crate::lists::{List, NONE};
 use crate::problem::Relations;
 use std::alloc::Global;
 
-/// What stands at a node.
+/// What is at a node.
 #[derive(Clone, Copy)]
 pub enum Growth {
     /// The read.
@@ -60,7 +60,7 @@ pub fn add_node(trees: &mut Trees, growth: Growth, leaves: usize) -> usize {
     number
 }
 
-/// What stands where there is no node.
+/// What is where there is no node.
 const NO_TWIG: Twig = Twig {
     growth: Growth::False,
     child: NONE,

@@ -23,7 +23,7 @@ pub struct Guide {
     problem: Problem,
     hunt: Hunt,
     is_allowed: bool,
-    /// The tree that is proposed, and its nodes that aren't taken yet but for what stands below them.
+    /// The tree that is proposed, and its nodes that aren't taken yet but for what is below them.
     trees: Trees,
     open: List<usize>,
 }
@@ -72,7 +72,7 @@ pub fn make_guide_within(
             let fewer = hunt.desk.trees.twigs.at(root).leaves;
             if fewer < leaves {
                 leaves = fewer;
-                // The trees that were proposed stand there from now on.
+                // The trees that were proposed are there from now on.
                 swap(&mut guide.trees, &mut hunt.desk.trees);
                 guide.open.cut(0);
                 guide.open.push(root);
@@ -113,7 +113,7 @@ pub fn proposed_order(alloc: Global, guide: &Guide) -> Result<Option<Execution>,
 }
 
 /// The next node of the tree that is proposed, if there is one: they come in the order in which a tree lists them, each before its
-/// branches. Those that stand behind it are opened.
+/// branches. Those that come after it are opened.
 ///
 /// Errors: out of memory only.
 pub fn propose(alloc: Global, guide: &mut Guide) -> Result<Option<Node>, NoMemory> {

@@ -1,5 +1,5 @@
 //! The search: questions are asked, what follows is noted, and where a branch is closed its tree is made and the next answer tried.
-//! An answer that its tree doesn't use is no question: the tree stands in its place.
+//! An answer that its tree doesn't use is no question: the tree is in its place.
 
 use crate::branch::{Branch, DIRTY, Mark, VALUED, make_branch, mark_here, undo};
 use crate::chance::{Chance, FIRST_CHANCE};

@@ -24,14 +24,14 @@ pub struct Desk {
     pub trees: Trees,
     /// One row: the facts that the tree in hand uses.
     pub used: Rows,
-    /// How many facts stand above the tree in hand, if it uses them.
+    /// How many facts are above the tree in hand, if it uses them.
     pub above: usize,
     /// For each source its tree, while a question's branches are put together.
     pub branches: List<usize>,
     pub weights: Weights,
 }
 
-/// Adds to the leaf in hand the facts that one write comes before another one, and to its cycle the writes that stand between them.
+/// Adds to the leaf in hand the facts that one write comes before another one, and to its cycle the writes that come between them.
 pub fn show_order(
     problem: &Problem,
     branch: &Branch,
@@ -58,7 +58,7 @@ pub fn show_order(
     }
 }
 
-/// Adds the facts of an edge; after its first event the writes are shown that stand between a read's source and what it is before.
+/// Adds the facts of an edge; after its first event the writes are shown that come between a read's source and what it is before.
 pub fn need_edge(problem: &Problem, branch: &Branch, desk: &mut Desk, edge: Edge, limit: usize) {
     need(&mut desk.trial, edge.link.fact);
     if edge.link.is_from_read {
@@ -184,7 +184,7 @@ pub fn close_source(problem: &Problem, branch: &mut Branch, desk: &mut Desk, r: 
         ..
     } = problem.events.at(r);
     if own != NONE {
-        // A write of another core may stand between the source of the load part and its store part.
+        // A write of another core may come between the source of the load part and its store part.
         start_from_later(problem, branch, &mut desk.inner, s, limit);
         begin(&mut desk.paths);
         for x in problem.locations..problem.size {
@@ -270,7 +270,7 @@ pub fn add_other(
 }
 
 /// Offers the reasons by a read of their location why an order can't be turned: it is before the second one then; or one of the two
-/// would stand between the parts of a locked instruction, by an order of two writes that is known.
+/// would come between the parts of a locked instruction, by an order of two writes that is known.
 fn offer_read(problem: &Problem, branch: &Branch, desk: &mut Desk, turned: Turned, r: usize) {
     let (a, b) = (turned.first, turned.second);
     let own = problem.events.at(r).partner;

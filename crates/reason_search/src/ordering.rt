@@ -8,8 +8,8 @@ use crate::values::written;
 use std::alloc::Global;
 use tso_terms::{Entry, NoMemory};
 
-/// Whether an event waits for one that is still to come, and so stands in `left`, other than its other part: one of the two is a fence
-/// that stands in the same program, or the other one is known to be before it.
+/// Whether an event waits for one that is still to come, and so is in `left`, other than its other part: one of the two is a fence
+/// that is in the same program, or the other one is known to be before it.
 fn is_waiting(problem: &Problem, branch: &Branch, left: &Rows, a: usize) -> bool {
     let event = problem.events.at(a);
     for k in 0..branch.rows.width {

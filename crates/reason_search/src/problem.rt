@@ -1,5 +1,5 @@
 //! What a search works on: the events by number, what program order keeps of them, what each write writes in terms of what is read,
-//! and what is asked. The initial write of each location stands before the events.
+//! and what is asked. The initial write of each location comes before the events.
 
 use crate::claim::{Part, add_parts, mark_relevant};
 use crate::lists::{List, NONE};
@@ -22,14 +22,14 @@ pub struct Event {
     pub writes: bool,
     /// Whether it reads or writes: others are fences and initial writes.
     pub is_access: bool,
-    /// The other part of a locked instruction, which stands beside it; `NONE` for others.
+    /// The other part of a locked instruction, which is beside it; `NONE` for others.
     pub partner: usize,
 }
 
 /// How many cores a test has at most.
 const MOST_CORES: usize = 8;
 
-/// What stands where there is no event.
+/// What is where there is no event.
 pub const NO_EVENT: Event = Event {
     entry: Entry {
         core: Core(255),
@@ -79,7 +79,7 @@ pub struct Problem {
     pub terms: Terms,
     /// The writes to each location but the initial one.
     pub writes_to: Rows,
-    /// For each event how many writes to its location stand before it, and it if it is one; and the most of all.
+    /// For each event how many writes to its location come before it, and it if it is one; and the most of all.
     pub ranks: List<usize>,
     pub most_writes: usize,
     /// The reads of each location, and its initial write.

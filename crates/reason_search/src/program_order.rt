@@ -1,9 +1,9 @@
-//! What program order keeps of the order of events. The events of a program stand side by side, in its order.
+//! What program order keeps of the order of events. The events of a program are side by side, in its order.
 
 use crate::lists::NONE;
 use crate::problem::{Problem, Relations};
 
-/// Adds the edges from each access to those that stand later in its program, as program order tells them: all but that of a plain
+/// Adds the edges from each access to those that come later in its program, as program order tells them: all but that of a plain
 /// store and a later plain load, with no fence between them.
 pub fn add_program_order(problem: &mut Problem) {
     for a in problem.locations..problem.size {

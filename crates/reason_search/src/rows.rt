@@ -10,7 +10,7 @@ pub struct Rows {
     pub width: usize,
 }
 
-/// The word in which a number's bit stands alone.
+/// The word in which a number's bit is alone.
 pub fn bit(i: usize) -> u64 {
     1u64 << (i % 64)
 }

@@ -19,7 +19,7 @@ use refutation_laws::Model;
 use std::alloc::Global;
 use tso_terms::{NoMemory, Prop, Quantifier, Test};
 
-/// Whether a node may stand in the branch of these facts, below these lemmas. If it may, its branches are added.
+/// Whether a node may be in the branch of these facts, below these lemmas. If it may, its branches are added.
 ///
 /// Errors: out of memory only.
 pub fn go_on<'t>(

@@ -85,7 +85,7 @@ pub fn is_case(told: Told<'_>, number: usize) -> bool
     matches!(told.facts.get(number), Some(Fact::Holds(_, _)))
 }
 
-/// Whether a node may stand in a branch, below these lemmas.
+/// Whether a node may be in a branch, below these lemmas.
 ///
 /// Errors: out of memory only.
 pub fn is_node(

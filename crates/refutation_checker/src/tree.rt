@@ -3,7 +3,7 @@
 use reading_tables::facts::Fact;
 use tso_terms::{Entry, Loc};
 
-/// A node of a short refutation. A tree is the list of its nodes: each stands before its branches, and the first branch first.
+/// A node of a short refutation. A tree is the list of its nodes: each comes before its branches, and the first branch first.
 pub enum Node<'t> {
     /// A question: what does this read read from?
     ReadsFrom(Entry),

@@ -1,4 +1,4 @@
--- In a full case that no leaf closes, some event of those that are left can stand next: the candidate of the case gives all answers, and
+-- In a full case that no leaf closes, some event of those that are left can come next: the candidate of the case gives all answers, and
 -- its edges never go round.
 use Rattle.refutation_laws.proofs.Vocabulary.{◌≡◌, ◌==◌, ◌&&◌, ◌||◌, ℕ, true, false, not, List, [], ◌∷◌, Option, Some, None, refl, sym, ap, ◌∙◌, inl, inr, subst, map, list_any, Litmus, is_before, is_read, is_write, writes_to, may_be_passed, Entry, IsIn, at_once, IsAcyclic, Candidate, IsBefore, IsAllowed, in-case, in-none, in-first, in-later, filter-in, and-both, or-either, number-same, Goes, member, GoesForward, LinearExtension, in-a-row, Toward, toward, pair-goes, way, others, is-other, other-is, Sound, sound, CanBeKept, goes-kept, step-kept, tso-allows, Known, bare, events_of, same_event, reads_from, comes_before, from_reads, are_parts, Stands, IsSameSource, HasSources, HasPairs, Agrees, Source, Pair, Model, Tso, Sequential, IsPossibleSource, ArePossible, AreSingle, AreOfReads, ArePairsOfWrites, IsSound, NoneBetween, is_kept_by, must_precede, comes_toward, is_load_part, valued, is-false, order-of, at-one}
 use Rattle.refutation_laws.proofs.Tests.{and-of, or-first, or-second, any-holds, clash, pick, pass, from-not}
@@ -137,7 +137,7 @@ goes-in Sequential c x y g = inr g
 
 -- ---- the first of some in a row
 
--- one of these that stands in the row has none of them before it
+-- one of these that is in the row has none of them before it
 first-in : (E : Entry → Entry → Type 0) (row some : List Entry) → GoesForward E row → ((x : Entry) → IsIn row x → E x x → ⊥)
     → ((x : Entry) → IsIn some x → IsIn row x) → ((x : Entry) → IsIn some x → (y : Entry) × (IsIn some y × E y x))
     → (x : Entry) → IsIn some x → ⊥

@@ -1,10 +1,10 @@
--- The events of a test have a cycle of some edges, as a list, or stand in a row in which each edge goes forward.
+-- The events of a test have a cycle of some edges, as a list, or are in a row in which each edge goes forward.
 use Rattle.refutation_laws.proofs.Vocabulary.{◌≡◌, ◌<◌, ℕ, zero, suc, Bool, true, List, [], ◌∷◌, Some, slice_get, arith, refl, sym, ◌⊎◌, inl, inr, subst, list_all, Litmus, Entry, IsIn, LeadsTo, at_once, onward, IsAcyclic, is-true, starts-in, GoesForward, Ordered, Decided, ordered-or-round, events_of, is_event, leads_back, is_cycle, order-of, at-one}
 use Rattle.refutation_laws.proofs.Tests.{and-of}
 
 -- ---- places in the row
 
--- nothing stands before what leads to it
+-- nothing comes before what leads to it
 pub never-back-at : (Before : Entry → Entry → Type 0) (row : List Entry) (i j : ℕ) (a b : Entry) → GoesForward Before row
     → slice_get row i ≡ Some a → slice_get row j ≡ Some b → j < i → Before a b → ⊥
 never-back-at Before [] i j a b f p q l h = let z : ⊥ = cc in z
@@ -75,7 +75,7 @@ cycle-of t edge is x way =
           (and-of (is_event t x) _ (is x (starts-in (events_of t) (Edge edge) x x way)) w.events) w.back;
     }
 
--- the events of a test have a cycle of these edges, or stand in a row in which each edge goes forward
+-- the events of a test have a cycle of these edges, or are in a row in which each edge goes forward
 pub cycle-or-row : (t : Litmus) (edge : Entry → Entry → Bool) → ((x : Entry) → IsIn (events_of t) x → is_event t x ≡ true)
     → HasCycle t edge ⊎ Ordered (Edge edge) (events_of t)
 cycle-or-row t edge is =

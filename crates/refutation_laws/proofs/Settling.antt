@@ -77,7 +77,7 @@ get-length [] i x e = let z : ⊥ = cc in absurd z
 get-length (y ∷ ys) zero x e = omega arith
 get-length (y ∷ ys) (suc i) x e = let l = get-length ys i x e in omega (arith, l)
 
--- an event stands for itself among the events
+-- an event is for itself among the events
 pub is-event : (t : Litmus) (x : Entry) → IsIn (events_of t) x → is_event t x ≡ true
 is-event t x i = any-in (same_event x) (events_of t) x i (itself x)
 
@@ -186,7 +186,7 @@ module _ (model : Model) (t : Litmus) (k : Known) (o : IsOpen model t k) where
       first-of t k.sources o.full.possible x
       (o.full.sources (bare x) (own-in x i) (and-of (is_event t (bare x)) _ (is-event t (bare x) (own-in x i)) r))
 
-  -- a source in the program of its read stands before it
+  -- a source in the program of its read comes before it
   before-read : (x y : Entry) → IsIn own_events x → IsIn own_events y → is_read x ≡ true → writes_to x.loc.0 y ≡ true
       → reads_from k y x ≡ true → y.core.0 ≡ x.core.0 → is_before y x ≡ true
   before-read x y i j r w f e = elim (order-of (rank y) (rank x)) [
@@ -205,7 +205,7 @@ module _ (model : Model) (t : Litmus) (k : Known) (o : IsOpen model t k) where
       is-write : is_write y ≡ true
       is-write = writes x.loc.0 y w
 
-  -- a read before the source of a read x stands before x in the row
+  -- a read before the source of a read x comes before x in the row
   earlier : (x y z : Entry) → IsIn own_events x → IsIn own_events y → IsIn own_events z → is_read x ≡ true → writes_to x.loc.0 y ≡ true
       → reads_from k y x ≡ true → is_read z ≡ true → is_before z y ≡ true → (i j : ℕ)
       → slice_get o.globally.in_a_row.row i ≡ Some (bare x) → slice_get o.globally.in_a_row.row j ≡ Some (bare z) → j < i

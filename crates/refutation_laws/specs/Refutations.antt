@@ -23,7 +23,7 @@ asked_claim None = TruthClaim true
 asked_claim (Some c) = asked_by c.quantifier c.claim
 
 pub data Node : Type 0 where
-  -- a question: which write does this read read from? The initial one, or one to its location, as they stand among the events
+  -- a question: which write does this read read from? The initial one, or one to its location, as they are among the events
   ReadsFrom : (read : Entry) → Node
   -- a question: which of these two writes to a location comes first? The one named first, or the other
   ComesFirst : (first second : Entry) → Node
@@ -37,7 +37,7 @@ pub data Node : Type 0 where
 abbrev pub sources_of : Litmus → Entry → List (Option Entry)
 sources_of t r = None ∷ map (λ w. Some w) (filter (writes_to r.loc.0) (events_of t))
 
--- whether a node may stand where these answers are given
+-- whether a node may be where these answers are given
 abbrev pub is_node : Model → Litmus → Claim → Known → Node → Bool
 is_node model t claim k (ReadsFrom r) = is_event t r && is_read r
 is_node model t claim k (ComesFirst w v) =

@@ -9,7 +9,7 @@ pub struct Source {
     pub write: Option<Entry>,
 }
 
-/// Two writes to one location, as they stand in its coherence order.
+/// Two writes to one location, as they are in its coherence order.
 #[derive(Clone, Copy)]
 pub struct Pair {
     pub first: Entry,

@@ -1,6 +1,6 @@
 //! Refutations: why no candidate that a model allows makes a proposition true, as a tree that a reader can check by hand.
 //!
-//! Nothing here computes. The definitions stand in `specs/`: the answers of a branch, the edges and the
+//! Nothing here computes. The definitions are in `specs/`: the answers of a branch, the edges and the
 //! values that they tell, the tree, and when it refutes. Each public function has no code of its own,
 //! and its contract is a law on them: what is refuted never happens, and what isn't refuted does. The
 //! two models are x86-TSO and sequential consistency.

@@ -19,7 +19,7 @@ pub enum Relation {
     PoLoc,
     /// Program order as x86-TSO keeps it without fences and locked instructions.
     PoGhb,
-    /// A fence stands between the two.
+    /// A fence comes between the two.
     Mfence,
     /// A store and a later load, one of them a part of a locked instruction.
     Implied,
@@ -27,7 +27,7 @@ pub enum Relation {
     Rf,
     /// A write, and a read of another core that reads from it.
     Rfe,
-    /// Two writes, as they stand in coherence.
+    /// Two writes, as they are in coherence.
     Co,
     /// A read, and a write that comes after the one that it reads from.
     Fr,

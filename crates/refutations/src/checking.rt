@@ -17,7 +17,7 @@ use refutation_laws::Model;
 use std::alloc::Global;
 use tso_terms::{Entry, NoMemory, Test};
 
-/// Whether a node may stand where these answers are given.
+/// Whether a node may be where these answers are given.
 ///
 /// Errors: out of memory only.
 pub fn is_node(

@@ -48,7 +48,7 @@ pub fn is_event(test: &Test, events: &[Entry], x: &Entry) -> bool
     false
 }
 
-/// Whether x stands before y in the program of their core.
+/// Whether x comes before y in the program of their core.
 pub fn is_before(x: &Entry, y: &Entry) -> bool
     ensures { result ≡ program_order.is_before x.now y.now }
 {

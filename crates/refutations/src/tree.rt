@@ -2,9 +2,9 @@
 
 use tso_terms::Entry;
 
-/// A node of a refutation. A tree is the list of its nodes: each stands before its branches, and the first branch first.
+/// A node of a refutation. A tree is the list of its nodes: each comes before its branches, and the first branch first.
 pub enum Node {
-    /// A question: which write does this read read from? The initial one, or one to its location, as they stand among the
+    /// A question: which write does this read read from? The initial one, or one to its location, as they are among the
     /// events.
     ReadsFrom(Entry),
     /// A question: which of these two writes to a location comes first? The one named first, or the other.

@@ -7,7 +7,7 @@ use Rattle.relational_model.proofs.Uniproc.{location-acyclic}
 use Rattle.relational_model.proofs.Events.{same-made}
 use Rattle.relational_model.proofs.Sizes.{once-of, as-many}
 
--- what a whole order is known for: its entries are the programs', and each stands in it once
+-- what a whole order is known for: its entries are the programs', and each is in it once
 pub record Whole (t : Litmus) (order : List Entry) : Type 0 where
   pub made : (e : Entry) → IsIn order e → IsIn (made t order) e
   pub once : StandOnce order
@@ -73,7 +73,7 @@ is-candidate t order c whole known = record {
 
 -- ---- atomicity
 
--- no write comes between a read and a write that stands directly after it
+-- no write comes between a read and a write that comes directly after it
 between-none : (order : List Entry) (r v w : Entry) (i : ℕ) → StandOnce order → slice_get order i ≡ Some r
     → slice_get order (suc i) ≡ Some w
     → IsEarlier order r v → IsEarlier order v w → ⊥

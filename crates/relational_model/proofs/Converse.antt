@@ -84,7 +84,7 @@ no-load w e f = let z : ⊥ = cc in z
 
 -- ---- each load part is followed by its store part
 
--- at most one load part stands there
+-- at most one load part is there
 pub data Single : List Entry → Type 0 where
   none : Single []
   one : (r : Entry) → Single (r ∷ [])

@@ -7,7 +7,7 @@ use Rattle.relational_model.proofs.KindFacts.{writes}
 
 -- ---- candidates, told event by event
 
--- what is asked of each event: a read returns what it is to, a write stands in its location's coherence order, a fence is neither
+-- what is asked of each event: a read returns what it is to, a write is in its location's coherence order, a fence is neither
 pub data Fits (t : Litmus) (c : Candidate) : List Entry → Type 0 where
   fit-none : Fits t c []
   fit-read : (x : Entry) (xs : List Entry) → Returns t c x (c.source x) → is_write x ≡ false → Fits t c xs → Fits t c (x ∷ xs)

@@ -1,4 +1,4 @@
--- Of a TSO execution, what happens before stands before in the order; and no write stands between the parts of a locked
+-- Of a TSO execution, what happens before comes before in the order; and no write comes between the parts of a locked
 -- instruction.
 use Rattle.relational_model.proofs.Vocabulary.{◌≡◌, true, false, List, Option, Some, None, refl, ◌⊎◌, inl, inr, subst, Litmus, is_before, is_read, is_write, writes_to, may_be_passed, Entry, IsIn, IsEarlier, LeadsTo, at_once, onward, IsAcyclic, Candidate, events, StandsAfter, FromReads, HappensBefore, write_before_write, read_before_access, mfence, implied, rfe, co, fr}
 use Rattle.relational_model.proofs.Ranks.{before-rank}
@@ -12,7 +12,7 @@ pub kept : (t : Litmus) (order : List Entry) (c : Candidate) → Known t order c
 kept t order c known x y (i, p) (j, q) b m =
     record { first = i; second = j; is_first = p; is_second = q; before = known.tso.program_order i j x y p q b m }
 
--- what stands after the source of a read in coherence writes its location
+-- what comes after the source of a read in coherence writes its location
 pub after-in : (t : Litmus) (order : List Entry) (c : Candidate) → Known t order c → (r v : Entry) → FromReads c r v
     → IsIn order v × (writes_to r.loc.0 v ≡ true)
 after-in t order c known r v f = go (c.source r) f.overwritten
@@ -21,7 +21,7 @@ after-in t order c known r v f = go (c.source r) f.overwritten
     go None h = coherence-in t order c known r.loc.0 v h
     go (Some w) h = coherence-in t order c known r.loc.0 v (h.second, h.is_second)
 
--- a read stands before each write that overwrites what it read
+-- a read comes before each write that overwrites what it read
 pub overwritten-later : (t : Litmus) (order : List Entry) (c : Candidate) → Known t order c → (r v : Entry) → IsIn order r
     → FromReads c r v → IsEarlier order r v
 overwritten-later t order c known r v i f = go (one-way order r v i (after-in t order c known r v f).0)

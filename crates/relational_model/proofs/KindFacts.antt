@@ -5,7 +5,7 @@ use Rattle.relational_model.proofs.Vocabulary.{◌≡◌, ℕ, Bool, true, false
 pub write-is-no-read : (x : Entry) → is_write x ≡ true → is_read x ≡ true → ⊥
 write-is-no-read x w r = grind arith
 
--- what stands before a write in its program isn't passed by it
+-- what comes before a write in its program isn't passed by it
 pub before-write-kept : (x y : Entry) → is_write y ≡ true → may_be_passed x y ≡ false
 before-write-kept x y w = grind arith
 

@@ -90,7 +90,7 @@ location loc w h = same-number w.loc.0 loc (second (is_write w) (w.loc.0 == loc)
     second true b h = h
     second false b h = let z : ⊥ = cc in absurd z
 
--- the coherence orders are the writes as they stand in the order
+-- the coherence orders are the writes as they are in the order
 pub coherence-is : (t : Litmus) (c : Candidate) (order : List Entry) → Placed t c order → (loc : ℕ)
     → c.coherence loc ≡ filter (writes_to loc) order
 coherence-is t c order k loc =

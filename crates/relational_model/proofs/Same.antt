@@ -56,7 +56,7 @@ same-by core place Fence registers word x y i j k = both-only (fence core place)
 same-by core place (Lock loc reg update) registers word x y i j k =
     two (entry core place LR loc word) (entry core place LW loc (updated update registers word)) x y refl refl i j k
 
--- what a program makes from a place on stands at that place or after it
+-- what a program makes from a place on is at that place or after it
 pub from-place : (core place : ℕ) (p : List Instr) (registers values : List ℕ) (x : Entry)
     → IsIn (entries_of core place p registers values) x
     → (x.core.0 ≡ core) × (place ≤ x.place)

@@ -3,7 +3,7 @@ use Rattle.relational_model.proofs.Vocabulary.{◌≡◌, ◌<◌, ℕ, true, Li
 use Rattle.relational_model.proofs.Lists.{Cut, cut, Precedes, to-precedes, from-precedes, precedes-filter, precedes-left, precedes-right, precedes-across, precedes-parts, in-first, in-later, in-left, in-right, in-append, in-case, in-filter, filter-in, last-is-in, last-none, last-last, precedes-second, at-one}
 use Rattle.relational_model.proofs.Ranks.{before-irreflexive, order-of}
 
--- each entry stands in the list at one place
+-- each entry is in the list at one place
 abbrev pub StandOnce : List Entry → Type 0
 StandOnce order = (i j : ℕ) (e : Entry) → slice_get order i ≡ Some e → slice_get order j ≡ Some e → i ≡ j
 
@@ -43,7 +43,7 @@ one-way order a b (i, p) (j, q) = elim (order-of i j) [
 
 -- ---- before a read, and after it
 
--- what is before r in the order stands in front of the cut
+-- what is before r in the order is in front of the cut
 pub in-front : (order front back : List Entry) (r v : Entry) → StandOnce order → order ≡ front ++ (r ∷ back) → IsEarlier order v r
     → IsIn front v
 in-front order front back r v once is e = elim (precedes-parts front (r ∷ back) v r (subst (Precedes v r) is (to-precedes order v r e))) [

@@ -1,4 +1,4 @@
--- A row of the events in which each load part of a locked instruction stands directly before its store part.
+-- A row of the events in which each load part of a locked instruction comes directly before its store part.
 use Rattle.relational_model.proofs.Vocabulary.{◌≡◌, Bool, true, false, List, [], ◌∷◌, ◌++◌, arith, refl, ap, ◌⊎◌, inl, inr, subst, filter, Entry, LR, LW, IsIn, LeadsTo, at_once, onward, Candidate, ArePair, is_locked, is_locked_kind, part_of}
 use Rattle.std.specs.Prelude.{not}
 use Rattle.relational_model.proofs.Lists.{in-case, in-none, in-first, in-later, in-append, in-left, in-right, in-filter, filter-in}
@@ -24,7 +24,7 @@ pair r w = carried ((r.kind ≡ LR) × ((w.kind ≡ LW) × ((r.core.0 ≡ w.core
     (both (w.kind ≡ LW) _ (kinds w.kind LW)
     (both (r.core.0 ≡ w.core.0) (r.place ≡ w.place) (number r.core.0 w.core.0) (number r.place w.place))))
 
--- an edge to an event, or to the load part that stands directly before it
+-- an edge to an event, or to the load part that comes directly before it
 abbrev pub Toward : List Entry → (Entry → Entry → Type 0) → Entry → Entry → Type 0
 Toward es Before x y = Before x y ⊎ ((r : Entry) × (IsIn es r × (ArePair r y × Before x r)))
 

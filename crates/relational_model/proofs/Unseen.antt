@@ -37,7 +37,7 @@ no-load-part f i k = elim (which f i) [
   | inr e ↦ let h : f.kind ≡ R = ap (λ (z : Entry). z.kind) e in let z : ⊥ = cc in z
 ]
 
--- one write stands before no other
+-- one write comes before no other
 alone : (w v : Entry) → IsEarlier (stored ∷ []) w v → ⊥
 alone w v e = elim (to-precedes (stored ∷ []) w v e) [ inl p ↦ in-none v p.1 | inr h ↦ h ]
 

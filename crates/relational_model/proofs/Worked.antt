@@ -1,7 +1,7 @@
 -- The sources of a candidate's reads, told entry by entry; and lists in which nothing is picked.
 use Rattle.relational_model.proofs.Vocabulary.{◌≡◌, ℕ, suc, Bool, true, false, ◌==◌, arith, List, [], ◌∷◌, ◌++◌, refl, sym, ap, ◌∙◌, subst, append_assoc, filter, nat_tests, is_read, counting, Entry, Candidate, last_in, append-nil}
 
--- each read of the list, which stands after `front`, has its source
+-- each read of the list, which comes after `front`, has its source
 abbrev pub SourcesFrom : Candidate → List Entry → List Entry → Type 0
 SourcesFrom c front [] = Unit {0}
 SourcesFrom c front (x ∷ xs) = (is_read x ≡ true → c.source x ≡ last_in (counting x front xs)) × SourcesFrom c (front ++ (x ∷ [])) xs

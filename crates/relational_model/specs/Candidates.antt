@@ -8,7 +8,7 @@ use Rattle.tso_terms.specs.ProgramOrder.{is_read, writes_to}
 use Rattle.basic_laws.specs.Types.{Instr, Entry}
 use Rattle.relational_model.specs.Events.{IsIn}
 
--- The initial writes are no events of a thread. They stand first in each coherence order, so they are left unsaid: a read
+-- The initial writes are no events of a thread. They come first in each coherence order, so they are left unsaid: a read
 -- that reads from none of the threads' writes reads the initial word.
 pub record Candidate : Type 0 where
   -- the values that the reads of each core return, in program order; they make the threads' events
@@ -35,7 +35,7 @@ Returns t c r (Some w) = IsIn (events t c) w × (writes_to r.loc.0 w ≡ true) �
 
 pub record IsCandidate (t : Litmus) (c : Candidate) : Type 0 where
   pub reads : (r : Entry) → IsIn (events t c) r → is_read r ≡ true → Returns t c r (c.source r)
-  -- each write to a location stands in its coherence order, and as many stand there as there are: each once, and nothing else
+  -- each write to a location is in its coherence order, and as many are there as there are: each once, and nothing else
   pub writes : (loc : ℕ) (w : Entry) → IsIn (events t c) w → writes_to loc w ≡ true → IsIn (c.coherence loc) w
   pub count : (loc : ℕ) → length (c.coherence loc) ≡ length (filter (writes_to loc) (events t c))
 

@@ -1,5 +1,5 @@
 -- The candidate of an order of a test's entries: what its reads returned, the last write that counts for each of them, and
--- the writes to each location as they stand in it.
+-- the writes to each location as they are in it.
 use Rattle.std.specs.Prelude.{ℕ, ◌≡◌, true, List, [], ◌∷◌, ◌++◌, filter, Option, Some, None}
 use Rattle.tso_terms.specs.Litmus.{Litmus}
 use Rattle.tso_terms.specs.ProgramOrder.{is_read, writes_to}

@@ -2,11 +2,11 @@
 use Rattle.std.specs.Prelude.{ℕ, ◌<◌, ◌≡◌, List, Some, slice_get}
 use Rattle.tso_terms.specs.declared.execution.Entry.{Entry}
 
--- x stands in this list
+-- x is in this list
 abbrev pub IsIn : List Entry → Entry → Type 0
 IsIn xs x = (i : ℕ) × (slice_get xs i ≡ Some x)
 
--- x stands before y in it
+-- x comes before y in it
 pub record IsEarlier (xs : List Entry) (x y : Entry) : Type 0 where
   pub first : ℕ
   pub second : ℕ

@@ -49,7 +49,7 @@ pub data HappensBefore (es : List Entry) (c : Candidate) : Entry → Entry → T
   -- po_ghb = WW(po) | RM(po): a write before a write, a read before each access
   write_before_write : (x y : Entry) → is_before x y ≡ true → is_write x ≡ true → is_write y ≡ true → HappensBefore es c x y
   read_before_access : (x y : Entry) → is_before x y ≡ true → is_read x ≡ true → is_access y ≡ true → HappensBefore es c x y
-  -- mfence: a fence stands between them
+  -- mfence: a fence comes between them
   mfence : (x f y : Entry) → IsIn es f → f.kind ≡ F → is_before x f ≡ true → is_before f y ≡ true → HappensBefore es c x y
   -- implied: a write before a read (WR(po)), one of them a part of a locked instruction
   implied : (x y : Entry) → is_before x y ≡ true → is_write x ≡ true → is_read y ≡ true → (is_locked x || is_locked y) ≡ true

@@ -23,7 +23,7 @@ pub record ReadsFrom (c : Candidate) (w r : Entry) : Type 0 where
 abbrev pub IsBefore : Candidate → Entry → Entry → Type 0
 IsBefore c w v = IsEarlier (c.coherence w.loc.0) w v
 
--- a write that stands after this one; after the initial write each write stands
+-- a write that comes after this one; after the initial write each write stands
 abbrev pub StandsAfter : List Entry → Option Entry → Entry → Type 0
 StandsAfter writes None v = IsIn writes v
 StandsAfter writes (Some w) v = IsEarlier writes w v

@@ -2,7 +2,7 @@
 //! consistency, with the same law.
 //!
 //! Nothing here computes. Each public function has no code of its own, and its contract is a law on
-//! the definitions. The model stands in `specs/`: candidates, their relations, and the three
+//! the definitions. The model is in `specs/`: candidates, their relations, and the three
 //! conditions of herd's `x86tso.cat` (uniproc, atomicity, global happens-before). It names tests,
 //! threads and entries, but no order, no machine and none of this project's axioms; only the laws
 //! name both sides.

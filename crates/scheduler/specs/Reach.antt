@@ -1,4 +1,4 @@
--- Which orders no choices reach at a depth. An order in which many stores stand after a later load needs a store buffer for
+-- Which orders no choices reach at a depth. An order in which many stores come after a later load needs a store buffer for
 -- as many. (This project's profile.)
 use Rattle.std.specs.Prelude.{ℕ, ◌≡◌, ◌≢◌, ◌<◌, List}
 use Rattle.tso_terms.specs.Litmus.{Litmus}

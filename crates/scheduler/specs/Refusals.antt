@@ -9,7 +9,7 @@ use Rattle.scheduler.specs.Words.{words_of_text, is_numeral}
 use Rattle.scheduler.specs.Limits.{most_choices}
 use Rattle.scheduler.specs.Grammar.{IsChoiceWord, IsItem, AreItems, SpellsChoices}
 
--- the fault of the item at which words begin, where `before` choices stand before it and its first word has this number
+-- the fault of the item at which words begin, where `before` choices come before it and its first word has this number
 pub data IsItemAtFault (cores before number : ℕ) : List (List ℕ) → ChoiceFault → Type 0 where
   -- the word has none of the forms
   bad_form : (word : List ℕ) (rest : List (List ℕ)) → ((choice : Choice) → ¬ (IsChoiceWord word choice)) → word ≢ codes "seed"

@@ -13,7 +13,7 @@ use tso_terms::{Entry, Kind, NoMemory};
 /// Maximum number of places of a program.
 const PLACES: usize = tso_terms::limits::MAX_INSTRUCTIONS;
 
-/// The depth that an order needs: the greatest number of plain stores that stand before one load in its program and
+/// The depth that an order needs: the greatest number of plain stores that come before one load in its program and
 /// after it in the order, and 1 where there is a plain store at all. The order is gone through once, from its end on.
 ///
 /// Errors: out of memory only.
@@ -42,7 +42,7 @@ pub fn needed(alloc: Global, cores: u8, order: &[Entry]) -> Result<usize, NoMemo
     Ok(most)
 }
 
-/// For each core and each place of its program how many plain stores stand there: none so far.
+/// For each core and each place of its program how many plain stores are there: none so far.
 fn no_stores(alloc: Global, cores: u8) -> Result<Vec<[usize; PLACES]>, NoMemory>
     ensures { IfOk result (λ v. HaveCounted cores v.items []) }
 {

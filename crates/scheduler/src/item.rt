@@ -84,7 +84,7 @@ impl ChoiceItem {
     }
 }
 
-/// An item that was read, and what stands after its words.
+/// An item that was read, and what comes after its words.
 #[derive(Clone, Copy)]
 pub struct ItemRead<'a> {
     pub item: ChoiceItem,

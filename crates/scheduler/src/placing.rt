@@ -35,10 +35,10 @@ pub fn word_of_choice(cores: u8, place: usize, text: &[u8]) -> Option<usize>
     ensures found { IfSome result (λ number. IsWordOfChoice cores text.now place number) }
     ensures only { (number : ℕ) → IsWordOfChoice cores text.now place number → result ≡ Some number }
 
-    // A text that spells more choices than stand before this place has it.
+    // A text that spells more choices than come before this place has it.
     ensures there { (choices : List Choice) → SpellsChoices cores text.now choices → place < length choices → IsSome result }
 {
-    // So many choices stand between the items that were read and this one.
+    // So many choices come between the items that were read and this one.
     let mut room = place;
     let mut text = text;
     let mut words = 0;

@@ -30,7 +30,7 @@ fn prefix_length(text: &[u8], of_space: bool) -> usize
     text.len()
 }
 
-/// What stands after the first byte of a text, if it has one.
+/// What comes after the first byte of a text, if it has one.
 fn after_first(text: &[u8]) -> &[u8]
     ensures { result.now ≡ drop 1 text.now }
 {
@@ -40,7 +40,7 @@ fn after_first(text: &[u8]) -> &[u8]
     }
 }
 
-/// The first word of a text, and what stands after it and the white space that ends it.
+/// The first word of a text, and what comes after it and the white space that ends it.
 pub fn first_word(text: &[u8]) -> Option<(&[u8], &[u8])>
     ensures none { IfNone result (words_of_text text.now ≡ []) }
     ensures some { IfSome result (λ r. words_of_text text.now ≡ r.0.now ∷ words_of_text r.1.now) }

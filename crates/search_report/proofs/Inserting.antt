@@ -55,7 +55,7 @@ module _ {X : Type 0} (v : List ℕ) (n : X) where
       by_order Equal is further = (subst (λ w. P (w, n)) (exact_bytes v e.0 is) p, h.1)
       by_order Greater is further = (h.0, further)
 
-  -- ---- which lists of values stand there
+  -- ---- which lists of values are there
 
   kept-on : (b : Bool) (x y : X) (o : Option X) → is_some (cond b (Some x) o) ≡ true → is_some (cond b (Some y) o) ≡ true
   kept-on true x y o h = refl

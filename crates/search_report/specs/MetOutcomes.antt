@@ -1,6 +1,6 @@
 -- What `outcomes` prints of a search that met its limit: the limit, and the final states that it had met, those that look alike
 -- once, each with choices that lead there. They are some of those that there are: the line `Unfinished` before them says so. A
--- verdict stands there only where one of them decides it, whatever the others are.
+-- verdict is there only where one of them decides it, whatever the others are.
 use Rattle.std.specs.Prelude.{ℕ, ◌≡◌, Bool, true, false, List, [], ◌++◌, length, Option, codes}
 use Rattle.std.specs.Fmt.{decimal}
 use Rattle.serde_json.specs.Data.{Data, null, string, object, no_members, member}
@@ -21,7 +21,7 @@ use Rattle.search_report.specs.OutcomesJson.{states_value}
 abbrev pub unfinished_outcomes_line : ℕ → List ℕ
 unfinished_outcomes_line limit = codes "Unfinished states=" ++ line (decimal limit)
 
--- `Met 2`: how many states stand below
+-- `Met 2`: how many states are below
 abbrev pub met_line : ℕ → List ℕ
 met_line count = codes "Met " ++ line (decimal count)
 

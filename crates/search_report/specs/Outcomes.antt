@@ -31,7 +31,7 @@ outcome_of f = record { registers = f.registers.items; memory = f.memory.items; 
 abbrev pub shown_values : List Named → Outcome → List ℕ
 shown_values names o = values_at names o.registers o.memory
 
--- of the final states that look alike one: the values ascend, so none stand twice; each outcome is one of the final states; and
+-- of the final states that look alike one: the values ascend, so none come twice; each outcome is one of the final states; and
 -- the values of each final state are there
 pub record ArePrinted (names : List Named) (finals : List FinalState) (outcomes : List Outcome) : Type 0 where
   pub ascending : IsStrictlySortedBy (slice_cmp nat_cmp) (map (shown_values names) outcomes)

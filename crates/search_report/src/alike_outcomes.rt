@@ -16,7 +16,7 @@ pub fn outcomes_of_the_same_values_are_alike()
 {}
 
 /// Of final states that are the same but for registers that no value shows, however they are listed and whichever choices
-/// stand with them, what is printed differs in choices alone.
+/// are with them, what is printed differs in choices alone.
 pub fn outcomes_are_one_but_for_choices()
     ensures { OutcomesAreOneButForChoices }
 {}

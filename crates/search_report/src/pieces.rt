@@ -2,7 +2,7 @@
 
 use crate::shown::{Edge, Event, Place};
 
-/// A piece of a line, or what stands under a key.
+/// A piece of a line, or what is under a key.
 #[derive(Clone, Copy)]
 pub enum Piece<'a> {
     /// A word, as a line has it and as an object has it.
@@ -15,9 +15,9 @@ pub enum Piece<'a> {
     Source(&'a Option<Event>),
     /// The edges of a cycle.
     Cycle(&'a [Edge]),
-    /// Places, with what stands there.
+    /// Places, with what is there.
     Places(&'a [Place]),
 }
 
-/// What stands before a piece in a line, its key in an object, and the piece.
+/// What comes before a piece in a line, its key in an object, and the piece.
 pub type Field<'a> = (&'a str, &'a str, Piece<'a>);

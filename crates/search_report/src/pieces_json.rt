@@ -22,7 +22,7 @@ use tso_report::members::{numbers_value, word_value};
 use tso_report::objects::Object;
 use tso_terms::{Entry, Loc, NoMemory, Test};
 
-/// What stands under a key.
+/// What is under a key.
 ///
 /// Errors: out of memory only.
 pub fn piece_value(alloc: Global, test: &Test, piece: Piece<'_>) -> Result<Value, NoMemory>
@@ -67,7 +67,7 @@ pub fn writes_value(
     values.value()
 }
 
-/// A piece as it stands in a line, as a string.
+/// A piece as it is in a line, as a string.
 fn text_value(alloc: Global, test: &Test, piece: Piece<'_>) -> Result<Value, NoMemory>
     ensures { IfOk result (λ value. view value ≡ string (pieces.piece_text test.now piece.entry)) }
 {

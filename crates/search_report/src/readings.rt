@@ -74,7 +74,7 @@ fn source_in(order: &[Entry], read: &Entry) -> Option<Event>
     }
 }
 
-/// Where an entry of the order stands in it.
+/// Where an entry of the order is in it.
 fn place_in(order: &[Entry], e: &Entry) -> usize
     requires { IsIn order.now e.now }
     ensures within { result < length order.now }

@@ -68,7 +68,7 @@ pub fn unfinished_reason_json(alloc: Global, test: &Test, limit: u32) -> Result<
     unfinished_search_json(alloc, test, "cases", limit as u64)
 }
 
-/// An object with what stands under each of these keys.
+/// An object with what is under each of these keys.
 fn object_of(alloc: Global, test: &Test, fields: &[Field<'_>]) -> Result<Value, NoMemory>
     ensures { IfOk result (λ value. view value ≡ object (with_fields test.now fields.now no_members)) }
 {

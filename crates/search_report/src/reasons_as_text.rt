@@ -92,7 +92,7 @@ pub fn unfinished_text(alloc: Global, limit: u32) -> Result<String, NoMemory>
     Ok(text)
 }
 
-/// Adds a line: each piece after what stands before it.
+/// Adds a line: each piece after what comes before it.
 fn write_line(text: &mut String, test: &Test, fields: &[Field<'_>]) -> Result<(), NoMemory>
     ensures { OnOk result (string_bytes text.new ≡ string_bytes text.old ++ (flat_map (field_text test.now) fields.now ++ (10 ∷ []))) }
 {

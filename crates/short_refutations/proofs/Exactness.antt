@@ -59,7 +59,7 @@ module _ (words : LastWordsArePossible) (model : Model) (t : Litmus) (k : Known)
       let q = and-both _ (not (list_any (is_put_before facts w) (events_of t))) p.0 in
       ((and-both (writes_to loc w) (list_all (fits_last loc w) facts) q.0).0, q.1)
 
-  -- the order of two writes that the case knows stands among the facts
+  -- the order of two writes that the case knows is among the facts
   put-before : (y z : Entry) → comes_before k y z ≡ true → is_put_before facts (bare y) (bare z) ≡ true
   put-before y z h =
       let m = any-picked (λ (p : Pair). same_event p.first y && same_event p.second z) k.order h in

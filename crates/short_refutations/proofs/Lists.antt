@@ -1,7 +1,7 @@
 -- Members of lists of any type, by their places.
 use Rattle.short_refutations.proofs.Vocabulary.{◌≡◌, ◌⊎◌, inl, inr, ◌&&◌, ◌||◌, ℕ, zero, suc, Bool, true, false, List, [], ◌∷◌, ◌++◌, Some, refl, sym, ap, subst, slice_get, map, filter, if◌then◌else◌, list_any, list_all, and-both}
 
--- x stands in this list
+-- x is in this list
 abbrev pub Has : {A : Type 0} → List A → A → Type 0
 Has xs x = (i : ℕ) × (slice_get xs i ≡ Some x)
 
@@ -61,7 +61,7 @@ filter-at p (y ∷ ys) i x e = go (p y) refl i e (λ j f. filter-at p ys j x f)
     go true q (suc j) e later = let r = later j e in ((suc r.0.0, r.0.1), r.1)
     go false q j e later = let r = later j e in ((suc r.0.0, r.0.1), r.1)
 
--- what stands in a list of images is one
+-- what is in a list of images is one
 pub record Image {A B : Type 0} (f : A → B) (xs : List A) (y : B) : Type 0 where
   pub of : A
   pub inside : Has xs of
@@ -76,7 +76,7 @@ pub all-of : {A : Type 0} (p : A → Bool) (xs : List A) → ((i : ℕ) (x : A) 
 all-of p [] h = refl
 all-of p (x ∷ xs) h = subst (λ b. (b && list_all p xs) ≡ true) (sym (h 0 x refl)) (all-of p xs (λ i y e. h (suc i) y e))
 
--- what stands in a list with one more is in the list, or is that one
+-- what is in a list with one more is in the list, or is that one
 pub last-at : {A : Type 0} (xs : List A) (z : A) (i : ℕ) (x : A) → slice_get (xs ++ (z ∷ [])) i ≡ Some x → (slice_get xs i ≡ Some x) ⊎ (x ≡ z)
 last-at [] z zero x e = let q : z ≡ x = cc in inr (sym q)
 last-at [] z (suc i) x e = let q : ⊥ = cc in absurd q

@@ -31,7 +31,7 @@ module _ (model : Model) (t : Litmus) (k : Known) (o : IsOpen model t k) (allowe
   abbrev Rel : ℕ → Expression → ℕ → Type 0
   Rel m e n = AtMost n (values_of (values_read (table m)) e)
 
-  -- ---- what stands before a read
+  -- ---- what comes before a read
 
   read-access : (x : Entry) → is_read x ≡ true → is_access x ≡ true
   read-access x r = or-first (is_read x) (is_write x) r
@@ -39,7 +39,7 @@ module _ (model : Model) (t : Litmus) (k : Known) (o : IsOpen model t k) (allowe
   write-access : (x : Entry) → is_write x ≡ true → is_access x ≡ true
   write-access x w = or-second (is_read x) (is_write x) w
 
-  -- a source in the program of its read stands before it
+  -- a source in the program of its read comes before it
   before-read : (x y : Entry) → IsIn es x → IsIn es y → is_read x ≡ true → writes_to x.loc.0 y ≡ true → reads_from k y x ≡ true
       → y.core.0 ≡ x.core.0 → is_before y x ≡ true
   before-read x y i j r w f e = elim (order-of (rank y) (rank x)) [
@@ -60,7 +60,7 @@ module _ (model : Model) (t : Litmus) (k : Known) (o : IsOpen model t k) (allowe
       is-write : is_write y ≡ true
       is-write = writes x.loc.0 y w
 
-  -- a read before the source of a read x stands before x in the row
+  -- a read before the source of a read x comes before x in the row
   earlier : (x y z : Entry) → IsIn es x → IsIn es y → IsIn es z → is_read x ≡ true → writes_to x.loc.0 y ≡ true → reads_from k y x ≡ true
       → is_read z ≡ true → is_before z y ≡ true → (i j : ℕ) → slice_get o.globally.in_a_row.row i ≡ Some (bare x)
       → slice_get o.globally.in_a_row.row j ≡ Some (bare z) → j < i

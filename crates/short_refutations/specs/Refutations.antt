@@ -111,7 +111,7 @@ may_be_asked t (Last write truth) = is_event t write && is_write write
 may_be_asked t (Returns read value truth) = is_event t read && is_read read
 may_be_asked t (Holds claim truth) = true
 
--- whether a node may stand in a branch, below these lemmas
+-- whether a node may be in a branch, below these lemmas
 abbrev pub is_node : Model → Litmus → List Lemma → Knowledge → Node → Bool
 is_node model t lemmas k (ReadsFrom r) = is_event t r && is_read r
 is_node model t lemmas k (ReadsValue r) = is_event t r && is_read r && are_values (values_read k.readings r)

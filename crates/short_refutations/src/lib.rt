@@ -1,7 +1,7 @@
 //! Short refutations of what a litmus test asks: trees of questions whose branches are the answers that are still possible, and
 //! lemmas before them.
 //!
-//! Nothing here computes. The definitions stand in `specs/`: the edges that facts tell, the nodes of a
+//! Nothing here computes. The definitions are in `specs/`: the edges that facts tell, the nodes of a
 //! tree and where each may stand, and when lemmas and a tree refute. Each public function has no code of
 //! its own, and its contract is a law on them: what is refuted never happens, and what isn't refuted
 //! does. The two models are x86-TSO and sequential consistency.

@@ -1,4 +1,4 @@
-//! A test's run under a list of choices, on a machine of any protocol and configuration. What drives the machine stands in
+//! A test's run under a list of choices, on a machine of any protocol and configuration. What drives the machine is in
 //! `machine_runs`, which this crate lends out.
 #![tactic(auto)]
 

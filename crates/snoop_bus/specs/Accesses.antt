@@ -1,4 +1,4 @@
--- What each call makes of a bus, in words of the bus's own: whoever stands above it needs no others. (Primer,
+-- What each call makes of a bus, in words of the bus's own: whoever is above it needs no others. (Primer,
 -- chapters 2, 6 and 7; which line gives way, and which copies are sent to memory, is this project's profile.)
 use Rattle.std.specs.Prelude.{◌≡◌, ℕ, ◌/◌, Bool, true, false, Option, Some, None, List, length, slice_get, slice_set}
 use Rattle.std.specs.Int.{div_ceil}

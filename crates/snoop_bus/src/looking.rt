@@ -50,7 +50,7 @@ impl<P: Protocol> SnoopBus<P> {
         self.hierarchy.memory[usize::from(line)][usize::from(offset)]
     }
 
-    /// A core's set with this number, in which its copies stand with their words: all those of their lines,
+    /// A core's set with this number, in which its copies are with their words: all those of their lines,
     /// and 0 past them.
     pub fn set_of(&self, core: Core, set: u8) -> &CacheSet
         requires core { core.0 < cores_of self.now }

@@ -57,7 +57,7 @@ fewer-left f xs n values after x many found pushed =
     let size = one-more values after (f x) pushed in
     omega (arith, l, many, size)
 
--- a copy of a set, and a text of a pending store, as they stand in such lists
+-- a copy of a set, and a text of a pending store, as they are in such lists
 pub copy-at : (m : Running) (core set rank : ℕ) → cached_line m core set rank ≡ slice_get (cached_lines_in m core set) rank
 copy-at m core set rank = mapped _ _ rank
 

@@ -1,4 +1,4 @@
--- What a choice did as a JSON value, with the machine after it. Its keys stand in the order of their bytes. (This project's
+-- What a choice did as a JSON value, with the machine after it. Its keys are in the order of their bytes. (This project's
 -- profile; the texts are those of the trace's lines.)
 use Rattle.std.specs.Prelude.{ℕ, List, map, Option, Some, None, option_map, codes}
 use Rattle.trace_report.specs.Vocabulary.{access_name, Asked, boolean, Buffered, Committed, Data, line_name, Litmus, member, Moved, no_members, object, order_value, Outcome, outcome_name, printed_change, printed_choice, printed_core, printed_move, printed_request, ShownStep, Stall, stall_name, Stalled, string}

@@ -57,7 +57,7 @@ moved_by (action.Move change) registers = given_by_move change registers
 moved_by action.Fence registers = None
 moved_by (action.Lock loc reg update) registers = None
 
--- of the instruction that the core stands at
+-- of the instruction that the core is at
 abbrev pub moved_at : Option Instr → List ℕ → Option Moved
 moved_at None registers = None
 moved_at (Some i) registers = moved_by (action_of i) registers

@@ -143,7 +143,7 @@ fn with_location(alloc: Global, front: &str, name: &str, reg: Reg) -> Result<Val
     spelled(alloc, front, name, "],", Piece::Text(reg.name()), "")
 }
 
-/// An instruction of two operands, with what stands before, between and after them.
+/// An instruction of two operands, with what comes before, between and after them.
 fn spelled<'a>(
     alloc: Global,
     front: &'a str,

@@ -3,7 +3,7 @@
 //! The command reads standard input and writes standard output. What it answers is proved of
 //! `tso_cli::run_command` and `answer_command`; here stand the streams, the words of the line and the exit status.
 //!
-//! Only `main` and what stands before [`run`] have the runtime. From there on the reader and the writer are all that is read and
+//! Only `main` and what comes before [`run`] have the runtime. From there on the reader and the writer are all that is read and
 //! written, but for standard error, and so a contract can say which bytes are written, and which status they have.
 #![tactic(auto)]
 

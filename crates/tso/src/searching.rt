@@ -19,7 +19,7 @@ pub struct Teller {
     is_typed: bool,
     /// Whether standard error is a terminal.
     is_seen: bool,
-    /// Whether the line stands there.
+    /// Whether the line is there.
     stands: bool,
     /// How many states were kept when the search was over.
     kept: usize,

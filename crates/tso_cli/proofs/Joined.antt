@@ -11,7 +11,7 @@ feed_begins : (b : Bool) (front : List ℕ) → line_begins b (front ++ 10 ∷ [
 feed_begins b [] = refl
 feed_begins b (c ∷ cs) = feed_begins (c == 10) cs
 
--- ---- what stands after more text
+-- ---- what comes after more text
 
 feed_none : (b : Bool) (rest other : List ℕ) → cond b (Some rest) None ≡ None → cond b (Some other) None ≡ None
 feed_none true rest other h = absurd (let no : ⊥ = cc in no)

@@ -27,7 +27,7 @@ missing_action t core place kind loc =
 abbrev pub entry_with_due : Litmus → Entry → ℕ → List ℕ
 entry_with_due t x due = printed_entry t x ++ (codes " due=" ++ decimal due)
 
--- an entry, and one that it stands after
+-- an entry, and one that it comes after
 abbrev pub entry_after : Litmus → Entry → Entry → List ℕ
 entry_after t x y = printed_entry t x ++ (codes " after " ++ printed_entry t y)
 

@@ -13,7 +13,7 @@ use Rattle.tso_cli.specs.declared.answer.Status.{Status}
 use Rattle.tso_cli.specs.Verdicts.{status_of_verdict, status_of_met}
 
 -- the outcomes are all final states that the machine can reach at this depth, of those that look alike one: their values at these
--- names ascend, so none stand twice; the choices of each lead to it, and none of them stalls or is left over; and the values of every
+-- names ascend, so none come twice; the choices of each lead to it, and none of them stalls or is left over; and the values of every
 -- end are there
 pub record AreAllOutcomes (t : Litmus) (names : List Named) (depth : ℕ) (outcomes : List Outcome) : Type 0 where
   pub ascending : IsStrictlySortedBy (slice_cmp nat_cmp) (map (shown_values names) outcomes)

@@ -33,7 +33,7 @@ seeds_from test from (suc seeds) = seeds_from test from seeds + (if test (from +
 abbrev pub seeds_with : Litmus → (List Choice → Run) → Plan → (Option (List Entry) → Bool) → ℕ
 seeds_with t run_of plan test = seeds_from (λ seed. test (seeded_order t run_of plan seed)) plan.from plan.seeds
 
--- these bytes stand in the text
+-- these bytes are in the text
 abbrev pub HasPart : List ℕ → List ℕ → Type 0
 HasPart text part = (front : List ℕ) × (back : List ℕ) × (text ≡ front ++ (part ++ back))
 

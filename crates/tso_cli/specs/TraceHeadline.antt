@@ -10,7 +10,7 @@ use Rattle.tso_cli.specs.SplitRun.{split_run}
 use Rattle.tso_cli.specs.Lines.{choices_refusal, unfinished_run_line}
 use Rattle.tso_cli.specs.Trace.{FitsForm, IsTooLong}
 
--- the trace of the choices stands between the first two lines and a rest: where the run ends, the two lines and the rest are the
+-- the trace of the choices comes between the first two lines and a rest: where the run ends, the two lines and the rest are the
 -- report of an execution, as `run` prints it; where it doesn't, the rest is the line that says how far it came
 pub record PrintsTrace (t : Litmus) (kind : ProtocolKind) (c : Configuration) (choices : List Choice) (r : Run) (out : List ℕ) : Type 0 where
   pub rest : List ℕ

@@ -1,4 +1,4 @@
-//! The hint that stands beside an answer, on standard error. It is made of what the answer knew, after the answer; nothing
+//! The hint that is beside an answer, on standard error. It is made of what the answer knew, after the answer; nothing
 //! that scripts read can change by it.
 
 ghost use Rattle.std.specs.Prelude.{◌≡◌, IfOk, string_bytes};

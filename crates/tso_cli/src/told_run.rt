@@ -25,7 +25,7 @@ use trace_report::{
 use tso_report::{head_text, write_body};
 use tso_terms::{NoMemory, Test};
 
-/// The answer of `trace` as lines. The run is made once: its trace is written as its choices are made, and what stands after it
+/// The answer of `trace` as lines. The run is made once: its trace is written as its choices are made, and what comes after it
 /// is what the machine is left with.
 ///
 /// Errors: out of memory only.
@@ -60,7 +60,7 @@ pub(crate) fn lines_answer(
     })
 }
 
-/// Writes what stands after a trace: the rest of the report of a run that ended, or how far it came.
+/// Writes what comes after a trace: the rest of the report of a run that ended, or how far it came.
 fn write_left(text: &mut String, test: &Test, ending: &Ending) -> Result<(), NoMemory>
     requires { FitsEnding test.now ending.now }
     ensures { OnOk result (string_bytes text.new ≡ string_bytes text.old ++ lines_left test.now ending.now) }

@@ -31,7 +31,7 @@ pub atomic-fits : (t : Litmus) (depth : ℕ) (state : State) (attempts : List At
 atomic-fits t depth state [] = tt
 atomic-fits t depth state (a ∷ rest) = (tt, atomic-fits t depth (after_choice t depth state a.choice) rest)
 
--- the parts of a locked instruction stand together already
+-- the parts of a locked instruction are together already
 commits-together : (t : Litmus) (depth : ℕ) (state : State) (choices : List Choice) → AllStores state → put_together (commits_of t depth state choices) ≡ commits_of t depth state choices
 commits-together t depth state [] stores = refl
 commits-together t depth state (c ∷ cs) stores =

@@ -23,7 +23,7 @@ no-more bus t d state (a ∷ rest) live =
 abbrev Able : Bus → Litmus → ℕ → BusState → Choice → Type 0
 Able bus t d state c = (hits : Bool) → stall_count (effect_on bus t d state (record { choice = c; hits = hits })).effect.outcome ≡ 0
 
--- where a choice that can take effect stands in a list, some choice of the list does
+-- where a choice that can take effect is in a list, some choice of the list does
 falls : (bus : Bus) (t : Litmus) (d : ℕ) (state : BusState) (c : Choice) (xs : List Attempt) → LiveIn bus t d state → Able bus t d state c → Among c (choices_in xs)
     → suc (rest_of t (state_on bus t d state xs) + credit state.holder) ≤ rest_of t state + credit (state_on bus t d state xs).holder
 falls bus t d state c [] live able m = absurd m

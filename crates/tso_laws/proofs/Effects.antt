@@ -21,7 +21,7 @@ HolderWaits Atomic t d state (HeldBetween e) = ⊥
 HolderWaits Split t d state (HeldBy choice) = access_of t d state choice ≢ NoAccess
 HolderWaits Split t d state (HeldBetween e) = access_of t d state (Step e.core) ≡ Locks e.loc
 
--- no core stands past its program
+-- no core is past its program
 abbrev pub Within : Litmus → State → Type 0
 Within t state = (k : ℕ) → (core_of state k).place ≤ length (program_of t k)
 

@@ -2,7 +2,7 @@
 use Rattle.tso_laws.proofs.Vocabulary.{◌≡◌, ◌<◌, ◌≤◌, ℕ, suc, List, [], ◌∷◌, ◌++◌, Bool, true, false, length, slice_index, arith, sym, ◌∙◌, append_assoc, refl, subst, ◌==◌, ◌&&◌, if◌then◌else◌, nat_tests, same_kind, is_write, is_read, is_before, may_be_passed, writes_to, is_store, is_load, is_write_kind, is_read_kind, read_value, is_at, and-true, Entry, Kind, R, LR, Each, each-insert, each-left, append-nil, cases_Bool, inl, inr}
 use Rattle.tso_laws.proofs.Folds.{last_word, last_own, passed}
 
--- where y stands after x in the order, and before it in the program of core c, y is a store and x a load
+-- where y comes after x in the order, and before it in the program of core c, y is a store and x a load
 abbrev pub Fine : ℕ → ℕ → Entry → Entry → Type 0
 Fine d c x y = y.core.0 ≡ c → is_before y x ≡ true → (may_be_passed y x ≡ true) × (0 < d)
 

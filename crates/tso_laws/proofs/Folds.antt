@@ -6,7 +6,7 @@ abbrev pub last_word : ℕ → List Entry → ℕ → ℕ
 last_word loc [] word = word
 last_word loc (e ∷ es) word = last_word loc es (if writes_to loc e then e.value else word)
 
--- the value of the last of these writes that stand before the read in its program, else the word
+-- the value of the last of these writes that come before the read in its program, else the word
 abbrev pub last_own : Entry → List Entry → ℕ → ℕ
 last_own x [] word = word
 last_own x (e ∷ es) word = last_own x es (if writes_to x.loc.0 e && is_before e x then e.value else word)
@@ -21,7 +21,7 @@ HasDueValues t order =
 abbrev pub passes : Kind → Kind → Bool
 passes a b = is_store_kind a && is_load_kind b
 
--- how many plain stores of the list stand before x in its program
+-- how many plain stores of the list come before x in its program
 abbrev pub passed : Entry → List Entry → ℕ
 passed x [] = 0
 passed x (y ∷ ys) = if is_store y && is_before y x then suc (passed x ys) else passed x ys

@@ -1,4 +1,4 @@
--- The stores of a core that stand before a place in its program, in the order of a list.
+-- The stores of a core that come before a place in its program, in the order of a list.
 use Rattle.tso_laws.proofs.Vocabulary.{◌≡◌, ◌≢◌, ◌<◌, ◌≤◌, ℕ, ◌+◌, List, [], ◌∷◌, ◌++◌, Bool, true, false, length, arith, ap, sym, ◌∙◌, refl, ◌⊎◌, inl, inr, subst, ◌==◌, ◌&&◌, nat_lt, if◌then◌else◌, ◌||◌, nat_tests, is_before, writes_to, is_store, rank, part_of, is_store_kind, by-rank, and-true, and-false, Entry, Kind, R, W, Each, Member, cases_Bool, decide, test-true, test-false}
 use Rattle.tso_laws.proofs.Folds.{passes, last_word, last_own, passed}
 use Rattle.tso_laws.proofs.Entries.{Fine, Ordered}
@@ -73,7 +73,7 @@ is_store-kind e h = go e.kind h
     go W h = refl
     go _ h = absurd (let z : ⊥ = cc in z)
 
--- stores of a core after one of its stores stand after it in the program
+-- stores of a core after one of its stores come after it in the program
 store-after : (d k : ℕ) (x y : Entry) → Fine d k x y → Apart x y → x.core.0 ≡ k → is_store x ≡ true → y.core.0 ≡ k → is_store y ≡ true → x.place < y.place
 store-after d k x y f a p w q u =
     go (is_before y x) refl

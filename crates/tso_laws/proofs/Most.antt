@@ -5,7 +5,7 @@ use Rattle.tso_laws.proofs.Held.{member-left, member-right, member-split, each-o
 use Rattle.tso_laws.proofs.OrderSteps.{first_of}
 use Rattle.tso_laws.proofs.Whole.{cut-at, length-middle, each-from, Own, whole-own}
 
--- distinct entries that all stand in a list are no more than it has
+-- distinct entries that all are in a list are no more than it has
 fewer : (xs ys : List Entry) → Distinct xs → ((e : Entry) → Member e xs → Member e ys) → length xs ≤ length ys
 fewer [] ys d f = omega arith
 fewer (x ∷ xs) ys d f =

@@ -23,7 +23,7 @@ passes-load W R h = refl
 passes-load W _ h = absurd (let z : ⊥ = cc in z)
 passes-load _ b h = absurd (let z : ⊥ = cc in z)
 
--- what stands after x in the order and before it in its program has been passed by it
+-- what comes after x in the order and before it in its program has been passed by it
 fine-at : (d : ℕ) (t : Litmus) (order front back : List Entry) (state : State) (x e : Entry) → Good d t order → Stands d t order front (x ∷ back) state → x.core.0 < length t.programs
     → Member e back → is_before e x ≡ true → may_be_passed e x ≡ true
 fine-at d t order front back state x e g st l m b =
@@ -37,7 +37,7 @@ pub only-stores : (d : ℕ) (t : Litmus) (order front back : List Entry) (state 
 only-stores d t order front back state x g st l e (inl q) c p = absurd (let r = ap (λ z. z.place) q in omega arith)
 only-stores d t order front back state x g st l e (inr m) c p = passes-store e.kind x.kind (fine-at d t order front back state x e g st l m (place-before e x c p))
 
--- only a load has own stores after it that stand before it in the program
+-- only a load has own stores after it that come before it in the program
 after-all : (d : ℕ) (t : Litmus) (order front back : List Entry) (state : State) (x e : Entry) → Good d t order → Stands d t order front (x ∷ back) state → x.core.0 < length t.programs
     → is_load x ≡ false → Member e (x ∷ back) → e.core.0 ≡ x.core.0 → x.place ≤ e.place
 after-all d t order front back state x e g st l n (inl q) c = let r = ap (λ z. z.place) q in omega arith

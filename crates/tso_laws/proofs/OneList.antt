@@ -64,7 +64,7 @@ one-more c place next xs m h = each-map (Precedes c place) (Precedes c next) xs 
 pub sees-later : (d c place next : ℕ) (words : List ℕ) (done xs : List Entry) → place ≤ next → OneList d c place words done xs → OneList d c next words done xs
 sees-later d c place next words done xs m h = record { preceding = one-more c place next xs m h.preceding; kept = h.kept; few = h.few; due = h.due; counted = h.counted; members = h.members }
 
--- an entry of the core, at the place, that no later entry must stand before
+-- an entry of the core, at the place, that no later entry must come before
 pub sees-own : (d c place next : ℕ) (words : List ℕ) (done xs ys : List Entry) (e : Entry) → OneList d c place words done (xs ++ ys) → Each (λ y. is_write y ≡ true) ys
     → e.core.0 ≡ c → place ≤ rank e → rank e < next → Each (λ y. Fine d c e y) ys → Each (Uncounted c e) xs → OwnDue c words xs ys e → (is_load e ≡ true → passed e ys ≤ d)
     → OneList d c next words (done ++ (e ∷ [])) ((xs ++ (e ∷ [])) ++ ys)

@@ -30,7 +30,7 @@ keeps-right : (xs ys : List Entry) → KeepsAllOrder (xs ++ ys) → KeepsAllOrde
 keeps-right [] ys h = h
 keeps-right (x ∷ xs) ys h = keeps-right xs ys (keeps-rest x (xs ++ ys) h)
 
--- a load isn't committed before a store that stands before it in the program
+-- a load isn't committed before a store that comes before it in the program
 no-load : (t : Litmus) (a b : State) (cs : List Choice) (k : ℕ) → k < length b.cores → KeepsAllOrder (commits_of t 1 b (step k ∷ cs))
     → (core_of (state_after t 1 b (step k ∷ cs)) k).pending ≡ [] → IsBehind k (program_of t k) (core_of a k) (core_of b k)
     → (i : Instr) (reg : Reg) (loc : Loc) → slice_get (program_of t k) (core_of b k).place ≡ Some i → action_of i ≡ Load reg loc → ⊥

@@ -27,7 +27,7 @@ at-place d t order front back state k g st l new q registers reads e y m c p =
       ]
     ]
 
--- what is left of the program stands in the back
+-- what is left of the program is in the back
 pub in-back : (d : ℕ) (t : Litmus) (order front back : List Entry) (state : State) (k : ℕ) → Good d t order → Stands d t order front back state → k < length t.programs
     → (e : Entry) → Member e (left k (program_of t k) (core_of state k) order) → e.core.0 ≡ k → (core_of state k).place ≤ e.place → Member e back
 in-back d t order front back state k g st l e m c p =

@@ -101,7 +101,7 @@ own-append c (x ∷ xs) ys h = rw (own-append c xs ys h) (go (x.core.0 == c))
 is-own : (a c : ℕ) → a ≡ c → (a == c) ≡ true
 is-own a c h = grind (arith, nat_tests)
 
--- an entry is committed where its like stands in the commits
+-- an entry is committed where its like is in the commits
 same-kinds : (k : Kind) → same_kind k k ≡ true
 same-kinds R = refl
 same-kinds _ = refl
@@ -162,7 +162,7 @@ separated [] ys x y d m n = absurd m
 separated (z ∷ zs) ys x y d (inl p) n = subst (λ v. Apart v y) (sym p) (each-of (Apart z) y (zs ++ ys) d.0 (member-right y zs ys n))
 separated (z ∷ zs) ys x y d (inr m) n = separated zs ys x y d.1 m n
 
--- pending stores stand in program order
+-- pending stores are in program order
 queue-sorted : (d c n : ℕ) (ys : List Entry) → Ordered d c ys → Distinct ys → Each (Queued c n) ys → Sorted ys
 queue-sorted d c n [] o u q = tt
 queue-sorted d c n (y ∷ ys) o u q = (each-from (λ z. rank y < rank z) ys (λ z m. above z m), queue-sorted d c n ys o.1 u.1 q.1)

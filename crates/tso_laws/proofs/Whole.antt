@@ -184,7 +184,7 @@ whole-own t order h =
     let s = pigeons (made t order) order (made-distinct 0 t.programs t.registers order) within h.count in
     record { within = within; distinct = s.distinct; made = s.in_made; in_made = λ e m. of-core t order e (made-at 0 t.programs t.registers order e (s.in_made e m)) }
 
--- each entry stands in a distinct list once
+-- each entry is in a distinct list once
 pub distinct-once : (xs : List Entry) (i j : ℕ) (e : Entry) → Distinct xs → slice_get xs i ≡ Some e → slice_get xs j ≡ Some e → i ≡ j
 distinct-once [] i j e d a b = absurd (let z : ⊥ = cc in z)
 distinct-once (x ∷ xs) zero zero e d a b = refl

@@ -15,7 +15,7 @@ steps core (suc n) = step core ∷ steps core n
 abbrev pub drained : Entry → List Choice
 drained x = if is_store x then drain x.core.0 ∷ [] else []
 
--- what an entry needs, where the cores stand at these places: the steps of its core up to and over its instruction, as
+-- what an entry needs, where the cores are at these places: the steps of its core up to and over its instruction, as
 -- far as they aren't done yet, and for a plain store the drain
 abbrev pub choices_for : List ℕ → Entry → List Choice
 choices_for places x = steps x.core.0 ((x.place + 1) - slice_index places x.core.0) ++ drained x

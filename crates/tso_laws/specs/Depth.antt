@@ -4,11 +4,11 @@ use Rattle.std.specs.Prelude.{max, ℕ, ◌&&◌, if◌then◌else◌, List, [],
 use Rattle.tso_terms.specs.ProgramOrder.{is_before, is_load, is_store}
 use Rattle.tso_terms.specs.declared.execution.Entry.{Entry}
 
--- the plain stores of a list that stand before x in its program
+-- the plain stores of a list that come before x in its program
 abbrev pub stores_before : Entry → List Entry → List Entry
 stores_before x ys = filter (λ y. is_store y && is_before y x) ys
 
--- the greatest number of plain stores that stand before one load in its program and after it in the order
+-- the greatest number of plain stores that come before one load in its program and after it in the order
 abbrev pub most_passed : List Entry → ℕ
 most_passed [] = 0
 most_passed (x ∷ back) = max (if is_load x then length (stores_before x back) else 0) (most_passed back)

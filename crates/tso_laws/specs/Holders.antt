@@ -7,7 +7,7 @@ use Rattle.tso_terms.specs.MemoryAccess.{NoAccess, Locks, access_of}
 use Rattle.tso_terms.specs.SplitMachine.{Holder, Free, HeldBy, HeldBetween}
 use Rattle.basic_laws.specs.Types.{Bus, Atomic, Split, Entry, LR, Step}
 
--- the locked instruction with this load part has read and not yet written: its core stands where it stood, its step still
+-- the locked instruction with this load part has read and not yet written: its core is where it stood, its step still
 -- makes that access, and memory still has the word that was read
 pub record HasRead (t : Litmus) (depth : ℕ) (state : State) (e : Entry) : Type 0 where
   pub kind : e.kind ≡ LR

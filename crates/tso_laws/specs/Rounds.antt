@@ -8,7 +8,7 @@ abbrev pub Among : Choice → List Choice → Type 0
 Among a [] = ⊥
 Among a (c ∷ cs) = (a ≡ c) ⊎ Among a cs
 
--- each core's step and drain stands in the list at least once
+-- each core's step and drain is in the list at least once
 abbrev pub IsRound : ℕ → List Choice → Type 0
 IsRound cores cs = (k : ℕ) → k < cores → Among (step k) cs × Among (drain k) cs
 

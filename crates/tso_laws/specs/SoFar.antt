@@ -11,12 +11,12 @@ use Rattle.tso_terms.specs.FlatMachine.{CoreState, State, program_of, core_of}
 use Rattle.tso_terms.specs.declared.execution.Entry.{Entry}
 use Rattle.tso_laws.specs.Entries.{FitsTest}
 
--- the entries that a core has issued when it stands at this place: those of its program up to there, with the
+-- the entries that a core has issued when it is at this place: those of its program up to there, with the
 -- commits' own read values
 abbrev pub issued : Litmus → ℕ → ℕ → List Entry → List Entry
 issued t core place commits = made_by core (take place (program_of t core)) (slice_index_or t.registers core []) commits
 
--- the registers of a core that stands at this place, with the same read values
+-- the registers of a core that is at this place, with the same read values
 abbrev pub registers_at : Litmus → ℕ → ℕ → List Entry → List ℕ
 registers_at t core place commits = registers_of core (take place (program_of t core)) (slice_index_or t.registers core []) commits
 
@@ -29,7 +29,7 @@ is_committed (c ∷ cs) e = is_at e.core.0 e.place e.kind c || is_committed cs e
 abbrev pub is_waiting : List Entry → Entry → Bool
 is_waiting commits e = is_store e && not (is_committed commits e)
 
--- of one core: it stands within its program; what is pending are its issued and uncommitted plain stores, in
+-- of one core: it is within its program; what is pending are its issued and uncommitted plain stores, in
 -- program order, no more than the buffer holds, and commits with these after them keep program order; all else that
 -- it has issued is committed; its registers are its thread's so far
 pub record CoreSoFar (t : Litmus) (depth : ℕ) (commits : List Entry) (core : ℕ) (s : CoreState) : Type 0 where

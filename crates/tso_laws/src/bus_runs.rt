@@ -1,5 +1,5 @@
 //! The laws of the machine on either bus: each run is followed by a run of the flat machine, so a split bus adds no
-//! execution. Each law stands in `specs/`, under the name of its function. (Primer, chapter 7, for the bus.)
+//! execution. Each law is in `specs/`, under the name of its function. (Primer, chapter 7, for the bus.)
 
 ghost use Rattle.tso_laws.specs.BusLaws.{WhatHoldsSoFarOnEitherBus};
 ghost use Rattle.tso_laws.specs.inner.BusLaws.{AttemptsLeadFromStateToState, RunsOnEitherBusStopWhereTheyEnd};

@@ -1,5 +1,5 @@
 //! The laws of the flat machine: its ended runs are TSO executions, and each TSO execution is such a run where the store
-//! buffers are deep enough. A law that is too long for its clause stands in `specs/`, under the name of its function.
+//! buffers are deep enough. A law that is too long for its clause is in `specs/`, under the name of its function.
 //! (Primer, chapter 4; x86-TSO, section 3.)
 
 ghost use Rattle.std.specs.Prelude.{ℕ, max, ◌≤◌, ◌≡◌, List, [], ◌∷◌};
@@ -42,7 +42,7 @@ pub fn made_entries_fit_the_test()
     ensures { (t : Litmus) (order : List Entry) (e : Entry) → IsTest t → StandsIn (made t order) e → FitsTest t e }
 {}
 
-/// Where an order is whole, each of its entries is made by the programs and stands in it once; its
+/// Where an order is whole, each of its entries is made by the programs and is in it once; its
 /// core, its place and, but for a fence, its location are of the test.
 pub fn whole_orders_have_each_entry_once()
     ensures { WholeOrdersHaveEachEntryOnce }

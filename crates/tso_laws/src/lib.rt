@@ -3,7 +3,7 @@
 //!
 //! Nothing here computes. Each public function has no code of its own, and its contract is a law on
 //! the definitions: a body that needs the law calls the function, and knows it from then on. The
-//! proofs are long, and stand beside the chain of crates in this way, and not in it.
+//! proofs are long, and are beside the chain of crates in this way, and not in it.
 //!
 //! - `flat_runs`: the runs of the flat machine, and the orders that they make.
 //! - `final_states`: what these runs end with, and runs without store buffers.

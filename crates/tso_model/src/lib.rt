@@ -1,6 +1,6 @@
 //! What a litmus test is, what its programs do, and what an order of their memory actions is.
 //!
-//! The types stand in `tso_terms`, with the definitions that every proof rests on. This crate hands them on, and makes a
+//! The types are in `tso_terms`, with the definitions that every proof rests on. This crate hands them on, and makes a
 //! core's thread from the values that its reads return.
 #![tactic(auto)]
 

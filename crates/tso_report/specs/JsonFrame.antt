@@ -1,4 +1,4 @@
--- A report as JSON, of which the members `cache` and `machine` are left open: what else stands there no cache has a part
+-- A report as JSON, of which the members `cache` and `machine` are left open: what else is there no cache has a part
 -- in, on the atomic bus.
 use Rattle.std.specs.Prelude.{ℕ, List, codes}
 use Rattle.serde_json.specs.Data.{Data, object, no_members, member}

@@ -109,7 +109,7 @@ cache_lines core (c ∷ rest) = cache_line core c ++ cache_lines (core + 1) rest
 abbrev pub head : Litmus → ProtocolKind → Configuration → List ℕ
 head t kind c = test_line t ++ machine_line kind c
 
--- what stands after them: the order, the final state, the verdict, and the counts
+-- what comes after them: the order, the final state, the verdict, and the counts
 abbrev pub body : Litmus → ShownRun → List ℕ
 body t s =
     printed_order t s.order ++ (register_lines 0 s.registers ++ (memory_line t s.memory

@@ -97,7 +97,7 @@ count_of_runs values states = unwrap_or (lookup (is_at (slice_cmp nat_cmp values
 abbrev pub with_values : List ℕ → List (List ℕ × ℕ) → List (List ℕ × ℕ)
 with_values values states = insert_entry (slice_cmp nat_cmp) states values (count_of_runs values states + 1)
 
--- the lists stand in ascending order, each once
+-- the lists are in ascending order, each once
 abbrev pub Ascend : List (List ℕ × ℕ) → Type 0
 Ascend states = IsStrictlySortedBy (slice_cmp nat_cmp) (keys_of states)
 

@@ -12,7 +12,7 @@ use serde_json::{Map, Value, put};
 use std::alloc::Global;
 use tso_terms::NoMemory;
 
-/// What stands under a key.
+/// What is under a key.
 #[derive(Clone, Copy)]
 pub enum Datum<'a> {
     /// A string.
@@ -23,7 +23,7 @@ pub enum Datum<'a> {
     Truth(bool),
 }
 
-/// An object with what stands under each of these keys.
+/// An object with what is under each of these keys.
 ///
 /// Errors: out of memory only.
 pub fn object_of(alloc: Global, fields: &[(&str, Datum<'_>)]) -> Result<Value, NoMemory>

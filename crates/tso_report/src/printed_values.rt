@@ -9,7 +9,7 @@ use crate::named::Named;
 use crate::pieces::{Piece, write_named, write_pieces};
 use tso_terms::{NoMemory, Test};
 
-/// ` 0:EAX=v x=v ..`: for each of the names its value; a name or a value that stands alone is left out.
+/// ` 0:EAX=v x=v ..`: for each of the names its value; a name or a value that is alone is left out.
 ///
 /// Errors: out of memory only.
 pub fn write_values(

@@ -1,4 +1,4 @@
-//! The report of a run, line by line. The order stands in it as it is read again, so that a report can be checked by
+//! The report of a run, line by line. The order is in it as it is read again, so that a report can be checked by
 //! itself.
 
 ghost use Rattle.std.specs.Prelude.{◌≡◌, ◌++◌, IfOk, OnOk, string_bytes, length, All};

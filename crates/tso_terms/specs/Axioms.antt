@@ -7,8 +7,8 @@ use Rattle.tso_terms.specs.declared.execution.Entry.{Entry}
 use Rattle.tso_terms.specs.declared.execution.Kind.TheVariants.{LR}
 use Rattle.tso_terms.specs.ProgramEntries.{made}
 
--- each entry of the programs stands in the order, and the order has no more entries than they have.
--- Entries of the programs differ from each other, so each stands there once and no other does.
+-- each entry of the programs is in the order, and the order has no more entries than they have.
+-- Entries of the programs differ from each other, so each is there once and no other does.
 pub record IsWhole (t : Litmus) (order : List Entry) : Type 0 where
   pub count : length order ≡ length (made t order)
   pub each : (k : ℕ) (e : Entry) → slice_get (made t order) k ≡ Some e → (i : ℕ) × (slice_get order i ≡ Some e)
@@ -25,7 +25,7 @@ IsAdjacent order =
     (i : ℕ) (x : Entry) → slice_get order i ≡ Some x → x.kind ≡ LR
     → (y : Entry) × (slice_get order (suc i) ≡ Some y) × IsStorePart x y
 
--- the writes that count for a read x, as they stand in the order: those to its location that are before it in the
+-- the writes that count for a read x, as they are in the order: those to its location that are before it in the
 -- order (front), or after it (back) but before it in its program
 abbrev pub counting : Entry → List Entry → List Entry → List Entry
 counting x front back = filter (writes_to x.loc.0) (front ++ filter (λ e. is_before e x) back)

@@ -1,5 +1,5 @@
 -- The machine on either bus, and its runs. On the atomic bus each choice is made whole, as on the flat machine; so whoever
--- stands above has one machine to speak of, and one law for both buses.
+-- is above has one machine to speak of, and one law for both buses.
 use Rattle.std.specs.Prelude.{ℕ, ◌≡◌, ◌≢◌, Bool, true, if◌then◌else◌, List, [], ◌∷◌, length, map}
 use Rattle.tso_terms.specs.Litmus.{Litmus}
 use Rattle.tso_terms.specs.FlatMachine.{State, chosen, effect_of, applied, start}
@@ -62,7 +62,7 @@ abbrev pub choices_in : List Attempt → List Choice
 choices_in attempts = map (λ a. a.choice) attempts
 
 -- an answer that the caches may give while the bus is held so: between the two parts of a locked instruction no write of
--- another core to its location hits. (Coherence gives it: the holder's copy is in M, and stands alone.)
+-- another core to its location hits. (Coherence gives it: the holder's copy is in M, and is alone.)
 abbrev pub HitFits : Litmus → ℕ → State → Attempt → Holder → Type 0
 HitFits t depth state a Free = Unit {0}
 HitFits t depth state a (HeldBy choice) = Unit {0}

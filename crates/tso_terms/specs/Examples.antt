@@ -51,7 +51,7 @@ n6 = record {
   condition = None;
 }
 
--- the load of x stands before its own store
+-- the load of x comes before its own store
 abbrev pub n6_order : List Entry
 n6_order =
     entry 0 1 R loc_x 1 ∷ (entry 0 2 R loc_y 0 ∷ (entry 1 0 W loc_y 2 ∷ (entry 1 1 W loc_x 2 ∷ (entry 0 0 W loc_x 1 ∷ []))))

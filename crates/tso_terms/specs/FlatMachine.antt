@@ -125,7 +125,7 @@ drain_of s =
       commits = take 1 s.pending;
     }
 
--- a core at the end of no program, which stands where there is no core
+-- a core at the end of no program, which is where there is no core
 abbrev pub idle : CoreState
 idle = record { place = 0; registers = []; pending = [] }
 

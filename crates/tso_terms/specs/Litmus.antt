@@ -50,7 +50,7 @@ pub record IsCondition (cores locations : ℕ) (c : Condition) : Type 0 where
   pub atoms : atoms_in c.claim ≤ most_atoms
   pub negations : negations_in c.claim ≤ most_open
 
--- whether no name stands twice
+-- whether no name comes twice
 abbrev pub are_distinct : List (List ℕ) → Bool
 are_distinct [] = true
 are_distinct (x ∷ xs) = not (is_among x xs) && are_distinct xs

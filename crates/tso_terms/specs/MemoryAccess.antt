@@ -53,7 +53,7 @@ abbrev pub drain_access : List Entry → MemoryAccess
 drain_access [] = NoAccess
 drain_access (p ∷ ps) = Writes p.loc
 
--- the instruction that a core stands at
+-- the instruction that a core is at
 abbrev pub next_of : Litmus → State → ℕ → Option Instr
 next_of t state core = slice_get (program_of t core) (core_of state core).place
 

@@ -49,6 +49,6 @@ is_test_name [] = false
 is_test_name (c ∷ cs) =
     not (c == 32) && not (last_byte c cs == 32) && list_all is_printable (c ∷ cs) && nat_le (length (c ∷ cs)) longest_test_name
 
--- whether the name stands in the list
+-- whether the name is in the list
 abbrev pub is_among : List ℕ → List (List ℕ) → Bool
 is_among name names = list_any (λ other. bytes_eq other name) names

@@ -37,7 +37,7 @@ writes_to loc e = is_write e && (e.loc.0 == loc)
 abbrev pub is_earlier_part : Entry → Entry → Bool
 is_earlier_part x y = (x.place == y.place) && (same_kind y.kind LW && not (same_kind x.kind LW))
 
--- program order: x stands before y in the program of their core
+-- program order: x comes before y in the program of their core
 abbrev pub is_before : Entry → Entry → Bool
 is_before x y = (x.core.0 == y.core.0) && (nat_lt x.place y.place || is_earlier_part x y)
 

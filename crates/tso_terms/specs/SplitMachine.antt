@@ -63,7 +63,7 @@ begins t depth state a holder =
     then asks (core_of state (chosen a.choice)) a.choice holder
     else acts (effect_of t depth state a.choice) holder
 
--- the load part of the locked instruction that a core stands at, with the word of memory
+-- the load part of the locked instruction that a core is at, with the word of memory
 abbrev pub load_part : State → ℕ → Loc → Entry
 load_part state core loc = entry core (core_of state core).place LR loc (slice_index state.memory loc.0)
 

@@ -1,5 +1,5 @@
 -- Commits with the two parts of each locked instruction side by side.
--- (Primer, chapter 4: the load and the store of a read-modify-write stand together in the order.)
+-- (Primer, chapter 4: the load and the store of a read-modify-write are together in the order.)
 use Rattle.std.specs.Prelude.{if◌then◌else◌, List, [], ◌∷◌}
 use Rattle.tso_terms.specs.ProgramOrder.{same_kind}
 use Rattle.tso_terms.specs.ProgramEntries.{is_at}

@@ -66,7 +66,7 @@ impl Model for Test {
 
 impl Test {
     /// The test that these parts make. `None` exactly where they pass a limit: a name that the
-    /// grammar can't spell or a location's name that stands twice, no core or more than
+    /// grammar can't spell or a location's name that comes twice, no core or more than
     /// `MAX_CORES`, more than `MAX_LOCATIONS` locations, lists that aren't as long as they must be,
     /// a program of more than `MAX_INSTRUCTIONS`, a condition of more than `MAX_ATOMS` atoms or
     /// with more than `MAX_OPEN` negations within one another, or a core or location that an

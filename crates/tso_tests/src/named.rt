@@ -29,7 +29,7 @@ X86 MP\n\
 \x20           | MFENCE      ;\n\
 exists (1:EAX=1 /\\ 1:EBX=0)\n";
 
-/// Ends the test where this isn't so. The panic stands here alone, since each one makes the proof of its function longer.
+/// Ends the test where this isn't so. The panic is here alone, since each one makes the proof of its function longer.
 pub fn holds(rt: &impl Abort, fact: bool)
     ensures { fact ≡ true }
 {

@@ -41,7 +41,7 @@ fn push_choices_along(
     push_last_steps(choices, test, places)
 }
 
-/// Appends what an entry needs where the cores stand at these places, and moves its core on.
+/// Appends what an entry needs where the cores are at these places, and moves its core on.
 ///
 /// Errors: out of memory only; the choices may have grown then.
 fn push_choices_for(

@@ -181,7 +181,7 @@ at-reached a b = record { choices = way_of 0 a ++ way_of 1 b; cores = cores a b;
     leads a to_come = refl
     leads a b = refl
 
--- which stands at a place
+-- which is at a place
 at-place : (i : ℕ) (s : State) → slice_get nine i ≡ Some s → (a : Stage) × (b : Stage) × (at a b ≡ s) × (number (at a b) ≡ i)
 unfolding nine
 at-place zero s there = (to_come, to_come, (let is : at to_come to_come ≡ s = cc in is), refl)

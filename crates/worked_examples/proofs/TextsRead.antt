@@ -42,7 +42,7 @@ unfolding is_symbol symbol_at name_at number_at unsigned_at numeral_at is_space 
     square_setting plain_setting setting_at decimal_from
 computed_reading set text = reading_of set text
 
--- a text that is too long is refused at its first byte, whatever stands in it
+-- a text that is too long is refused at its first byte, whatever is in it
 pub long-is_told : (text : List ℕ) → 65536 < length text → told text ≡ refused 1 TooLarge text
 unfolding reading_of
 long-is_told text long =

@@ -42,7 +42,7 @@ moves = SetImm Ecx 7 ∷ SetReg Ecx Edx ∷ []
 abbrev pub store_and : Instr → List Instr
 store_and last = StoreReg loc_x Edx ∷ last ∷ []
 
--- the store is pending, and the core stands at the last instruction
+-- the store is pending, and the core is at the last instruction
 abbrev pub store_waits : CoreState
 store_waits = core_at 1 first (memory_action 0 0 W loc_x 14 ∷ [])
 

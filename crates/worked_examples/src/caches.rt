@@ -1,4 +1,4 @@
-//! Where a location lies in lines and sets, the words of a line, and which line stands at the front of a set after each kind of
+//! Where a location lies in lines and sets, the words of a line, and which line is at the front of a set after each kind of
 //! access and of its two halves.
 
 ghost use Rattle.std.specs.Prelude.{◌≡◌, true, false, [], ◌∷◌, Some, None};
@@ -78,7 +78,7 @@ pub fn worked_words()
     ensures handed_over { memory_after_write (stale msi) 0 4 ≡ eight_in_memory }
 {}
 
-/// Which line stands at the front after a whole access, and what the other core's set is left with.
+/// Which line is at the front after a whole access, and what the other core's set is left with.
 #[tactic(auto, unfolding(snoop_bus::specs::Asks::awaiting))]
 pub fn worked_fronts()
     // A load that hits, and writes that hit, on M and on E.
@@ -155,7 +155,7 @@ pub fn worked_hits()
     ensures load_of_none { hits moesi 0 5 false (two_sets (four_second M) (has_five M)) ≡ false }
 {}
 
-/// An access in its two halves: what the ask leaves and awaits, and which line stands at the front after the completion.
+/// An access in its two halves: what the ask leaves and awaits, and which line is at the front after the completion.
 #[tactic(auto, unfolding(snoop_bus::specs::Asks::awaiting))]
 pub fn worked_halves()
     // For an upgrade: the own line stays where it stands until the completion.

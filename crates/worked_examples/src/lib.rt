@@ -3,7 +3,7 @@
 //!
 //! Nothing here computes. Each public function has no code of its own, and its contract is a law: a
 //! clause has a definition and what it comes to in one example, chosen so that what could easily be
-//! swapped differs. The tests, the choices and the rows stand in `specs/`.
+//! swapped differs. The tests, the choices and the rows are in `specs/`.
 #![tactic(auto)]
 
 pub mod accesses;

@@ -10,7 +10,7 @@ ghost use Rattle.tso_terms.specs.declared.execution.Kind.TheVariants.{R, W, F, L
 ghost use Rattle.worked_examples.specs.Written.{loc_x, loc_y, memory_action};
 ghost use Rattle.worked_examples.specs.inner.Orders.{some_test, read_of_x, writes_before, writes_after, separated_pairs, pairs_together};
 
-/// Which of two entries of one core stands first in its program.
+/// Which of two entries of one core comes first in its program.
 pub fn worked_program_order()
     ensures earlier_place { is_before (memory_action 1 2 W loc_x 7) (memory_action 1 3 R loc_y 8) ≡ true }
     ensures later_place { is_before (memory_action 1 3 R loc_y 8) (memory_action 1 2 W loc_x 7) ≡ false }

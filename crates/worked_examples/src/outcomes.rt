@@ -54,7 +54,7 @@ pub fn worked_stalls()
     ensures exchange_waits { comes_of (store_and (instr.Xchg loc_x Ebx)) 2 stored (step 0) ≡ comes (Stalled stall.Lock) store_waits [] }
     ensures addition_waits { comes_of (store_and (instr.Xadd loc_x Ebx)) 2 stored (step 0) ≡ comes (Stalled stall.Lock) store_waits [] }
 
-    // A run counts each of them, and no other choice, and what stands after the end.
+    // A run counts each of them, and no other choice, and what comes after the end.
     ensures stalls_are_counted { (run (alone stalling) 1 stalling_choices).stalled ≡ 4 }
     ensures choices_are_counted { (run (alone stalling) 1 stalling_choices).used ≡ 13 }
     ensures run_ends { (run (alone stalling) 1 stalling_choices).ended ≡ true }

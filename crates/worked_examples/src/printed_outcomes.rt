@@ -37,7 +37,7 @@ pub fn worked_met_states()
     ensures no_object { none_as_json ≡ codes "{\"met\":[],\"test\":\"SB\",\"unfinished\":{\"states\":6},\"verdict\":null}\n" }
 {}
 
-/// Each quantifier, of what is so in one of two states that were met, in none and in both: a verdict stands there only where no further
+/// Each quantifier, of what is so in one of two states that were met, in none and in both: a verdict is there only where no further
 /// state can change it.
 pub fn worked_decided_verdicts()
     ensures exists_one { decided_of Exists both_zero ≡ codes "Verdict Ok\n" }

@@ -8,7 +8,7 @@ use Rattle.cache_set.specs.declared.Line.{Line}
 use Rattle.cache_set.specs.declared.Victim.{Victim}
 use Rattle.cache_set.specs.Contents.{Contents, contents, copy_of}
 
--- no line stands twice in the list
+-- no line comes twice in the list
 abbrev pub NoLineTwice : List (ℕ × Line) → Type 0
 NoLineTwice [] = ⊤
 NoLineTwice (e ∷ es) = (lookup (nat_eq e.0) es ≡ None) × NoLineTwice es

@@ -85,7 +85,7 @@ ArePicksVisited depth t hidden pairs states state set core =
     × (has_drain set core ≡ true → IsVisited depth t hidden pairs states state (drain core))
 
 -- a link's turns lead to its packed state: those of the first from the beginning of the test, those of each other from the
--- one that the link names, which stands before it
+-- one that the link names, which comes before it
 abbrev pub IsLinked : ℕ → Litmus → List (List Bool) → List Packed → ℕ → Packed → Link → Type 0
 IsLinked depth t hidden states zero s link = LeadByTurns depth t hidden (start t) link.turns.items (state_of_packed s)
 IsLinked depth t hidden states (suc i) s link =

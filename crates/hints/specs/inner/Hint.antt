@@ -2,7 +2,7 @@
 use Rattle.std.specs.Prelude.{ℕ, ◌==◌, ◌||◌, if◌then◌else◌}
 use Rattle.tso_terms.specs.Names.{is_printable}
 
--- maximum length of its words, in bytes: six stand before them, and one after
+-- maximum length of its words, in bytes: six come before them, and one after
 abbrev pub most_hint_bytes : ℕ
 most_hint_bytes = 249
 

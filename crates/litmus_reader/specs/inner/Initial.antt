@@ -33,7 +33,7 @@ KnowsGiven i = map named_by_key i.given.keys ≡ map named_by_word i.registers.i
 abbrev pub with_register : List (List ℕ) → ℕ → Reg → ℕ → List (List ℕ)
 with_register registers core reg value = slice_set registers core (with_value (slice_index_or registers core []) reg value)
 
--- all items, separated by `;`, and what stands after the `}`
+-- all items, separated by `;`, and what comes after the `}`
 abbrev pub items_at : ℕ → Stop → List (List ℕ) → List Piece → Result (Initial × List Piece) Fault
 items_at remaining stop names ps = items_within (suc (length ps)) remaining stop (initial names [] []) ps
 

@@ -13,7 +13,7 @@ use Rattle.litmus_reader.specs.declared.condition.Joint.{Joint}
 use Rattle.litmus_reader.specs.declared.condition.Opening.{Opening}
 use Rattle.litmus_reader.specs.declared.condition.Opening.TheVariants as openings
 
--- what begins a unit in which others stand, and what stands after it
+-- what begins a unit in which others stand, and what comes after it
 abbrev pub opening_at : List Piece → Option (Opening × List Piece)
 opening_at ps =
     there (negation_at ps) (λ rest. Some (openings.Negation, rest))
@@ -27,7 +27,7 @@ as_negation c = Ok (record c { claim = NotClaim c.claim })
 abbrev pub closed : Stop → Claimed → Result Claimed Fault
 closed stop c = or_unfit (part_of BadCondition stop) c.rest (symbol_at CloseRound c.rest) >>= λ rest. Ok (record c { rest = rest })
 
--- a unit that begins with this opening, from what stands after it on, in which so many more negations and brackets may be open
+-- a unit that begins with this opening, from what comes after it on, in which so many more negations and brackets may be open
 abbrev pub opened_at : Opening → Stop → ℕ → ℕ → Proposition
 opened_at openings.Negation stop cores opens atoms names ps = unit_at stop cores opens atoms names ps >>= as_negation
 opened_at openings.Bracket stop cores opens atoms names ps = proposition_at stop cores opens atoms names ps >>= closed stop
@@ -44,7 +44,7 @@ GivesNext next read result =
     → Gives (λ x. claimed (claim_of x.0) atoms names (pieces x.1.now)) read reading
     → Gives (λ x. claimed (claim_of x.0) atoms names (pieces x.1.now)) result (reading >>= next)
 
--- What stands after the result is no longer than what stands after what was read.
+-- What comes after the result is no longer than what comes after what was read.
 abbrev pub IsNoLonger : Result (Prop × Bor (List Token)) ReadError → Result (Prop × Bor (List Token)) ReadError → Type 0
 IsNoLonger read result =
     (limit : ℕ) → IfOk read (λ x. length x.1.now < limit) → IfOk result (λ x. length x.1.now < limit)

@@ -22,13 +22,13 @@ use Rattle.litmus_reader.specs.declared.initial.Initial as state
 use Rattle.litmus_reader.specs.declared.row.Table as code
 
 -- The reading of these tokens, after so many atoms and these names of locations, gives a claim, how many atoms there are at
--- the end, the names, and what stands after the claim.
+-- the end, the names, and what comes after the claim.
 abbrev pub GivesClaim : Proposition → ℕ → List (Bor (List ℕ)) → List Token → Result (Prop × Bor (List Token)) ReadError
     → ℕ → List (Bor (List ℕ)) → Type 0
 GivesClaim reading atoms names tokens result atoms_new names_new =
     Gives (λ x. claimed (claim_of x.0) atoms_new (texts names_new) (pieces x.1.now)) result (reading atoms (texts names) (pieces tokens))
 
--- a condition, if there is one, the names of locations, and what stands after it
+-- a condition, if there is one, the names of locations, and what comes after it
 abbrev pub GivesCondition : Result (Option Cond × Bor (List Token)) ReadError → List (Bor (List ℕ)) → Result Conditioned Fault → Type 0
 GivesCondition result names read = Gives (λ x. conditioned (asked_of x.0) (texts names) (pieces x.1.now)) result read
 
@@ -49,12 +49,12 @@ GivesJudged remaining s names old result names_new new = Gives (λ _. so_far nam
 abbrev pub GivesItem : Result Bool ReadError → List (Bor (List ℕ)) → state.Initial → Result (Initial × Bool) Fault → Type 0
 GivesItem result names i read = Gives (λ is_last. (so_far names i, is_last)) result read
 
--- the whole initial state, and what stands after it
+-- the whole initial state, and what comes after it
 abbrev pub GivesInitial : Instructions → Result (Bor (List ℕ)) ReadError → List (Bor (List ℕ)) → state.Initial
     → Result (Initial × List Piece) Fault → Type 0
 GivesInitial set result names i read = Gives (λ x. (so_far names i, tokens_in set x.now)) result read
 
--- the header row and all rows, the names of locations, and what stands after the rows
+-- the header row and all rows, the names of locations, and what comes after the rows
 abbrev pub table_read : Instructions → code.Table → List (Bor (List ℕ)) → List ℕ → Table
 table_read set t names rest = table t.cores t.registers.items (rows t.instrs.items (texts names) (tokens_in set rest))
 

@@ -1,4 +1,4 @@
--- `c:REG=v`, `x=v` and `[x]=v`, as they stand in the initial state and in conditions.
+-- `c:REG=v`, `x=v` and `[x]=v`, as they are in the initial state and in conditions.
 use Rattle.litmus_tokens.specs.inner.Numerals.{numeral_of}
 use Rattle.litmus_reader.specs.declared.setting.SpelledSetting.{SpelledSetting}
 use Rattle.litmus_reader.specs.Written.{Setting, of_register, of_location}

@@ -4,7 +4,7 @@ use denote.Ref.{Bor}
 use Rattle.litmus_tokens.specs.declared.token.Stop.{Stop}
 use Rattle.litmus_tokens.specs.Gap.{closes_comment, gap_end}
 
--- what stands after the first `*)`
+-- what comes after the first `*)`
 unfoldable pub comment_end : List ℕ → Option (List ℕ)
 comment_end [] = None
 comment_end (b ∷ []) = None

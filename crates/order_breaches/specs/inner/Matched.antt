@@ -7,7 +7,7 @@ use Rattle.tso_terms.specs.declared.execution.Entry.{Entry}
 use Rattle.order_breaches.specs.First.{IsNowhere}
 use Rattle.order_breaches.specs.Entries.{IsExtra, IsStray, IsMissing}
 
--- each action of the programs stands in the order once, and nothing else does; values aside
+-- each action of the programs is in the order once, and nothing else does; values aside
 pub record IsMatched (t : Litmus) (order : List Entry) : Type 0 where
   pub no_stray : IsNowhere order (IsStray (made t order) order)
   pub no_missing : IsNowhere (made t order) (IsMissing order)

@@ -1,4 +1,4 @@
--- What the second pass over an order goes by: each action stands there once, so how far each core has come is enough to
+-- What the second pass over an order goes by: each action is there once, so how far each core has come is enough to
 -- judge an entry.
 use Rattle.std.specs.Prelude.{ℕ, ◌≡◌, ◌≢◌, true, List, length, Option, Some, None, IfSome, IsNone}
 use Rattle.tso_terms.specs.Litmus.{Litmus}

@@ -18,7 +18,7 @@ slots_of_a_core = 2 * most_instructions
 abbrev pub slot_of : Entry → ℕ
 slot_of e = e.core.0 * slots_of_a_core + rank e
 
--- d stands before e among the entries of the programs: its core is an earlier one, or the same and its rank is smaller
+-- d comes before e among the entries of the programs: its core is an earlier one, or the same and its rank is smaller
 abbrev pub Precedes : Entry → Entry → Type 0
 Precedes d e = (d.core.0 < e.core.0) ⊎ ((d.core.0 ≡ e.core.0) × (rank d < rank e))
 
@@ -53,7 +53,7 @@ pub record HasCome (shape order : List Entry) (at : ℕ) (came : List (Option �
 abbrev pub HasNotCome : List (Option ℕ) → ℕ → Entry → Type 0
 HasNotCome came i e = kept_in came i ≡ None
 
--- the breach names the earliest entry of the order that is extra or stands twice
+-- the breach names the earliest entry of the order that is extra or comes twice
 abbrev pub NamesStray : List Entry → List Entry → Breach → Type 0
 NamesStray shape order (Extra x) = IsExtra shape x × IsEarliest order (IsStray shape order) x
 NamesStray shape order (Twice x) = ¬ IsExtra shape x × IsEarliest order (IsStray shape order) x

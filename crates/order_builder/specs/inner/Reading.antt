@@ -18,15 +18,15 @@ abbrev pub ◌>>=◌ : {A B : Type 0} → Option A → (A → Option B) → Opti
 (Some x) >>= f = f x
 None >>= f = None
 
--- what stands before a place, and what after it
+-- what comes before a place, and what after it
 abbrev pub halves_at : List ℕ → ℕ → List ℕ × List ℕ
 halves_at text i = (take i text, drop (i + 1) text)
 
--- what stands before the first such byte, and what after it
+-- what comes before the first such byte, and what after it
 unfoldable pub split_once : ℕ → List ℕ → Option (List ℕ × List ℕ)
 split_once byte text = option_map (halves_at text) (position (λ b. b == byte) text)
 
--- what stands after a prefix
+-- what comes after a prefix
 unfoldable pub without_prefix : List ℕ → List ℕ → Option (List ℕ)
 without_prefix prefix text = if bytes_eq (take (length prefix) text) prefix then Some (drop (length prefix) text) else None
 
@@ -100,13 +100,13 @@ line_gives number count (Some digits) entry after = if decimal_value digits == c
 line_gives number count None (Some e) after = onto e after
 line_gives number count None None after = Err (BadLine number)
 
--- the entries of these lines, which stand after so many lines up to `Order`, and then after so many entries
+-- the entries of these lines, which come after so many lines up to `Order`, and then after so many entries
 unfoldable pub entries_in : Litmus → ℕ → ℕ → List (List ℕ) → Result (List Entry) OrderFault
 entries_in t start count [] = Err BadCount
 entries_in t start count (line ∷ lines) =
     line_gives (start + count + 1) count (end_in line) (entry_in t line) (entries_in t start (count + 1) lines)
 
--- how many lines there are up to the first that is `Order`, and those after it; so many stand before these
+-- how many lines there are up to the first that is `Order`, and those after it; so many come before these
 unfoldable pub order_start : ℕ → List (List ℕ) → Option (ℕ × List (List ℕ))
 order_start before [] = None
 order_start before (line ∷ lines) =

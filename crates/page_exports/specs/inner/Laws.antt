@@ -1,4 +1,4 @@
--- What the page's numbers ask for, by plain numbers, and what stands beside an answer to them.
+-- What the page's numbers ask for, by plain numbers, and what is beside an answer to them.
 use Rattle.std.specs.Prelude.{ℕ, ◌≡◌, List, [], length}
 use Rattle.page_exports.specs.declared.AnswerLengths.{AnswerLengths}
 use Rattle.page_exports.specs.declared.question.Numbers.{Numbers}

@@ -68,7 +68,7 @@ pub record IsSound (t : Litmus) (k : Known) : Type 0 where
   pub reads : AreOfReads k.sources
   pub pairs : ArePairsOfWrites k.order
 
--- no write is known to stand between the parts of a locked instruction
+-- no write is known to come between the parts of a locked instruction
 abbrev pub NoneBetween : Litmus → Known → Type 0
 NoneBetween t k =
     (r v w : Entry) → IsIn (events_of t) r → IsIn (events_of t) v → IsIn (events_of t) w → is_between t k r v w ≡ true → ⊥

@@ -15,7 +15,7 @@ use Rattle.refutation_laws.specs.Shown.{value_known}
 use Rattle.refutation_laws.specs.declared.model.Model.{Model}
 use Rattle.refutation_laws.specs.declared.model.Model.TheVariants.{Tso, Sequential}
 
--- ---- what must stand before what
+-- ---- what must come before what
 
 abbrev pub is_kept_by : Model → Entry → Entry → Bool
 is_kept_by Tso x y = is_before x y && not (may_be_passed x y)
@@ -25,14 +25,14 @@ abbrev pub must_precede : Model → Known → Entry → Entry → Bool
 must_precede model k x y =
     is_kept_by model x y || ((reads_from k x y && not (x.core.0 == y.core.0)) || (comes_before k x y || from_reads k x y))
 
--- x must stand before y, or before the load part that is put directly before it
+-- x must come before y, or before the load part that is put directly before it
 abbrev pub comes_toward : Model → Litmus → Known → Entry → Entry → Bool
 comes_toward model t k x y = must_precede model k x y || list_any (λ r. are_parts r y && must_precede model k x r) (events_of t)
 
 abbrev pub is_load_part : Entry → Bool
 is_load_part e = same_kind e.kind LR
 
--- all events but load parts, each once, so that nothing stands before what must precede it
+-- all events but load parts, each once, so that nothing comes before what must precede it
 pub record IsLinearExtension (model : Model) (t : Litmus) (k : Known) (row : List Entry) : Type 0 where
   pub inside : (x : Entry) → IsIn row x → IsIn (events_of t) x × (is_load_part x ≡ false)
   pub whole : (x : Entry) → IsIn (events_of t) x → is_load_part x ≡ false → IsIn row x

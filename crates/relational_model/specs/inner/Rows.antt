@@ -20,12 +20,12 @@ pub record LinearExtension (Before : Entry → Entry → Type 0) (xs : List Entr
   pub outside : (y : Entry) → IsIn row y → IsIn xs y
   pub count : length row ≡ length xs
 
--- they stand in a row, and none is before itself
+-- they are in a row, and none is before itself
 pub record Ordered (Before : Entry → Entry → Type 0) (xs : List Entry) : Type 0 where
   pub in_a_row : LinearExtension Before xs
   pub never_itself : (x : Entry) → IsIn xs x → Before x x → ⊥
 
--- no member stands there again
+-- no member is there again
 abbrev pub Once : List Entry → Type 0
 Once [] = Unit {0}
 Once (x ∷ xs) = (IsIn xs x → ⊥) × Once xs

@@ -26,7 +26,7 @@ piece_value t (piece.Source write) = string (source_text t write.now)
 piece_value t (piece.Cycle edges) = edges_value t edges.now
 piece_value t (piece.Places places) = object (place_members t (map place_of places.now))
 
--- a piece behind what stands before it
+-- a piece behind what comes before it
 abbrev pub field_text : Litmus → Bor (List ℕ) × Bor (List ℕ) × Piece → List ℕ
 field_text t f = f.0.now ++ piece_text t f.2
 

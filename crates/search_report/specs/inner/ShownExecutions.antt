@@ -28,7 +28,7 @@ pub record ReadsIt (order : List Entry) (r : Entry) (w : Option Event) : Type 0 
   pub place : order ≡ front ++ (r ∷ back)
   pub source : w ≡ event_of_write (last_in (counting r front back))
 
--- each of these stands in the order
+-- each of these is in the order
 abbrev pub AreIn : List Entry → List Entry → Type 0
 AreIn order [] = Unit {0}
 AreIn order (e ∷ es) = IsIn order e × AreIn order es

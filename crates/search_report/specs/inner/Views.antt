@@ -7,7 +7,7 @@ use Rattle.search_report.specs.declared.shown.Place.{Place}
 use Rattle.search_report.specs.ReasonText.{event_text, relation_text, words_text}
 use Rattle.search_report.specs.Places as places
 
--- `po P0:1 W y=1`, and `1:EAX=0` or `x=1|2`: what stands in a line after a blank
+-- `po P0:1 W y=1`, and `1:EAX=0` or `x=1|2`: what is in a line after a blank
 abbrev pub hop_end : Litmus → Edge → List ℕ
 hop_end t e = relation_text e.relation ++ (codes " " ++ event_text t e.target)
 

@@ -1,4 +1,4 @@
--- What is written of the states that are kept: their values stand beside them, and aren't looked up again.
+-- What is written of the states that are kept: their values are beside them, and aren't looked up again.
 use Rattle.std.specs.Prelude.{ℕ, List, [], ◌∷◌, ◌++◌, map}
 use Rattle.serde_json.specs.Data.{Data}
 use Rattle.tso_terms.specs.Litmus.{Litmus}

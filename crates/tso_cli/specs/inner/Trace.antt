@@ -1,4 +1,4 @@
--- What is taken of a simulation for a trace: how many choices it used, what stands after its lines, the status of the answer,
+-- What is taken of a simulation for a trace: how many choices it used, what comes after its lines, the status of the answer,
 -- and, as JSON, the first choice that is too many.
 use Rattle.std.specs.Prelude.{ℕ, true, List, length, Option, Some, None}
 use Rattle.tso_report.specs.Shown.{shown_run}
@@ -13,7 +13,7 @@ abbrev pub used_in : Ending → ℕ
 used_in (Ended run) = run.used
 used_in (Unfinished used stalled) = used
 
--- what stands after the trace, as lines: the rest of the report, or how far the run came
+-- what comes after the trace, as lines: the rest of the report, or how far the run came
 abbrev pub lines_left : Litmus → Ending → List ℕ
 lines_left t (Ended run) = body t (shown_run run)
 lines_left t (Unfinished used stalled) = unfinished_run_line used stalled

@@ -21,7 +21,7 @@ pub record ChoicesLeadFromStateToState : Type 0 where
   pub runs : (t : Litmus) (depth : ℕ) (choices : List Choice)
       → IsPossible t depth (run t depth choices).commits (run t depth choices).state
 
--- each entry of a whole order is made by the programs, stands in it once, and fits the test
+-- each entry of a whole order is made by the programs, is in it once, and fits the test
 pub record WholeOrdersHaveEachEntryOnce : Type 0 where
   pub made_by_the_programs : (t : Litmus) (order : List Entry) (e : Entry)
       → IsWhole t order → StandsIn order e → StandsIn (made t order) e

@@ -1,4 +1,4 @@
--- What stands under a key, as a JSON value.
+-- What is under a key, as a JSON value.
 use Rattle.std.specs.Prelude.{ℕ, List, [], ◌∷◌}
 use Rattle.std.specs.Borrow.{Bor}
 use Rattle.serde_json.specs.Data.{boolean, Data, Members, put, string}

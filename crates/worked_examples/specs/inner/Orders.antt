@@ -44,7 +44,7 @@ separated_pairs =
     ∷ memory_action 0 3 W loc_y 7
     ∷ []
 
--- the first stands before the LW of its core and place, the last at the end
+-- the first comes before the LW of its core and place, the last at the end
 abbrev pub pairs_together : List Entry
 pairs_together =
     memory_action 1 2 LW loc_x 4

@@ -1,7 +1,7 @@
 use Rattle.order_breaches.proofs.Vocabulary.{◌≡◌, ◌<◌, ◌*◌, ℕ, Some, slice_get, length, Entry, kept_in, slot_of, slots_of_a_core}
 use Rattle.order_breaches.proofs.index.index_of.Given as goal
 
--- the entries so far stand in the table, and nothing else does
+-- the entries so far are in the table, and nothing else does
 abbrev pub invariant-loop-i : goal.invariant-loop-i
 invariant-loop-i l = record {
   has : (k : ℕ) (e : Entry) → k < l.i → slice_get l.list k ≡ Some e → kept_in l.slots.items (slot_of e) ≡ Some k;
