@@ -1,6 +1,9 @@
 -- The report of a run is short, and what `check` answers to it.
-use Rattle.tso_cli.proofs.Vocabulary.{Instructions, ◌≡◌, ◌+◌, ◌-◌, ◌*◌, ◌≤◌, ◌^◌, ℕ, suc, Bool, true, false, cond, List, [], ◌∷◌, ◌++◌, length, All, slice_index, slice_index_or, drop, length-append, codes, refl, sym, ap, subst, ◌∙◌, arith, All-map, All-head, All-tail, All-weaker, SpellsOrder, Litmus, IsTest, IsProgram, AreRegisters, made_by, made_from, IsTsoExecution, read_values, registers_from, start, Run, has_ended, stall_count, Bus, Instr, StoreImm, StoreReg, Load, SetImm, SetReg, Fence, Xchg, Xadd, Entry, Choice, IsExecution, SpellsTest, Table, table_of, ProtocolKind, Configuration, IsConfigurationWithinLimits, report, ShownRun, Parts, parts_of, joined_parts, valid_line, run_by, run_under, AnswersFit, counts_under, shown_of, IsInputAnswer, too_large, answered, run_text, run_status, IsRunAnswer, IsCheckAnswer, ran, Status, Good, Unended, attempts_in, length-in, run-is, RunLaws, counts-each, counts-few, AreReadOneWay}
-use Rattle.tso_terms.specs.Thread.{entries_of, with_value, value_in}
+use Rattle.tso_cli.proofs.Vocabulary.{Instructions, ◌≡◌, ◌+◌, ◌-◌, ◌*◌, ◌≤◌, ◌^◌, ℕ, suc, Bool, true, false, cond, List, [], ◌∷◌, ◌++◌, length, All, slice_index, slice_index_or, drop, length-append, codes, refl, sym, ap, subst, ◌∙◌, arith, All-map, All-head, All-tail, All-weaker, SpellsOrder, Litmus, IsTest, IsProgram, AreRegisters, made_by, made_from, IsTsoExecution, read_values, registers_from, start, Run, has_ended, stall_count, Bus, Instr, Entry, Choice, IsExecution, SpellsTest, Table, table_of, ProtocolKind, Configuration, IsConfigurationWithinLimits, report, ShownRun, Parts, parts_of, joined_parts, valid_line, run_by, run_under, AnswersFit, counts_under, shown_of, IsInputAnswer, too_large, answered, run_text, run_status, IsRunAnswer, IsCheckAnswer, ran, Status, Good, Unended, attempts_in, length-in, run-is, RunLaws, counts-each, counts-few, AreReadOneWay}
+use Rattle.tso_terms.specs.Thread.{entries_of, entries_by, registers_by, values_after}
+use Rattle.tso_terms.specs.Actions.{action_of}
+use Rattle.tso_terms.specs.declared.action.Action.{Action}
+use Rattle.tso_terms.specs.declared.action.Action.TheVariants.{Store, Load, Move, Fence, Lock}
 use Rattle.tso_terms.specs.SplitMachine.{Attempt}
 use Rattle.tso_terms.specs.EitherBus.{BusState, unheld, effect_on, after_on, run_on_from, resting_on, then_on}
 use Rattle.basic_laws.specs.Types.{Outcome, Committed}
@@ -14,16 +17,21 @@ use Rattle.tso_cli.proofs.HeadlineLemmas.{Runs, report-spells}
 
 -- ---- how much a run leaves
 
+made_by_one : (core place : ℕ) (a : Action) (registers : List ℕ) (word : ℕ) → length (entries_by core place a registers word) ≤ 2
+made_by_one core place (Store loc operand) registers word = omega arith
+made_by_one core place (Load reg loc) registers word = omega arith
+made_by_one core place (Move change) registers word = omega arith
+made_by_one core place Fence registers word = omega arith
+made_by_one core place (Lock loc target update) registers word = omega arith
+
 entries_few : (core place : ℕ) (program : List Instr) (registers reads : List ℕ) → length (entries_of core place program registers reads) ≤ 2 * length program
 entries_few core place [] registers reads = omega arith
-entries_few core place (StoreImm loc value ∷ rest) registers reads = let f = entries_few core (place + 1) rest registers reads in omega arith
-entries_few core place (StoreReg loc reg ∷ rest) registers reads = let f = entries_few core (place + 1) rest registers reads in omega arith
-entries_few core place (Load reg loc ∷ rest) registers reads = let f = entries_few core (place + 1) rest (with_value registers reg (slice_index reads 0)) (drop 1 reads) in omega arith
-entries_few core place (SetImm reg value ∷ rest) registers reads = let f = entries_few core (place + 1) rest (with_value registers reg value) reads in omega arith
-entries_few core place (SetReg reg other ∷ rest) registers reads = let f = entries_few core (place + 1) rest (with_value registers reg (value_in registers other)) reads in omega arith
-entries_few core place (Fence ∷ rest) registers reads = let f = entries_few core (place + 1) rest registers reads in omega arith
-entries_few core place (Xchg loc reg ∷ rest) registers reads = let f = entries_few core (place + 1) rest (with_value registers reg (slice_index reads 0)) (drop 1 reads) in omega arith
-entries_few core place (Xadd loc reg ∷ rest) registers reads = let f = entries_few core (place + 1) rest (with_value registers reg (slice_index reads 0)) (drop 1 reads) in omega arith
+entries_few core place (i ∷ rest) registers reads =
+    let here = made_by_one core place (action_of i) registers (slice_index reads 0) in
+    let further = entries_few core (place + 1) rest (registers_by (action_of i) registers (slice_index reads 0)) (values_after (action_of i) reads) in
+    let both = length-append (entries_by core place (action_of i) registers (slice_index reads 0))
+        (entries_of core (place + 1) rest (registers_by (action_of i) registers (slice_index reads 0)) (values_after (action_of i) reads)) in
+    omega (arith, here, further, both)
 
 made_few : (core : ℕ) (programs : List (List Instr)) (registers : List (List ℕ)) (order : List Entry) → All (λ p. length p ≤ 32) programs
     → length (made_from core programs registers order) ≤ 64 * length programs

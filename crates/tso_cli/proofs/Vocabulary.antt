@@ -10,7 +10,7 @@ pub use Rattle.tso_terms.specs.SequentialConsistency.{KeepsAllOrder}
 pub use Rattle.tso_terms.specs.Condition.{Condition, truth_of, Claim, NamesExist, claim_of, condition_of}
 pub use Rattle.tso_terms.specs.FinalState.{final_words, final_registers, registers_from, words_from}
 pub use Rattle.tso_terms.specs.Runs.{Run, run, CoresExist, has_ended, stall_count}
-pub use Rattle.basic_laws.specs.Types.{Atomic, Split, Choice, Entry, Instr, StoreImm, StoreReg, Load, SetImm, SetReg, Fence, Xchg, Xadd, Bus}
+pub use Rattle.basic_laws.specs.Types.{Atomic, Split, Choice, Entry, Instr, StoreImm, Bus}
 pub use Rattle.tso_laws.specs.EndedRuns.{IsExecution, End}
 pub use Rattle.protocol_tables.specs.declared.kind.ProtocolKind.{ProtocolKind}
 pub use Rattle.multiprocessor.specs.Configuration.{Configuration, IsConfigurationWithinLimits}
