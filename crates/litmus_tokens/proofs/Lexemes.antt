@@ -1,12 +1,11 @@
 -- The token at the front of some bytes, by its first byte.
-use Rattle.std.proofs.Common.{◌≡◌, ℕ, Bool, ◌<◌, ◌≤◌, true, false, List, [], ◌∷◌, length, take, drop, Option, Some, None, Result, Ok, Err, if◌then◌else◌, refl, sym, ap, ◌∙◌, arith}
+use Rattle.std.proofs.Common.{◌≡◌, ℕ, Bool, ◌<◌, ◌≤◌, true, false, List, [], ◌∷◌, length, take, drop, Option, Some, None, Ok, Err, if◌then◌else◌, refl, sym, ◌∙◌, arith}
 use Rattle.std.specs.List.{prefix_len, slice_get}
 use Rattle.std.specs.Char.{is_ascii_digit, is_ascii_hexdigit}
 use Rattle.std.proofs.lemmas.Bool.{lt-ltb, le-ltb}
 use Rattle.std.proofs.lemmas.List.{length-drop}
 use Rattle.tso_terms.specs.Names.{begins_name, continues_name}
 use Rattle.litmus_tokens.specs.declared.instructions.Instructions.{Instructions}
-use Rattle.litmus_tokens.specs.declared.token.Stop.{Stop}
 use Rattle.litmus_tokens.specs.declared.token.Stop.TheVariants.{End, BadToken}
 use Rattle.litmus_tokens.specs.declared.token.Symbol.{Symbol}
 use Rattle.litmus_tokens.specs.declared.token.Symbol.TheVariants.{Minus}

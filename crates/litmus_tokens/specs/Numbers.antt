@@ -1,6 +1,6 @@
 -- Numbers, which a text may have of any size: a word has to have room for each. Negative ones and hexadecimal ones are of the larger
 -- set alone.
-use Rattle.std.specs.Prelude.{ℕ, ◌-◌, ◌%◌, ◌^◌, nat_lt, if◌then◌else◌, List, Option, Some, None, Result}
+use Rattle.std.specs.Prelude.{ℕ, ◌-◌, ◌%◌, ◌^◌, nat_lt, if◌then◌else◌, List, Result}
 use Rattle.std.specs.Str.Parse.{digits_value}
 use Rattle.litmus_tokens.specs.Terms.{word_of}
 use Rattle.litmus_tokens.specs.declared.fault.Why.TheVariants.{BadNumber}

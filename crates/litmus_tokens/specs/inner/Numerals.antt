@@ -1,5 +1,5 @@
 -- Numbers as texts spell them.
-use Rattle.std.specs.Prelude.{ℕ, Bool, true, false, if◌then◌else◌}
+use Rattle.std.specs.Prelude.{ℕ, if◌then◌else◌}
 use Rattle.tso_terms.specs.Decimals.{decimal_value}
 use Rattle.litmus_tokens.specs.Numbers.{hexadecimal_value, negative}
 use Rattle.litmus_tokens.specs.declared.numeral.Numeral.{Numeral}

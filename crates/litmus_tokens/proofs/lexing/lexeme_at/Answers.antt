@@ -12,15 +12,15 @@ returns-then-is_ascii_digit-clause-value c =
 
 pub returns-then-name-gt-MAX_NAME-clause-value : goal.returns-then-name-gt-MAX_NAME-clause-value
 returns-then-name-gt-MAX_NAME-clause-value c =
-    too_long c.args.set c.args.bytes.now c.split_at-then-begins.result.0.now c.in-Some.first.now c.name_len.result c.in-Some.ensures.value
+    too_long c.args.set c.args.bytes.now c.split_at.result.0.now c.in-Some.first.now c.name_len.result c.in-Some.ensures.value
     (sym c.is_ascii_digit.ensures.value ∙ c.if-is_ascii_digit.false) (sym c.begins.ensures ∙ c.if-begins.true)
-    c.name_len.ensures.value c.split_at-then-begins.ensures.front c.if-name-gt-MAX_NAME.true
+    c.name_len.ensures.value c.split_at.ensures.front c.if-name-gt-MAX_NAME.true
 
 pub returns-then-begins-clause-value : goal.returns-then-begins-clause-value
 returns-then-begins-clause-value c =
-    named c.args.set c.args.bytes.now c.split_at-then-begins.result.0.now c.split_at-then-begins.result.1.now c.in-Some.first.now c.name_len.result c.in-Some.ensures.value
+    named c.args.set c.args.bytes.now c.split_at.result.0.now c.split_at.result.1.now c.in-Some.first.now c.name_len.result c.in-Some.ensures.value
     (sym c.is_ascii_digit.ensures.value ∙ c.if-is_ascii_digit.false) (sym c.begins.ensures ∙ c.if-begins.true)
-    c.name_len.ensures.value c.split_at-then-begins.ensures.front c.split_at-then-begins.ensures.back c.if-name-gt-MAX_NAME.false
+    c.name_len.ensures.value c.split_at.ensures.front c.split_at.ensures.back c.if-name-gt-MAX_NAME.false
 
 pub returns-in-Some-symbol_of-clause-value : goal.returns-in-Some-symbol_of-clause-value
 returns-in-Some-symbol_of-clause-value c =
@@ -36,7 +36,7 @@ returns-in-None-clause-value c =
 
 pub returns-then-begins-clause-shorter : goal.returns-then-begins-clause-shorter
 returns-then-begins-clause-shorter c =
-    after_run c.args.bytes.now c.split_at-then-begins.result.1.now c.in-Some.first.now c.name_len.result c.in-Some.ensures.value c.name_len.ensures.some c.split_at-then-begins.ensures.back
+    after_run c.args.bytes.now c.split_at.result.1.now c.in-Some.first.now c.name_len.result c.in-Some.ensures.value c.name_len.ensures.some c.split_at.ensures.back
 
 pub returns-then-is_minus-clause-value : goal.returns-then-is_minus-clause-value
 returns-then-is_minus-clause-value c =
