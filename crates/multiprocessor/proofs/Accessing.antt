@@ -9,7 +9,7 @@ stored-commits : (depth : ℕ) (s : CoreState) (e : Entry) (loc : Loc) → store
 stored-commits zero s e loc h = record { outcome = refl; some = λ z. (let w : ⊥ = cc in w) }
 stored-commits (suc n) s e loc h = absurd (h refl)
 
-locked-commits : (core : ℕ) (s : CoreState) (loc : Loc) (reg : Reg) (word value : ℕ) (pending : List Entry) → locked_access loc pending ≢ NoAccess
+locked-commits : (core : ℕ) (s : CoreState) (loc : Loc) (reg : Option Reg) (word value : ℕ) (pending : List Entry) → locked_access loc pending ≢ NoAccess
     → CommitsAtOnce (locked_with core s loc reg word value pending)
 locked-commits core s loc reg word value [] h = record { outcome = refl; some = λ z. (let w : ⊥ = cc in w) }
 locked-commits core s loc reg word value (p ∷ ps) h = absurd (h refl)
