@@ -1,5 +1,7 @@
 -- Cells are read as they are spelled.
-use Rattle.litmus_reader.proofs.Vocabulary.{◌≡◌, ℕ, true, false, cond, List, [], ◌∷◌, ◌++◌, map, Some, None, refl, sym, ap, subst, ◌∙◌, inl, inr, codes, to_ascii_lowercase, append-nil, bytes_eq-Decides, is_location_name, register_named, same_letters, Reg, OpenSquare, CloseSquare, Comma, Dollar, Term, name, symbol, Piece, is_symbol, symbol_at, name_at, there, location_at, register_at, ArgumentTerm, in_memory, in_register, constant, as_constant, memory_at, if_last, argument_at, two_arguments, mov_of, xchg_of, xadd_of, no_more, locked_by, by_mnemonic, locked_at, spelled_in, terms, IsOperand, IsCall, IsMove, IsExchange, IsCell, Shape, store_imm, store_reg, load, set_imm, set_reg, fence, xchg, xadd, name_then, IsAddition, IsLocked, Instructions, numeral_at, unsigned_at, All, Basic, if_alone, one_argument, if_all, swap_of, cmpxchg_of, operator_named, step_named, locked_of, combine_of, locked_step, combine_step, locked_neg, neg_of, locked_more, is_no_operation, more_by, exchange_of, IsNumeral, IsCallOfOne, IsOperator, IsStep, DoesNothing, IsLockedMore, IsCellMore, Option}
+use Rattle.litmus_reader.proofs.Vocabulary.{◌≡◌, ℕ, true, false, cond, List, [], ◌∷◌, ◌++◌, map, Some, None, refl, sym, ap, subst, ◌∙◌, inl, inr, codes, to_ascii_lowercase, append-nil, bytes_eq-Decides, is_location_name, register_named, same_letters, Reg, OpenSquare, CloseSquare, Comma, Dollar, Term, name, symbol, Piece, is_symbol, symbol_at, name_at, there, location_at, register_at, ArgumentTerm, in_memory, in_register, constant, as_constant, memory_at, if_last, argument_at, two_arguments, mov_of, xchg_of, xadd_of, no_more, locked_by, by_mnemonic, locked_at, spelled_in, terms, IsOperand, IsCall, IsMove, IsExchange, IsCell, Shape, store_imm, store_reg, load, set_imm, set_reg, fence, xchg, xadd, name_then, IsAddition, IsLocked, Instructions, numeral_at, unsigned_at, if_alone, one_argument, if_all, swap_of, cmpxchg_of, operator_named, step_named, locked_of, combine_of, locked_step, combine_step, locked_neg, neg_of, locked_more, is_no_operation, more_by, exchange_of, IsNumeral, IsCallOfOne, IsOperator, IsStep, DoesNothing, IsLockedMore, IsCellMore, Option, Bool, ◌||◌}
+use Rattle.litmus_tokens.specs.declared.instructions.Instructions.TheVariants.{All, Basic}
+use Rattle.std.proofs.lemmas.Bool.{or_cases}
 use Rattle.litmus_reader.specs.GrammarCells as cells
 use Rattle.litmus_tokens.specs.Shapes.{compare_exchange, locked_constant, locked_register, locked_negate, combine_constant, combine_register, negate, swap}
 use Rattle.litmus_tokens.specs.Shapes as shapes
@@ -251,15 +253,16 @@ record HasNoOperation (letters : List ℕ) : Type 0 where
 
 no_operation_of : (letters : List ℕ) → is_no_operation letters ≡ true → HasNoOperation letters
 no_operation_of letters e =
-    elim (chosen (same_letters letters (codes "NOP")) true _ true e) [
-      | inl hit ↦ record { word = codes "NOP"; same = hit.0; is = cells.no_operation }
-      | inr no_nop ↦ elim (chosen (same_letters letters (codes "PAUSE")) true _ true no_nop.1) [
-        | inl hit ↦ record { word = codes "PAUSE"; same = hit.0; is = cells.pauses }
-        | inr no_pause ↦ elim (chosen (same_letters letters (codes "LFENCE")) true _ true no_pause.1) [
-          | inl hit ↦ record { word = codes "LFENCE"; same = hit.0; is = cells.fences_loads }
-          | inr no_lfence ↦ record { word = codes "SFENCE"; same = no_lfence.1; is = cells.fences_stores }
+    let is : List ℕ → Bool = same_letters letters in
+    elim (or_cases ((is (codes "NOP") || is (codes "PAUSE")) || is (codes "LFENCE")) (is (codes "SFENCE")) e) [
+      | inl three ↦ elim (or_cases (is (codes "NOP") || is (codes "PAUSE")) (is (codes "LFENCE")) three) [
+        | inl two ↦ elim (or_cases (is (codes "NOP")) (is (codes "PAUSE")) two) [
+          | inl hit ↦ record { word = codes "NOP"; same = hit; is = cells.no_operation }
+          | inr hit ↦ record { word = codes "PAUSE"; same = hit; is = cells.pauses }
         ]
+        | inr hit ↦ record { word = codes "LFENCE"; same = hit; is = cells.fences_loads }
       ]
+      | inr hit ↦ record { word = codes "SFENCE"; same = hit; is = cells.fences_stores }
     ]
 
 -- which instructions the operands of a locked instruction of the larger set spell

@@ -49,12 +49,12 @@ numeral_found _ back _ (numerals.signed t v is) ps e =
 
 -- ---- taken
 
-unsigned_taken : (ps rest : List Piece) (v : ℕ) → unsigned_at ps ≡ Some (v, rest) → (p : Piece) × (ps ≡ p ∷ rest) × IsUnsigned p.term v
+unsigned_taken : (ps rest : List Piece) (v : ℕ) → unsigned_at ps ≡ Some (v, rest) → (q : Piece) × (ps ≡ q ∷ rest) × IsUnsigned q.term v
 unfolding unsigned_at
 unsigned_taken [] rest v e = absurd cc
 unsigned_taken (p ∷ ps) rest v e = by_term p.term refl e
   where
-    by_term : (t : Term) → p.term ≡ t → unsigned_then t ps ≡ Some (v, rest) → (p : Piece) × (p ∷ ps ≡ p ∷ rest) × IsUnsigned p.term v
+    by_term : (t : Term) → p.term ≡ t → unsigned_then t ps ≡ Some (v, rest) → (q : Piece) × (p ∷ ps ≡ q ∷ rest) × IsUnsigned q.term v
     by_term (number d) is h =
         let same = pair_is (decimal_value d) v ps rest h in
         (p, ap (λ (l : List Piece). p ∷ l) same.1, subst (IsUnsigned p.term) same.0 (subst (λ (t : Term). IsUnsigned t (decimal_value d)) (sym is) (numerals.in_decimal d)))

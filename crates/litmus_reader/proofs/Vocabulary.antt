@@ -14,7 +14,6 @@ pub use Rattle.litmus_reader.specs.Header.{from_gap, sized}
 unfoldable pub use Rattle.litmus_reader.specs.Header.{header_at}
 unfoldable pub use Rattle.litmus_reader.specs.Information.{information_end, begins_initial, braces_within, braces_at, quotation_end, key_value, key_line_end}
 pub use Rattle.litmus_tokens.specs.declared.instructions.Instructions.{Instructions}
-pub use Rattle.litmus_tokens.specs.declared.instructions.Instructions.TheVariants.{All, Basic}
 pub use Rattle.litmus_tokens.specs.declared.token.Stop.{Stop}
 pub use Rattle.litmus_tokens.specs.declared.token.Symbol.{Symbol}
 pub use Rattle.litmus_tokens.specs.declared.token.Symbol.TheVariants.{CloseCurly, Bar, Semicolon, Colon, OpenSquare, CloseSquare, Comma, Dollar, OpenCurly, OpenRound, CloseRound, And, Or, Tilde, Equals, Minus}
