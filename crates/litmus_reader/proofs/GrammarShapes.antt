@@ -1,7 +1,7 @@
 -- Instructions keep their locations' numbers as other names appear.
 use Rattle.litmus_reader.proofs.Vocabulary.{◌≡◌, ℕ, List, [], ◌∷◌, refl, ap, ◌∙◌, StoreImm, StoreReg, Load, Xchg, Xadd, CoreInstr, numbered, location, instr_with, location_in, of_core, Shape, store_imm, store_reg, load, set_imm, set_reg, fence, xchg, xadd}
 use Rattle.litmus_tokens.specs.Shapes.{compare_exchange, locked_constant, locked_register, locked_negate, combine_constant, combine_register, negate, swap, nothing}
-use Rattle.tso_terms.specs.declared.instruction.Instr.TheVariants.{CompareExchange, LockedCombine, LockedNegate, Combine, Negate, Swap, Nop}
+use Rattle.tso_terms.specs.declared.instruction.Instr.TheVariants.{CompareExchange, LockedCombine, LockedNegate}
 use Rattle.basic_laws.specs.Types.{Number, Held}
 use Rattle.litmus_reader.proofs.Placed.{Placed, instrs_with, locations_of}
 use Rattle.litmus_reader.proofs.GrammarNames.{AllKnown, known_parts, number_more}

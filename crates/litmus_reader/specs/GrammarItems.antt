@@ -1,6 +1,6 @@
 -- Which tokens spell which item of the initial state. The atoms of a condition have the same three forms. (This
 -- project's profile.)
-use Rattle.std.specs.Prelude.{◌≡◌, ℕ, List, [], ◌∷◌, Some, IsTrue}
+use Rattle.std.specs.Prelude.{◌≡◌, ℕ, List, ◌∷◌, Some, IsTrue}
 use Rattle.litmus_reader.specs.Vocabulary.{CloseSquare, Colon, Equals, is_location_name, OpenSquare, Reg, register_named}
 use Rattle.litmus_tokens.specs.Terms.{Term, number, name, symbol}
 use Rattle.litmus_reader.specs.GrammarNumerals.{IsNumeral}
