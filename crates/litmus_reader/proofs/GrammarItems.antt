@@ -2,7 +2,7 @@
 use Rattle.litmus_reader.proofs.Vocabulary.{◌≡◌, ℕ, List, [], ◌∷◌, ◌++◌, Ok, refl, ap, subst, ◌∙◌, inl, inr, Equals, Colon, OpenSquare, CloseSquare, Term, number, name, symbol, Piece, is_symbol, symbol_at, name_at, number_at, Part, or_unfit, location_at, register_at, value_at, register_setting, square_setting, plain_setting, setting_at, terms, IsSetting, sets_register, sets_location, sets_in_squares, Setting, of_register, of_location, Passes, append_assoc, sym, numeral_at, IsNumeral}
 use Rattle.litmus_reader.proofs.GrammarTokens.{there_is, ok_pair, bind_ok, or_unfit_ok, opened, terms_append, Takes, number_found, symbol_found}
 use Rattle.litmus_reader.proofs.GrammarNumerals.{symbol_there, numeral_found, numeral_taken}
-use Rattle.litmus_reader.proofs.GrammarCells.{location_found, register_found}
+use Rattle.litmus_reader.proofs.GrammarOperands.{location_found, register_found}
 use Rattle.litmus_reader.proofs.Readings.{Reads}
 
 abbrev Found : Part → Setting → List Term → List Piece → Type 0

@@ -20,6 +20,8 @@ pub mod Within
 pub mod Readings
 pub mod GrammarTokens
 pub mod GrammarNumerals
+pub mod GrammarOperands
+pub mod GrammarLargerSet
 pub mod GrammarCells
 pub mod GrammarItems
 pub mod GrammarColumns
