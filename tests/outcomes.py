@@ -33,8 +33,9 @@ import sys
 
 sys.dont_write_bytecode = True
 
+import instruction_sets
 import judging
-from reference import arithmetic, conditions, litmus, reading
+from reference import arithmetic, conditions, litmus
 
 DEPTHS = (0, 1, 2, 32)
 SHOWN = CONDITION, WITH_REGISTERS, WITH_ALL = ("condition", "registers", "all")
@@ -116,7 +117,7 @@ def ends(test, depth):
 
 @functools.lru_cache(16)
 def ends_of(given, depth):
-    return ends(reading.read_test(given), depth)
+    return ends(instruction_sets.read_test(given), depth)
 
 
 def depth_that_counts(test, depth):
@@ -136,8 +137,8 @@ def places_shown(test, show):
 
 
 def registers_written(core, program):
-    """The registers of this core that its program writes: only stores and fences leave all registers as they are."""
-    return {(core, done.register) for done in program if done.kind not in litmus.STORES and done.kind != litmus.FENCE}
+    """The registers of this core that its program writes."""
+    return {(core, register) for done in program for register in done.written()}
 
 
 class Shown:
@@ -206,7 +207,7 @@ def faults_of_way(report, shown, values, way):
 
 def faults_at(program, given, depth, asked):
     """The faults of a test at a depth; `asked` says by a value of --show which of the words below are asked with it too."""
-    test = reading.read_test(given)
+    test, program = instruction_sets.read_test(given), instruction_sets.Asked(program, given)
     found = ends_of(given, depth_that_counts(test, depth))
     report_by = functools.cache(lambda way: report_of(program, given, depth, way))
     return [fault for show in SHOWN
@@ -344,9 +345,9 @@ def final_state_in(report):
 
 def faults_of_met(program, given, depth, limit):
     """What is wrong with the answer of a search that met this limit; nothing of one that came to its end."""
-    words = ["outcomes", "--depth", str(depth), "--states", str(limit), "--show", "all"]
+    words, program = ["outcomes", "--depth", str(depth), "--states", str(limit), "--show", "all"], instruction_sets.Asked(program, given)
     done = program.run(words, given)
-    told, test = Told(done.stdout.decode("latin-1")), reading.read_test(given)
+    told, test = Told(done.stdout.decode("latin-1")), instruction_sets.read_test(given)
     if done.returncode == judging.ENDED:
         return []
     if done.returncode != judging.UNFINISHED or not told.has_form:
@@ -371,7 +372,7 @@ def faults_of_met(program, given, depth, limit):
 def faults_of_forms(program, given, words, plain, told, truths):
     """How `--json` says something else of a search that met its limit, or `--assert` has another status."""
     as_json = program.run(words + ["--json"], given)
-    due = told.value(reading.read_test(given).name)
+    due = told.value(instruction_sets.read_test(given).name)
     for state, holds in zip(due["met"], truths):
         state.update({} if holds is None else {"holds": holds})
     faults = [] if as_json.returncode == judging.UNFINISHED and json.loads(as_json.stdout) == due else ["with %s --json says another thing" % words]

@@ -20,6 +20,7 @@ import re
 import sys
 
 sys.dont_write_bytecode = True
+import instruction_sets
 import judging
 import rows
 
@@ -207,8 +208,9 @@ def answers(program):
         if "--json" in row.words and row.output.startswith(b"{"):
             yield name, row.words[0], row.output
     for name, given in judging.all_inputs():
+        more = instruction_sets.words_for(given.partition(judging.DIVIDER)[0])
         for command, *words in map(str.split, LINES):
-            done = judging.run(program, [command, "--json", *words], given)
+            done = judging.run(program, [command, "--json", *words, *more], given)
             if done.stdout.startswith(b"{"):
                 yield " ".join([name, *words]), command, done.stdout
 

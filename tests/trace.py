@@ -26,10 +26,11 @@ import sys
 
 sys.dont_write_bytecode = True
 
+import instruction_sets
 import judging
 import trace_board
 from judging import BUSES, ENDED, PROTOCOLS, UNFINISHED
-from reference import choices, reading
+from reference import choices
 
 SHAPES = ((1, 1, 1), (2, 1, 2), (1, 2, 4))
 DEPTHS = (0, 1, 4)
@@ -145,11 +146,12 @@ def faults_of(test, made, table, machine, traced, run):
 def judged(programs, tables, name, given, every):
     """The faults on each machine of each program, and what came up."""
     test_text, _, choice_text = given.partition(judging.DIVIDER)
-    test = reading.read_test(test_text)
+    test = instruction_sets.read_test(test_text)
     made = list(choices.read_choices(choice_text, test.cores()))
     came_up = collections.Counter()
 
     def faults_on(machine, program):
+        program = instruction_sets.Asked(program, test_text)
         traced, run = (answer(program, command, machine, given) for command in ("trace", "run"))
         came_up.update(traced[1].partition("\nTrace\n")[2].split())
         return faults_of(test, made, tables[machine[0]], machine, traced, run)

@@ -29,6 +29,7 @@ import time
 
 sys.dont_write_bytecode = True
 
+import instruction_sets
 import judging
 import reason_inputs
 import reason_slips
@@ -132,11 +133,12 @@ def theory_allows(text):
 
 def faults_of_test(program, text, with_slips):
     """The faults of one test, under one condition, of both models."""
+    program = instruction_sets.Asked(program, text.encode())
     return faults_with(program, Outcomes(program), text, with_slips)
 
 
 def faults_with(program, found, text, with_slips):
-    faults, given, test = [], text.encode(), reading.read_test(text.encode())
+    faults, given, test = [], text.encode(), instruction_sets.read_test(text.encode())
     for model in MODELS:
         answer = Answer(program, given, model)
         told = answer.faults(test, model)
@@ -156,6 +158,7 @@ def faults_with(program, found, text, with_slips):
 
 def faults_of_forms(program, name, text, with_slips):
     """The faults of a test under each of the conditions."""
+    program = instruction_sets.Asked(program, text.encode())
     found = Outcomes(program)
     return ["%s: %s" % (form, fault) for form, asking in reason_inputs.with_forms(name, text)
             for fault in judging.faults_told(lambda asking=asking: faults_with(program, found, asking, with_slips))]
