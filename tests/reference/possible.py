@@ -206,8 +206,8 @@ class Programs:
     def returned_by(self, claim, truth):
         """What it says of a read that a register has a value at the end."""
         _, core, register, value = claim
-        form, held = self.left[core][register]
-        return [Returns(held, value, truth)] if form == RETURNED else []
+        form, *held = self.left[core][register]
+        return [Returns(*held, value, truth)] if form == RETURNED else []
 
     def cases_of(self, claim, truth):
         form = claim[0]
