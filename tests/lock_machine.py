@@ -190,14 +190,19 @@ def states_after(test, state):
             yield put(cores, own, after), later, holder
 
 
-def ends(test):
-    """The registers of all cores and the memory of each end, as sets of values by their places' names."""
+class TooMany(Exception):
+    """More states can be reached than may be kept."""
+
+
+def ends(test, most=None):
+    """The registers of all cores and the memory of each end; of more than so many states none."""
     cores = tuple((*after_moves(program, 0, tuple(bank)), ()) for program, bank in zip(test.programs, test.registers))
     first = cores, tuple(test.words), None
     reached, waiting, found = {first}, [first], set()
     while waiting:
-        state = waiting.pop()
-        is_end = True
+        if most is not None and len(reached) > most:
+            raise TooMany(test.name)
+        state, is_end = waiting.pop(), True
         for after in states_after(test, state):
             is_end = False
             if after not in reached:
@@ -207,7 +212,7 @@ def ends(test):
             if any(core[0] < len(program) for core, program in zip(state[0], test.programs)):
                 raise ValueError("the machine is stuck")
             found.add((tuple(core[1][:LOADED] for core in state[0]), state[1]))
-    return found, len(reached)
+    return found
 
 
 def named(test, end):
