@@ -1,12 +1,14 @@
 -- What is made, one after the other: more that is made leaves what was made before as it is.
-use Rattle.reading_tables.proofs.Vocabulary.{◌≡◌, ◌<◌, ◌≤◌, ◌+◌, ℕ, zero, suc, List, [], ◌∷◌, ◌++◌, length, slice_index_or, get_or, arith, refl, sym, ap, ◌∙◌, subst, map}
-use Rattle.std.specs.Prelude.{slice_set, take}
+use Rattle.reading_tables.proofs.Vocabulary.{◌≡◌, ◌<◌, ◌≤◌, ◌+◌, ℕ, zero, suc, List, [], ◌∷◌, ◌++◌, length, slice_index_or, get_or, arith, refl, sym, ap, ◌∙◌, subst, map, map-append}
+use Rattle.std.specs.Prelude.{slice_set, take, Vec}
+use Rattle.std.specs.Global.{Global}
 use Rattle.possible_reads.specs.Expressions.{Expression, Constant, Returned}
 use Rattle.reading_tables.specs.declared.expressions.Held.{Held}
 use Rattle.reading_tables.specs.declared.expressions.Making.{Making}
 use Rattle.reading_tables.specs.declared.expressions.Written.{Written}
+use Rattle.reading_tables.specs.declared.expressions.Walk.{Walk}
 use Rattle.reading_tables.specs.declared.expressions.Held.TheVariants.{Number, Returned as Read, Made}
-use Rattle.reading_tables.specs.inner.Told.{unmade, held_of, making_of, made_after, all_made, written_of, HasBeenMade, HaveBeenMade, IsMore}
+use Rattle.reading_tables.specs.inner.Told.{unmade, held_of, making_of, made_after, all_made, written_of, HasBeenMade, HaveBeenMade, IsMore, IsWalk, made_in, held_registers, told_writes}
 
 -- ---- lists
 
@@ -116,3 +118,29 @@ made-set n (k ∷ hs) (suc i) h a b = (a.0, made-set n hs i h a.1 b)
 pub made-last : (n : ℕ) (hs : List Held) (h : Held) → HaveBeenMade n hs → HasBeenMade n h → HaveBeenMade n (hs ++ (h ∷ []))
 made-last n [] h a b = (b, tt)
 made-last n (k ∷ hs) h a b = (a.0, made-last n hs h a.1 b)
+
+-- ---- a walk in which more was made, and nothing else was done
+
+module _ (old new : Walk) (more : IsMore old.makings.items new.makings.items) (walk : IsWalk old) where
+  pub same-registers : new.registers ≡ old.registers → held_registers new ≡ held_registers old
+  same-registers same =
+      ap (map (held_of (made_in new))) same ∙ held-kept old.makings.items new.makings.items old.registers more walk.registers
+
+  pub same-writes : new.written ≡ old.written → told_writes new ≡ told_writes old
+  same-writes same =
+      ap (λ (ws : Vec Written Global). map (written_of (made_in new)) ws.items) same
+      ∙ writes-kept old.makings.items new.makings.items old.written.items more walk.written
+
+  pub still-walk : new.written ≡ old.written → new.registers ≡ old.registers → IsWalk new
+  still-walk writes registers = record {
+    registers = subst (HaveBeenMade (length new.makings.items)) (sym registers)
+        (all-in-more (length old.makings.items) (length new.makings.items) old.registers more.longer walk.registers);
+    written = subst (λ (ws : Vec Written Global). HaveBeenMade (length new.makings.items) (map (λ (x : Written). x.value) ws.items)) (sym writes)
+        (all-in-more (length old.makings.items) (length new.makings.items) (map (λ (x : Written). x.value) old.written.items) more.longer walk.written);
+  }
+
+-- one write more
+pub written-more : (n : ℕ) (ws : List Written) (w : Written) → HaveBeenMade n (map (λ (x : Written). x.value) ws) → HasBeenMade n w.value
+    → HaveBeenMade n (map (λ (x : Written). x.value) (ws ++ (w ∷ [])))
+written-more n ws w a b =
+    subst (HaveBeenMade n) (sym (map-append (λ (x : Written). x.value) ws (w ∷ []))) (made-last n (map (λ (x : Written). x.value) ws) w.value a b)

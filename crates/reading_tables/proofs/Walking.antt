@@ -1,11 +1,32 @@
--- One core more: what it writes stands behind what those before it write, and their registers stay as they are.
+-- One instruction more, and one core more: what it writes comes behind what those before it write, and their registers stay as they are.
 use Rattle.reading_tables.proofs.Vocabulary.{◌≡◌, ◌<◌, ◌+◌, ℕ, List, [], ◌∷◌, ◌++◌, ◌⊎◌, inl, inr, length, drop, slice_index_or, get_or, arith, subst, sym, ap, ◌∙◌, append_assoc, at_drop_more, Instr, map}
+use Rattle.tso_terms.specs.Actions.{action_of}
+use Rattle.basic_laws.specs.Types.{Action}
 use Rattle.reading_tables.specs.declared.expressions.Held.{Held}
 use Rattle.reading_tables.specs.declared.expressions.Making.{Making}
 use Rattle.reading_tables.specs.inner.Told.{held_of, all_made, HaveBeenMade, IsMore}
 use Rattle.reading_tables.proofs.Makings.{at-front, at-end, all-in-more, held-kept}
-use Rattle.possible_reads.specs.Expressions.{Expression, Written, written_in, written_from, first_registers}
+use Rattle.possible_reads.specs.Expressions.{Expression, Written, written_by, registers_after_action, written_in, registers_at_end, written_from, first_registers}
 
+-- one instruction: what it writes comes behind what those before it wrote
+pub write-step : (core place : ℕ) (instr : Instr) (action : Action) (rest : List Instr) (old new : List Written) (registers after : List Expression)
+    → action ≡ action_of instr → new ≡ old ++ written_by core place action registers → after ≡ registers_after_action core place action registers
+    → old ++ written_in core place (instr ∷ rest) registers ≡ new ++ written_in core (place + 1) rest after
+write-step core place instr action rest old new registers after is writes left =
+    let own = written_by core place action registers in
+    let more = written_in core (place + 1) rest (registers_after_action core place action registers) in
+    ap (λ a. old ++ (written_by core place a registers ++ written_in core (place + 1) rest (registers_after_action core place a registers))) (sym is)
+    ∙ (sym (append_assoc old own more)
+    ∙ (ap (λ z. z ++ more) (sym writes) ∙ ap (λ r. new ++ written_in core (place + 1) rest r) (sym left)))
+
+pub register-step : (core place : ℕ) (instr : Instr) (action : Action) (rest : List Instr) (registers after : List Expression)
+    → action ≡ action_of instr → after ≡ registers_after_action core place action registers
+    → registers_at_end core place (instr ∷ rest) registers ≡ registers_at_end core (place + 1) rest after
+register-step core place instr action rest registers after is left =
+    ap (λ a. registers_at_end core (place + 1) rest (registers_after_action core place a registers)) (sym is)
+    ∙ ap (registers_at_end core (place + 1) rest) (sym left)
+
+-- one core
 pub core-more : (programs : List (List Instr)) (registers : List (List ℕ)) (number : ℕ) (first : List Expression)
     (before after whole : List Written) → number < length programs → first ≡ first_registers registers number
     → after ≡ before ++ written_in number 0 (get_or programs number []) first
