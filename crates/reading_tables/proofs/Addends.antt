@@ -88,7 +88,7 @@ computed-right own And r e h = refl
 computed-right own Or r e h = refl
 computed-right own Xor r e h = refl
 
-neither : (b : Bool) → None {A = ℕ} ≡ (if b then None else None)
+neither : (b : Bool) → ◌≡◌ {A = Option ℕ} None (if b then None else None)
 neither true = refl
 neither false = refl
 
