@@ -1,5 +1,5 @@
 -- What the code finds that a write adds is what its expression adds.
-use Rattle.reading_tables.proofs.Vocabulary.{◌≡◌, ◌<◌, ◌≤◌, ◌+◌, ℕ, zero, suc, Bool, true, false, if◌then◌else◌, List, [], ◌∷◌, ◌++◌, Option, Some, None, length, slice_index_or, get_or, arith, refl, sym, ap, ◌∙◌, Entry}
+use Rattle.reading_tables.proofs.Vocabulary.{◌≡◌, ◌<◌, ◌≤◌, ◌+◌, ℕ, zero, suc, Bool, true, false, if◌then◌else◌, List, [], ◌∷◌, ◌++◌, Option, None, length, slice_index_or, get_or, arith, refl, ap, ◌∙◌, Entry}
 use Rattle.basic_laws.specs.Types.{Operator, Add, And, Or, Subtract, Xor}
 use Rattle.refutation_laws.specs.Known.{same_event}
 use Rattle.possible_reads.specs.Expressions.{Expression, Constant, Returned, Combined, Negated, Exchanged}

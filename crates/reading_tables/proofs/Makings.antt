@@ -2,7 +2,7 @@
 use Rattle.reading_tables.proofs.Vocabulary.{◌≡◌, ◌<◌, ◌≤◌, ◌+◌, ℕ, zero, suc, List, [], ◌∷◌, ◌++◌, length, slice_index_or, get_or, arith, refl, sym, ap, ◌∙◌, subst, map, map-append}
 use Rattle.std.specs.Prelude.{slice_set, take, Vec}
 use Rattle.std.specs.Global.{Global}
-use Rattle.possible_reads.specs.Expressions.{Expression, Constant, Returned}
+use Rattle.possible_reads.specs.Expressions.{Expression}
 use Rattle.reading_tables.specs.declared.expressions.Held.{Held}
 use Rattle.reading_tables.specs.declared.expressions.Making.{Making}
 use Rattle.reading_tables.specs.declared.expressions.Written.{Written}

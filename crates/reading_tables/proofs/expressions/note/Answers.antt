@@ -1,4 +1,4 @@
-use Rattle.reading_tables.proofs.Vocabulary.{◌≡◌, List, sym, subst, length, map}
+use Rattle.reading_tables.proofs.Vocabulary.{List, sym, subst, length, map}
 use Rattle.reading_tables.specs.declared.expressions.Written.{Written}
 use Rattle.reading_tables.specs.inner.Told.{HaveBeenMade}
 use Rattle.reading_tables.proofs.Makings.{written-more}

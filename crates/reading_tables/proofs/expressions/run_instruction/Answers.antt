@@ -1,8 +1,8 @@
-use Rattle.reading_tables.proofs.Vocabulary.{◌≡◌, ◌∙◌, ap, sym, length, map, append-nil}
+use Rattle.reading_tables.proofs.Vocabulary.{◌∙◌, ap, sym, length, map, append-nil}
 use Rattle.std.specs.Prelude.{slice_set}
 use Rattle.tso_terms.specs.Registers.{index_of}
 use Rattle.tso_terms.specs.declared.action.Action.TheVariants.{Load}
-use Rattle.possible_reads.specs.Expressions.{Returned, registers_after_action}
+use Rattle.possible_reads.specs.Expressions.{Returned}
 use Rattle.reading_tables.specs.inner.Told.{held_of, made_in, held_registers, told_writes}
 use Rattle.reading_tables.proofs.Walking.{write-step, register-step}
 use Rattle.reading_tables.proofs.expressions.run_instruction.Goals as goal

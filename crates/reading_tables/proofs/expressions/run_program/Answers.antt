@@ -1,4 +1,4 @@
-use Rattle.reading_tables.proofs.Vocabulary.{◌+◌, ◌++◌, arith, ap, sym, ◌∙◌, refl, append-nil, map, one-more, all-done}
+use Rattle.reading_tables.proofs.Vocabulary.{◌+◌, ◌++◌, arith, ap, sym, ◌∙◌, refl, append-nil, one-more, all-done}
 use Rattle.possible_reads.specs.Expressions.{written_in, registers_at_end}
 use Rattle.reading_tables.specs.inner.Told.{held_registers, told_writes}
 use Rattle.reading_tables.proofs.Makings.{as-before, and-more}

@@ -1,7 +1,7 @@
-use Rattle.reading_tables.proofs.Vocabulary.{◌∙◌, ap, map, subst, sym}
+use Rattle.reading_tables.proofs.Vocabulary.{◌∙◌, ap, map}
 use Rattle.std.specs.Prelude.{slice_set}
 use Rattle.std.proofs.lemmas.List.{map-set}
-use Rattle.reading_tables.specs.inner.Told.{held_of, HaveBeenMade}
+use Rattle.reading_tables.specs.inner.Told.{held_of}
 use Rattle.reading_tables.proofs.Makings.{made-set}
 use Rattle.reading_tables.proofs.expressions.set_register.Goals as goal
 

@@ -1,4 +1,4 @@
-use Rattle.reading_tables.proofs.Vocabulary.{◌∙◌, ap, length, map}
+use Rattle.reading_tables.proofs.Vocabulary.{◌∙◌, ap, length}
 use Rattle.std.specs.Prelude.{slice_set}
 use Rattle.tso_terms.specs.Registers.{index_of}
 use Rattle.possible_reads.specs.Expressions.{updated_by}

@@ -1,4 +1,4 @@
-use Rattle.reading_tables.proofs.Vocabulary.{◌∙◌, ◌++◌, ◌∷◌, [], ap, sym, map, map-append, refl, appended, all-appended}
+use Rattle.reading_tables.proofs.Vocabulary.{◌∙◌, ◌++◌, ◌∷◌, [], ap, map, map-append, refl, appended, all-appended}
 use Rattle.possible_reads.specs.Possible.{Values, values_of, values_read}
 use Rattle.reading_tables.specs.declared.expressions.Written.{Written}
 use Rattle.reading_tables.specs.inner.Told.{held_of, known_of}
