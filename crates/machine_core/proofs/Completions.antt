@@ -1,6 +1,11 @@
--- A locked instruction whose load part the holder's next choice commits.
-use Rattle.machine_core.proofs.Vocabulary.{◌≡◌, ◌<◌, ◌++◌, [], ◌∷◌, length, slice_set, slice_index, slice_index_or, refl, sym, ap, ◌∙◌, subst, set-get_or, Litmus, entry, chosen, memory_after, Locks, access_of, HeldBy, HeldBetween, reads_first, completes, Loc, Entry, LR, Choice, Committed, BusModel, words_of, Processor, Through, Hardware, core_state, caches_of, completing_by, completion_by, is_awaited, state_in, HasUsed, HasEffect, completes_in, use_by}
-use Rattle.machine_core.proofs.Splitting.{use-frees}
+-- What the holder's next choice commits: of a locked instruction the load part, else the whole access.
+use Rattle.machine_core.proofs.Vocabulary.{◌≡◌, ◌<◌, ◌++◌, [], ◌∷◌, length, slice_set, slice_index, slice_index_or, refl, sym, ap, ◌∙◌, subst, set-get_or, Litmus, entry, chosen, memory_after, Locks, access_of, HeldBy, HeldBetween, reads_first, completes, Loc, Entry, LR, Choice, Committed, BusModel, words_of, Processor, Through, Hardware, core_state, caches_of, completing_by, completion_by, is_awaited, state_in, HasUsed, HasEffect, completes_in, use_by, ◌≢◌, ℕ, None, Ok, Err, Result, OnOk, OnErr, NoMemory, Free, acts, effect_of, Split, HolderFits, BusState, ChoiceAnswer, memory_access_in, IsHeldForAccess, IsUndone, held_as, holder_of, state_of_cores, effect_made_in, Asked}
+use Rattle.tso_terms.specs.FlatMachine.{State}
+use Rattle.multiprocessor.specs.declared.accesses.MemoryAccess as told
+use Rattle.multiprocessor.specs.declared.accesses.MemoryAccess.TheVariants.{Nothing, Read, Write, Lock}
+use Rattle.multiprocessor.specs.declared.config.Config.{Config}
+use Rattle.multiprocessor.proofs.Accessing.{commits-at-once}
+use Rattle.machine_core.proofs.Splitting.{use-frees, held-freed}
 use Rattle.machine_core.proofs.ChoiceEffects.{Performs-by, core_of-state_in}
 use Rattle.snoop_bus.specs.declared.access.AccessReport.{AccessReport}
 
@@ -29,3 +34,32 @@ uses-first t m bus choice loc p report asked locks h at used =
     let same : use_by t m choice (completes_in t m choice) ≡ completion_by (caches_of m.bus) (chosen choice) loc.0 =
     use-frees t m choice (completes_in t m choice) asked (ap (λ f. is_awaited f.holder) (completes-first t m choice loc p locks h at)) ∙ ap (completing_by (caches_of m.bus) (chosen choice)) locks in
     subst (λ u. HasUsed u bus (Through report)) (sym same) used
+
+-- any other access is completed whole
+completes-other : (t : Litmus) (depth : ℕ) (state : State) (choice : Choice) (what : told.MemoryAccess) → ((loc : Loc) → what ≢ Lock loc)
+    → completes t depth state choice (memory_access_in what) ≡ acts (effect_of t depth state choice) Free
+completes-other t depth state choice Nothing other = refl
+completes-other t depth state choice (Read loc) other = refl
+completes-other t depth state choice (Write loc) other = refl
+completes-other t depth state choice (Lock loc) other = absurd (other loc refl)
+
+pub completes-whole : {P : Type 0} (t : Litmus) (m : Hardware P) (choice : Choice) (what : told.MemoryAccess) → memory_access_in what ≡ access_of t m.config.depth (state_in m).flat choice
+    → ((loc : Loc) → what ≢ Lock loc) → completes_in t m choice ≡ effect_made_in Asked t m choice
+completes-whole t m choice what is other =
+    ap (completes t m.config.depth (state_in m).flat choice) (sym is) ∙ completes-other t m.config.depth (state_in m).flat choice what other
+
+pub commits-whole : {P : Type 0} (t : Litmus) (m : Hardware P) (choice : Choice) (what : told.MemoryAccess) → memory_access_in what ≡ access_of t m.config.depth (state_in m).flat choice
+    → ((loc : Loc) → what ≢ Lock loc) → (state_in m).holder ≡ HeldBy choice → HolderFits Split t m.config.depth (state_in m).flat (state_in m).holder
+    → (completes_in t m choice).effect.outcome ≡ Committed
+commits-whole t m choice what is other asked fits =
+    ap (λ f. f.effect.outcome) (completes-whole t m choice what is other)
+    ∙ (commits-at-once t m.config.depth (state_in m).flat choice (subst (HolderFits Split t m.config.depth (state_in m).flat) asked fits)).outcome
+
+-- it frees the bus
+pub held-whole : {P : Type 0} (r : Result ChoiceAnswer NoMemory) (t : Litmus) (m new : Hardware P) → IsHeldForAccess t m → new.config ≡ m.config → OnOk r (holder_of new.bus ≡ None)
+    → OnErr r (IsUndone m new) → IsHeldForAccess t new
+held-whole (Ok x) t m new held config free err =
+    held-freed t new.config.depth (state_of_cores new.processors.items (words_of new.bus)) new.next (holder_of new.bus) free
+held-whole (Err x) t m new held config free err =
+    ap holder_of err.bus ∙ held ∙ ap (λ (c : Config). held_as t c.depth (state_in m).flat (state_in m).holder) (sym config)
+    ∙ ap (λ (s : BusState). held_as t new.config.depth s.flat s.holder) (sym err.state)

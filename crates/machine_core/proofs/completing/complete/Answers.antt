@@ -1,6 +1,6 @@
-use Rattle.machine_core.proofs.Vocabulary.{holder_of, refl, sym, ap, ◌∙◌, subst, length, All, chosen, completes, Locks, Write, IsCore, held_as, held_for, core_in, state_in, memory_access_in}
+use Rattle.machine_core.proofs.Vocabulary.{holder_of, refl, sym, ap, ◌∙◌, subst, length, All, chosen, completes, Locks, Write, IsCore, held_as, held_for, core_in, state_in, memory_access_in, IfOk, HasMade}
 use Rattle.machine_core.proofs.ChoiceEffects.{within-cores}
-use Rattle.machine_core.proofs.Completions.{performs-first, uses-first}
+use Rattle.machine_core.proofs.Completions.{performs-first, uses-first, completes-whole, commits-whole, held-whole}
 use Rattle.multiprocessor.specs.inner.Cores.{first_read}
 use Rattle.machine_core.proofs.Splitting.{held-with}
 use Rattle.machine_core.proofs.completing.complete.Goals as goal
@@ -66,3 +66,18 @@ returns-in_err-next-in-Lock-clause-of_test g c =
 
 pub returns-in_ok-next-in-Lock-clause-keeps : goal.returns-in_ok-next-in-Lock-clause-keeps
 returns-in_ok-next-in-Lock-clause-keeps g c = record { config = refl; counts = refl }
+
+pub returns-in_default-clause-makes : goal.returns-in_default-clause-makes
+returns-in_default-clause-makes g c =
+    subst (λ f. IfOk c.act.result (HasMade c.args.test.now c.args.hardware.now c.act.new.hardware c.args.choice f))
+    (sym (completes-whole c.args.test.now c.args.hardware.now c.args.choice c.access_of.result c.access_of.ensures.value c.in_default.not-Lock)) c.act.ensures.makes
+
+pub returns-in_default-clause-commits_at_once : goal.returns-in_default-clause-commits_at_once
+returns-in_default-clause-commits_at_once g c =
+    commits-whole c.args.test.now c.args.hardware.now c.args.choice c.access_of.result c.access_of.ensures.value c.in_default.not-Lock c.requires.asked c.requires.consistent.holder
+
+pub returns-in_default-clause-of_test : goal.returns-in_default-clause-of_test
+returns-in_default-clause-of_test g c = record {
+  fits = c.act.ensures.fits;
+  held = held-whole c.act.result c.args.test.now c.args.hardware.now c.act.new.hardware c.requires.consistent.held c.act.ensures.keeps.config c.act.ensures.holder c.act.ensures.err;
+}
