@@ -142,6 +142,22 @@ pub fn pair_in<'a>(instruction: &Instruction<'a>) -> Option<Pair<'a>> {
     })
 }
 
+/// An instruction with one operand, as one whose second operand isn't known.
+pub fn alone_in<'a>(instruction: &Instruction<'a>) -> Pair<'a> {
+    let operand = instruction.operands;
+    Pair {
+        cell: instruction.cell,
+        name: instruction.name,
+        is_locked: instruction.is_locked,
+        order: Order::DestinationFirst,
+        is_narrow: is_narrow(operand) || is_narrow_name(instruction.name),
+        is_wide: is_wide(operand) || is_wide_name(instruction.name),
+        has_bare_number: false,
+        to: operand_in(operand),
+        from: Operand::Unknown,
+    }
+}
+
 /// Whether a register without `%` stands beside a place with one.
 fn is_of_two_orders(first: &[u8], second: &[u8]) -> bool {
     match (operand_in(first), operand_in(second)) {

@@ -1,18 +1,16 @@
 //! What is said of an instruction in an assembler's language, in AT&T's syntax or in Intel's: the cells that do the same here. It is said
 //! only where all of the instruction is known; a guess could turn a load into a store.
 
-use crate::assembled::{Instruction, Pair, instruction_in, pair_in};
+use crate::assembled::{Instruction, Pair, alone_in, instruction_in, pair_in};
+use crate::computed::{says_changed, says_combined, says_compare_exchange};
 use crate::line::{Line, Piece};
-use crate::mnemonics::{Kind, kind_of};
-use crate::moves::{
-    STACK, say_cell, says_address, says_change, says_locked, says_locked_fence, says_move,
-};
+use crate::mnemonics::{Kind, kind_of, larger_of};
+use crate::moves::{STACK, says_address, says_locked, says_locked_fence, says_move};
 use crate::operand::{Operand, operand_in};
 use crate::operands::said_of_sum;
 use crate::quotes::{digits_and_letters, up_to};
 use crate::registers::is_stack_pointer;
 use crate::tables::{begins_with_one_of, is_one_of};
-use crate::target::{Target, say_target};
 use tso_terms::names::continues_name;
 
 const COPIES: &str =
@@ -26,14 +24,16 @@ const READS: &str =
 
 const NOTHING: &str = "{} isn't read: it changes no final state, so leave it out";
 
+const LEFT_OUT: &str = "{} changes no final state: leave it out, with what stands beside it";
+
 const COMPARES_LOCATION: &str =
     "{} isn't read: a program has no compares: load the location here, as MOV EAX,[{}], and ask for its value in the condition, as 0:EAX=1";
 
 const COMPUTES: &str =
-    "{} isn't read: nothing is computed in registers: leave it out, and where its result is used write the number that is meant, as MOV [x],$2";
+    "{} isn't read: leave it out, and where its result is used write the number that is meant, as MOV [x],$2";
 
 const LOADS_AND_COMPUTES: &str =
-    "{} isn't read: nothing is computed in registers: write a load, as MOV EAX,[{}] with a free register for EAX, and where the result is used the number that is meant, as MOV [y],$2";
+    "{} isn't read: write a load, as MOV EAX,[{}] with a free register for EAX, and where the result is used the number that is meant, as MOV [y],$2";
 
 const ADDRESS: &str =
     "{}: in AT&T's syntax a number without $ is an address, and none is read: write $ before a value, and a location by its name, as [x]";
@@ -84,12 +84,12 @@ fn says_pair(line: &mut Line, kind: Kind, pair: &Pair<'_>) -> bool {
         Kind::Move => says_move(line, pair),
         Kind::Exchange => says_locked(line, pair, false),
         Kind::Add if pair.is_locked => says_locked(line, pair, true),
-        Kind::Increase if pair.is_locked => says_change(line, pair, false),
-        Kind::Decrease if pair.is_locked => says_change(line, pair, true),
+        Kind::CompareExchange => says_compare_exchange(line, pair),
+        Kind::Combine => says_combined(line, pair),
         Kind::Compute if pair.is_locked => says_locked_fence(line, pair),
         Kind::Address => says_address(line, pair) || says_sum(line, pair),
         Kind::Compare => says_compare(line, pair),
-        Kind::Compute | Kind::Decrease | Kind::Increase => says_computed(line, pair),
+        Kind::Compute => says_computed(line, pair),
         _ => false,
     }
 }
@@ -106,12 +106,9 @@ fn says_compare(line: &mut Line, pair: &Pair<'_>) -> bool {
     true
 }
 
-/// Of arithmetic in a register, which may set it to 0 by itself. Whether its operands are known.
+/// Of other arithmetic in a register. Whether its operands are known.
 fn says_computed(line: &mut Line, pair: &Pair<'_>) -> bool {
     match (pair.to, pair.from) {
-        (Operand::Register(reg), Operand::Register(other)) if is_zero(pair.name, reg, other) => {
-            say_cell(line, pair, &[], Target::SetNumber(reg, 0));
-        }
         (Operand::Register(reg), Operand::Number(_)) if is_stack_pointer(reg) => {
             line.say_of(STACK, pair.cell);
         }
@@ -139,11 +136,6 @@ fn says_sum(line: &mut Line, pair: &Pair<'_>) -> bool {
     is_sum
 }
 
-/// Whether an instruction of this name sets a register to 0.
-fn is_zero(name: &[u8], reg: &[u8], other: &[u8]) -> bool {
-    reg.eq_ignore_ascii_case(other) && is_one_of("XOR XORL XORQ SUB SUBL SUBQ", name)
-}
-
 /// Of an instruction with one operand or none. Whether it is known what does the same.
 fn says_one(line: &mut Line, kind: Kind, instruction: &Instruction<'_>) -> bool {
     let (name, operand) = (instruction.name, operand_in(instruction.operands));
@@ -153,15 +145,18 @@ fn says_one(line: &mut Line, kind: Kind, instruction: &Instruction<'_>) -> bool 
         _ if is_one_of("MOVSD MOVSW", name) && instruction.operands.is_empty() => {
             line.say_of(COPIES, instruction.cell);
         }
-        (Kind::Nothing, _) if instruction.operands.is_empty() => line.say_of(NOTHING, name),
-        (Kind::Increase | Kind::Decrease | Kind::Compute, Operand::Register(_)) => {
-            line.say_of(COMPUTES, name);
-        }
+        (Kind::Nothing, _) if instruction.operands.is_empty() => line.say_of(
+            if larger_of(name).is_some() {
+                LEFT_OUT
+            } else {
+                NOTHING
+            },
+            name,
+        ),
+        (Kind::Change, _) => return says_changed(line, &alone_in(instruction)),
+        (Kind::Compute, Operand::Register(_)) => line.say_of(COMPUTES, name),
         (Kind::Compute, _) if begins_with_register(instruction.operands) => {
             line.say_of(COMPUTES, name);
-        }
-        (_, Operand::Word(loc) | Operand::Bare(loc)) if instruction.is_locked => {
-            return says_step(line, instruction, loc);
         }
         _ if is_one_of("MFENCE", name) && instruction.operands.is_empty() => {
             line.say_of("{}: write MFENCE", instruction.cell);
@@ -185,18 +180,4 @@ fn said_of_strings(name: &[u8]) -> &'static str {
 /// Whether the first of several operands is a register.
 fn begins_with_register(operands: &[u8]) -> bool {
     matches!(operand_in(up_to(operands, b',')), Operand::Register(_))
-}
-
-/// Of a locked addition of 1 to a location, or of a subtraction. Whether it is one.
-fn says_step(line: &mut Line, instruction: &Instruction<'_>, loc: &[u8]) -> bool {
-    let value = if is_one_of("INC INCL INCQ", instruction.name) {
-        1
-    } else if is_one_of("DEC DECL DECQ", instruction.name) {
-        u32::MAX
-    } else {
-        return false;
-    };
-    line.say_of("{}: write ", instruction.cell);
-    say_target(line, Target::AddNumber(loc, value));
-    true
 }

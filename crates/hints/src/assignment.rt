@@ -7,7 +7,7 @@ use crate::numbers::number_in;
 use crate::quotes::{after_byte, first_word, is_all_digits, up_to, up_to_any};
 use crate::statement::Statement;
 use crate::tables::is_one_of;
-use crate::target::{Target, say_copy, say_target};
+use crate::target::{Target, say_copy, say_set, say_target};
 use tso_terms::Reg;
 use tso_terms::names::is_location_name;
 
@@ -15,7 +15,10 @@ const ADDRESS: &str =
     "{}: no register and no location can hold an address: leave the cell empty, and write [{}] in each instruction that uses it";
 
 const COMPUTED: &str =
-    "{}: nothing is computed here: write the number that it comes to, as MOV [x],$2, or MOV EAX,$2 for a register; one step that adds is LOCK XADD [x],EAX";
+    "{}: write the number that it comes to, as MOV [x],$2 or MOV EAX,$2; or compute it in a register, as by ADD EAX,$1, with --instructions all";
+
+const COMPUTED_OF_ALL: &str =
+    "{}: write the number that it comes to, as MOV [x],$2 or MOV EAX,$2; or compute it in a register, as by ADD EAX,$1";
 
 /// The location that an argument or a side of an assignment names, perhaps through a pointer.
 pub fn location_in(text: &[u8]) -> Option<&[u8]> {
@@ -55,8 +58,7 @@ fn without_brackets(text: &[u8]) -> &[u8] {
 pub fn says_assignment(line: &mut Line, statement: &Statement<'_>) -> bool {
     let (left, right) = (statement.left, statement.right);
     if let Some(target) = change_in(left, right) {
-        line.say_of("{}: if it is one step, write ", statement.cell);
-        say_target(line, target);
+        say_change(line, statement.cell, target);
         return true;
     }
     if is_element(left) || is_element(right) {
@@ -163,7 +165,8 @@ fn address_in<'a>(statement: &Statement<'a>) -> Option<&'a [u8]> {
 fn says_computed(line: &mut Line, statement: &Statement<'_>) -> bool {
     let is_known = !matches!(place_in(statement.left), Side::Other) && is_sum(statement.right);
     if is_known {
-        line.say_of(COMPUTED, statement.cell);
+        let said = line.choose(COMPUTED, COMPUTED_OF_ALL);
+        line.say_of(said, statement.cell);
     }
     is_known
 }
@@ -183,20 +186,28 @@ fn is_sum(expression: &[u8]) -> bool {
 
 /// The addition that an assignment as `x += 1` is, by what stands before `=` and behind it.
 fn change_in<'a>(left: &'a [u8], right: &[u8]) -> Option<Target<'a>> {
-    let (place, is_less) = match left {
-        [place @ .., b'+'] => (place, false),
-        [place @ .., b'-'] => (place, true),
+    let (place, name) = match left {
+        [place @ .., b'+'] => (place, "ADD"),
+        [place @ .., b'-'] => (place, "SUB"),
+        [place @ .., b'&'] => (place, "AND"),
+        [place @ .., b'^'] => (place, "XOR"),
         _ => return None,
     };
-    let (Some(name), Some(number)) = (location_in(place), number_in(right)) else {
+    let Some(number) = number_in(right) else {
         return None;
     };
-    let number = if is_less {
-        0u32.wrapping_sub(number)
-    } else {
-        number
-    };
-    Some(Target::AddNumber(name, number))
+    match place_in(place.trim_ascii_end()) {
+        Side::Register(reg) => Some(Target::CombineNumber(name, reg, number)),
+        Side::Word(loc) if is_one_of("ADD", name.as_bytes()) => {
+            Some(Target::AddNumber(loc, number))
+        }
+        Side::Word(loc) if is_one_of("SUB", name.as_bytes()) => Some(Target::AddNumber(
+            loc,
+            0u32.wrapping_sub(number),
+        )),
+        Side::Word(loc) => Some(Target::LockNumber(name, loc, number)),
+        Side::Other => None,
+    }
 }
 
 /// A side of an assignment.
@@ -236,6 +247,21 @@ fn value_in(text: &[u8]) -> &[u8] {
         .unwrap_or(text)
 }
 
+/// Says what a change is, as `x += 1`.
+fn say_change(line: &mut Line, cell: &[u8], target: Target<'_>) {
+    let is_in_register = matches!(target, Target::CombineNumber(..) | Target::Change(..));
+    line.say_of(
+        if is_in_register {
+            "{}: write "
+        } else {
+            "{}: if it is one step, write "
+        },
+        cell,
+    );
+    say_target(line, target);
+    say_set(line, target);
+}
+
 /// Of `x++` and of what is written like it. Whether a cell has that form.
 pub fn says_step(line: &mut Line, cell: &[u8]) -> bool {
     let (place, is_less) = match cell {
@@ -245,11 +271,11 @@ pub fn says_step(line: &mut Line, cell: &[u8]) -> bool {
         [b'-', b'-', place @ ..] => (place, true),
         _ => return false,
     };
-    let Some(name) = location_in(place) else {
-        return false;
+    let target = match place_in(place.trim_ascii()) {
+        Side::Register(reg) => Target::Change(if is_less { "DEC" } else { "INC" }, reg),
+        Side::Word(loc) => Target::AddNumber(loc, if is_less { u32::MAX } else { 1 }),
+        Side::Other => return false,
     };
-    line.say_of("{}: if it is one step, write ", cell);
-    let number = if is_less { u32::MAX } else { 1 };
-    say_target(line, Target::AddNumber(name, number));
+    say_change(line, cell, target);
     true
 }

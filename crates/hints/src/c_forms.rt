@@ -1,6 +1,9 @@
 //! What is said of C in the rows of a test: of types, and of accesses by functions, by methods and through pointers.
 
-use crate::instructions::{ADDITION, EXCHANGE, FORMS, LOAD, OTHERS, STORE};
+use crate::instructions::{
+    ADDITION, COMPARE_AND_EXCHANGE, COMPARE_AND_EXCHANGE_OF_ALL, EXCHANGE, FORMS, LOAD, OTHERS,
+    STORE,
+};
 use crate::line::Line;
 use crate::place::Place;
 use crate::quotes::{begins_with_letter, last_bytes, last_word, token};
@@ -58,6 +61,19 @@ pub fn is_call(name: &[u8]) -> bool {
 /// What is said of a word with which an access or a fence begins in another language, if it is one.
 pub fn said_of_access(name: &[u8]) -> Option<&'static str> {
     said_of(&OTHERS, name).or(said_of_front(&CALLS, name))
+}
+
+/// The same for someone who asks for these instructions.
+pub fn told_of_access(line: &Line, name: &[u8]) -> Option<&'static str> {
+    if is_one_of("CAS compare_and_swap", name) {
+        return Some(told_of_compare(line));
+    }
+    said_of_access(name)
+}
+
+/// What is said of a compare with an exchange.
+pub fn told_of_compare(line: &Line) -> &'static str {
+    line.choose(COMPARE_AND_EXCHANGE, COMPARE_AND_EXCHANGE_OF_ALL)
 }
 
 /// What is said of a function by its name, if it is an access or a fence. An instruction has the same form here.

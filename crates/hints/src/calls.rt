@@ -27,19 +27,34 @@ pub enum Act {
     Thread,
     Lock,
     Unlock,
-    /// It writes what is computed of the location's word, in one step.
+    And,
+    Or,
+    Xor,
+    /// It writes what else is computed of the location's word, in one step.
     Compute,
 }
 
 /// Names of calls that do the same.
 struct Named(&'static str, Act);
 
-static CALLS: [Named; 17] = [
+static CALLS: [Named; 20] = [
     Named(
-        "fetch_or fetch_and fetch_xor fetch_nand atomic_fetch_or atomic_fetch_and atomic_fetch_xor \
-         __atomic_fetch_or __atomic_fetch_and __atomic_fetch_xor __sync_fetch_and_or \
-         __sync_fetch_and_and __sync_fetch_and_xor atomic_or atomic_and atomic_xor InterlockedOr \
-         InterlockedAnd",
+        "fetch_or atomic_fetch_or atomic_fetch_or_explicit __atomic_fetch_or __atomic_or_fetch \
+         __sync_fetch_and_or __sync_or_and_fetch atomic_or InterlockedOr",
+        Act::Or,
+    ),
+    Named(
+        "fetch_and atomic_fetch_and atomic_fetch_and_explicit __atomic_fetch_and __atomic_and_fetch \
+         __sync_fetch_and_and __sync_and_and_fetch atomic_and InterlockedAnd",
+        Act::And,
+    ),
+    Named(
+        "fetch_xor atomic_fetch_xor atomic_fetch_xor_explicit __atomic_fetch_xor __atomic_xor_fetch \
+         __sync_fetch_and_xor __sync_xor_and_fetch atomic_xor InterlockedXor",
+        Act::Xor,
+    ),
+    Named(
+        "fetch_nand __atomic_fetch_nand __sync_fetch_and_nand",
         Act::Compute,
     ),
     Named(

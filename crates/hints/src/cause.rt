@@ -4,7 +4,7 @@
 use crate::body::{body_of, ending_of};
 use crate::orders::{first_line, from_line_at_fault, location_in};
 use crate::quotes::first_word;
-use crate::reader::Reader;
+use crate::reader::Request;
 use crate::search_end::SearchEnd;
 use crate::unended::count_instructions;
 use crate::unused::{first_unused, location_named};
@@ -26,9 +26,9 @@ pub enum Cause {
     Size {
         most: usize,
     },
-    /// The test, which is so many first bytes of the input, is at fault; this command was to read it.
+    /// The test, which is so many first bytes of the input, is at fault; this was to read it.
     Test {
-        asked: Reader,
+        asked: Request,
         length: usize,
         fault: Fault,
     },

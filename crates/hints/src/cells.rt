@@ -1,15 +1,17 @@
 //! What is said of a cell that spells no instruction: which form was meant, where that can be seen, and what in it differs.
 
 use crate::brackets::{count, says_of_brackets};
-use crate::c_forms::{is_type, said_of_access};
+use crate::c_forms::{is_type, said_of_access, told_of_access};
 use crate::cycles::says_edge;
 use crate::faults::{COMMENT, NO_VALUE, STORE_AND_LOAD, says_digit_first};
-use crate::instructions::{ALONE, FORMS, LABEL, LOCKED, SIZED, UNLOCKED, WORDS};
+use crate::instructions::{ALONE, FORMS, FORMS_OF_EXCHANGE, LABEL, LOCKED, SIZED, UNLOCKED, WORDS};
 use crate::items::is_no_number;
-use crate::keywords::{begins_instruction, near_instruction};
+use crate::keywords::{begins_instruction, is_instruction, near_instruction, near_larger};
+use crate::larger_set::says_forms;
 use crate::line::{Line, Piece};
+use crate::mnemonics::{Kind, is_known_name, is_narrow_name, kind_of, larger_of};
 use crate::numbers::number_in;
-use crate::pairs::says_of_pair;
+use crate::pairs::{says_of_pair, says_of_parts};
 use crate::place::Place;
 use crate::prefixes::said_of_prefix;
 use crate::quotes::{has, last_bytes, token, up_to, up_to_any};
@@ -23,8 +25,14 @@ use tso_terms::{NoMemory, Reg};
 const NO_INSTRUCTION: &str =
     "{} is not one of MOV, MFENCE, XCHG, LOCK XADD: a store is MOV [x],$1, a load MOV EAX,[x]";
 
+const NO_INSTRUCTION_OF_ALL: &str =
+    "{} is no instruction that is read: a store is MOV [x],$1, a load MOV EAX,[x], a fence MFENCE";
+
 const LOCK_ALONE: &str =
     "LOCK may stand only before XCHG or XADD, in the same cell and without ;: LOCK XADD [x],EAX";
+
+const LOCK_OF_ALL: &str =
+    "LOCK stands before what changes a location in one step, in the same cell and without ;: LOCK XADD [x],EAX";
 
 const NO_REGISTER: &str =
     "{} is none of EAX, EBX, ECX, EDX, ESI, EDI; a location is written [x], and a number in digits, as $1";
@@ -76,36 +84,112 @@ pub fn bad_instruction(alloc: Global, line: &mut Line, rest: &[u8]) -> Result<()
         line.say(said);
         return Ok(());
     }
-    let tokens = tokens_of(alloc, Instructions::Basic, cell)?;
-    if let Some(said) = said_of_cell(&tokens.items) {
+    let tokens = tokens_of(alloc, Instructions::All, cell)?;
+    if let Some(said) = said_of_cell(line, &tokens.items) {
         line.say_of(said, token(cell));
         return Ok(());
     }
     let (name, operands) = first_name(&tokens.items);
     if name.eq_ignore_ascii_case(b"LOCK") {
         let (name, operands) = first_name(operands);
-        if !says_of_instruction(line, &LOCKED, cell, name, operands)
+        if !says_of_larger(line, cell, name, operands, true)
+            && !says_of_instruction(line, &LOCKED, cell, name, operands)
             && !says_near_instruction(line, name, operands, true)
         {
-            line.say(LOCK_ALONE);
+            let said = line.choose(LOCK_ALONE, LOCK_OF_ALL);
+            line.say(said);
         }
-    } else if !says_of_instruction(line, &UNLOCKED, cell, name, operands)
+    } else if !says_of_larger(line, cell, name, operands, false)
+        && !says_of_instruction(line, &UNLOCKED, cell, name, operands)
         && !says_near_instruction(line, name, operands, false)
     {
-        line.say_of(NO_INSTRUCTION, token(cell));
+        let said = line.choose(NO_INSTRUCTION, NO_INSTRUCTION_OF_ALL);
+        line.say_of(said, token(cell));
     }
     Ok(())
 }
 
+/// Says of an instruction of the larger set what is wrong with its operands, or which forms it has; or of a name that is almost one's.
+/// Whether a name is that of one, or almost.
+fn says_of_larger(
+    line: &mut Line,
+    cell: &[u8],
+    name: &[u8],
+    operands: &[Token<'_>],
+    is_locked: bool,
+) -> bool {
+    if says_joined(line, name) || says_lock_joined(line, name) {
+        return true;
+    }
+    let Some(plain) = larger_of(name) else {
+        return says_near_larger(line, name, operands, is_locked);
+    };
+    let kind = kind_of(plain.as_bytes());
+    let is_said = !is_narrow_name(name)
+        && !matches!(kind, Kind::Nothing)
+        && (says_of_digits(line, cell, operands)
+            || says_of_brackets(line, cell, operands)
+            || says_parted(line, operands)
+            || says_of_words(line, operands)
+            || (!matches!(kind, Kind::Change) && says_of_parts(line, operands)));
+    if is_said {
+        line.say_option();
+        return true;
+    }
+    says_forms(line, name)
+}
+
+/// Says of a name that is almost that of an instruction of the larger set, where what stands behind it may stand behind that one. Whether
+/// it is.
+fn says_near_larger(line: &mut Line, name: &[u8], operands: &[Token<'_>], is_locked: bool) -> bool {
+    if is_known_name(name) || said_of_access(name).is_some() {
+        return false;
+    }
+    let Some(meant) = near_larger(name) else {
+        return false;
+    };
+    let commas = count(Symbol::Comma, operands);
+    let fits = match kind_of(meant.as_bytes()) {
+        Kind::Nothing => operands.is_empty() && !is_locked,
+        Kind::Change => commas == 0 && !operands.is_empty(),
+        _ => commas == 1,
+    };
+    if fits {
+        let sentence = if is_one_of("CMPXCHG", meant.as_bytes()) && !is_locked {
+            "{} is no instruction: write LOCK {}"
+        } else {
+            "{} is no instruction: write {}"
+        };
+        line.say_with(sentence, &[Piece::Named(name), Piece::Text(meant)]);
+        line.say_option();
+    }
+    fits
+}
+
+/// Says of LOCK and an instruction of the larger set without a space between them. Whether a word has both.
+fn says_lock_joined(line: &mut Line, word: &[u8]) -> bool {
+    let rest = last_bytes(word, word.len().saturating_sub(4));
+    let name = rest.strip_prefix(b"_").unwrap_or(rest);
+    let is_joined = begins_with_one_of("LOCK", word) && larger_of(name).is_some();
+    if is_joined {
+        line.say_of("{}: write a space behind LOCK", word);
+        line.say_option();
+    }
+    is_joined
+}
+
 /// Says of an instruction and a register without a space between them. Whether a word has both.
 fn says_joined(line: &mut Line, word: &[u8]) -> bool {
-    for name in "MOV XCHG XADD".split(' ') {
+    for name in "MOV XCHG XADD ADD SUB AND OR XOR INC DEC NEG NOT".split(' ') {
         let rest = last_bytes(word, word.len().saturating_sub(name.len()));
         if begins_with_one_of(name, word) && Reg::from_name(rest).is_some() {
             line.say_with(
                 "{}: write a space behind {}",
                 &[Piece::Named(word), Piece::Text(name)],
             );
+            if larger_of(name.as_bytes()).is_some() {
+                line.say_option();
+            }
             return true;
         }
     }
@@ -120,9 +204,6 @@ fn says_near_instruction(
     operands: &[Token<'_>],
     is_locked: bool,
 ) -> bool {
-    if says_joined(line, name) {
-        return true;
-    }
     let Some(meant) = near_instruction(name) else {
         return false;
     };
@@ -153,7 +234,7 @@ fn has_operands_alone(cell: &[u8]) -> bool {
 
 /// What is said of a cell in a form of another language, of its first token: of a word that is no instruction, a label or an
 /// assignment.
-fn said_of_cell(tokens: &[Token<'_>]) -> Option<&'static str> {
+fn said_of_cell(line: &Line, tokens: &[Token<'_>]) -> Option<&'static str> {
     let (name, after) = first_name(tokens);
     if begins_with_brace(tokens) || (!name.is_empty() && begins_with_brace(after)) {
         return Some(BRACES);
@@ -165,15 +246,17 @@ fn said_of_cell(tokens: &[Token<'_>]) -> Option<&'static str> {
             DECLARATION
         });
     }
-    if let Some(said) = said_of_access(name) {
+    if let Some(said) = told_of_access(line, name) {
         return Some(said);
     }
     if let Some(labelled) = after_symbol(Symbol::Colon, after)
         && after_symbol(Symbol::Equals, labelled).is_none()
     {
         return Some(if name.eq_ignore_ascii_case(b"LOCK") {
-            LOCK_ALONE
-        } else if begins_instruction(name) {
+            line.choose(LOCK_ALONE, LOCK_OF_ALL)
+        } else if begins_instruction(name)
+            || (larger_of(name).is_some() && !is_instruction(first_name(labelled).0))
+        {
             "{}: leave out the colon behind it: a space stands before the operands"
         } else {
             LABEL
@@ -226,25 +309,26 @@ fn says_of_instruction(
     let Some(forms) = said_of(&FORMS, name) else {
         return false;
     };
-    if !says_of_operands(line, name, cell, operands) {
-        line.say(forms);
+    if says_of_operands(line, cell, operands) {
+        return true;
     }
+    let is_exchange_of_all = line.has_all() && is_one_of("XCHG", name);
+    line.say(if is_exchange_of_all {
+        FORMS_OF_EXCHANGE
+    } else {
+        forms
+    });
     true
 }
 
 /// Says of what is wrong with the operands of an instruction: of a word that is none, of a bracket, or of all of them together.
 /// Whether that is known.
-fn says_of_operands(
-    line: &mut Line,
-    instruction: &[u8],
-    cell: &[u8],
-    operands: &[Token<'_>],
-) -> bool {
+fn says_of_operands(line: &mut Line, cell: &[u8], operands: &[Token<'_>]) -> bool {
     says_of_digits(line, cell, operands)
         || says_of_brackets(line, cell, operands)
         || says_parted(line, operands)
         || says_of_words(line, operands)
-        || says_of_pair(line, instruction, operands)
+        || says_of_pair(line, operands)
 }
 
 /// Says of the first word among operands that begins with a digit and is no number. Whether there is one.
@@ -334,7 +418,7 @@ fn misfit(before: Option<Lexeme<'_>>, name: &[u8], has_comma: bool) -> Option<&'
         Some(Lexeme::Symbol(Symbol::Dollar)) => Some(said_of_dollar(name)),
         Some(Lexeme::Symbol(Symbol::OpenSquare)) => Some(NO_LOCATION),
         _ if is_no_number(name) => Some(NO_VALUE),
-        _ if begins_instruction(name) => Some(NO_SECOND),
+        _ if begins_instruction(name) || larger_of(name).is_some() => Some(NO_SECOND),
         Some(before) if has_comma && ends_operand(before) => Some(NO_MORE),
         _ => said_of(&WORDS, name),
     }
@@ -363,7 +447,10 @@ fn ends_operand_before(before: Option<Lexeme<'_>>) -> bool {
 fn ends_operand(lexeme: Lexeme<'_>) -> bool {
     matches!(
         lexeme,
-        Lexeme::Number(_) | Lexeme::Name(_) | Lexeme::Symbol(Symbol::CloseSquare)
+        Lexeme::Number(_)
+            | Lexeme::Hexadecimal(_)
+            | Lexeme::Name(_)
+            | Lexeme::Symbol(Symbol::CloseSquare)
     )
 }
 

@@ -8,7 +8,7 @@ use crate::signs::DIVIDER;
 use crate::tables::{Alike, said_of_front};
 
 /// Characters of a test's signs, and what stands for them.
-static SIGNS: [Alike; 11] = [
+static SIGNS: [Alike; 10] = [
     Alike("\u{2227} \u{22c0}", "write /\\"),
     Alike("\u{2228} \u{22c1}", "write \\/"),
     Alike("\u{ac}", "write ~"),
@@ -28,11 +28,13 @@ static SIGNS: [Alike; 11] = [
         "\u{201c} \u{201d} \u{201e} \u{ab} \u{bb} \u{2018} \u{2019}",
         "write \" here and at its other end",
     ),
-    Alike(
-        "\u{2212} \u{2010} \u{2011} \u{2013} \u{2014}",
-        "a number has no sign: write -1 as 4294967295",
-    ),
 ];
+
+/// Characters that look like a minus.
+static MINUSES: [Alike; 1] = [Alike(
+    "\u{2212} \u{2010} \u{2011} \u{2013} \u{2014}",
+    "a number has no sign: write -1 as 4294967295",
+)];
 
 /// Dashes, of which a line is meant as the dividing line.
 static DASHES: [Alike; 1] = [Alike(
@@ -63,9 +65,14 @@ pub fn say_character(line: &mut Line, place: &Place<'_>, byte: u8) {
     } else {
         None
     };
-    let said = dashes.or(said_of_front(&SIGNS, place.rest)).unwrap_or(
-        "leave it out, or write it in ASCII; it may stand only in a comment",
-    );
+    let minus = match said_of_front(&MINUSES, place.rest) {
+        Some(_) if line.has_all() => Some("write -"),
+        said => said,
+    };
+    let said = dashes
+        .or(minus)
+        .or(said_of_front(&SIGNS, place.rest))
+        .unwrap_or("leave it out, or write it in ASCII; it may stand only in a comment");
     if byte == 27 {
         line.say(COLOURS);
     } else if !says_wide(line, place) && !says_foreign_at(line, place, said) {

@@ -6,11 +6,13 @@ use crate::place::Place;
 use crate::quotes::{is_choice, word};
 use crate::reader::Reader;
 use crate::tables::is_exactly_one_of;
+use litmus_tokens::Instructions;
 
-/// For which command a test was read, and whether a dividing line comes after it.
+/// For which command a test was read and with which instructions, and whether a dividing line comes after it.
 #[derive(Clone, Copy)]
 pub struct Asked {
     pub reader: Reader,
+    pub instructions: Instructions,
     pub is_divided: bool,
 }
 

@@ -5,17 +5,22 @@ use crate::cells::bad_instruction;
 use crate::columns::bad_columns;
 use crate::conditions::{bad_condition, trailing};
 use crate::divider::Asked;
-use crate::forms::says_form;
+use crate::forms::{in_cell, says_form};
 use crate::headers::no_header;
 use crate::hinting::NOTHING_KNOWN;
+use crate::hyphens::stray_hyphen;
 use crate::items::{bad_init, says_information};
 use crate::keywords::says_no_row;
 use crate::larger_set::says_larger_set;
 use crate::line::Line;
-use crate::numbers::{bad_number, digits_to, number_in};
+use crate::numbers::{GREATEST, bad_number, digits_to, is_of_larger_set, number_in};
 use crate::openings::{bad_token, unclosed};
 use crate::place::Place;
-use crate::quotes::{ends_with_name, first_bytes, is_all_digits, is_row_of_cores, up_to};
+use crate::points::CORE;
+use crate::quotes::{
+    begins_with_digit, ends_with_name, first_bytes, is_all_digits, is_row_of_cores, last_bytes,
+    up_to, up_to_any,
+};
 use crate::rows::{bars_in, too_large, wrong_cells};
 use litmus_reader::Why;
 use litmus_tokens::line_of;
@@ -28,6 +33,9 @@ pub const COMMENT: &str = "a comment is written (* .. *)";
 /// What is said of a second test.
 pub const ONE_TEST: &str =
     "a second test begins here: an input has only one, so run tso once for each test; the tool campaign takes many";
+
+const DIGITS: &str =
+    "{} begins with a digit, as a number: a name begins with a letter or _, and a number has decimal digits, or hexadecimal ones behind 0x";
 
 const ONE_HEADER: &str =
     "a second header stands here: a test has one line X86 NAME: leave one of the two out";
@@ -98,7 +106,30 @@ pub fn say_fault(
         _ => place.line(),
     };
     line.say_number("line {}: ", number);
-    if matches!(why, Why::BadInstruction) && says_larger_set(alloc, line, place)? {
+    line.ask_for(asked.instructions);
+    if line.has_all()
+        && let Some(remaining) = stray_hyphen(alloc, place, why)?
+    {
+        // It is seen as where it is no sign at all.
+        let place = Place::new(place.text, remaining);
+        return say_reason(alloc, line, asked, &place, Why::BadToken);
+    }
+    say_reason(alloc, line, asked, place, why)
+}
+
+/// Says why what is at a place of a test is at fault.
+///
+/// Errors: out of memory only.
+fn say_reason(
+    alloc: Global,
+    line: &mut Line,
+    asked: Asked,
+    place: &Place<'_>,
+    why: Why,
+) -> Result<(), NoMemory> {
+    if let Some(cell) = in_cell(place, why)
+        && says_larger_set(alloc, line, cell)?
+    {
         return Ok(());
     }
     if is_no_part(line, place, why) || says_form(line, place, why) {
@@ -195,12 +226,17 @@ pub fn unfit(line: &mut Line, place: &Place<'_>, end: &str, form: &str) {
 /// another form. Whether such a word is there.
 pub fn says_digit_first(line: &mut Line, place: &Place<'_>) -> bool {
     let word = place.bare_word();
-    let is_of_digits = ends_with_name(place.before) && is_all_digits(place.last_word);
-    if !is_of_digits || is_all_digits(word) {
+    let is_inside = ends_with_name(place.before) && begins_with_digit(place.last_word);
+    let is_core = is_before_colon(place, word) && number_in(word).is_some();
+    if is_all_digits(word) || !begins_with_digit(word) || !(is_inside || is_core) {
         return false;
     }
+    if is_core && !is_of_value(place) {
+        line.say_of(CORE, word);
+        return true;
+    }
     let number = match number_in(word) {
-        Some(number) => Some(("{}: numbers are decimal: write {}", number)),
+        Some(number) => Some((said_of_base(line, word), number)),
         None => match digits_to(16, word) {
             Some(number) => Some((
                 "{} is no decimal number: if it is to base 16, write {}",
@@ -213,9 +249,41 @@ pub fn says_digit_first(line: &mut Line, place: &Place<'_>) -> bool {
         Some((said, number)) if is_of_value(place) => {
             line.say_of_number(said, word, number as usize);
         }
-        _ => line.say_of(DIGIT_FIRST, word),
+        _ if is_of_value(place) && is_of_larger_set(word) => line.say_of_number(
+            "{} is over {}, the greatest value: write that or a smaller one",
+            word,
+            GREATEST,
+        ),
+        _ => {
+            let said = line.choose(DIGIT_FIRST, DIGITS);
+            line.say_of(said, word);
+        }
     }
     true
+}
+
+/// What is said of a number that isn't decimal.
+fn said_of_base(line: &Line, word: &[u8]) -> &'static str {
+    if line.has_all() {
+        "{}: numbers are decimal, or hexadecimal behind 0x: write {}"
+    } else if is_of_larger_set(word) {
+        "{}: numbers are decimal: write {}, or add --instructions all"
+    } else {
+        "{}: numbers are decimal: write {}"
+    }
+}
+
+/// Whether a colon stands behind a word at a place.
+fn is_before_colon(place: &Place<'_>, word: &[u8]) -> bool {
+    let inside = if ends_with_name(place.before) {
+        place.last_word.len()
+    } else {
+        0
+    };
+    let count = word.len().saturating_sub(inside);
+    last_bytes(place.rest, place.rest.len().saturating_sub(count))
+        .trim_ascii_start()
+        .starts_with(b":")
 }
 
 /// The line on which the initial state of a text begins.

@@ -36,6 +36,17 @@ pub fn says_form(line: &mut Line, place: &Place<'_>, why: Why) -> bool {
     }
 }
 
+/// The cell in which a place of a row stands: of a fault of the cell, or of a byte before its comment.
+pub fn in_cell<'a>(place: &Place<'a>, why: Why) -> Option<&'a [u8]> {
+    match why {
+        Why::BadInstruction => Some(up_to_any(place.rest, b"|;").trim_ascii_end()),
+        Why::BadToken if matches!(region_of(place), Region::Rows) && is_in_cell(place) => {
+            Some(cell_at(place))
+        }
+        _ => None,
+    }
+}
+
 /// Whether a place stands before the comment that its cell ends with.
 fn is_in_cell(place: &Place<'_>) -> bool {
     let before = after_last(place.before, ENDS_OF_CELL).trim_ascii_start();

@@ -46,7 +46,8 @@ fn say_cause(alloc: Global, line: &mut Line, cause: &Cause, input: &[u8]) -> Res
             fault,
         } => {
             let asked = Asked {
-                reader: *asked,
+                reader: asked.reader,
+                instructions: asked.instructions,
                 is_divided: *length < input.len(),
             };
             let place = Place::new(first_bytes(input, *length), fault.remaining);

@@ -10,26 +10,32 @@ pub const STRAIGHT: &str =
 pub const LOOP: &str =
     "{} isn't read: a program has no loops: write what one round does, where it waits a load, as MOV EAX,[x], and ask in the condition for the value that ends it, as 0:EAX=1";
 
-/// Of an exchange of two registers.
-pub const TWO_REGISTERS: &str =
-    "an exchange of two registers takes three MOVs, each in a cell of its own: MOV ECX,EAX  MOV EAX,EBX  MOV EBX,ECX, with a free register for ECX; a fence is MFENCE";
-
 const JUMP: &str =
     "{} isn't read: a program has no jumps: leave it out, write the one way that is taken, and ask in the condition for the values that lead there, as 0:EAX=1";
 
 /// Of a sum of two registers.
 pub const SUM_OF_REGISTERS: &str =
-    "no sum of two registers is read: LOCK XADD adds a register to a location, as LOCK XADD [x],EAX";
+    "LOCK XADD adds a register to a location, as LOCK XADD [x],EAX; a register is added to another one by ADD EAX,EBX";
 
-/// Of a compare with an exchange.
+/// Of a compare with an exchange in another language.
 pub const COMPARE_AND_EXCHANGE: &str =
-    "{} isn't read: write two tests: one where it writes, as XCHG [x],EBX, and asks in the condition for the expected word in EBX; one where it fails, as LOCK XADD [x],EBX with 0 in EBX";
+    "{} isn't read: with --instructions all write LOCK CMPXCHG [x],EBX, with the expected word in EAX, which gets the old one, and the new word in EBX";
+
+/// The same where all instructions are asked for.
+pub const COMPARE_AND_EXCHANGE_OF_ALL: &str =
+    "{} isn't read: write LOCK CMPXCHG [x],EBX, with the expected word in EAX, which gets the old one, and the new word in EBX";
+
+const PAIR_OF_WORDS: &str =
+    "{} isn't read: it compares and writes more than 32 bits, and words have only 32 here";
+
+const COMPARE: &str =
+    "{} isn't read: a program has no compares: leave it out, and ask for the value in the condition, as 0:EAX=1";
 
 /// Of a label.
 pub const LABEL: &str = "{}: is a label, and a program has no jumps: leave it out";
 
 const ARITHMETIC: &str =
-    "{} isn't read: without LOCK it isn't one step. Write a load, as MOV EAX,[x], and a store of the result, as MOV [x],$1; to change a register, MOV EAX,$1";
+    "{} isn't read: for a location write a load, as MOV EAX,[x], and a store of the result, as MOV [x],$1; for a register MOV EAX,$1";
 
 /// Of what may store.
 pub const STORE: &str = "{} isn't read: a store is MOV [x],$1 or MOV [x],EAX";
@@ -146,12 +152,8 @@ pub static OTHERS: [Alike; 27] = [
 pub const ALONE: &str = "{} stands alone in its cell";
 
 /// By how its name begins, an instruction that isn't read without LOCK.
-pub static UNLOCKED: [Alike; 11] = [
+pub static UNLOCKED: [Alike; 10] = [
     Alike("MFENCE", ALONE),
-    Alike(
-        "SFENCE LFENCE",
-        "{} isn't read: it changes nothing in the order of plain loads and stores, so leave it out",
-    ),
     Alike(
         "XADD",
         "{} isn't read without LOCK, which makes it one step: LOCK XADD [x],EAX",
@@ -160,16 +162,13 @@ pub static UNLOCKED: [Alike; 11] = [
         "NOP PAUSE CLFLUSH CLWB PREFETCH",
         "{} isn't read: it changes no final state, so leave it out",
     ),
-    Alike("CMPXCHG", COMPARE_AND_EXCHANGE),
+    Alike("CMPXCHG8B CMPXCHG16B", PAIR_OF_WORDS),
     Alike("J LOOP", JUMP),
     Alike(
         "CMOV",
         "{} isn't read: write MOV in a test where it moves, and leave it out in one where it doesn't; the condition asks for the value that decides",
     ),
-    Alike(
-        "CMP TEST SETE SETNE SETZ SETNZ",
-        "{} isn't read: a program has no compares: leave it out, and ask for the value in the condition, as 0:EAX=1",
-    ),
+    Alike("CMP TEST SETE SETNE SETZ SETNZ", COMPARE),
     Alike(
         "CALL",
         "{} isn't read: write the instructions of what it calls in its place",
@@ -182,30 +181,20 @@ pub static UNLOCKED: [Alike; 11] = [
 ];
 
 /// By how its name begins, an instruction that isn't read after LOCK.
-pub static LOCKED: [Alike; 7] = [
+pub static LOCKED: [Alike; 6] = [
     Alike(
-        "ADD INC",
-        "{} isn't read after LOCK: in a cell before it, put the number that it adds into a free register, as MOV EAX,$1; here write LOCK XADD [x],EAX",
+        "SHL SHR SAL SAR ROL ROR ADC SBB MUL IMUL DIV IDIV",
+        "{} isn't read after LOCK: to write a location in one step XCHG [x],EAX, with the word that it comes to in EAX",
     ),
-    Alike(
-        "SUB DEC",
-        "{} isn't read after LOCK: in a cell before it, put 4294967296 minus its number into a free register, as MOV EAX,$4294967295; here write LOCK XADD [x],EAX",
-    ),
-    Alike("CMP", COMPARE_AND_EXCHANGE),
+    Alike("CMPXCHG8B CMPXCHG16B", PAIR_OF_WORDS),
+    Alike("CMP TEST", COMPARE),
     Alike(
         "BT",
         "{} isn't read: a lock is taken by MOV EAX,$1, and in the next cell XCHG [x],EAX",
     ),
+    Alike("MOV", "{} can't be locked: leave LOCK out"),
     Alike(
-        "OR AND XOR NOT NEG ORL ANDL",
-        "{} isn't read after LOCK: for a fence write MFENCE; to write a location in one step XCHG [x],EAX",
-    ),
-    Alike(
-        "MOV",
-        "{} can't be locked: LOCK may stand only before XCHG or XADD",
-    ),
-    Alike(
-        "MFENCE SFENCE LFENCE",
+        "MFENCE",
         "{} takes no LOCK: the fence is MFENCE alone in its cell",
     ),
 ];
@@ -261,3 +250,7 @@ pub static FORMS: [Alike; 3] = [
         "LOCK XADD has the form LOCK XADD [x],EAX, the location first: put a number into a register in a cell before it, as MOV EAX,$1",
     ),
 ];
+
+/// The forms of XCHG where all instructions are asked for.
+pub const FORMS_OF_EXCHANGE: &str =
+    "XCHG has the forms XCHG [x],EAX  XCHG EAX,[x]  XCHG EAX,EBX: put a number into a register in a cell before it, as MOV EAX,$1";

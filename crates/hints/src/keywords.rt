@@ -4,6 +4,7 @@
 use crate::faults::COMMENT;
 use crate::instructions::{FORMS, SIZED, UNLOCKED};
 use crate::line::{Line, Piece};
+use crate::mnemonics::larger_of;
 use crate::near::near_word;
 use crate::place::Place;
 use crate::quotes::{begins_with_letter, digits_and_letters};
@@ -184,7 +185,7 @@ fn follows_row(place: &Place<'_>) -> bool {
 
 /// Whether a word is an instruction's name, of one that is read or not.
 pub fn is_instruction(word: &[u8]) -> bool {
-    begins_instruction(word) || said_of(&UNLOCKED, word).is_some()
+    begins_instruction(word) || larger_of(word).is_some() || said_of(&UNLOCKED, word).is_some()
 }
 
 /// The instruction that is read of which a word is almost the name.
@@ -192,9 +193,19 @@ pub fn near_instruction(word: &[u8]) -> Option<&'static str> {
     near_word("MOV MFENCE XCHG XADD LOCK", word)
 }
 
-/// Whether an instruction that is read begins with this word, perhaps with the size of its operands.
+/// The instruction of the larger set of which a word is almost the name.
+pub fn near_larger(word: &[u8]) -> Option<&'static str> {
+    near_word(
+        "ADD SUB AND OR XOR INC DEC NEG NOT CMPXCHG PAUSE LFENCE SFENCE",
+        word,
+    )
+}
+
+/// Whether an instruction that is read begins with this word, perhaps with the size of its operands. Of those that are words of English
+/// too, none does.
 pub fn begins_instruction(word: &[u8]) -> bool {
     is_one_of("LOCK MFENCE", word)
         || said_of(&FORMS, word).is_some()
         || said_of(&SIZED, word).is_some()
+        || (larger_of(word).is_some() && !is_one_of("AND OR NOT ADD PAUSE", word))
 }

@@ -18,6 +18,7 @@ mod cells;
 mod characters;
 mod choices;
 mod columns;
+mod computed;
 mod conditions;
 mod cycles;
 mod directives;
@@ -27,6 +28,7 @@ mod forms;
 mod headers;
 mod heads;
 mod hinting;
+mod hyphens;
 mod instructions;
 mod items;
 mod keywords;
@@ -71,7 +73,7 @@ pub use hinting::hint_of;
 pub use lines::line_hint;
 pub use listed::{Listed, ListedName, listed_in};
 pub use printing::{MAX_HINT, limits_are_as_defined};
-pub use reader::Reader;
+pub use reader::{Reader, Request};
 pub use search_end::{
     MAX_RUNS_LINE, SearchEnd, Sighting, limit_of_runs_lines_is_as_defined, runs_line,
 };

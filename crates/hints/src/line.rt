@@ -2,6 +2,7 @@
 //! an array, and no step takes memory.
 
 use crate::quotes::{first_bytes, is_bare};
+use litmus_tokens::Instructions;
 
 /// Maximum length of the words of a hint, in bytes.
 const MAX_WORDS: usize = 249;
@@ -29,11 +30,15 @@ pub enum Piece<'a> {
     Character(char),
 }
 
-/// The words of a hint; those that it has no room for are left out.
+/// What is said last of an instruction or a number of the larger set.
+const OPTION: &str = "; add --instructions all";
+
+/// The words of a hint; those that it has no room for are left out. It has those for someone who asks for these instructions.
 #[derive(Drop)]
 pub struct Line {
     bytes: [u8; MAX_WORDS],
     length: usize,
+    instructions: Instructions,
 }
 
 impl Line {
@@ -42,6 +47,29 @@ impl Line {
         Line {
             bytes: [0; MAX_WORDS],
             length: 0,
+            instructions: Instructions::Basic,
+        }
+    }
+
+    /// What is written from now on is for someone who asks for these instructions.
+    pub fn ask_for(&mut self, instructions: Instructions) {
+        self.instructions = instructions;
+    }
+
+    /// Whether all instructions are asked for.
+    pub fn has_all(&self) -> bool {
+        matches!(self.instructions, Instructions::All)
+    }
+
+    /// The first of two sentences, or the second where all instructions are asked for.
+    pub fn choose(&self, basic: &'static str, all: &'static str) -> &'static str {
+        if self.has_all() { all } else { basic }
+    }
+
+    /// Names the option that gives the larger set, if it isn't given.
+    pub fn say_option(&mut self) {
+        if !self.has_all() {
+            self.say(OPTION);
         }
     }
 

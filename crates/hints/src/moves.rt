@@ -1,14 +1,14 @@
 //! What is said of moves, exchanges and locked additions in an assembler's language: the cell that does the same here.
 
 use crate::assembled::{Order, Pair};
-use crate::instructions::{SUM_OF_REGISTERS, TWO_REGISTERS};
+use crate::instructions::SUM_OF_REGISTERS;
 use crate::line::{Line, Piece};
 use crate::operand::Operand;
 use crate::operands::said_of_sum;
 use crate::quotes::{digits_and_letters, has};
 use crate::registers::{NARROW, is_of_others, is_stack, is_stack_pointer, parent_of};
 use crate::tables::is_one_of;
-use crate::target::{Target, say_copy, say_target};
+use crate::target::{Target, say_copy, say_set, say_target};
 use tso_terms::names::continues_name;
 
 /// Of the stack.
@@ -40,13 +40,13 @@ const NO_ADDRESS_THEN: &str =
 
 /// A location in memory: its name, or `x` where a register has its address; and that register, or no bytes.
 #[derive(Clone, Copy)]
-struct Location<'a> {
-    name: &'a [u8],
-    holder: &'a [u8],
+pub struct Location<'a> {
+    pub name: &'a [u8],
+    pub holder: &'a [u8],
 }
 
 /// The location that an operand is.
-fn location_of<'a>(operand: Operand<'a>) -> Option<Location<'a>> {
+pub fn location_of<'a>(operand: Operand<'a>) -> Option<Location<'a>> {
     match operand {
         Operand::Word(name) | Operand::Bare(name) => Some(Location { name, holder: &[] }),
         Operand::Through(holder) if !is_stack(holder) => Some(Location { name: b"x", holder }),
@@ -208,7 +208,7 @@ fn has_address_by_dollar(pair: &Pair<'_>) -> bool {
 }
 
 /// Of an operand on the stack, or of an address that is computed. Whether there is one.
-fn says_no_place(line: &mut Line, pair: &Pair<'_>) -> bool {
+pub fn says_no_place(line: &mut Line, pair: &Pair<'_>) -> bool {
     match (pair.to, pair.from) {
         (Operand::Through(reg) | Operand::Register(reg), _)
         | (_, Operand::Through(reg) | Operand::Register(reg))
@@ -261,6 +261,7 @@ pub fn says_locked(line: &mut Line, pair: &Pair<'_>, is_addition: bool) -> bool 
             }
             (Operand::Register(_), Operand::Register(_)) => {
                 line.say(SUM_OF_REGISTERS);
+                line.say_option();
                 true
             }
             _ => says_no_place(line, pair),
@@ -303,30 +304,8 @@ fn says_registers(line: &mut Line, pair: &Pair<'_>, one: &[u8], other: &[u8]) ->
     if one.eq_ignore_ascii_case(other) {
         line.say_of("{}: leave it out: it changes nothing", pair.cell);
     } else {
-        line.say(TWO_REGISTERS);
-    }
-    true
-}
-
-/// Of a locked addition of a number or a register, or of a locked subtraction. Whether it is known what does the same.
-pub fn says_change(line: &mut Line, pair: &Pair<'_>, is_less: bool) -> bool {
-    let Some(to) = location_of(pair.to) else {
-        return says_locked_fence(line, pair);
-    };
-    match pair.from {
-        Operand::Register(reg) if !is_less => {
-            say_cell(line, pair, to.holder, Target::Add(to.name, reg));
-            line.say(", which leaves the location's old word in the register");
-        }
-        Operand::Number(value) => {
-            let value = if is_less {
-                0u32.wrapping_sub(value)
-            } else {
-                value
-            };
-            say_cell(line, pair, to.holder, Target::AddNumber(to.name, value));
-        }
-        _ => return false,
+        let target = Target::CombineRegister("XCHG", one, other);
+        say_cell(line, pair, &[], target);
     }
     true
 }
@@ -341,8 +320,14 @@ pub fn says_locked_fence(line: &mut Line, pair: &Pair<'_>) -> bool {
     true
 }
 
-/// Says the cell that does the same, why the instruction isn't read as it stands, and which register had an address, if one had.
+/// Says the cell that does the same, and the option if it is of the larger set.
 pub fn say_cell(line: &mut Line, pair: &Pair<'_>, holder: &[u8], target: Target<'_>) {
+    say_cell_alone(line, pair, holder, target);
+    say_set(line, target);
+}
+
+/// Says the cell that does the same, why the instruction isn't read as it stands, and which register had an address, if one had.
+pub fn say_cell_alone(line: &mut Line, pair: &Pair<'_>, holder: &[u8], target: Target<'_>) {
     let sentence = if !holder.is_empty() {
         "{}: no register can hold an address: write "
     } else if pair.is_narrow {
@@ -367,9 +352,11 @@ pub fn say_cell(line: &mut Line, pair: &Pair<'_>, holder: &[u8], target: Target<
 fn say_holder(line: &mut Line, holder: &[u8], target: Target<'_>) {
     let sentence = match target {
         // The tool import makes no second instruction of one.
-        Target::ExchangeNumber(..) | Target::AddNumber(..) => {
-            ", where x is the location whose address is in {}"
-        }
+        Target::ExchangeNumber(..)
+        | Target::AddNumber(..)
+        | Target::CompareExchangeNumber(..)
+        | Target::CombineLocation(..)
+        | Target::LockLocation(..) => { ", where x is the location whose address is in {}" }
         _ => {
             ", where x is the location whose address is in {} (the tool import finds it by an item 0:{}=x)"
         }

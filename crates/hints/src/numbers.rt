@@ -1,10 +1,10 @@
 //! Numbers in the forms that other languages have; and what is said of one that is too great.
 
-use crate::line::Line;
+use crate::line::{Line, Piece};
 use crate::quotes::{first_bytes, is_all_digits, last_bytes};
 use crate::tables::is_one_of;
 use litmus_tokens::{
-    Instructions, Lexeme, Symbol, is_symbol, numeral_at, tokens_of, word, word_at,
+    Instructions, Numeral, Symbol, is_symbol, numeral_at, tokens_of, word, word_at,
 };
 use std::alloc::Global;
 use tso_terms::NoMemory;
@@ -30,17 +30,34 @@ pub fn bad_number(alloc: Global, line: &mut Line, rest: &[u8]) -> Result<(), NoM
         };
     }
     match over {
-        Some(numeral) if numeral.is_negative => {
-            line.say_of("-{} is under -2147483648, the least value", numeral.digits);
-        }
-        Some(numeral) => line.say_of_number(
-            "{} is over {}, the greatest value: write that or a smaller one",
-            numeral.digits,
-            GREATEST,
-        ),
+        Some(numeral) => say_over(line, numeral),
         None => line.say_number("a value is at most {}", GREATEST),
     }
     Ok(())
+}
+
+/// Says of a number that a word has no room for it.
+pub fn say_over(line: &mut Line, numeral: Numeral<'_>) {
+    let sentence = if numeral.is_negative {
+        "{}{}{} is under -2147483648, the least value"
+    } else {
+        "{}{}{} is over {}, the greatest value: write that or a smaller one"
+    };
+    let [sign, base, digits] = spelled(numeral);
+    line.say_with(sentence, &[sign, base, digits, Piece::Number(GREATEST)]);
+}
+
+/// A number as it is spelled: its sign, its base and its digits.
+pub fn spelled<'a>(numeral: Numeral<'a>) -> [Piece<'a>; 3] {
+    [
+        Piece::Text(if numeral.is_negative { "-" } else { "" }),
+        Piece::Text(if numeral.is_hexadecimal { "0x" } else { "" }),
+        if numeral.digits.is_empty() {
+            Piece::Number(0)
+        } else {
+            Piece::Shown(numeral.digits)
+        },
+    ]
 }
 
 /// The number that stands in an assembler's or in C's form: to base 10 or 16, perhaps with a sign, or a character between quotation marks.
@@ -54,6 +71,24 @@ pub fn number_in(text: &[u8]) -> Option<u32> {
         [b'\'', character, b'\''] => Some(u32::from(*character)),
         _ => unsigned_in(text),
     }
+}
+
+/// Whether a number without a sign is spelled as the larger set has numbers.
+pub fn is_of_larger_set(text: &[u8]) -> bool {
+    match text {
+        [b'0', b'x' | b'X', digits @ ..] => { !digits.is_empty() && are_hexadecimal(digits) }
+        _ => is_all_digits(text),
+    }
+}
+
+/// Whether these are digits to base 16.
+fn are_hexadecimal(digits: &[u8]) -> bool {
+    for digit in digits {
+        if !digit.is_ascii_hexdigit() {
+            return false;
+        }
+    }
+    true
 }
 
 fn unsigned_in(text: &[u8]) -> Option<u32> {

@@ -1,10 +1,13 @@
 //! Cells with signs of AT&T's syntax, or with sums, that aren't known as a whole.
 
-use crate::c_forms::{is_type, said_of_access};
+use crate::c_forms::{is_type, told_of_access};
 use crate::instructions::{LOCKED, UNLOCKED};
+use crate::larger_set::says_forms;
 use crate::line::Line;
 use crate::place::Place;
-use crate::quotes::{after_last, first_bytes, first_word, is_all_digits, last_bytes, up_to_any};
+use crate::quotes::{
+    after_last, digits_and_letters, first_bytes, first_word, is_all_digits, last_bytes, up_to_any,
+};
 use crate::tables::said_of_front;
 
 const OF_STATEMENT: &str =
@@ -84,7 +87,10 @@ pub fn says_unread(line: &mut Line, cell: &[u8]) -> bool {
     } else {
         (first, UNLOCKED.as_slice())
     };
-    let Some(said) = said_of_front(unread, name).or(said_of_access(name)) else {
+    if says_forms(line, digits_and_letters(name)) {
+        return true;
+    }
+    let Some(said) = said_of_front(unread, name).or(told_of_access(line, name)) else {
         return false;
     };
     line.say_of(said, name);

@@ -2,18 +2,24 @@
 
 use crate::brackets::count;
 use crate::cells::name_of;
-use crate::instructions::{SUM_OF_REGISTERS, TWO_REGISTERS};
 use crate::line::Line;
-use crate::tables::is_one_of;
 use litmus_tokens::{Lexeme, Symbol, Token, is_symbol};
 
 /// Says of how many operands there are, and of which kinds. Whether it is known what was meant.
-pub fn says_of_pair(line: &mut Line, instruction: &[u8], operands: &[Token<'_>]) -> bool {
-    let said = said_of_commas(operands)
-        .or(said_of_dollars(operands))
-        .or(said_of_signs(operands))
-        .or(said_of_registers(instruction, operands));
-    match said {
+pub fn says_of_pair(line: &mut Line, operands: &[Token<'_>]) -> bool {
+    if says_of_parts(line, operands) {
+        return true;
+    }
+    match said_of_signs(operands) {
+        Some(said) => line.say(said),
+        None => return false,
+    }
+    true
+}
+
+/// Says of commas between operands and of `$` before numbers. Whether one is missing, or is too many.
+pub fn says_of_parts(line: &mut Line, operands: &[Token<'_>]) -> bool {
+    match said_of_commas(operands).or(said_of_dollars(operands)) {
         Some(said) => line.say(said),
         None => return false,
     }
@@ -76,19 +82,6 @@ fn said_of_signs(operands: &[Token<'_>]) -> Option<&'static str> {
     }
 }
 
-/// What is said of two registers as the operands of what takes a location too.
-fn said_of_registers(instruction: &[u8], operands: &[Token<'_>]) -> Option<&'static str> {
-    if !are_registers(operands) {
-        None
-    } else if is_one_of("XADD", instruction) {
-        Some(SUM_OF_REGISTERS)
-    } else if is_one_of("XCHG", instruction) {
-        Some(TWO_REGISTERS)
-    } else {
-        None
-    }
-}
-
 /// Whether a number stands before the last of these tokens.
 fn has_number_before_last(tokens: &[Token<'_>]) -> bool {
     match tokens {
@@ -122,13 +115,5 @@ fn ends_with(symbol: Symbol, tokens: &[Token<'_>]) -> bool {
     match tokens.last() {
         Some(last) => is_symbol(symbol, last),
         None => false,
-    }
-}
-
-/// Whether operands are two words, which are registers where no other word is at fault.
-fn are_registers(operands: &[Token<'_>]) -> bool {
-    match operands {
-        [first, _, second] => !name_of(first).is_empty() && !name_of(second).is_empty(),
-        _ => false,
     }
 }

@@ -4,17 +4,17 @@ use crate::c_forms::said_of_access;
 use crate::faults::LEAVE_OUT;
 use crate::keywords::{begins_instruction, is_instruction};
 use crate::line::{Line, Piece};
-use crate::numbers::GREATEST;
+use crate::numbers::{is_of_larger_set, number_in};
 use crate::operands::is_in_brackets;
 use crate::place::Place;
 use crate::quotes::{
-    begins_with_letter, digits_and_letters, ends_with_name, first_bytes, is_all_digits, token,
+    begins_with_digit, begins_with_letter, digits_and_letters, ends_with_name, first_bytes,
+    is_all_digits, last_bytes, token,
 };
 use crate::region::Region;
 use crate::registers::is_register;
 use crate::signs::{after_first, is_core};
 use crate::tables::is_exactly_one_of;
-use litmus_tokens::word;
 
 /// What is said of another sign between cells.
 pub const BAR: &str = "{}: cells are split by the vertical bar |";
@@ -30,24 +30,48 @@ pub const NAMES: &str = "{}: a name has letters, digits and _ alone: write _ in 
 pub const CORE_AND_REGISTER: &str =
     "{}: a register is written after its core and a colon, as 0:EAX";
 
+/// What is said of the number of a core that has a sign or isn't decimal.
+pub const CORE: &str = "{}: a core is its number in decimal digits alone, as in 0:EAX";
+
+/// The least value of a number with a sign, without its sign.
+const LEAST: u32 = 2_147_483_648;
+
 /// Of a hyphen: in a name, before a number, or in a cell that is meant to be empty.
 pub fn minus(line: &mut Line, place: &Place<'_>) {
-    let digits = digits_and_letters(after_first(place.rest));
+    let after = after_first(place.rest).trim_ascii_start();
+    let digits = digits_and_letters(after);
+    let behind = last_bytes(after, after.len().saturating_sub(digits.len()));
     if ends_with_name(place.before) {
         line.say_of(NAMES, place.token);
-    } else if !is_all_digits(digits) {
+    } else if !begins_with_digit(digits) {
+        line.say_of(LEAVE_OUT, place.token);
+    } else if behind.trim_ascii_start().starts_with(b":") {
+        line.say_of(CORE, b"-");
+    } else if line.has_all() {
         line.say_of(LEAVE_OUT, place.token);
     } else {
-        match word(digits) {
-            None => line.say("a number has no sign: values are 0 to 4294967295"),
-            Some(0) => line.say("a number has no sign: write -0 as 0"),
-            Some(value) => line.say_with(
-                "a number has no sign: write -{} as {}",
-                &[
-                    Piece::Number(value as usize),
-                    Piece::Number(GREATEST - value as usize + 1),
-                ],
-            ),
+        say_unsigned(line, digits);
+    }
+}
+
+/// Says of a number behind a sign what it is without one.
+fn say_unsigned(line: &mut Line, digits: &[u8]) {
+    let sentence = if is_all_digits(digits) {
+        "a number has no sign: write -{} as {}"
+    } else {
+        "a number is decimal and has no sign: write -{} as {}"
+    };
+    match number_in(digits) {
+        None => line.say("a number has no sign: values are 0 to 4294967295"),
+        Some(value) => {
+            let unsigned = 0u32.wrapping_sub(value);
+            line.say_with(
+                sentence,
+                &[Piece::Shown(digits), Piece::Number(unsigned as usize)],
+            );
+            if value <= LEAST && is_of_larger_set(digits) {
+                line.say(", or add --instructions all");
+            }
         }
     }
 }
@@ -121,14 +145,6 @@ fn is_for_comma(place: &Place<'_>) -> bool {
         || is_register(token(after));
     (is_place || is_register(place.last_word))
         && (begins_operand || (is_place && begins_with_digit(after)))
-}
-
-/// Whether a text begins with a digit.
-fn begins_with_digit(text: &[u8]) -> bool {
-    match text.first() {
-        Some(first) => first.is_ascii_digit(),
-        None => false,
-    }
 }
 
 /// Whether a number that is no value stands before a sign, and a register behind it.

@@ -145,6 +145,14 @@ pub fn ends_with_name(text: &[u8]) -> bool {
     }
 }
 
+/// Whether a text begins with a digit.
+pub fn begins_with_digit(text: &[u8]) -> bool {
+    match text.first() {
+        Some(first) => first.is_ascii_digit(),
+        None => false,
+    }
+}
+
 /// Whether a text begins with a letter.
 pub fn begins_with_letter(text: &[u8]) -> bool {
     match text.first() {

@@ -1,5 +1,14 @@
 //! The commands that read a test: hints name the one that was asked for, and know what follows the test there.
 
+use litmus_tokens::Instructions;
+
+/// What reads a test: a command, and with which instructions.
+#[derive(Clone, Copy)]
+pub struct Request {
+    pub reader: Reader,
+    pub instructions: Instructions,
+}
+
 /// A command that reads a test.
 #[derive(Clone, Copy)]
 pub enum Reader {

@@ -15,7 +15,7 @@ use crate::operands::{percent, says_sum};
 use crate::place::Place;
 use crate::points::{NAMES, goes_on_after_number, minus, point, said_between};
 use crate::quotes::{
-    begins_with_letter, ends_with_name, is_all_digits, last_bytes, token, up_to_any,
+    begins_with_letter, digits_at, ends_with_name, is_all_digits, last_bytes, token, up_to_any,
 };
 use crate::region::{Region, region_of};
 use crate::registers::says_percent;
@@ -72,7 +72,7 @@ static IN_INITIAL: [Alike; 5] = [
     Alike("'", NO_VALUE),
     Alike("\"", LEAVE_OUT),
     Alike("-> <- < >", "{}: an item is x=1, [x]=1 or 0:EAX=1"),
-    Alike("+", "a number has no sign: leave out +"),
+    Alike("+", "{}: leave it out: an item is x=1, [x]=1 or 0:EAX=1"),
 ];
 
 /// Signs in rows.
@@ -158,7 +158,10 @@ pub fn bad_byte(line: &mut Line, place: &Place<'_>, byte: u8) {
         (None, b'.') => line.say_of(point(place), place.token),
         (None, b'%') if matches!(region, Region::Rows) => percent(line, place),
         (None, b'%') if says_percent(line, place, after_first(place.rest)) => {}
-        (None, b'!'..=b'~') => line.say_of(form_of(region), place.token),
+        (None, b'!'..=b'~') => {
+            let said = form_of(line, region);
+            line.say_of(said, place.token);
+        }
         _ => say_character(line, place, byte),
     }
 }
@@ -236,8 +239,12 @@ fn says_of_form(line: &mut Line, place: &Place<'_>, region: Region, byte: u8) ->
             true
         }
         (Region::Rows, _) if says_markup(line, place) => true,
-        (Region::Rows | Region::Condition, b'+') if is_sign(place) => {
-            line.say("a number has no sign: leave out +");
+        (Region::Initial | Region::Rows | Region::Condition, b'+') if is_sign(place) => {
+            let said = line.choose(
+                "a number has no sign: leave out +",
+                "a number has no + before it: leave it out",
+            );
+            line.say(said);
             true
         }
         (Region::Rows, b'\'') if ends_with_name(place.before) => {
@@ -263,6 +270,10 @@ fn says_of_form(line: &mut Line, place: &Place<'_>, region: Region, byte: u8) ->
         }
         (Region::Condition, b'<') if is_tag(place.rest) => says_markup(line, place),
         (Region::Initial, b'+') if is_all_digits(place.last_word) => {
+            line.say_of(NO_SUM, place.token);
+            true
+        }
+        (Region::Initial | Region::Condition, b'-') if is_difference(place) => {
             line.say_of(NO_SUM, place.token);
             true
         }
@@ -296,6 +307,16 @@ fn is_sign(place: &Place<'_>) -> bool {
         && matches!(after_first(place.rest).first(), Some(next) if next.is_ascii_digit())
 }
 
+/// Whether a hyphen stands between two numbers, of which the second names no core.
+fn is_difference(place: &Place<'_>) -> bool {
+    let after = after_first(place.rest).trim_ascii_start();
+    let digits = digits_at(after);
+    let behind = last_bytes(after, after.len().saturating_sub(digits.len()));
+    is_all_digits(place.last_word)
+        && !digits.is_empty()
+        && !behind.trim_ascii_start().starts_with(b":")
+}
+
 /// Whether `->` stands between two names without a space, as before a field in C.
 fn is_field(place: &Place<'_>) -> bool {
     match place.rest.strip_prefix(b"->") {
@@ -317,7 +338,7 @@ fn ends_line_of_c(place: &Place<'_>) -> bool {
 }
 
 /// What may stand in a part of a test.
-fn form_of(region: Region) -> &'static str {
+fn form_of(line: &Line, region: Region) -> &'static str {
     match region {
         Region::Information => {
             "{} can't stand here: before the initial state { } stand only \"..\", KEY=.. and comments (* .. *)"
@@ -325,9 +346,10 @@ fn form_of(region: Region) -> &'static str {
         Region::Initial => {
             "{} can't stand in the initial state: an item is x=1, [x]=1 or 0:EAX=1, and ; stands between items"
         }
-        Region::Rows => {
-            "{} can't stand in a row: a cell is a store MOV [x],$1, a load MOV EAX,[x], a fence MFENCE, XCHG [x],EAX or LOCK XADD [x],EAX"
-        }
+        Region::Rows => line.choose(
+            "{} can't stand in a row: a cell is a store MOV [x],$1, a load MOV EAX,[x], a fence MFENCE, XCHG [x],EAX or LOCK XADD [x],EAX",
+            "{} can't stand in a row: a cell is an instruction, as a store MOV [x],$1, a load MOV EAX,[x] or a fence MFENCE",
+        ),
         Region::Condition => {
             "{} can't stand in a condition: it has atoms as 0:EAX=1 or x=1, joined by /\\ and \\/, with ~ for not"
         }

@@ -2,9 +2,9 @@
 //! statement is known.
 
 use crate::assignment::{location_in, says_assignment, says_short_event, says_step};
-use crate::c_forms::{is_type, said_of_access};
+use crate::c_forms::{is_type, said_of_access, told_of_compare};
 use crate::calls::{Act, act_of, is_sequential};
-use crate::instructions::{COMPARE_AND_EXCHANGE, LOOP, STRAIGHT};
+use crate::instructions::{LOOP, STRAIGHT};
 use crate::keywords::is_instruction;
 use crate::line::{Line, Piece};
 use crate::mnemonics::is_known_name;
@@ -14,7 +14,7 @@ use crate::quotes::{
     last_word, up_to,
 };
 use crate::tables::{is_exactly_one_of, is_one_of};
-use crate::target::{Target, say_cells, say_registers};
+use crate::target::{Target, say_cells, say_registers, say_set};
 
 const MUTEX: &str =
     "{}: write MOV EAX,$1, and in the next cell XCHG [{}],EAX, with a free register for EAX; where the lock was free it is 0 then, so ask for that in the condition, as 0:EAX=0";
@@ -44,6 +44,14 @@ const COMPARE: &str =
 
 const CALL: &str =
     "{} isn't read: no function is called here: write the instructions that it stands for: MOV [x],$1, MOV EAX,[x], MFENCE, XCHG [x],EAX or LOCK XADD [x],EAX";
+
+const CALL_OF_ALL: &str =
+    "{} isn't read: no function is called here: write the instructions that it stands for, as MOV [x],$1, MOV EAX,[x], MFENCE or LOCK XADD [x],EAX";
+
+const COMPARED: &str =
+    "{}: write three cells: MOV EAX,${}  MOV EBX,${}  LOCK CMPXCHG [{}],EBX, where EAX and EBX are free; EAX then has what {} held";
+
+const UNUSED_RESULT: &str = "{}: if the word that it returns isn't used, write ";
 
 /// A statement: what it assigns to, or no bytes, and what it computes.
 #[derive(Clone, Copy)]
@@ -137,7 +145,11 @@ fn said_of_assembly(cell: &[u8]) -> &'static str {
         "{}: write each instruction in the quotation marks into a cell of its own, as MOV [x],$1 or MOV EAX,[x]"
     } else if is_fence {
         "{}: write MFENCE"
-    } else if has(cell, b"pause") || has(cell, b"nop") {
+    } else if has(cell, b"pause")
+        || has(cell, b"nop")
+        || has(cell, b"\"lfence")
+        || has(cell, b"\"sfence")
+    {
         "{}: leave it out: it changes no final state"
     } else if has(cell, b"\"\"") || has(cell, b"fence") {
         COMPILER
@@ -258,7 +270,10 @@ fn says_call(line: &mut Line, statement: &Statement<'_>, call: &Call<'_>) -> boo
         return says_unknown_call(line, call);
     };
     if matches!(act, Act::Compare) {
-        line.say_of(COMPARE_AND_EXCHANGE, call.function);
+        if !says_compared(line, statement, call) {
+            let said = told_of_compare(line);
+            line.say_of(said, call.function);
+        }
         return true;
     }
     if let Some(said) = said_of_act(act) {
@@ -279,9 +294,45 @@ fn says_unknown_call(line: &mut Line, call: &Call<'_>) -> bool {
         && !is_known_name(name)
         && said_of_access(name).is_none();
     if is_function {
-        line.say_of(CALL, name);
+        let said = line.choose(CALL, CALL_OF_ALL);
+        line.say_of(said, name);
     }
     is_function
+}
+
+/// Of a compare with an exchange that has its words as numbers. Whether one has.
+fn says_compared(line: &mut Line, statement: &Statement<'_>, call: &Call<'_>) -> bool {
+    let Some((place, one)) = place_of(call) else {
+        return false;
+    };
+    let after = after_byte(call.arguments, b',');
+    let other = if call.receiver.is_empty() {
+        after_byte(after, b',')
+    } else {
+        after
+    };
+    let is_turned = call.function.starts_with(b"Interlocked");
+    let (Some(one), Some(other)) = (number_in(one), number_in(up_to(other, b',').trim_ascii()))
+    else {
+        return false;
+    };
+    let (expected, new) = if is_turned {
+        (other, one)
+    } else {
+        (one, other)
+    };
+    line.say_with(
+        COMPARED,
+        &[
+            Piece::Named(statement.cell),
+            Piece::Number(expected as usize),
+            Piece::Number(new as usize),
+            Piece::Shown(place),
+            Piece::Shown(place),
+        ],
+    );
+    line.say_option();
+    true
 }
 
 /// What is said of a call that accesses no location.
@@ -313,7 +364,15 @@ fn says_access(
     let Some(target) = target_of(act, statement.left, place, value) else {
         return false;
     };
-    line.say_of("{}: write ", statement.cell);
+    let is_result = target.is_larger() && !statement.left.is_empty();
+    line.say_of(
+        if is_result {
+            UNUSED_RESULT
+        } else {
+            "{}: write "
+        },
+        statement.cell,
+    );
     say_cells(line, target);
     if matches!(target, Target::ExchangeNumber(..) | Target::AddNumber(..))
         && is_bare(statement.left)
@@ -330,6 +389,7 @@ fn says_access(
         line.say(", and in the next cell MFENCE, which keeps it before later loads");
     }
     say_registers(line, target);
+    say_set(line, target);
     true
 }
 
@@ -347,6 +407,9 @@ fn target_of<'a>(act: Act, left: &'a [u8], place: &'a [u8], value: &'a [u8]) -> 
         (Act::Increase, _) => Target::AddNumber(place, 1),
         (Act::Decrease, _) => Target::AddNumber(place, u32::MAX),
         (Act::Unlock, _) => Target::StoreNumber(place, 0),
+        (Act::And, Some(number)) => Target::LockNumber("AND", place, number),
+        (Act::Or, Some(number)) => Target::LockNumber("OR", place, number),
+        (Act::Xor, Some(number)) => Target::LockNumber("XOR", place, number),
         _ => return None,
     };
     Some(target)

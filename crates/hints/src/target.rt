@@ -5,7 +5,7 @@ use crate::registers::parent_of;
 
 const FOR_ONE: &str = "; {} is for {}: take a register that the core doesn't use";
 
-/// One cell or two. A location and a register have their names.
+/// One cell or two. A location and a register have their names, and an instruction of the larger set has its own.
 #[derive(Clone, Copy)]
 pub enum Target<'a> {
     StoreNumber(&'a [u8], u32),
@@ -18,12 +18,134 @@ pub enum Target<'a> {
     /// A number is put into a register first.
     ExchangeNumber(&'a [u8], u32),
     AddNumber(&'a [u8], u32),
+    CompareExchange(&'a [u8], &'a [u8]),
+    CompareExchangeNumber(&'a [u8], u32),
+    LockNumber(&'static str, &'a [u8], u32),
+    LockRegister(&'static str, &'a [u8], &'a [u8]),
+    LockAlone(&'static str, &'a [u8]),
+    /// The second location's word is loaded first.
+    LockLocation(&'static str, &'a [u8], &'a [u8]),
+    CombineNumber(&'static str, &'a [u8], u32),
+    CombineRegister(&'static str, &'a [u8], &'a [u8]),
+    /// The location's word is loaded first.
+    CombineLocation(&'static str, &'a [u8], &'a [u8]),
+    Change(&'static str, &'a [u8]),
     Fence,
 }
 
 impl<'a> Target<'a> {
     /// The form of its cells, and what stands in the gaps.
-    fn form(self) -> (&'static str, [Piece<'a>; 2]) {
+    fn form(self) -> (&'static str, [Piece<'a>; 6]) {
+        match self.larger_form() {
+            Some(larger) => larger,
+            None => {
+                let (form, [first, second]) = self.basic_form();
+                let none = Piece::Text("");
+                (form, [first, second, none, none, none, none])
+            }
+        }
+    }
+
+    /// Whether it has an instruction of the larger set.
+    pub fn is_larger(self) -> bool {
+        self.larger_form().is_some()
+    }
+
+    /// The form where an instruction of the larger set is in it.
+    fn larger_form(self) -> Option<(&'static str, [Piece<'a>; 6])> {
+        let none = Piece::Text("");
+        let (form, pieces) = match self {
+            Target::CompareExchange(loc, reg) => (
+                "LOCK CMPXCHG [{}],{}",
+                [Piece::Shown(loc), register(reg), none, none, none, none],
+            ),
+            Target::CompareExchangeNumber(loc, value) => (
+                "MOV EBX,${}, and in the next cell LOCK CMPXCHG [{}],EBX, with a free register for EBX",
+                [number(value), Piece::Shown(loc), none, none, none, none],
+            ),
+            Target::LockNumber(name, loc, value) => (
+                "LOCK {} [{}],${}",
+                [
+                    Piece::Text(name),
+                    Piece::Shown(loc),
+                    number(value),
+                    none,
+                    none,
+                    none,
+                ],
+            ),
+            Target::LockRegister(name, loc, reg) => (
+                "LOCK {} [{}],{}",
+                [
+                    Piece::Text(name),
+                    Piece::Shown(loc),
+                    register(reg),
+                    none,
+                    none,
+                    none,
+                ],
+            ),
+            Target::LockAlone(name, loc) => (
+                "LOCK {} [{}]",
+                [Piece::Text(name), Piece::Shown(loc), none, none, none, none],
+            ),
+            Target::LockLocation(name, to, from) => (
+                "MOV EAX,[{}], and in the next cell LOCK {} [{}],EAX, with a free register for EAX",
+                [
+                    Piece::Shown(from),
+                    Piece::Text(name),
+                    Piece::Shown(to),
+                    none,
+                    none,
+                    none,
+                ],
+            ),
+            Target::CombineNumber(name, reg, value) => (
+                "{} {},${}",
+                [
+                    Piece::Text(name),
+                    register(reg),
+                    number(value),
+                    none,
+                    none,
+                    none,
+                ],
+            ),
+            Target::CombineRegister(name, reg, other) => (
+                "{} {},{}",
+                [
+                    Piece::Text(name),
+                    register(reg),
+                    register(other),
+                    none,
+                    none,
+                    none,
+                ],
+            ),
+            Target::CombineLocation(name, reg, loc) => {
+                let free = free_beside(reg);
+                (
+                    "MOV {},[{}], and in the next cell {} {},{}, with a free register for {}",
+                    [
+                        free,
+                        Piece::Shown(loc),
+                        Piece::Text(name),
+                        register(reg),
+                        free,
+                        free,
+                    ],
+                )
+            }
+            Target::Change(name, reg) => (
+                "{} {}",
+                [Piece::Text(name), register(reg), none, none, none, none],
+            ),
+            _ => return None,
+        };
+        Some((form, pieces))
+    }
+
+    fn basic_form(self) -> (&'static str, [Piece<'a>; 2]) {
         let none = Piece::Text("");
         match self {
             Target::StoreNumber(loc, value) => ("MOV [{}],${}", [Piece::Shown(loc), number(value)]),
@@ -41,19 +163,26 @@ impl<'a> Target<'a> {
                 "MOV EAX,${}, and in the next cell LOCK XADD [{}],EAX, with a free register for EAX",
                 [number(value), Piece::Shown(loc)],
             ),
-            Target::Fence => ("MFENCE", [none, none]),
+            _ => ("MFENCE", [none, none]),
         }
     }
 
-    /// Its registers, of which a target with one has none second.
+    /// Its registers, of which a target with one has none second. A compare with an exchange has EAX too.
     fn registers(self) -> (&'a [u8], &'a [u8]) {
         match self {
+            Target::CompareExchange(_, reg) => (reg, b"EAX"),
             Target::StoreRegister(_, reg)
             | Target::Load(reg, _)
             | Target::SetNumber(reg, _)
             | Target::Exchange(_, reg)
-            | Target::Add(_, reg) => (reg, &[]),
-            Target::SetRegister(reg, other) => (reg, other),
+            | Target::Add(_, reg)
+            | Target::LockRegister(_, _, reg)
+            | Target::CombineNumber(_, reg, _)
+            | Target::CombineLocation(_, reg, _)
+            | Target::Change(_, reg) => (reg, &[]),
+            Target::SetRegister(reg, other) | Target::CombineRegister(_, reg, other) => (
+                reg, other,
+            ),
             _ => (&[], &[]),
         }
     }
@@ -67,8 +196,22 @@ impl<'a> Target<'a> {
             Target::Exchange(loc, _) => Target::Exchange(loc, first),
             Target::Add(loc, _) => Target::Add(loc, first),
             Target::SetRegister(..) => Target::SetRegister(first, second),
+            Target::CompareExchange(loc, _) => Target::CompareExchange(loc, first),
+            Target::LockRegister(name, loc, _) => Target::LockRegister(name, loc, first),
+            Target::CombineNumber(name, _, value) => Target::CombineNumber(name, first, value),
+            Target::CombineRegister(name, ..) => Target::CombineRegister(name, first, second),
+            Target::CombineLocation(name, _, loc) => Target::CombineLocation(name, first, loc),
+            Target::Change(name, _) => Target::Change(name, first),
             other => other,
         }
+    }
+}
+
+/// A register that is read, and isn't this one.
+fn free_beside<'a>(reg: &[u8]) -> Piece<'a> {
+    match parent_of(reg) {
+        Some(parent) if parent == "EBX" => Piece::Text("EAX"),
+        _ => Piece::Text("EBX"),
     }
 }
 
@@ -94,6 +237,13 @@ fn written_for<'a>(word: &'a [u8], beside: &[u8]) -> &'a [u8] {
 pub fn say_target(line: &mut Line, target: Target<'_>) {
     say_cells(line, target);
     say_registers(line, target);
+}
+
+/// Names the option that gives the larger set, where the cells have an instruction of it.
+pub fn say_set(line: &mut Line, target: Target<'_>) {
+    if target.is_larger() {
+        line.say_option();
+    }
 }
 
 /// Writes the cells, with a register that is read for each that isn't.

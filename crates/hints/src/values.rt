@@ -2,7 +2,7 @@
 
 use crate::faults::CONNECTIVES;
 use crate::place::Place;
-use crate::quotes::{digits_at, first_bytes, is_all_digits, last_bytes};
+use crate::quotes::{begins_with_digit, digits_at, first_bytes, is_all_digits, last_bytes};
 use crate::tables::{is_exactly_one_of, is_one_of};
 
 /// What is said of several values.
@@ -42,12 +42,13 @@ fn is_in_number(place: &Place<'_>) -> bool {
 fn begins_further_value(place: &Place<'_>) -> bool {
     let (token, last) = (place.token, place.last_word);
     let next = place.after_token();
+    let next = next.strip_prefix(b"-").unwrap_or(next);
     let digits = digits_at(next);
     if is_exactly_one_of("=", last) {
         return is_exactly_one_of("{ [", token) && !digits.is_empty();
     }
     let after = last_bytes(next, next.len().saturating_sub(digits.len()));
-    is_all_digits(last)
+    begins_with_digit(last)
         && is_one_of(", | or", token)
         && !digits.is_empty()
         && !after.trim_ascii_start().starts_with(b":")

@@ -7,7 +7,7 @@ ghost use Rattle.tso_cli.specs.inner.Answers.{Says};
 ghost use Rattle.tso_cli.specs.Lines.{test_refusal, input_refusal};
 ghost use Rattle.tso_cli.specs.Verdicts.{status_of_verdict};
 
-use hints::{Cause, Reader};
+use hints::{Cause, Request};
 use litmus_reader::{Fault, Why, refusal_for};
 use std::alloc::Global;
 use tso_io::MAX_INPUT;
@@ -56,12 +56,12 @@ pub struct Answer {
     pub cause: Cause,
 }
 
-/// The answer to a text that spells no test, for what is at fault in it, where the command reads this after the test.
+/// The answer to a text that spells no test, for what is at fault in it, where this was to read it.
 ///
 /// Errors: out of memory only.
 pub fn refused_test(
     alloc: Global,
-    asked: Reader,
+    asked: Request,
     text: &[u8],
     fault: Fault,
 ) -> Result<Answer, NoMemory>

@@ -21,7 +21,7 @@ use crate::tracing::trace_answer;
 use crate::witnessing::witness_answer;
 use command_line::Settings;
 use explorer::{Unwatched, Watcher};
-use hints::{Cause, Reader};
+use hints::{Cause, Reader, Request};
 use litmus_reader::{ReadError, test_or_fault_in};
 use protocol_tables::{ProtocolKind, table_text};
 use std::alloc::Global;
@@ -204,8 +204,16 @@ fn table_answer(alloc: Global, kind: ProtocolKind) -> Result<Answer, NoMemory>
     })
 }
 
+/// What reads the test; `tables` reads none.
+fn asked(settings: &Settings) -> Request {
+    Request {
+        reader: reader_of(settings),
+        instructions: settings.instructions(),
+    }
+}
+
 /// The command that reads the test; `tables` reads none.
-fn asked(settings: &Settings) -> Reader {
+fn reader_of(settings: &Settings) -> Reader {
     match settings {
         Settings::Run { .. } | Settings::Tables(_) => Reader::Run,
         Settings::Trace { .. } => Reader::Trace,

@@ -12,7 +12,7 @@ use crate::dividing::parts_of;
 use crate::measuring::{refused_trace, word_too_far};
 use crate::running::{cause_of, refused_choices};
 use crate::tracing::status_in;
-use hints::Reader;
+use hints::{Reader, Request};
 use litmus_reader::{Instructions, ReadError, test_or_fault_in};
 use machine_core::{Choice, Config};
 use machine_runs::Setup;
@@ -50,7 +50,13 @@ pub fn step_answer(
             };
             test_answer(alloc, &setup, parts.rest)
         }
-        Err(ReadError::Fault(fault)) => refused_test(alloc, Reader::Trace, parts.test, fault),
+        Err(ReadError::Fault(fault)) => {
+            let asked = Request {
+                reader: Reader::Trace,
+                instructions,
+            };
+            refused_test(alloc, asked, parts.test, fault)
+        }
         Err(ReadError::NoMemory) => Err(NoMemory),
     }
 }
