@@ -70,12 +70,15 @@ class Maker:
 
     def cell(self, core):
         chance, registers = self.chance, self.cores[core]
-        kind = chance.choice(("store", "store", "load", "load", "copy", "set", "move", "xchg", "xchg", "xadd", "mfence", "none"))
+        kind = chance.choice(("store", "store", "load", "load", "copy", "set", "move", "xchg", "xchg", "xadd", "mfence", "none", "larger",
+                              "larger", "larger"))
         if kind == "none":
             return ""
         if kind == "mfence":
             return chance.choice(("mfence", "MFENCE"))
         name, size = chance.choice(sorted(self.sizes.items()))
+        if kind == "larger":
+            return self.larger(name, size, registers) + chance.choice(("", "", "", " (* a comment *)"))
         if kind == "xadd" and size == 8:
             kind = "xchg"
         place, register = "(%s)" % name, self.register(registers, size)
@@ -94,6 +97,32 @@ class Maker:
         name += letter if kind == "store" else chance.choice((letter, letter, ""))
         text = chance.choice((name, name, name.upper())) + " " + chance.choice((",", ", ", " , ")).join(operands)
         return text + chance.choice(("", "", "", " (* a comment *)"))
+
+    def larger(self, name, size, registers):
+        """A cell with an instruction of the larger set."""
+        chance = self.chance
+        letter = "q" if size == 8 else "l"
+        register, place = self.register(registers, size), "(%s)" % name
+        combining, changing = chance.choice(("add", "sub", "and", "or", "xor")), chance.choice(("inc", "dec", "neg", "not"))
+        others = [one for one in registers if one not in register and REGISTERS[one] not in register]
+        # Of 64 bits no sum is one of 32.
+        kind = chance.choice(("nothing", "compared", "swap")) if size == 8 else chance.choice(("nothing", "locked", "locked", "locked change", "compared", "compared", "number", "change", "pair", "swap"))
+        if kind == "nothing":
+            return chance.choice(("nop", "pause", "lfence", "SFENCE"))
+        if kind == "locked":
+            return "lock %s%s %s,%s" % (combining, letter, chance.choice(("$" + self.number(), register)), place)
+        if kind == "locked change":
+            return "lock %s%s %s" % (changing, letter, place)
+        if kind == "compared":
+            return "lock cmpxchg%s %s,%s" % (chance.choice((letter, "")), register, place)
+        if kind == "change":
+            return "%s%s %s" % (changing, chance.choice((letter, "")), register)
+        if kind == "swap" and not others:
+            return "nop"
+        if kind == "number" or not others:
+            return "%s%s $%s,%s" % (combining, letter, self.number(), register)
+        other = self.register(others, size)
+        return "%s%s %s,%s" % (combining if kind == "pair" else "xchg", letter, other, register)
 
     def condition(self):
         chance = self.chance

@@ -70,6 +70,9 @@ class Text:
         """The first register that a core doesn't use, by none of its names."""
         words = self.words_of(core)
         used = {parent_of(word) for word in words} | {word.upper() for word in words}
+        if any(word.lower().startswith("cmpxchg") for word in words):
+            # It compares with EAX, which it doesn't name.
+            used.add("rax")
         return next(one for one in litmus.REGISTERS if one not in used and "r" + one[1:].lower() not in used)
 
     def rename(self, core, name):
@@ -183,12 +186,15 @@ def write_cell(text, cell, told, has_end=None):
         text.line = re.sub(r";(?=\s*\|)", "", text.line, count=1)
     core = next(core for core, one in enumerate(text.line.split("|")) if one.strip(" ;").startswith(cell))
     first, second, rest = re.fullmatch(r"(.*?)(?:, and in the next cell (.*?))?((?:, (?:with|which|where) |; ).*)?", told).groups()
-    free = text.free_register(core) if rest and rest.startswith(", with a free register for EAX") else "EAX"
+    held = re.match(r", with a free register for (\w+)", rest or "")
     # The registers that are told to be put for others, those first.
-    foreign = re.findall(r"(\w+) (?:is )?for (\w+)", rest or "") if re.match(r"; \w+ is for ", rest or "") else []
-    cells = [one.replace("EAX", free) for one in (first, second) if one]
+    foreign = re.findall(r"(?:; |, and )(\w+) (?:is )?for (\w+)", rest or "")
+    cells = [one for one in (first, second) if one]
     for written, name in foreign:
-        cells[0] = re.sub(r"\b%s\b" % written, name, cells[0])
+        cells = [re.sub(r"\b%s\b" % written, name, one) for one in cells]
+    if held:
+        free = text.free_register(core)
+        cells = [re.sub(r"\b%s\b" % held[1], free, one) for one in cells]
     text.put(core, *cells)
     for _, name in foreign:
         text.rename(core, name)
@@ -201,12 +207,6 @@ def leave_out_word(text, word):
 def load_compared(text, name, place):
     core = text.core_of(name)
     text.put(core, "MOV %s,[%s]" % (text.free_register(core), place))
-
-
-def exchange_compared(text, name):
-    """The test in which a compare with an exchange writes."""
-    core = text.core_of(name)
-    text.put(core, re.sub(r"(?i)(?:lock\s+)?cmpxchg\w*", "XCHG", text.cell(core)))
 
 
 def leave_out_cell(text, name):
@@ -241,13 +241,6 @@ def leave_out_dollar(text, register):
     text.line = text.line.replace("$" + register, register, 1)
 
 
-def exchange_by_moves(text):
-    core = next(core for core, cell in enumerate(text.line.split("|")) if re.search(r"(?i)xchg\s+e\w+\s*,\s*e\w+", cell))
-    one, other = re.findall(r"(?i)\be\w\w\b", text.cell(core))
-    free = text.free_register(core)
-    text.put(core, "MOV %s,%s" % (free, one), "MOV %s,%s" % (one, other), "MOV %s,%s" % (other, free))
-
-
 def load_change_and_store(text, cell, *told):
     """The three instructions that one in memory is, with a register that is free."""
     core = next(core for core, one in enumerate(text.line.split("|")) if one.strip(" ;").startswith(cell))
@@ -255,7 +248,11 @@ def load_change_and_store(text, cell, *told):
     text.put(core, *(one.replace(named, free) for one in told[:-1]))
 
 
-def lock_cell(text, cell, told):
+def part_word(text, word, first):
+    text.replace(word, word[:len(first)] + " " + word[len(first):].lstrip("_"))
+
+
+def write_told(text, cell, told):
     core = next(core for core, one in enumerate(text.line.split("|")) if one.strip(" ;").startswith(cell))
     text.put(core, told)
 
@@ -338,22 +335,21 @@ CURES = [
      r"(?:no register can hold an address: |if it is one step, |registers and locations have 32 bits: |"
      r"no register can hold an address; for the location's word |"
      r"\$ stands before numbers alone: for a constant write its number; for a location's word )?write "
-     r"((?:MOV|XCHG|LOCK|MFENCE)\b(?!.* address is in [a-z]).*?)(; leave out the ; behind it, which ends a row)?", write_cell),
+     r"((?:MOV|XCHG|LOCK|MFENCE|ADD|SUB|AND|OR|XOR|INC|DEC|NEG|NOT)\b(?!.* address is in [a-z]).*?)(; leave out the ; behind it, which ends a row)?", write_cell),
     (r"(\w+) stands behind the instruction: leave it out; .*", leave_out_word),
     (r"(not) begins no condition: write (~exists) in its place", Text.replace),
     (r"(\w+) isn't read: a program has no (?:compares|jumps): leave .*", leave_out_jump),
     (r"(\w+) isn't read: a program has no compares: load the location here, as MOV EAX,\[(\w+)\], .*", load_compared),
-    (r"(\w+) isn't read: write two tests: one where it writes, as XCHG \[x\],EBX, .*", exchange_compared),
     (r"(CALL) isn't read: write the instructions of what it calls in its place", leave_out_cell),
-    (r"(\w+) isn't read: nothing is computed in registers: leave it out, and where its result is used write .*", leave_out_cell),
+    (r"(\w+) isn't read: leave it out, and where its result is used write .*", leave_out_cell),
     (r"%\w+: a register is written without %: \w+|'%' can't stand in (?:the initial state|a condition): .*", leave_out_percent),
     (r"(\w+) is no register: write (\w+)", Text.replace),
-    (r"'?(.*?)'?: without LOCK it is three instructions, each in a cell of its own: (.*?)  (.*?)  (.*?), with a free register for (\w+); .*",
-     load_change_and_store),
-    (r"'?(.*?)'? isn't read without LOCK, which makes it one step: (LOCK CMPXCHG .*); .*", lock_cell),
+    (r"'?(.*?)'?: without LOCK write three cells: (.*?)  (.*?)  (.*?), with a free register for (\w+)", load_change_and_store),
+    (r"'?(.*?)'? isn't read without LOCK, which makes it one step: (LOCK CMPXCHG .*)", write_told),
+    (r"'?(.*?)'?: LOCK stands before what changes a location in one step: leave it out here: (.*)", write_told),
+    (r"(\w+): write a space behind (\w+)", part_word),
     (r"(&)(\w+): a location is written \[x\] in an instruction: .*", put_into_brackets),
     (r"\$ stands before (\w+): it stands before numbers alone, and a register is written without it", leave_out_dollar),
-    (r"an exchange of two registers takes three MOVs, .*", exchange_by_moves),
     (r"(\w+) begins with a digit, as a number: a name begins with a letter or _, .*", name_by_letter),
     (r"(\w+): a location begins with a number, as x=1: .*", write_number),
     (r"\S+ an atom compares a place with one number: that two places are equal is written .*", write_equal),
@@ -368,7 +364,7 @@ CURES = [
     (r"(\w+) is a part of \w+: if the whole register will do, write (\w+)", Text.replace),
     (r"(\w+): numbers are decimal: write (\d+)", Text.replace),
     (r"(\w+) is a type, and items have no types here: leave it out; if the item has no value, leave out the whole item, .*", leave_out_type),
-    (r"(\w+) isn't read: without LOCK .* Write a load, as MOV EAX,\[x\], and a store of the result, .*", load_and_store),
+    (r"(\w+) isn't read: for a location write a load, as MOV EAX,\[x\], and a store of the result, .*", load_and_store),
     (r"(\w+): is a label, and a program has no jumps: leave it out", leave_out_jump),
     (r"(\w+) isn't read: it changes .*, so leave it out", leave_out_cell),
     (r"MOV has the forms .*; from \[y\] to \[x\] go through a register: .*", go_through_register),
@@ -380,7 +376,7 @@ CURES = [
     (r"the dividing line between a test and its choices is ==== alone", write_divider),
     (r"a second test begins here: an input has only one, .*", leave_out_second_test),
     (r"a second header stands here: .*", leave_out_line),
-    (r"(\w+) is no instruction: write (\w+)", Text.replace),
+    (r"(\w+) is no instruction: write ((?:LOCK )?\w+)", Text.replace),
     (r"(\w+) is an edge, and no instruction: write (MFENCE)", Text.replace),
     (r"(\w+) begins no condition: write (~exists|exists|forall)\b.*", Text.replace),
     (r"(for all) is one word here: write (forall)", Text.replace),

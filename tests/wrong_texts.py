@@ -242,6 +242,34 @@ def ends_cell_as_in_c(parts):
     return parts.text()
 
 
+def computes_in_location(parts):
+    return parts.put_cell("ADD EAX,[x]", "sub ebx, dword ptr [y]", "LOCK OR [x],[y]", "INC x", "and [z],$1", "LOCK XOR x,EBX", "XOR [x],EAX")
+
+
+def needs_no_lock(parts):
+    return parts.put_cell("LOCK INC EAX", "LOCK ADD EBX,$1", "LOCK XCHG EAX,EBX", "lock sub ecx,edx", "LOCK NEG ESI", "LOCK SFENCE")
+
+
+def compares_and_exchanges(parts):
+    return parts.put_cell("LOCK CMPXCHG [x],$1", "LOCK CMPXCHG EBX,[x]", "lock cmpxchgl %ebx,(x)", "cmpxchg [x],ecx", "cmpxchgl %edx,y",
+                          "lock cmpxchg dword ptr [y], ebx", "LOCK CMPXHG [x],EBX", "CMPXCG [z],ECX")
+
+
+def computes_in_other_order(parts):
+    return parts.put_cell("lock addl $1,(x)", "addl $1,%eax", "incl %ecx", "lock incl x", "xorl %ebx,%eax", "addl (x),%eax", "addl %eax,(y)",
+                          "lock orl %ebx,z", "lock andl $-2,(x)", "negl x", "SUB $3,EAX", "lock addl $1,x(%rip)", "add r8d, 1")
+
+
+def lacks_space(parts):
+    return parts.put_cell("ADDEAX,$1", "INCEBX", "LOCKADD [x],$1", "LOCK_INC [y]", "SFENSE", "PUASE", "ADDD EAX,$1", "NEEG EBX")
+
+
+def has_number_of_larger_set(parts):
+    return parts.chance.choice((
+        lambda: parts.put_item("a=0x10", "a=-0x1", "0:EBX=0XfF"), lambda: parts.put_atom("x=0x1f", "x=-1", "0:EBX=-0x10"),
+        lambda: parts.put_cell("MOV [x],$0x10", "MOV EAX,-1", "MOV EBX,$-0x2")))()
+
+
 def has_word_behind(parts):
     row = parts.chance.choice(parts.rows)
     core = parts.chance.randrange(parts.cores)
@@ -333,7 +361,8 @@ def writes_choices_otherwise(parts):
 SLIPS = (adds_after_lock, computes, jumps, names_label, says_size, does_nothing, says_pointer, moves_between_locations, names_core,
          is_not_ascii, begins_comment, divides_otherwise, has_two_tests, has_other_register, has_other_register_in_cell, has_other_header,
          has_address, has_source_first, has_round_brackets, has_bare_location, takes_address, has_dollar, exchanges_registers,
-         calls_function, stands_in_intel_syntax, stands_in_c, ends_cell_as_in_c, has_word_behind, has_lines_above,
+         calls_function, computes_in_location, needs_no_lock, compares_and_exchanges,
+         computes_in_other_order, lacks_space, has_number_of_larger_set, stands_in_intel_syntax, stands_in_c, ends_cell_as_in_c, has_word_behind, has_lines_above,
          begins_name_with_digit, has_no_value, compares_places, has_values, has_other_cells, asks_otherwise, leaves_open,
          splits_otherwise, ends_no_row, has_signed_number, stands_in_markdown, writes_choices_otherwise)
 

@@ -6,7 +6,7 @@ use crate::instructions::{
 };
 use crate::line::Line;
 use crate::place::Place;
-use crate::quotes::{begins_with_letter, last_bytes, last_word, token};
+use crate::quotes::{begins_with_letter, has, last_bytes, last_word, token};
 use crate::tables::{Alike, is_exactly_one_of, is_one_of, said_of, said_of_front};
 use tso_terms::names::is_location_name;
 
@@ -45,6 +45,10 @@ static METHODS: [Alike; 4] = [
     Alike("fetch_add", ADDITION),
 ];
 
+/// What is said of what holds back the compiler alone.
+pub const COMPILER: &str =
+    "{}: leave it out: it holds back the compiler alone; the fence of the processor is MFENCE";
+
 const ADDRESS_OF: &str =
     "&{}: a location is written [x] in an instruction: a store is MOV [x],$1, a load MOV EAX,[x]; no register can hold an address";
 
@@ -81,6 +85,30 @@ pub fn said_of_function(name: &[u8]) -> Option<&'static str> {
     said_of_access(name).or(said_of(&FORMS, name))
 }
 
+/// Of assembly in a statement of C.
+pub fn said_of_assembly(cell: &[u8]) -> &'static str {
+    let is_fence = has(cell, b"\"mfence") || (has(cell, b"lock") && has(cell, b"sp)"));
+    if cell.ends_with(b"lock") {
+        "{}: LOCK and its instruction stand in one cell, without ; and quotation marks: LOCK XADD [x],EAX; what locks a word of the stack is a fence: MFENCE"
+    } else if cell.contains(&b'{') {
+        "{}: write each instruction in the braces into a cell of its own, as MOV [x],$1 or MOV EAX,[x]"
+    } else if has(cell, b"mov") || has(cell, b"xchg") || has(cell, b"xadd") {
+        "{}: write each instruction in the quotation marks into a cell of its own, as MOV [x],$1 or MOV EAX,[x]"
+    } else if is_fence {
+        "{}: write MFENCE"
+    } else if has(cell, b"pause")
+        || has(cell, b"nop")
+        || has(cell, b"\"lfence")
+        || has(cell, b"\"sfence")
+    {
+        "{}: leave it out: it changes no final state"
+    } else if has(cell, b"\"\"") || has(cell, b"fence") {
+        COMPILER
+    } else {
+        "{}: write the instruction in the quotation marks alone, as MOV [x],$1 or MOV EAX,[x]"
+    }
+}
+
 /// Says of a method, at the point before its name. Whether one is there.
 pub fn says_method(line: &mut Line, place: &Place<'_>) -> bool {
     let name = token(after_first(place.rest));
@@ -94,9 +122,10 @@ pub fn says_method(line: &mut Line, place: &Place<'_>) -> bool {
     );
     let said = match said_of(&METHODS, name) {
         Some(said) => said,
-        None if after.trim_ascii_start().starts_with(b"(") => {
-            "{} isn't read: a cell is a store MOV [x],$1, a load MOV EAX,[x], a fence MFENCE, XCHG [x],EAX or LOCK XADD [x],EAX"
-        }
+        None if after.trim_ascii_start().starts_with(b"(") => line.choose(
+            "{} isn't read: a cell is a store MOV [x],$1, a load MOV EAX,[x], a fence MFENCE, XCHG [x],EAX or LOCK XADD [x],EAX",
+            "{} isn't read: a cell is an instruction, as a store MOV [x],$1, a load MOV EAX,[x] or a fence MFENCE",
+        ),
         None => return false,
     };
     line.say_of(said, name);

@@ -232,12 +232,23 @@ fn says_misfit(line: &mut Line, place: &Place<'_>) -> bool {
             )
         }
         Some(first) if first.is_ascii_digit() && is_place(last) => (NO_EQUALS, token),
+        Some(b'0') if is_hexadecimal_before_equals(place) => (
+            "{}: an atom has its place first and its number last, as x=1",
+            place.number_or_token(),
+        ),
         Some(first) if first.is_ascii_digit() && is_all_digits(last) => (JOIN, token),
         Some(_) => return false,
         None => return says_valueless(line, last),
     };
     line.say_of(sentence, named);
     true
+}
+
+/// Whether `=` stands behind a number that isn't decimal.
+fn is_hexadecimal_before_equals(place: &Place<'_>) -> bool {
+    let number = place.number_or_token();
+    let behind = last_bytes(place.rest, place.rest.len().saturating_sub(number.len()));
+    number.len() > place.token.len() && behind.trim_ascii_start().starts_with(b"=")
 }
 
 /// Says of a name without a value before an end, or of a truth in capitals. Whether that is what is there.

@@ -4,6 +4,7 @@
 use crate::instructions::LABEL;
 use crate::keywords::{begins_instruction, is_instruction};
 use crate::line::{Line, Piece};
+use crate::mnemonics::larger_of;
 use crate::numbers::number_in;
 use crate::quotes::{digits_and_letters, is_all_digits, is_bare, last_bytes, up_to, word};
 use crate::tables::is_one_of;
@@ -101,7 +102,11 @@ fn after<'a>(text: &'a [u8], first: &[u8]) -> &'a [u8] {
 /// Whether a word is a label: a name or a number and a colon.
 fn is_label(word: &[u8]) -> bool {
     match word.strip_suffix(b":") {
-        Some(name) => !begins_instruction(name) && is_bare(name.strip_prefix(b".").unwrap_or(name)),
+        Some(name) => {
+            !begins_instruction(name)
+                && larger_of(name).is_none()
+                && is_bare(name.strip_prefix(b".").unwrap_or(name))
+        }
         None => false,
     }
 }

@@ -18,8 +18,8 @@ use crate::openings::{bad_token, unclosed};
 use crate::place::Place;
 use crate::points::CORE;
 use crate::quotes::{
-    begins_with_digit, ends_with_name, first_bytes, is_all_digits, is_row_of_cores, last_bytes,
-    up_to, up_to_any,
+    begins_with_digit, digits_and_letters, ends_with_name, first_bytes, is_all_digits,
+    is_row_of_cores, last_bytes, up_to, up_to_any,
 };
 use crate::rows::{bars_in, too_large, wrong_cells};
 use litmus_reader::Why;
@@ -217,7 +217,7 @@ pub fn unfit(line: &mut Line, place: &Place<'_>, end: &str, form: &str) {
     if place.rest.is_empty() {
         line.say(end);
     } else {
-        line.say_of("{} doesn't fit", place.token);
+        line.say_of("{} doesn't fit", place.number_or_token());
     }
     line.say(form);
 }
@@ -226,12 +226,12 @@ pub fn unfit(line: &mut Line, place: &Place<'_>, end: &str, form: &str) {
 /// another form. Whether such a word is there.
 pub fn says_digit_first(line: &mut Line, place: &Place<'_>) -> bool {
     let word = place.bare_word();
-    let is_inside = ends_with_name(place.before) && begins_with_digit(place.last_word);
-    let is_core = is_before_colon(place, word) && number_in(word).is_some();
+    let is_inside = begins_within_name(place) && begins_with_digit(place.last_word);
+    let is_core = is_before_colon(place, word) && number_in(word).is_some() && !is_of_value(place);
     if is_all_digits(word) || !begins_with_digit(word) || !(is_inside || is_core) {
         return false;
     }
-    if is_core && !is_of_value(place) {
+    if is_core {
         line.say_of(CORE, word);
         return true;
     }
@@ -271,6 +271,11 @@ fn said_of_base(line: &Line, word: &[u8]) -> &'static str {
     } else {
         "{}: numbers are decimal: write {}"
     }
+}
+
+/// Whether a place is within a name or a number.
+fn begins_within_name(place: &Place<'_>) -> bool {
+    ends_with_name(place.before) && !digits_and_letters(place.rest).is_empty()
 }
 
 /// Whether a colon stands behind a word at a place.

@@ -70,7 +70,7 @@ pub static OTHERS: [Alike; 27] = [
     Alike("TAS TSL SWAP SWP EXCHANGE EXCH RMW test_and_set", EXCHANGE),
     Alike(
         "LDXR LDAXR STXR STLXR LWARX STWCX LDREX STREX LR SC AMOSWAP AMOADD LDADDAL SWPAL",
-        "{} isn't read: what loads and stores in one step is XCHG [x],EAX or LOCK XADD [x],EAX",
+        "{} isn't read: to load and store in one step write XCHG [x],EAX or LOCK XADD [x],EAX",
     ),
     Alike(
         "LI LIS ORI ADDI XORI LUI MV MR",
@@ -126,7 +126,7 @@ pub static OTHERS: [Alike; 27] = [
     ),
     Alike(
         "XBEGIN XEND XABORT XTEST",
-        "{} isn't read: there are no transactions: what is done in one step is XCHG [x],EAX or LOCK XADD [x],EAX",
+        "{} isn't read: there are no transactions: to load and store in one step write XCHG [x],EAX or LOCK XADD [x],EAX",
     ),
     Alike("CAS compare_and_swap", COMPARE_AND_EXCHANGE),
     Alike(

@@ -67,7 +67,7 @@ pub fn bad_init(line: &mut Line, place: &Place<'_>) {
     } else if begins_name(place.token) {
         line.say_of(misplaced_name(place), place.token);
     } else {
-        line.say_of(misfit(place), place.token);
+        line.say_of(misfit(place), place.number_or_token());
     }
 }
 

@@ -3,7 +3,7 @@
 use crate::line::{Line, Piece};
 use crate::mnemonics::{is_narrow_name, larger_of};
 use crate::numbers::{say_over, spelled};
-use crate::quotes::{first_word, last_bytes};
+use crate::quotes::{digits_and_letters, first_word, last_bytes};
 use crate::tables::is_one_of;
 use litmus_tokens::{
     Constant, Form, Instructions, Lexeme, Numeral, Stop, Token, Use, form_of, name_at, tokens_of,
@@ -14,7 +14,8 @@ use tso_terms::NoMemory;
 
 const LARGER_SET: &str = "{} is read where all instructions are asked for: add --instructions all";
 
-const WITHOUT_LOCK: &str = "{} isn't read without LOCK, which makes it one step: LOCK {}";
+const WITHOUT_LOCK: &str =
+    "{} isn't read without LOCK, which makes it one step: LOCK CMPXCHG [{}],{}";
 
 const NEEDLESS_LOCK: &str =
     "{}: LOCK stands before what changes a location in one step: leave it out here: {}";
@@ -124,8 +125,15 @@ fn says_needless(line: &mut Line, cell: &[u8], rest: &[Token<'_>]) -> bool {
 fn says_lockless(line: &mut Line, cell: &[u8], locked: &[Token<'_>]) -> bool {
     let none = Piece::Text("");
     let (loc, source) = match form_of(Instructions::All, locked) {
-        Some(Form::At(Use::CompareExchange, ..)) => {
-            line.say_with(WITHOUT_LOCK, &[Piece::Named(cell), Piece::Shown(cell)]);
+        Some(Form::At(Use::CompareExchange, loc, reg)) => {
+            line.say_with(
+                WITHOUT_LOCK,
+                &[
+                    Piece::Named(cell),
+                    Piece::Shown(loc),
+                    Piece::Text(reg.name()),
+                ],
+            );
             line.say_option();
             return true;
         }
@@ -139,7 +147,8 @@ fn says_lockless(line: &mut Line, cell: &[u8], locked: &[Token<'_>]) -> bool {
         }
         _ => return false,
     };
-    say_three(line, cell, Piece::Shown(first_word(cell)), loc, source);
+    let name = larger_of(digits_and_letters(cell)).unwrap_or("");
+    say_three(line, cell, Piece::Text(name), loc, source);
     true
 }
 

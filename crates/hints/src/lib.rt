@@ -67,6 +67,7 @@ mod unended;
 mod unused;
 mod unwritten;
 mod values;
+mod words;
 
 pub use cause::Cause;
 pub use hinting::hint_of;

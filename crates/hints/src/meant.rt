@@ -11,7 +11,7 @@ const SEED: &str =
 
 const SEQUENTIAL: &str = "{}: --depth 0 gives sequential consistency, and --depth 32 all of TSO";
 
-static MEANT: [Meant; 21] = [
+static MEANT: [Meant; 22] = [
     Meant(
         "sweep counts",
         "--seed -s",
@@ -66,6 +66,11 @@ static MEANT: [Meant; 21] = [
         "outcomes",
         "--all --registers --full",
         "{}: --show registers or --show all shows more of each state",
+    ),
+    Meant(
+        "run trace sweep counts outcomes why check witness",
+        "--instruction --isa --set --all --extended",
+        "{}: --instructions all reads the larger set of instructions",
     ),
     Meant(
         "run sweep counts outcomes why",

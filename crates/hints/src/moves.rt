@@ -303,6 +303,8 @@ fn say_two_places(line: &mut Line, pair: &Pair<'_>, to: &[u8], from: &[u8], is_a
 fn says_registers(line: &mut Line, pair: &Pair<'_>, one: &[u8], other: &[u8]) -> bool {
     if one.eq_ignore_ascii_case(other) {
         line.say_of("{}: leave it out: it changes nothing", pair.cell);
+    } else if is_stack_pointer(one) || is_stack_pointer(other) {
+        line.say_of(STACK, pair.cell);
     } else {
         let target = Target::CombineRegister("XCHG", one, other);
         say_cell(line, pair, &[], target);
@@ -332,6 +334,8 @@ pub fn say_cell_alone(line: &mut Line, pair: &Pair<'_>, holder: &[u8], target: T
         "{}: no register can hold an address: write "
     } else if pair.is_narrow {
         "{} isn't an access to a whole word of 32 bits; if that will do, write "
+    } else if pair.is_wide && target.is_computed() {
+        "{} computes with 64 bits, and words have 32 here; if that will do, write "
     } else if matches!(pair.order, Order::SourceFirst) && pair.is_wide {
         "{} is AT&T's order, source first; here the destination stands first, and words have 32 bits: write "
     } else if matches!(pair.order, Order::SourceFirst) {

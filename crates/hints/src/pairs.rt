@@ -1,8 +1,8 @@
 //! What is said of the operands of an instruction together: of how many there are, and of which kinds.
 
 use crate::brackets::count;
-use crate::cells::name_of;
 use crate::line::Line;
+use crate::words::name_of;
 use litmus_tokens::{Lexeme, Symbol, Token, is_symbol};
 
 /// Says of how many operands there are, and of which kinds. Whether it is known what was meant.

@@ -1,7 +1,8 @@
 //! The place of a fault in a text: a refusal has the line alone, and a hint names what is there.
 
 use crate::quotes::{
-    after_last, digits_and_letters, ends_with_name, last_bytes, last_word, token, up_to,
+    after_last, begins_with_digit, digits_and_letters, ends_with_name, last_bytes, last_word,
+    token, up_to,
 };
 use litmus_tokens::line_of;
 
@@ -78,6 +79,15 @@ impl<'a> Place<'a> {
     pub fn after_token(&self) -> &'a [u8] {
         let count = self.rest.len().saturating_sub(self.token.len());
         last_bytes(self.rest, count).trim_ascii_start()
+    }
+
+    /// All of the number that is there, also where it isn't decimal, or else the token.
+    pub fn number_or_token(&self) -> &'a [u8] {
+        if begins_with_digit(self.token) {
+            digits_and_letters(self.rest)
+        } else {
+            self.token
+        }
     }
 
     /// The letters, digits and underscores at it, those that stand right before it included.

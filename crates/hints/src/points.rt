@@ -92,7 +92,7 @@ pub fn point(place: &Place<'_>) -> &'static str {
     } else if !ends_with_name(place.before) || digits_and_letters(after).is_empty() {
         LEAVE_OUT
     } else if !begins_with_letter(after) {
-        "{}: a value is a whole number, in decimal digits alone: write one without a point"
+        "{}: a value is a whole number: write one without a point"
     } else if is_all_digits(last) || is_core(last) {
         CORE_AND_REGISTER
     } else {

@@ -15,7 +15,8 @@ use crate::operands::{percent, says_sum};
 use crate::place::Place;
 use crate::points::{NAMES, goes_on_after_number, minus, point, said_between};
 use crate::quotes::{
-    begins_with_letter, digits_at, ends_with_name, is_all_digits, last_bytes, token, up_to_any,
+    begins_with_digit, begins_with_letter, digits_at, ends_with_name, is_all_digits, last_bytes,
+    token, up_to_any,
 };
 use crate::region::{Region, region_of};
 use crate::registers::says_percent;
@@ -234,6 +235,10 @@ fn says_of_form(line: &mut Line, place: &Place<'_>, region: Region, byte: u8) ->
             line.say("leave out \\n and \\t behind an instruction: a row ends with ;");
             true
         }
+        (_, b'-') if is_second_sign(place) => {
+            line.say_of(LEAVE_OUT, b"-");
+            true
+        }
         (_, b'-') if is_field(place) => {
             line.say_of(NAMES, b"->");
             true
@@ -307,12 +312,20 @@ fn is_sign(place: &Place<'_>) -> bool {
         && matches!(after_first(place.rest).first(), Some(next) if next.is_ascii_digit())
 }
 
+/// Whether two hyphens stand before a number, where one may be its sign.
+fn is_second_sign(place: &Place<'_>) -> bool {
+    match place.rest.strip_prefix(b"--") {
+        Some(after) => is_exactly_one_of("$ = ,", place.last_word) && begins_with_digit(after),
+        None => false,
+    }
+}
+
 /// Whether a hyphen stands between two numbers, of which the second names no core.
 fn is_difference(place: &Place<'_>) -> bool {
     let after = after_first(place.rest).trim_ascii_start();
     let digits = digits_at(after);
     let behind = last_bytes(after, after.len().saturating_sub(digits.len()));
-    is_all_digits(place.last_word)
+    begins_with_digit(place.last_word)
         && !digits.is_empty()
         && !behind.trim_ascii_start().starts_with(b":")
 }

@@ -2,7 +2,7 @@
 //! statement is known.
 
 use crate::assignment::{location_in, says_assignment, says_short_event, says_step};
-use crate::c_forms::{is_type, said_of_access, told_of_compare};
+use crate::c_forms::{COMPILER, is_type, said_of_access, said_of_assembly, told_of_compare};
 use crate::calls::{Act, act_of, is_sequential};
 use crate::instructions::{LOOP, STRAIGHT};
 use crate::keywords::is_instruction;
@@ -21,9 +21,6 @@ const MUTEX: &str =
 
 const NO_ORDER: &str =
     "{}: leave it out: TSO keeps that order already; for a store before a load the fence is MFENCE";
-
-const COMPILER: &str =
-    "{}: leave it out: it holds back the compiler alone; the fence of the processor is MFENCE";
 
 const NOTHING: &str = "{}: leave it out: it changes no final state";
 
@@ -132,30 +129,6 @@ pub fn says_statement(line: &mut Line, cell: &[u8]) -> bool {
 /// Whether two expressions are compared.
 fn is_compare(cell: &[u8]) -> bool {
     !cell.starts_with(b"=") && (has(cell, b"==") || has(cell, b"!="))
-}
-
-/// Of assembly in a statement of C.
-fn said_of_assembly(cell: &[u8]) -> &'static str {
-    let is_fence = has(cell, b"\"mfence") || (has(cell, b"lock") && has(cell, b"sp)"));
-    if cell.ends_with(b"lock") {
-        "{}: LOCK and its instruction stand in one cell, without ; and quotation marks: LOCK XADD [x],EAX; what locks a word of the stack is a fence: MFENCE"
-    } else if cell.contains(&b'{') {
-        "{}: write each instruction in the braces into a cell of its own, as MOV [x],$1 or MOV EAX,[x]"
-    } else if has(cell, b"mov") || has(cell, b"xchg") || has(cell, b"xadd") {
-        "{}: write each instruction in the quotation marks into a cell of its own, as MOV [x],$1 or MOV EAX,[x]"
-    } else if is_fence {
-        "{}: write MFENCE"
-    } else if has(cell, b"pause")
-        || has(cell, b"nop")
-        || has(cell, b"\"lfence")
-        || has(cell, b"\"sfence")
-    {
-        "{}: leave it out: it changes no final state"
-    } else if has(cell, b"\"\"") || has(cell, b"fence") {
-        COMPILER
-    } else {
-        "{}: write the instruction in the quotation marks alone, as MOV [x],$1 or MOV EAX,[x]"
-    }
 }
 
 /// A statement without the types that begin it, in two where it assigns.
@@ -410,6 +383,9 @@ fn target_of<'a>(act: Act, left: &'a [u8], place: &'a [u8], value: &'a [u8]) -> 
         (Act::And, Some(number)) => Target::LockNumber("AND", place, number),
         (Act::Or, Some(number)) => Target::LockNumber("OR", place, number),
         (Act::Xor, Some(number)) => Target::LockNumber("XOR", place, number),
+        (Act::And, None) if is_bare(value) => Target::LockRegister("AND", place, value),
+        (Act::Or, None) if is_bare(value) => Target::LockRegister("OR", place, value),
+        (Act::Xor, None) if is_bare(value) => Target::LockRegister("XOR", place, value),
         _ => return None,
     };
     Some(target)

@@ -2,6 +2,7 @@
 
 use crate::line::{Line, Piece};
 use crate::registers::parent_of;
+use crate::tables::is_one_of;
 
 const FOR_ONE: &str = "; {} is for {}: take a register that the core doesn't use";
 
@@ -49,6 +50,21 @@ impl<'a> Target<'a> {
     /// Whether it has an instruction of the larger set.
     pub fn is_larger(self) -> bool {
         self.larger_form().is_some()
+    }
+
+    /// Whether it computes a word of others, so that the number of bits counts.
+    pub fn is_computed(self) -> bool {
+        match self {
+            Target::CombineRegister(name, ..) => !is_one_of("XCHG", name.as_bytes()),
+            Target::LockNumber(..)
+            | Target::LockRegister(..)
+            | Target::LockAlone(..)
+            | Target::LockLocation(..)
+            | Target::CombineNumber(..)
+            | Target::CombineLocation(..)
+            | Target::Change(..) => true,
+            _ => false,
+        }
     }
 
     /// The form where an instruction of the larger set is in it.

@@ -2,7 +2,7 @@
 
 use crate::faults::CONNECTIVES;
 use crate::place::Place;
-use crate::quotes::{begins_with_digit, digits_at, first_bytes, is_all_digits, last_bytes};
+use crate::quotes::{begins_with_digit, digits_at, first_bytes, last_bytes};
 use crate::tables::{is_exactly_one_of, is_one_of};
 
 /// What is said of several values.
@@ -59,6 +59,6 @@ fn goes_on_after_value(place: &Place<'_>) -> bool {
     let (before, last) = (place.before.trim_ascii_end(), place.last_word);
     let place_and_sign = first_bytes(before, before.len().saturating_sub(last.len()));
     is_exactly_one_of(": =", place.token)
-        && is_all_digits(last)
+        && begins_with_digit(last)
         && place_and_sign.trim_ascii_end().ends_with(b"=")
 }
