@@ -106,7 +106,8 @@ class Maker:
         combining, changing = chance.choice(("add", "sub", "and", "or", "xor")), chance.choice(("inc", "dec", "neg", "not"))
         others = [one for one in registers if one not in register and REGISTERS[one] not in register]
         # Of 64 bits no sum is one of 32.
-        kind = chance.choice(("nothing", "compared", "swap")) if size == 8 else chance.choice(("nothing", "locked", "locked", "locked change", "compared", "compared", "number", "change", "pair", "swap"))
+        computing = () if size == 8 else ("locked", "locked", "locked change", "number", "change", "pair")
+        kind = chance.choice(("nothing", "compared", "compared", "swap", *computing))
         if kind == "nothing":
             return chance.choice(("nop", "pause", "lfence", "SFENCE"))
         if kind == "locked":

@@ -361,8 +361,8 @@ def writes_choices_otherwise(parts):
 SLIPS = (adds_after_lock, computes, jumps, names_label, says_size, does_nothing, says_pointer, moves_between_locations, names_core,
          is_not_ascii, begins_comment, divides_otherwise, has_two_tests, has_other_register, has_other_register_in_cell, has_other_header,
          has_address, has_source_first, has_round_brackets, has_bare_location, takes_address, has_dollar, exchanges_registers,
-         calls_function, computes_in_location, needs_no_lock, compares_and_exchanges,
-         computes_in_other_order, lacks_space, has_number_of_larger_set, stands_in_intel_syntax, stands_in_c, ends_cell_as_in_c, has_word_behind, has_lines_above,
+         calls_function, computes_in_location, needs_no_lock, compares_and_exchanges, computes_in_other_order,
+         lacks_space, has_number_of_larger_set, stands_in_intel_syntax, stands_in_c, ends_cell_as_in_c, has_word_behind, has_lines_above,
          begins_name_with_digit, has_no_value, compares_places, has_values, has_other_cells, asks_otherwise, leaves_open,
          splits_otherwise, ends_no_row, has_signed_number, stands_in_markdown, writes_choices_otherwise)
 
