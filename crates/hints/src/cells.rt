@@ -185,7 +185,8 @@ fn says_near_instruction(
     let fits = if meant == "MFENCE" {
         operands.is_empty() && !is_locked
     } else if meant == "LOCK" {
-        is_one_of("XADD XCHG", first_name(operands).0)
+        let after = first_name(operands).0;
+        is_one_of("XADD XCHG", after) || larger_of(after).is_some()
     } else {
         count(Symbol::Comma, operands) == 1
     };

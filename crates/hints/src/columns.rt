@@ -6,6 +6,7 @@ use crate::headers::has_row_of_cores;
 use crate::items::KEYS;
 use crate::keywords::begins_instruction;
 use crate::line::{Line, Piece};
+use crate::mnemonics::larger_of;
 use crate::numbers::number_in;
 use crate::place::Place;
 use crate::points::BAR;
@@ -171,7 +172,7 @@ fn says_core(line: &mut Line, place: &Place<'_>) -> bool {
             "{}= begins a line of information: it stands above the {, or is left out",
             place.token,
         );
-    } else if begins_instruction(place.token) && place.is_first_on_line() {
+    } else if is_read_instruction(place.token) && place.is_first_on_line() {
         line.say_of(
             "no row of cores stands before {}: write one above it, as P0 | P1 ;, with a name for each core",
             place.token,
@@ -221,11 +222,16 @@ fn is_core_of(word: &[u8], number: usize) -> bool {
     matches!(number_in(digits), Some(named) if named as usize == number)
 }
 
+/// Whether an instruction that is read begins with a word, of either set.
+fn is_read_instruction(word: &[u8]) -> bool {
+    begins_instruction(word) || larger_of(word).is_some()
+}
+
 /// Whether a cell may be meant as the name of a core: one word or two, the second a number.
 fn is_name_of_core(cell: &[u8]) -> bool {
     let first = first_word(cell);
     let second = last_bytes(cell, cell.len().saturating_sub(first.len())).trim_ascii();
     is_bare(first)
-        && !begins_instruction(first)
+        && !is_read_instruction(first)
         && (second.is_empty() || (is_all_digits(second) && begins_with_letter(first)))
 }

@@ -51,12 +51,16 @@ fn says_apart(line: &mut Line, pair: &Pair<'_>, name: &'static str, to: Location
         },
         _ => return false,
     };
-    let is_turned = matches!(pair.order, Order::Mixed);
-    let is_known = !is_turned && !pair.is_narrow && to.holder.is_empty();
+    let is_known = !matches!(pair.order, Order::Mixed) && is_of_words(pair, to);
     if is_known {
         say_three(line, pair.cell, Piece::Text(name), to.name, source);
     }
     is_known
+}
+
+/// Whether an instruction is of words of 32 bits, and its location's name is known.
+fn is_of_words(pair: &Pair<'_>, to: Location<'_>) -> bool {
+    !pair.is_narrow && !pair.is_wide && to.holder.is_empty()
 }
 
 /// Of one in a register, which may set it to 0 by itself. Whether it is known what does the same.
@@ -112,7 +116,7 @@ pub fn says_changed(line: &mut Line, pair: &Pair<'_>) -> bool {
             say_cell(line, pair, to.holder, Target::LockAlone(name, to.name));
         }
         (Some(to), _) => {
-            let is_known = !pair.is_narrow && to.holder.is_empty();
+            let is_known = is_of_words(pair, to);
             if is_known {
                 let nothing = Piece::Text("");
                 say_three(
