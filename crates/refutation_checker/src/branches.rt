@@ -182,7 +182,6 @@ pub fn add_unread<'t>(
 }
 
 /// Adds the fact that a register has this value, or another one, where what it holds is what a read returned.
-#[tactic(auto, using(reading_tables::proofs::Addends::no_facts))]
 fn push_value<'t>(
     branch: &mut Vec<Fact<'t>>,
     held: Held,
