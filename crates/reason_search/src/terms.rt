@@ -230,18 +230,15 @@ fn value_of_making(returned: &List<usize>, made: &Made, first: usize, making: Ma
         Making::Combined(operator, left, right) => {
             let word = part_value(returned, made, first, left);
             let value = part_value(returned, made, first, right);
-            if (word == NONE) | (value == NONE) {
-                NONE
-            } else {
-                operator.apply(word as u32, value as u32) as usize
+            match (u32::try_from(word), u32::try_from(value)) {
+                (Ok(word), Ok(value)) => operator.apply(word, value) as usize,
+                _ => NONE,
             }
         }
         Making::Negated(inner) => {
-            let word = part_value(returned, made, first, inner);
-            if word == NONE {
-                NONE
-            } else {
-                0u32.wrapping_sub(word as u32) as usize
+            match u32::try_from(part_value(returned, made, first, inner)) {
+                Ok(word) => 0u32.wrapping_sub(word) as usize,
+                Err(_) => NONE,
             }
         }
         Making::Exchanged(word, eax, new) => {
