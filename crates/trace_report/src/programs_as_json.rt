@@ -108,13 +108,13 @@ fn operator_name(operator: Operator) -> &'static str
 }
 
 /// An instruction that combines a word with an operand: with what stands before the operator, behind it, and behind the word.
-fn combined(
+fn combined<'a>(
     alloc: Global,
-    front: &str,
+    front: &'a str,
     operator: Operator,
-    before: &str,
-    word: &str,
-    after: &str,
+    before: &'a str,
+    word: &'a str,
+    after: &'a str,
     operand: Operand,
 ) -> Result<Value, NoMemory>
     ensures { IfOk result (λ value. view value ≡ string (front.now ++ (operator_name operator
