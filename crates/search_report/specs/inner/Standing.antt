@@ -3,7 +3,7 @@ use Rattle.std.specs.Prelude.{ℕ, ◌≡◌, List, [], ◌∷◌, ◌++◌}
 use Rattle.possible_reads.specs.Facts.{Fact}
 use Rattle.possible_reads.specs.Possible.{readings}
 use Rattle.reading_tables.specs.Told.{facts_of}
-use Rattle.reading_tables.specs.inner.Tables.{AreValues, readings_of}
+use Rattle.reading_tables.specs.inner.Tables.{AreTableValues, readings_of}
 use Rattle.reading_tables.specs.declared.tables.Problem.{Problem}
 use Rattle.reading_tables.specs.declared.tables.Table.{Table}
 use Rattle.search_report.specs.Lines as spec
@@ -15,7 +15,7 @@ use Rattle.search_report.specs.declared.standing.Standing.{Standing}
 -- what these facts leave possible
 pub record IsTableOf (problem : Problem) (facts : List Fact) (table : Table) : Type 0 where
   pub readings : readings_of table.readings.items ≡ readings problem.test.now facts
-  pub values : AreValues (readings_of table.readings.items) problem.expressions.written.items table.values.items
+  pub values : AreTableValues problem table
 
 -- a branch of these facts, before whose last answer there were so many
 abbrev pub branch_of : ℕ → List Fact → spec.Branch
