@@ -153,12 +153,12 @@ fn says_lockless(line: &mut Line, cell: &[u8], locked: &[Token<'_>]) -> bool {
 }
 
 /// Says the three instructions that one is which computes in this location without LOCK, with what stands behind its register.
-pub fn say_three(
+pub fn say_three<'a>(
     line: &mut Line,
-    cell: &[u8],
-    name: Piece<'_>,
-    loc: &[u8],
-    source: [Piece<'_>; 2],
+    cell: &'a [u8],
+    name: Piece<'a>,
+    loc: &'a [u8],
+    source: [Piece<'a>; 2],
 ) {
     let free = match source[1] {
         Piece::Text(reg) if is_one_of("EAX", reg.as_bytes()) => Piece::Text("EBX"),

@@ -274,7 +274,7 @@ fn says_unknown_call(line: &mut Line, call: &Call<'_>) -> bool {
 }
 
 /// Of a compare with an exchange that has its words as numbers. Whether one has.
-fn says_compared(line: &mut Line, statement: &Statement<'_>, call: &Call<'_>) -> bool {
+fn says_compared<'a>(line: &mut Line, statement: &Statement<'a>, call: &Call<'a>) -> bool {
     let Some((place, one)) = place_of(call) else {
         return false;
     };
