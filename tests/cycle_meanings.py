@@ -40,6 +40,7 @@ SHOWN = (
     ("Coe PodWW Rfe DpdW Rfe PodRR Fre", "forbidden", r"exists (2:EAX=1 /\ 3:EAX=1 /\ 3:EBX=0 /\ x=2)"),
     ("PodWW Rfe Rmw PodWR Fre", "forbidden", r"exists (1:EAX=1 /\ 1:EBX=0 /\ y=2)"),
     ("Rfe Rmw PodWR Fre PodWR Fre", "allowed", r"exists (0:EAX=0 /\ 2:EAX=1 /\ 2:EBX=0 /\ y=2)"),
+    ("--compare PodWW Rfe Rmw PodWR Fre", "forbidden", r"exists (1:EAX=1 /\ 1:EBX=0 /\ y=2)"),
 )
 
 # Words that are refused, and why.
@@ -213,29 +214,37 @@ class Asked:
 
 
 def judge_cycle(work):
-    """A cycle's name, and what is wrong with its test, if anything is."""
+    """A cycle's name, and what is wrong with its test, if anything is; and with the one whose Rmw compare."""
     cycle, program = work
     words = " ".join(edges.names(cycle))
+    forms = (False, True) if any(edge.kind == "Rmw" for edge in cycle) else (False,)
+    faults = (fault_of_test(cycle, words, compares, program) for compares in forms)
+    return words, next(filter(None, faults), None)
+
+
+def fault_of_test(cycle, words, compares, program):
     try:
-        test = cycles.test_of(edges.cycle_named(words.split()))
+        test = cycles.test_of(edges.cycle_named(words.split()), compares=compares)
     except edges.BadCycle as refusal:
         plain = without_data(cycle)
         due = contradicts(cycle) or plain != cycle and values_agree(cycle)
-        return words, None if due else "is refused: %s" % refusal
+        return None if due else "is refused: %s" % refusal
     if contradicts(cycle):
-        return words, "isn't refused, and contradicts itself"
+        return "isn't refused, and contradicts itself"
     asked = Asked(test)
     fault = asked.fault_of_programs() or asked.fault_of_condition()
     if fault:
-        return words, fault
+        return fault
+    if compares != any(one.kind == "cmpxchg" for program_of_core in test.programs for one in program_of_core):
+        return "compares, or doesn't"
     verdict, due = theory.verdict(test), "allowed" if asked.is_allowed() else "forbidden"
     if verdict != due:
-        return words, "is %s, and its test %s" % (due, verdict)
+        return "is %s, and its test %s" % (due, verdict)
     if program:
         found = answers.outcomes(program, test.text(), [], PATIENCE)
         if "states" not in found or verdict != ("allowed" if found["true"] else "forbidden"):
-            return words, "is %s by theory, and by the program %s" % (verdict, found)
-    return words, None
+            return "is %s by theory, and by the program %s" % (verdict, found)
+    return None
 
 
 def judge_lines(tally):
