@@ -1,24 +1,33 @@
 #!/usr/bin/env python3
-"""Runs each instruction of the larger set on this machine's processor with 1,000 words and registers each, and compares what the second
-program (tests/reference) and tools/meanings.py make of them.
+"""Runs each instruction of the larger set on this machine's processor with many words and registers, and compares what the program, the
+second program (tests/reference) and tools/meanings.py make of them.
 
-    tests/instructions.py [SEED]
+    tests/instructions.py PROGRAM [--values N] [--seed S] [--also PROGRAM]
+
+Each instruction has N (1000) values, drawn from the seed S (1). The program is asked of eight at once: each core of a test has the
+instruction, with a location and registers of its own. A further program has one in four. The last line is 'N passed, M failed'.
 """
 import os
 import random
+import re
 import subprocess
 import sys
 import tempfile
 
 sys.dont_write_bytecode = True
-sys.path.insert(1, os.path.join(os.path.dirname(os.path.abspath(__file__)), os.pardir, "tools"))
-import assembler
-import litmus
-import meanings
+import hardware_runs
+import judging
 from reference import arithmetic, reading
 from reference import litmus as voice
 
-TIMES = 1_000
+import assembler
+import litmus
+import meanings
+
+VALUES = 1_000
+
+# So many values the program has at once: a core each.
+AT_ONCE = voice.MOST_CORES
 
 # Values at which instructions differ most.
 EDGES = (0, 1, 2, 2**31 - 1, 2**31, 2**31 + 1, 2**32 - 2, 2**32 - 1)
@@ -111,23 +120,66 @@ def by_processor(blocks, asked):
     return [list(map(int, line.split())) for line in done.stdout.splitlines()]
 
 
-def main(arguments):
-    chance, found = random.Random(int(arguments[0]) if arguments else 1), cells()
+def test_for(cell, group):
+    """A test in which each core has this instruction, with one of these words and registers, and each its own location."""
+    first = "".join("x%d=%d; " % (core, values[0]) + "".join("%d:%s=%d; " % (core, name, value)
+                                                             for name, value in zip(litmus.REGISTERS, values[1:]))
+                    for core, values in enumerate(group))
+    cells = " | ".join(re.sub(r"\[x\]", "[x%d]" % core, cell) for core in range(len(group)))
+    return "X86 one\n{ %s}\n%s ;\n%s ;\n" % (first, " | ".join("P%d" % core for core in range(len(group))), cells)
+
+
+def by_program(program, cell, group):
+    """The words and registers after each of these, by the program: its buffers have no room, so each core takes one step."""
+    choices = " ".join("%ds" % core for core in range(len(group)))
+    given = test_for(cell, group).encode() + judging.DIVIDER + choices.encode()
+    done = program.run(["run", "--depth", "0", "--instructions", voice.ALL], given)
+    report = done.stdout.decode()
+    words = dict(re.findall(r" x(\d)=(\d+)", re.search(r"^Memory.*$", report, re.M)[0])) if done.returncode == judging.ENDED else {}
+    registers = [list(map(int, re.findall(r"=(\d+)", line))) for line in re.findall(r"^Registers (.*)$", report, re.M)]
+    return [[int(words[str(core)]), *row] for core, row in enumerate(registers)] if words else [[judging.described(done)]] * len(group)
+
+
+def faults_of_program(program, cell, asked, answers):
+    """Of which values the program makes something else of an instruction."""
+    found = [one for at in range(0, len(asked), AT_ONCE) for one in by_program(program, cell, asked[at:at + AT_ONCE])]
+    return ["of %s %s, and not %s" % one for one in zip(asked, found, answers) if one[1] != one[2]][:3]
+
+
+def faults_of(cell, ours, theirs, asked, answers):
+    """Of which values the second program, or the tools, make something else of it."""
+    faults = []
+    for values, answer in zip(asked, answers):
+        told = {"the second program": by_voice(theirs, values[0], values[1:]), "the tools": by_tools(ours, values[0], values[1:])}
+        faults += ["%s, of %s: %s, and not %s" % (who, values, said, answer) for who, said in told.items() if said != answer]
+    return faults[:3]
+
+
+def main():
+    words = judging.with_programs(__doc__, with_part=False)
+    words.add_argument("--values", type=int, default=VALUES)
+    words.add_argument("--seed", type=int, default=1)
+    asked = words.parse_args()
+    missing, tally, found = hardware_runs.why_not(), judging.Tally(), cells()
+    if missing:
+        print("not tried: instructions on this machine's processor: %s" % missing)
+        return 0
+    chance = random.Random(asked.seed)
+    values = [[drawn_values(chance) for _ in range(asked.values)] for _ in found]
     ours = [litmus.read_test(text_of(cell)).programs[0][0] for cell in found]
     theirs = [reading.read_test(text_of(cell).encode("ascii"), voice.ALL).programs[0][0] for cell in found]
     blocks = [assembler.block_of("cell_%d" % at, [one], ["x"]) for at, one in enumerate(ours)]
-    asked = [(at, drawn_values(chance)) for at in range(len(found)) for _ in range(TIMES)]
-    answers, wrong = by_processor(blocks, asked), set()
-    if len(answers) != len(asked):
-        sys.exit("the program ended early")
-    for (at, values), answer in zip(asked, answers):
-        told = {"the second program": by_voice(theirs[at], values[0], values[1:]), "the tools": by_tools(ours[at], values[0], values[1:])}
-        wrong |= {(found[at], who) for who, said in told.items() if said != answer}
-    for cell, who in sorted(wrong):
-        print("%s: %s differs from the processor" % (cell, who))
-    print("%d instructions, %d results, %d differ" % (len(found), len(answers), len(wrong)))
-    return 1 if wrong else 0
+    answers = by_processor(blocks, [(at, one) for at, row in enumerate(values) for one in row])
+    if len(answers) != len(found) * asked.values:
+        sys.exit("the program of the instructions ended early")
+    answers = [answers[at * asked.values:(at + 1) * asked.values] for at in range(len(found))]
+    tally.add("instructions", [(cell, faults_of(cell, *one)) for cell, *one in zip(found, ours, theirs, values, answers)])
+    rows = [("%s, the program" % cell, lambda program, one=(cell, row, due): faults_of_program(program, *one))
+            for cell, row, due in zip(found, values, answers)]
+    tally.add("instructions", judging.judged_in_turn(rows, judging.programs_in(asked), at_once=2))
+    print("%d instructions, each with %d values" % (len(found), asked.values))
+    return tally.end()
 
 
 if __name__ == "__main__":
-    sys.exit(main(sys.argv[1:]))
+    sys.exit(main())
