@@ -108,16 +108,18 @@ def drawn_values(chance):
     return values
 
 
-def by_processor(blocks, asked):
-    """The words and registers after each of these, by this machine's processor."""
+def by_processor(instructions, values):
+    """The words and registers after each instruction with each of its values, by this machine's processor."""
+    blocks = [assembler.block_of("cell_%d" % at, [one], ["x"]) for at, one in enumerate(instructions)]
     with tempfile.TemporaryDirectory() as room:
         source, made = os.path.join(room, "cells.c"), os.path.join(room, "cells")
         with open(source, "w", encoding="ascii") as file:
             file.write(PROGRAM % ("\n".join(blocks), ", ".join("cell_%d" % at for at in range(len(blocks)))))
         subprocess.run([*(os.environ.get("CC") or "cc").split(), "-O1", "-o", made, source], check=True)
-        lines = "".join("%d %s\n" % (at, " ".join(map(str, values))) for at, values in asked)
+        lines = "".join("%d %s\n" % (at, " ".join(map(str, row))) for at, rows in enumerate(values) for row in rows)
         done = subprocess.run([made], input=lines, capture_output=True, text=True, check=True)
-    return [list(map(int, line.split())) for line in done.stdout.splitlines()]
+    found = iter([list(map(int, line.split())) for line in done.stdout.splitlines()])
+    return [[next(found) for _ in rows] for rows in values]
 
 
 def test_for(cell, group):
@@ -161,18 +163,15 @@ def main():
     words.add_argument("--seed", type=int, default=1)
     asked = words.parse_args()
     missing, tally, found = hardware_runs.why_not(), judging.Tally(), cells()
-    if missing:
-        print("not tried: instructions on this machine's processor: %s" % missing)
-        return 0
     chance = random.Random(asked.seed)
     values = [[drawn_values(chance) for _ in range(asked.values)] for _ in found]
     ours = [litmus.read_test(text_of(cell)).programs[0][0] for cell in found]
     theirs = [reading.read_test(text_of(cell).encode("ascii"), voice.ALL).programs[0][0] for cell in found]
-    blocks = [assembler.block_of("cell_%d" % at, [one], ["x"]) for at, one in enumerate(ours)]
-    answers = by_processor(blocks, [(at, one) for at, row in enumerate(values) for one in row])
-    if len(answers) != len(found) * asked.values:
-        sys.exit("the program of the instructions ended early")
-    answers = [answers[at * asked.values:(at + 1) * asked.values] for at in range(len(found))]
+    if missing:
+        print("not tried: instructions on this machine's processor: %s" % missing)
+        answers = [[by_voice(one, row[0], row[1:]) for row in rows] for one, rows in zip(theirs, values)]
+    else:
+        answers = by_processor(ours, values)
     tally.add("instructions", [(cell, faults_of(cell, *one)) for cell, *one in zip(found, ours, theirs, values, answers)])
     rows = [("%s, the program" % cell, lambda program, one=(cell, row, due): faults_of_program(program, *one))
             for cell, row, due in zip(found, values, answers)]
