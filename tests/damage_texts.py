@@ -7,8 +7,8 @@ Each beginning of a generated test, of a list of choices and of a report is read
 small test, its choices and an order each byte is replaced by each of the 256 in turn: the answer must be of a form that
 the program has, with a name of a refusal and a place that the text has. And the greatest inputs, with their answers,
 under a small stack and within a bound of processor time. All of it also on the split bus, without store buffers, traced,
-counted and searched, where a byte is replaced by one of each kind that a text tells apart. A further program has one in four of the
-damaged texts, in turn, and all else. The last line is 'N passed, M failed'.
+counted and searched, and of a test of the larger set of instructions, where a byte is replaced by one of each kind that a text tells
+apart. A further program has one in four of the damaged texts, in turn, and all else. The last line is 'N passed, M failed'.
 """
 import collections
 import functools
@@ -17,11 +17,12 @@ import resource
 import sys
 
 sys.dont_write_bytecode = True
+import instruction_sets
 import judging
 import rows
 from great_texts import ONE_STORE, great_texts, greatest_test
 from judging import DIVIDER, ENDED, INVALID, REFUSED, UNFINISHED
-from reference import hints, printing, reading, reasons
+from reference import hints, printing, reasons
 
 # So many texts a process takes at once.
 AT_ONCE = 64
@@ -34,6 +35,10 @@ JUDGES = ["check", "witness"]
 SMALL_TEST = b"X86 t\n{x=1;}\nP0;\nMOV [x],2;\nexists x=2\n"
 SMALL_CHOICES = b"0s 0d\n"
 SMALL_ORDER = b"Order\nP0:0 W x=2\nEndorder 1\n"
+
+# A test of the larger set, and under what it is damaged.
+SMALL_LARGER_TEST = b"X86 t\n{x=-1;}\nP0;\nLOCK XOR [x],0x2;\nNEG EAX;\nexists x=-3\n"
+LARGER = ["run --instructions all", "outcomes --instructions all", "why --instructions all"]
 
 # What a byte is replaced by: any of the 256; and one of each kind that some part of a text tells apart.
 ALL_BYTES = range(256)
@@ -104,7 +109,7 @@ def is_outcomes(output):
 
 @functools.lru_cache(1024)
 def test_of(text):
-    return reading.read_test(text)
+    return instruction_sets.read_test(text)
 
 
 def is_told(command, given, done, show):
@@ -250,6 +255,7 @@ def judge_damage(programs, tally):
     ordered = SMALL_TEST + DIVIDER + SMALL_ORDER
     jobs = [(line, whole, 0, ALL_BYTES if line == "run" else KINDS_OF_BYTES) for line in RUNS + SEARCHES]
     jobs.append(("check", ordered, len(SMALL_TEST + DIVIDER), ALL_BYTES))
+    jobs += [(line, SMALL_LARGER_TEST + DIVIDER + SMALL_CHOICES, 0, KINDS_OF_BYTES) for line in LARGER]
     return sum(judge_texts(programs, tally, line, damaged(text, first, others), faults_of_form, "bytes damaged", judging.EVERY)
                for line, text, first, others in jobs)
 

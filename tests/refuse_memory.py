@@ -32,6 +32,10 @@ EVERY_FORM = (b"(* a comment *) X86 every-form\n\"a quotation\" Key=value\n{ x=1
               b"~exists ((not 0:EBX=1 \\/ true) /\\ (x=1 /\\ ~false))\n")
 SEEDED = b"0s 1d seed 5 4000\n"
 
+LARGER_SET = (b"X86 larger\n{ x=-1; 0:EBX=0x2; }\n P0                   | P1          ;\n LOCK CMPXCHG [x],EBX | LOCK OR [y],-2 ;\n"
+              b" SUB EBX,$0x10        | MOV EAX,[x] ;\n XCHG EAX,EBX         | LOCK INC [x] ;\n MOV [y],EAX          | PAUSE       ;\n"
+              b"exists (y=0x10 /\\ 1:EAX=-1)\n")
+
 LATE_LOAD = b"X86 t\n{ }\n P0 ;\n MOV [x],$1 ;\n MOV [y],$1 ;\n MOV EAX,[z] ;\n"
 LATE_LOAD_ORDER = b"Order\nP0:2 R z=0\nP0:0 W x=1\nP0:1 W y=1\nEndorder 3\n"
 
@@ -75,6 +79,11 @@ JOBS = [
     ("why --model sc --json", judging.STORE_BUFFERING, ENDED),
     ("why --model sc --assert", judging.STORE_BUFFERING, INVALID),
     ("why", judging.STORE_BUFFERING + b")", REFUSED),
+    ("run --instructions all", LARGER_SET + DIVIDER + SEEDED, ENDED),
+    ("trace --instructions all --bus split", LARGER_SET + DIVIDER + SEEDED, ENDED),
+    ("outcomes --instructions all --show all", LARGER_SET, ENDED),
+    ("why --instructions all", LARGER_SET.replace(b"SUB EBX,$0x10", b"PAUSE        "), ENDED),
+    ("why", LARGER_SET, REFUSED),
     ("sweep --seeds 3 --length 2000", EVERY_FORM, ENDED),
     ("sweep --seeds 3 --length 6", judging.STORE_BUFFERING, UNFINISHED),
     ("sweep --seeds 3 --length 2000 --bus split", EVERY_FORM, ENDED),
