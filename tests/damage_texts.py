@@ -255,7 +255,7 @@ def judge_damage(programs, tally):
     ordered = SMALL_TEST + DIVIDER + SMALL_ORDER
     jobs = [(line, whole, 0, ALL_BYTES if line == "run" else KINDS_OF_BYTES) for line in RUNS + SEARCHES]
     jobs.append(("check", ordered, len(SMALL_TEST + DIVIDER), ALL_BYTES))
-    jobs += [(line, SMALL_LARGER_TEST + DIVIDER + SMALL_CHOICES, 0, KINDS_OF_BYTES) for line in LARGER]
+    jobs += [(line, SMALL_LARGER_TEST + DIVIDER + b"0s 0s\n", 0, KINDS_OF_BYTES) for line in LARGER]
     return sum(judge_texts(programs, tally, line, damaged(text, first, others), faults_of_form, "bytes damaged", judging.EVERY)
                for line, text, first, others in jobs)
 
