@@ -71,6 +71,7 @@ import graph_runs
 import hardware_runs
 import imported_files
 import importer
+import instruction_sets
 import judging
 import litmus
 import module_runs
@@ -166,7 +167,7 @@ def judge_program(program, tally):
     texts = [cycles.test_of(cycle).text() for cycle in edges.cycles(4, True)]
     texts += [importer.Importer(text).test().text() for _, text, _ in READ]
     for text in texts:
-        ended = judging.run(program, ["sweep"], text.encode())
+        ended = judging.run(program, ["sweep", *instruction_sets.words_for(text.encode())], text.encode())
         tally.add(text.split("\n")[0], None if ended.returncode in (0, 3) else ended.stdout.decode().strip())
 
 

@@ -85,13 +85,16 @@ def judge_names(program, tally, room):
 
 
 def judge_shown(program, tally, room):
-    """`Show=..` is handed to a program that knows --show, and to no other one."""
+    """`Show=..` is handed to a program that knows --show, and to no other one; and so is the set of instructions."""
     asked, note = os.path.join(room, "asked"), """case "$*" in *--help*) %s ;; *) echo "$*" >> '%s' ;; esac"""
     knows = stand_in(os.path.join(room, "knows"), program, note % ("true", asked))
     older = stand_in(os.path.join(room, "older"), program, note % ("'%s' \"$@\" 2>&1 | grep -v -e --show; exit 2" % program, asked))
+    first = stand_in(os.path.join(room, "first"), program,
+                     note % ("'%s' \"$@\" 2>&1 | grep -v -e --show -e --instructions; exit 2" % program, asked))
     for name, text, words in SHOWN:
         test = importer.Importer(text).test().text()
-        for one, due in ((knows, words), (older, "outcomes --json\n")):
+        of_larger_set = words.replace("--json", "--json --instructions all")
+        for one, due in ((knows, of_larger_set), (older, "outcomes --json --instructions all\n"), (first, "outcomes --json\n")):
             write(asked, "")
             found = answers.outcomes(one, test, shows.words_of_show(one, test), 60)
             tally.add(name, None if "states" in found else str(found))
