@@ -18,7 +18,7 @@ ghost use Rattle.refutation_laws.specs.declared.model.Model.{Model};
 ghost use Rattle.scheduler.specs.Grammar.{SpellsChoices};
 ghost use Rattle.scheduler.specs.Printed.{printed_choices};
 ghost use Rattle.short_refutations.specs.Refutations.{Lemma, Node, refutes};
-ghost use Rattle.short_reasons.specs.Reasons.{ClosesMoreCases, most_cases};
+ghost use Rattle.short_reasons.specs.Reasons.{HasMoreCases, most_cases};
 ghost use Rattle.search_report.specs.PrintedReasons.{allowed_in, unfinished_cases_in};
 ghost use Rattle.search_report.specs.ShortReports.{short_refutation_in};
 ghost use Rattle.command_line.specs.Explanation.{Explanation, IsExplanationWithinLimits};
@@ -89,7 +89,7 @@ pub fn a_text_without_a_reason_names_its_limit()
     ensures printed { (t : Litmus) (plan : Explanation) (json : Bool) (out : List ℕ) (said : GivesNoReason t plan json out)
         → out ≡ unfinished_cases_in json t plan.cases }
     ensures more { (t : Litmus) (plan : Explanation) (json : Bool) (out : List ℕ) (said : GivesNoReason t plan json out)
-        → ClosesMoreCases plan.model t plan.cases }
+        → HasMoreCases plan.model t plan.cases }
     ensures fewer { (t : Litmus) (plan : Explanation) (json : Bool) (out : List ℕ) (said : GivesNoReason t plan json out)
         → plan.cases < most_cases t }
 {}

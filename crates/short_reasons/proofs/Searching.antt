@@ -1,6 +1,5 @@
--- The search's state: its nodes are part of a tree, whose open branches are these; they and the cases that are closed weigh no more than
--- all cases.
-use Rattle.short_reasons.proofs.Vocabulary.{◌≡◌, ◌<◌, ◌≤◌, ◌+◌, ℕ, ◌&&◌, Bool, true, false, if◌then◌else◌, List, [], ◌∷◌, ◌++◌, map, Some, None, arith, refl, sym, ap, ◌∙◌, subst, Litmus, Model, may_ask, is_answered, asked_claim, Fact, facts_of, branches_of, Node, known_from, is_node, close, refutes, below, still_open_after, one_if_none, cases_closed, given_at_first, ClosesMoreCases, most_cases, node_of, answers_told, as_question, as_node, IsBranch, IsCaseStep, AreOpenAfter}
+-- The search's state: its nodes are part of a tree, whose open branches are these; they weigh, with the nodes, no more than all cases.
+use Rattle.short_reasons.proofs.Vocabulary.{◌≡◌, ◌<◌, ◌≤◌, ◌+◌, ◌*◌, ◌/◌, ℕ, ◌&&◌, Bool, true, false, if◌then◌else◌, List, [], ◌∷◌, ◌++◌, length, length_push, length-map, map, Some, None, arith, mul-le, div-lt_iff_lt-mul, refl, sym, ap, ◌∙◌, subst, Litmus, Model, events_of, may_ask, is_answered, asked_claim, Fact, facts_of, branches_of, Node, known_from, is_node, close, refutes, product, sources_in, all_orders, below, still_open_after, counted_as, given_at_first, HasMoreCases, most_cases, node_of, answers_told, as_question, as_node, IsBranch, IsCaseStep, AreOpenAfter}
 use Rattle.refutations.specs.Trees as found
 use Rattle.refutations.specs.declared.tree.Node as step
 use Rattle.std.specs.Prelude.{Vec}
@@ -13,11 +12,15 @@ use Rattle.short_reasons.proofs.Weighing.{some-weight, weight, weight-at-first}
 use Rattle.short_reasons.proofs.Answering.{first-branch, none-at-first}
 use Rattle.short_reasons.proofs.Narrowing.{AreBranches, total_of, total-both, are-both, question-branches, question-lighter, question-stands}
 
-pub record IsSearch (model : Model) (t : Litmus) (branches : List (List Fact)) (nodes : List Node) (closed : ℕ) : Type 0 where
+pub record IsSearch (model : Model) (t : Litmus) (branches : List (List Fact)) (nodes : List Node) : Type 0 where
   pub is_part : still_open_after model t (given_at_first t ∷ []) nodes ≡ Some branches
-  pub counted : cases_closed t (given_at_first t ∷ []) nodes ≡ closed
   pub fit : AreBranches t branches
-  pub bound : closed + total_of 0 t branches ≤ most_cases t
+  pub bound : length nodes + total_of 1 t branches ≤ product (sources_in t) (events_of t) * all_orders (events_of t)
+
+-- each open branch weighs something
+some-total : (t : Litmus) (branches : List (List Fact)) → length branches ≤ total_of 1 t branches
+some-total t [] = omega arith
+some-total t (facts ∷ rest) = let w = some-weight 1 t (answers_told facts) in let h = some-total t rest in omega (arith, w, h)
 
 -- ---- one node more
 
@@ -46,25 +49,6 @@ module _ (model : Model) (t : Litmus) where
       go true f later = later f
       go false f later = let z : ⊥ = cc in absurd z
 
-  closed-more : (ks : List (List Fact)) (ns : List Node) (facts : List Fact) (rest : List (List Fact)) (n : Node)
-      → still_open_after model t ks ns ≡ Some (facts ∷ rest) → cases_closed t ks (ns ++ (n ∷ [])) ≡ cases_closed t ks ns + one_if_none (below t facts n)
-  closed-more ks [] facts rest n e =
-      let same : ks ≡ facts ∷ rest = cc in ap (λ cs. cases_closed t cs (n ∷ [])) same ∙ only (one_if_none (below t facts n))
-    where
-      only : (m : ℕ) → m + 0 ≡ 0 + m
-      only m = omega arith
-  closed-more [] (m ∷ ns) facts rest n e = let z : ⊥ = cc in absurd z
-  closed-more (j ∷ js) (m ∷ ns) facts rest n e =
-      go (is_node model t [] (known_from t j) m) e (λ f. closed-more (below t j m ++ js) ns facts rest n f)
-    where
-      go : (b : Bool) → (if b then still_open_after model t (below t j m ++ js) ns else None) ≡ Some (facts ∷ rest)
-          → (still_open_after model t (below t j m ++ js) ns ≡ Some (facts ∷ rest)
-          → cases_closed t (below t j m ++ js) (ns ++ (n ∷ [])) ≡ cases_closed t (below t j m ++ js) ns + one_if_none (below t facts n))
-          → one_if_none (below t j m) + cases_closed t (below t j m ++ js) (ns ++ (n ∷ []))
-          ≡ (one_if_none (below t j m) + cases_closed t (below t j m ++ js) ns) + one_if_none (below t facts n)
-      go true f later = let h = later f in omega (arith, h)
-      go false f later = let z : ⊥ = cc in absurd z
-
   all-closed : (ks : List (List Fact)) (ns : List Node) → still_open_after model t ks ns ≡ Some [] → close model t [] ks ns ≡ true
   all-closed [] [] e = refl
   all-closed (facts ∷ ks) [] e = let z : ⊥ = cc in absurd z
@@ -77,60 +61,64 @@ module _ (model : Model) (t : Litmus) where
       go true f later = later f
       go false f later = let z : ⊥ = cc in absurd z
 
-some-below : (xs : List (List Fact)) → (xs ≡ [] → ⊥) → one_if_none xs ≡ 0
-some-below [] h = absurd (h refl)
-some-below (x ∷ xs) h = refl
-
 -- ---- the search's steps
 
 module _ (model : Model) (t : Litmus) where
-  pub at-first : IsSearch model t (given_at_first t ∷ []) [] 0
+  pub at-first : IsSearch model t (given_at_first t ∷ []) []
   at-first = record {
     is_part = refl;
-    counted = refl;
     fit = (first-branch t, tt);
-    bound = let d = ap (weight 0 t) (none-at-first t) in let e = weight-at-first t in omega (arith, d, e);
+    bound = let d = ap (weight 1 t) (none-at-first t) in let e = weight-at-first t in omega (arith, d, e);
   }
 
-  module _ (facts : List Fact) (rest : List (List Fact)) (nodes : List Node) (closed : ℕ) (n : Node)
-      (s : IsSearch model t (facts ∷ rest) nodes closed) where
-    with-leaf : is_node model t [] (known_from t facts) n ≡ true → below t facts n ≡ [] → IsSearch model t rest (nodes ++ (n ∷ [])) (closed + 1)
-    with-leaf stands none =
-        let a = closed-more model t (given_at_first t ∷ []) nodes facts rest n s.is_part in
-        let b = ap one_if_none none in
-        let c = s.counted in
-        let d = some-weight 0 t (answers_told facts) in
+  module _ (facts : List Fact) (rest : List (List Fact)) (nodes : List Node) (s : IsSearch model t (facts ∷ rest) nodes) where
+    with-leaf : (n : Node) → is_node model t [] (known_from t facts) n ≡ true → below t facts n ≡ [] → IsSearch model t rest (nodes ++ (n ∷ []))
+    with-leaf n stands none =
+        let d = some-weight 1 t (answers_told facts) in
         let e = s.bound in
+        let f = length_push nodes n in
         record {
           is_part = onwards model t (given_at_first t ∷ []) nodes facts rest n s.is_part stands ∙ ap (λ xs. Some (xs ++ rest)) none;
-          counted = omega (arith, a, b, c);
           fit = s.fit.1;
-          bound = omega (arith, d, e);
-        }
-
-    with-question : may_ask t (as_question n) ≡ true → is_answered (answers_told facts) (as_question n) ≡ false → (below t facts n ≡ [] → ⊥)
-        → IsSearch model t (below t facts n ++ rest) (nodes ++ (n ∷ [])) closed
-    with-question ask fresh some =
-        let a = closed-more model t (given_at_first t ∷ []) nodes facts rest n s.is_part in
-        let b = some-below (below t facts n) some in
-        let c = s.counted in
-        let d = (question-lighter t facts n ask fresh).0 in
-        let e = s.bound in
-        let f = total-both 0 t (below t facts n) rest in
-        record {
-          is_part = onwards model t (given_at_first t ∷ []) nodes facts rest n s.is_part (question-stands t facts model n ask);
-          counted = omega (arith, a, b, c);
-          fit = are-both t (below t facts n) rest (question-branches t facts n ask fresh s.fit.0) s.fit.1;
           bound = omega (arith, d, e, f);
         }
 
-    too-many : is_node model t [] (known_from t facts) n ≡ true → below t facts n ≡ [] → ClosesMoreCases model t closed × (closed < most_cases t)
-    too-many stands none =
-        let m = with-leaf stands none in
-        let c = m.counted in
-        let d = some-weight 0 t (answers_told facts) in
+    with-question : (n : Node) → may_ask t (as_question n) ≡ true → is_answered (answers_told facts) (as_question n) ≡ false
+        → IsSearch model t (below t facts n ++ rest) (nodes ++ (n ∷ []))
+    with-question n ask fresh =
+        let d = (question-lighter t facts n ask fresh).1 in
         let e = s.bound in
-        (record { nodes = nodes ++ (n ∷ []); branches = rest; is_part = m.is_part; more = omega (arith, c) }, omega (arith, d, e))
+        let f = total-both 1 t (below t facts n) rest in
+        let g = length_push nodes n in
+        record {
+          is_part = onwards model t (given_at_first t ∷ []) nodes facts rest n s.is_part (question-stands t facts model n ask);
+          fit = are-both t (below t facts n) rest (question-branches t facts n ask fresh s.fit.0) s.fit.1;
+          bound = omega (arith, d, e, f, g);
+        }
+
+    -- as many nodes as may be, and a branch that is open
+    too-many : (limit : ℕ) → 0 < counted_as (length (events_of t)) → limit / counted_as (length (events_of t)) ≤ length nodes
+        → HasMoreCases model t limit × (limit < most_cases t)
+    too-many limit some late = (
+      record { nodes = nodes; branches = facts ∷ rest; is_part = s.is_part; more = more },
+      let a = more in let b = mul-le all cost most cost all-below (omega arith) in omega (arith, a, b),
+    )
+      where
+        cost : ℕ
+        cost = counted_as (length (events_of t))
+
+        all : ℕ
+        all = length nodes + length (facts ∷ rest)
+
+        most : ℕ
+        most = product (sources_in t) (events_of t) * all_orders (events_of t)
+
+        all-below : all ≤ most
+        all-below = let h = some-total t (facts ∷ rest) in let e = s.bound in omega (arith, h, e)
+
+        more : limit < all * cost
+        more =
+            (div-lt_iff_lt-mul {k = cost} {x = limit} {y = all} some).0 (let l = late in omega (arith, l))
 
 -- ---- the steps as the code takes them
 
@@ -147,32 +135,31 @@ module _ (model : Model) (t : Litmus) (before after : List (Vec declared.Fact Gl
   first : branches_of before ≡ facts ∷ branches_of after
   first = ap branches_of popped ∙ (branches-push after a ∙ ap (λ ds. facts_of ds ∷ branches_of after) (sym same))
 
-  at-case : (nodes : List Node) (closed : ℕ) → IsSearch model t (branches_of before) nodes closed → IsSearch model t (facts ∷ branches_of after) nodes closed
-  at-case nodes closed s = subst (λ ks. IsSearch model t ks nodes closed) first s
+  at-case : (nodes : List Node) → IsSearch model t (branches_of before) nodes → IsSearch model t (facts ∷ branches_of after) nodes
+  at-case nodes s = subst (λ ks. IsSearch model t ks nodes) first s
 
-  pub its-branch : (nodes : List Node) (closed : ℕ) → IsSearch model t (branches_of before) nodes closed → IsBranch t facts
-  its-branch nodes closed s = (at-case nodes closed s).fit.0
+  pub its-branch : (nodes : List Node) → IsSearch model t (branches_of before) nodes → IsBranch t facts
+  its-branch nodes s = (at-case nodes s).fit.0
 
   -- o is what is done, and n its node over facts
-  module _ (o : step.Node) (n : code.Node) (told : node_of n ≡ as_node (found.node_of o)) (nodes more : List code.Node) (closed : ℕ)
-      (e : more ≡ nodes ++ (n ∷ [])) (s : IsSearch model t (branches_of before) (map node_of nodes) closed) (newer : List (Vec declared.Fact Global)) where
+  module _ (o : step.Node) (n : code.Node) (told : node_of n ≡ as_node (found.node_of o)) (nodes more : List code.Node)
+      (e : more ≡ nodes ++ (n ∷ [])) (s : IsSearch model t (branches_of before) (map node_of nodes)) (newer : List (Vec declared.Fact Global)) where
     pushed : map node_of nodes ++ (as_node (found.node_of o) ∷ []) ≡ map node_of more
     pushed = ap (λ m. map node_of nodes ++ (m ∷ [])) (sym told) ∙ sym (ap (map node_of) e ∙ map-more nodes n)
 
     pub after-leaf : IsCaseStep model t facts (Leaf o) → AreOpenAfter t facts (branches_of after) (branches_of newer) (Leaf o)
-        → IsSearch model t (branches_of newer) (map node_of more) (closed + 1)
+        → IsSearch model t (branches_of newer) (map node_of more)
     after-leaf h added =
-        subst (λ ks. IsSearch model t ks (map node_of more) (closed + 1)) (sym added)
-        (subst (λ ns. IsSearch model t (branches_of after) ns (closed + 1)) pushed
-        (with-leaf model t facts (branches_of after) (map node_of nodes) closed (as_node (found.node_of o)) (at-case (map node_of nodes) closed s) h.0 h.1))
+        subst (λ ks. IsSearch model t ks (map node_of more)) (sym added)
+        (subst (λ ns. IsSearch model t (branches_of after) ns) pushed
+        (with-leaf model t facts (branches_of after) (map node_of nodes) (at-case (map node_of nodes) s) (as_node (found.node_of o)) h.0 h.1))
 
     pub after-question : IsCaseStep model t facts (Question o) → AreOpenAfter t facts (branches_of after) (branches_of newer) (Question o)
-        → IsSearch model t (branches_of newer) (map node_of more) closed
+        → IsSearch model t (branches_of newer) (map node_of more)
     after-question h added =
-        subst (λ ks. IsSearch model t ks (map node_of more) closed) (sym added)
-        (subst (λ ns. IsSearch model t (below t facts (as_node (found.node_of o)) ++ branches_of after) ns closed) pushed
-        (with-question model t facts (branches_of after) (map node_of nodes) closed (as_node (found.node_of o)) (at-case (map node_of nodes) closed s)
-        h.0 h.1.0 h.1.1))
+        subst (λ ks. IsSearch model t ks (map node_of more)) (sym added)
+        (subst (λ ns. IsSearch model t (below t facts (as_node (found.node_of o)) ++ branches_of after) ns) pushed
+        (with-question model t facts (branches_of after) (map node_of nodes) (at-case (map node_of nodes) s) (as_node (found.node_of o)) h.0 h.1.0))
 
   module _ (o : step.Node) (newer : List (Vec declared.Fact Global)) where
     pub lighter-by-leaf : AreOpenAfter t facts (branches_of after) (branches_of newer) (Leaf o) → total_of 1 t (branches_of newer) < total_of 1 t (branches_of before)
@@ -191,19 +178,20 @@ module _ (model : Model) (t : Litmus) (before after : List (Vec declared.Fact Gl
         let w = (question-lighter t facts (as_node (found.node_of o)) h.0 h.1.0).1 in
         omega (arith, e, f, g, w)
 
-  pub one-too-many : (o : step.Node) (nodes : List code.Node) (closed limit : ℕ) → closed ≡ limit → IsSearch model t (branches_of before) (map node_of nodes) closed
-      → IsCaseStep model t facts (Leaf o) → ClosesMoreCases model t limit × (limit < most_cases t)
-  one-too-many o nodes closed limit e s h =
-      too-many model t facts (branches_of after) (map node_of nodes) limit (as_node (found.node_of o))
-      (subst (λ m. IsSearch model t (facts ∷ branches_of after) (map node_of nodes) m) e (at-case (map node_of nodes) closed s)) h.0 h.1
+  pub one-too-many : (nodes : List code.Node) (limit : ℕ) → IsSearch model t (branches_of before) (map node_of nodes)
+      → 0 < counted_as (length (events_of t)) → limit / counted_as (length (events_of t)) ≤ length nodes
+      → HasMoreCases model t limit × (limit < most_cases t)
+  one-too-many nodes limit s some late =
+      too-many model t facts (branches_of after) (map node_of nodes) (at-case (map node_of nodes) s) limit some
+      (subst (λ m. limit / counted_as (length (events_of t)) ≤ m) (sym (length-map nodes node_of)) late)
 
 pub first-case : (model : Model) (t : Litmus) (empty branches : List (Vec declared.Fact Global)) (given : List declared.Fact) → empty ≡ []
-    → branches_of branches ≡ facts_of given ∷ branches_of empty → facts_of given ≡ given_at_first t → IsSearch model t (branches_of branches) [] 0
+    → branches_of branches ≡ facts_of given ∷ branches_of empty → facts_of given ≡ given_at_first t → IsSearch model t (branches_of branches) []
 first-case model t empty branches given e f g =
-    subst (λ ks. IsSearch model t ks [] 0) (sym (f ∙ (ap (λ cs. facts_of given ∷ branches_of cs) e ∙ ap (λ ks. ks ∷ []) g))) (at-first model t)
+    subst (λ ks. IsSearch model t ks []) (sym (f ∙ (ap (λ cs. facts_of given ∷ branches_of cs) e ∙ ap (λ ks. ks ∷ []) g))) (at-first model t)
 
-pub all-done : (model : Model) (t : Litmus) (branches : List (Vec declared.Fact Global)) (nodes : List Node) (closed : ℕ) → branches ≡ []
-    → IsSearch model t (branches_of branches) nodes closed → refutes model t (asked_claim t.condition) [] nodes ≡ true
-all-done model t branches nodes closed e s =
+pub all-done : (model : Model) (t : Litmus) (branches : List (Vec declared.Fact Global)) (nodes : List Node) → branches ≡ []
+    → IsSearch model t (branches_of branches) nodes → refutes model t (asked_claim t.condition) [] nodes ≡ true
+all-done model t branches nodes e s =
     all-closed model t (given_at_first t ∷ []) nodes
-    (subst (λ xs. IsSearch model t (branches_of xs) nodes closed) e s).is_part
+    (subst (λ xs. IsSearch model t (branches_of xs) nodes) e s).is_part

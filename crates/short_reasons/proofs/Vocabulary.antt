@@ -1,7 +1,7 @@
 -- The names that the proofs of this crate bring in from definitions and from crates below; each file takes its own from here.
 pub use Rattle.std.proofs.Common.{◌≡◌, ◌<◌, ◌+◌, ◌==◌, ℕ, suc, Bool, true, false, not, if◌then◌else◌, List, [], ◌∷◌, ◌++◌, length, arith, refl, sym, ap, ◌∙◌, ◌⊎◌, inl, inr, subst, ◌-◌, Option, Some, None, option_map, slice_index_or, map, ◌≤◌, ◌*◌, ◌&&◌, ◌||◌, drop, take, length-append}
 pub use Rattle.std.proofs.lemmas.List.{drop_all, append-nil}
-pub use Rattle.std.specs.Prelude.{filter}
+pub use Rattle.std.specs.Prelude.{filter, ◌/◌}
 pub use Rattle.std.specs.List.{list_any, list_all}
 pub use Rattle.basic_laws.specs.Types.{Entry, Quantifier, Exists, NotExists, Forall}
 pub use Rattle.relational_model.specs.Events.{IsIn}
@@ -23,6 +23,8 @@ pub use Rattle.refutation_laws.proofs.Soundness.{itself, bare-same}
 pub use Rattle.refutation_laws.proofs.Settling.{is-event, IsOpen}
 pub use Rattle.short_reasons.specs.inner.Cycles.{up_to, CycleOrOrdered}
 pub use Rattle.std.proofs.lemmas.Nat.{mul-le}
+pub use Rattle.std.proofs.Math.Nat.{div-lt_iff_lt-mul}
+pub use Rattle.std.proofs.lemmas.List.{length_push, length-map}
 pub use Rattle.tso_terms.specs.ProgramOrder.{is_read, is_write, writes_to, is_store}
 pub use Rattle.refutation_laws.specs.Refutations.{sources_of, branches, asked_claim, asked_by}
 pub use Rattle.possible_reads.specs.Facts.{Fact, From, Before, Last, Returns, Holds as HoldsAtEnd, given_by}
@@ -33,7 +35,7 @@ pub use Rattle.short_refutations.proofs.Lists.{Has, has-none}
 pub use Rattle.reading_tables.specs.Told.{fact_of, facts_of}
 pub use Rattle.refutation_checker.specs.inner.Stack.{branches_of}
 pub use Rattle.refutation_laws.specs.inner.FullCases.{has_source, are_ordered, may_ask, is_answered, IsFull, IsSound, IsPossibleSource, NoneBetween}
-pub use Rattle.short_reasons.specs.Reasons.{product, sources_in, orders_in, all_orders, most_cases, below, still_open_after, one_if_none, cases_closed, given_at_first, ClosesMoreCases}
+pub use Rattle.short_reasons.specs.Reasons.{product, sources_in, orders_in, all_orders, most_cases, below, still_open_after, counted_as, given_at_first, HasMoreCases}
 pub use Rattle.refutation_checker.specs.Trees.{node_of}
 pub use Rattle.short_reasons.specs.inner.Answered.{sources_told, pairs_told, answers_told, as_question, as_node}
 pub use Rattle.short_reasons.specs.inner.Questions.{is_unread, is_unordered, first_where, first_beside, pair_or, first_pair, question_of, read_or, first_unread, next_question}

@@ -1,5 +1,5 @@
 -- How many cases a case can come to: over its open questions the product of their answers. What is added to each factor has the search end.
-use Rattle.short_reasons.proofs.Vocabulary.{◌≡◌, ◌≤◌, ◌+◌, ◌*◌, ◌&&◌, ◌||◌, ℕ, Bool, true, false, if◌then◌else◌, List, [], ◌∷◌, length, Option, arith, refl, sym, ap, ◌∙◌, ◌⊎◌, inl, inr, subst, mul-le, Litmus, is_read, is_write, writes_to, Entry, IsIn, in-case, in-none, Precedes, Known, bare, events_of, same_event, is_event, nothing, with_source, sources_of, has_source, are_ordered, or-first, Holds, any-holds, same-bare, product, sources_in, orders_in, all_orders, most_cases, pick, pass}
+use Rattle.short_reasons.proofs.Vocabulary.{◌≡◌, ◌≤◌, ◌+◌, ◌*◌, ◌&&◌, ◌||◌, ℕ, Bool, true, false, if◌then◌else◌, List, [], ◌∷◌, length, Option, arith, refl, sym, ap, ◌∙◌, ◌⊎◌, inl, inr, subst, mul-le, Litmus, is_read, is_write, writes_to, Entry, IsIn, in-case, in-none, Precedes, Known, bare, events_of, same_event, is_event, nothing, with_source, sources_of, has_source, are_ordered, or-first, Holds, any-holds, same-bare, product, sources_in, orders_in, all_orders, pick, pass}
 
 -- ---- products
 
@@ -98,20 +98,16 @@ product-same : (f g : Entry → ℕ) → ((x : Entry) → f x ≡ g x) → (xs :
 product-same f g h [] = refl
 product-same f g h (x ∷ xs) = ap (λ n. n * product f xs) (h x) ∙ ap (λ n. g x * n) (product-same f g h xs)
 
-orders-same : (xs : List Entry) → pairs (weigh_pair 0 nothing) xs ≡ all_orders xs
+orders-same : (xs : List Entry) → pairs (weigh_pair 1 nothing) xs ≡ all_orders xs
 orders-same [] = refl
 orders-same (x ∷ xs) =
-    ap (λ n. n * pairs (weigh_pair 0 nothing) xs) (product-same (weigh_pair 0 nothing x) (orders_in x) (λ y. refl) xs)
+    ap (λ n. n * pairs (weigh_pair 1 nothing) xs) (product-same (weigh_pair 1 nothing x) (orders_in x) (λ y. refl) xs)
     ∙ ap (λ n. product (orders_in x) xs * n) (orders-same xs)
 
-pub weight-at-first : (t : Litmus) → weight 0 t nothing ≡ most_cases t
+pub weight-at-first : (t : Litmus) → weight 1 t nothing ≡ product (sources_in t) (events_of t) * all_orders (events_of t)
 weight-at-first t =
-    ap (λ n. n * pairs (weigh_pair 0 nothing) (events_of t)) (product-same (weigh_read 0 t nothing) (sources_in t) (λ x. same x (is_read x)) (events_of t))
+    ap (λ n. n * pairs (weigh_pair 1 nothing) (events_of t)) (product-same (weigh_read 1 t nothing) (sources_in t) (λ x. refl) (events_of t))
     ∙ ap (λ n. product (sources_in t) (events_of t) * n) (orders-same (events_of t))
-  where
-    same : (x : Entry) (b : Bool) → (if b then 0 + length (sources_of t x) else 1) ≡ (if b then length (sources_of t x) else 1)
-    same x true = omega arith
-    same x false = refl
 
 -- ---- branches
 

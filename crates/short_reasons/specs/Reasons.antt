@@ -1,6 +1,6 @@
 -- What a search for a reason answers: a refutation of what the test asks, an execution in which it is true, or that more cases had to be
 -- told apart than were allowed.
-use Rattle.std.specs.Prelude.{ℕ, ◌≡◌, ◌<◌, ◌+◌, ◌*◌, ◌&&◌, true, if◌then◌else◌, List, [], ◌∷◌, ◌++◌, map, length, Option, Some, None}
+use Rattle.std.specs.Prelude.{ℕ, ◌≡◌, ◌<◌, ◌+◌, ◌*◌, ◌/◌, ◌&&◌, nat_lt, true, if◌then◌else◌, List, [], ◌∷◌, ◌++◌, map, length, Option, Some, None}
 use Rattle.tso_terms.specs.Litmus.{Litmus}
 use Rattle.tso_terms.specs.ProgramOrder.{is_read, is_write, writes_to}
 use Rattle.tso_terms.specs.declared.execution.Entry.{Entry}
@@ -27,27 +27,24 @@ still_open_after model t [] (n ∷ ns) = None
 still_open_after model t (facts ∷ rest) (n ∷ ns) =
     if is_node model t [] (known_from t facts) n then still_open_after model t (below t facts n ++ rest) ns else None
 
--- a node without branches closes a case: a leaf, or a question to which no answer is possible
-abbrev pub one_if_none : List (List Fact) → ℕ
-one_if_none [] = 1
-one_if_none (facts ∷ rest) = 0
-
--- how many cases these nodes close
-abbrev pub cases_closed : Litmus → List (List Fact) → List Node → ℕ
-cases_closed t branches [] = 0
-cases_closed t [] (n ∷ ns) = 0
-cases_closed t (facts ∷ rest) (n ∷ ns) = one_if_none (below t facts n) + cases_closed t (below t facts n ++ rest) ns
-
 -- what is given at the start: that what the test asks is true
 abbrev pub given_at_first : Litmus → List Fact
 given_at_first t = given_by t (asked_claim t.condition) true
 
--- part of a tree that closes more cases than these
-pub record ClosesMoreCases (model : Model) (t : Litmus) (limit : ℕ) : Type 0 where
+abbrev pub cube : ℕ → ℕ
+cube side = (side * side) * side
+
+-- A case is a branch. To look at one takes longer where a test has many events. So it counts there for several. (A test has at most 512
+-- events.)
+abbrev pub counted_as : ℕ → ℕ
+counted_as events = cube (1 + (if nat_lt events 512 then events else 512) / 8)
+
+-- part of a tree that tells more cases apart than these: one for each of its nodes, and one for each branch that is still open
+pub record HasMoreCases (model : Model) (t : Litmus) (limit : ℕ) : Type 0 where
   pub nodes : List Node
   pub branches : List (List Fact)
   pub is_part : still_open_after model t (given_at_first t ∷ []) nodes ≡ Some branches
-  pub more : limit < cases_closed t (given_at_first t ∷ []) nodes
+  pub more : limit < (length nodes + length branches) * counted_as (length (events_of t))
 
 -- ---- how many cases there can be
 
@@ -55,21 +52,21 @@ abbrev pub product : (Entry → ℕ) → List Entry → ℕ
 product f [] = 1
 product f (x ∷ xs) = f x * product f xs
 
--- a read has as many answers as sources
+-- a branch tells of a read one of its sources, or none
 abbrev pub sources_in : Litmus → Entry → ℕ
-sources_in t r = if is_read r then length (sources_of t r) else 1
+sources_in t r = if is_read r then 1 + length (sources_of t r) else 1
 
--- two writes to one location have two answers
+-- and of two writes to one location that one of them comes first, or neither
 abbrev pub orders_in : Entry → Entry → ℕ
-orders_in w v = if is_write w && writes_to w.loc.0 v then 2 else 1
+orders_in w v = if is_write w && writes_to w.loc.0 v then 3 else 1
 
 abbrev pub all_orders : List Entry → ℕ
 all_orders [] = 1
 all_orders (w ∷ ws) = product (orders_in w) ws * all_orders ws
 
--- Over the reads the product of one more than the writes to its location, times two for each pair of writes to one location
+-- over the reads and the pairs of writes the product of what a branch can tell, each case counted for several
 abbrev pub most_cases : Litmus → ℕ
-most_cases t = product (sources_in t) (events_of t) * all_orders (events_of t)
+most_cases t = (product (sources_in t) (events_of t) * all_orders (events_of t)) * counted_as (length (events_of t))
 
 -- ---- the answer
 
@@ -77,4 +74,4 @@ abbrev pub IsShortReason : Model → Litmus → ℕ → Reason → Type 0
 IsShortReason model t limit (Never lemmas tree) =
     refutes model t (asked_claim t.condition) (map lemma_of lemmas.items) (map node_of tree.items) ≡ true
 IsShortReason model t limit (Allowed execution) = IsMet model t (asked_claim t.condition) execution.order.items
-IsShortReason model t limit TooMany = ClosesMoreCases model t limit × (limit < most_cases t)
+IsShortReason model t limit TooMany = HasMoreCases model t limit × (limit < most_cases t)

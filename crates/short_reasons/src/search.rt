@@ -1,9 +1,10 @@
 //! The search: an execution or a refutation that is proposed, or else from case to case, depth first. In each a leaf is
 //! found, or a question is asked, or an execution is met.
-ghost use Rattle.std.specs.Prelude.{◌≡◌, IfOk, IfSome};
+ghost use Rattle.std.specs.Prelude.{◌≡◌, ◌<◌, IfOk, IfSome};
 ghost use Rattle.reading_tables.specs.Told.{facts_of};
 ghost use Rattle.reading_tables.specs.inner.Tables.{IsProblem};
 ghost use Rattle.short_reasons.specs.Reasons.{IsShortReason, given_at_first};
+ghost use Rattle.short_reasons.specs.Reasons as spec;
 
 use crate::reason::{Reason, Step};
 use crate::steps::take_step;
@@ -68,8 +69,8 @@ fn take_proposal<'t>(
     }
 }
 
-/// Why what the test asks never is, or an execution in which it is. One of the two is found where the
-/// cases that it tells apart are at most `limit`; they are never more than `most_cases`.
+/// Why what the test asks never is, or an execution in which it is. One of the two is found unless more
+/// cases than `limit` have to be told apart; they are never more than `most_cases`.
 ///
 /// Errors: out of memory only.
 pub fn explain<'t>(
@@ -101,6 +102,19 @@ fn search(
     close_cases(alloc, &problem, model, limit, given)
 }
 
+/// The most events that a test has: two for each instruction.
+const MOST_EVENTS: usize = 512;
+
+/// For how many cases one counts, where there are so many events.
+fn counted_as(events: usize) -> usize
+    ensures counted { result ≡ spec.counted_as events }
+    ensures some { 0 < result }
+{
+    let few = if events < MOST_EVENTS { events } else { MOST_EVENTS };
+    let side = 1 + few / 8;
+    side * side * side
+}
+
 /// Goes from case to case, until each is closed by a node, or there is another reason to end the search.
 fn close_cases<'t>(
     alloc: Global,
@@ -113,19 +127,16 @@ fn close_cases<'t>(
     requires given { facts_of given.items ≡ given_at_first problem.now.test.now }
     ensures { IfOk result (IsShortReason model problem.now.test.now limit) }
 {
+    let most = limit / counted_as(problem.events.len());
     let mut branches = Vec::new(alloc);
     add_branch(&mut branches, given)?;
     let mut nodes = Vec::new(alloc);
-    let mut closed = 0;
     while let Some(facts) = branches.pop() {
+        if nodes.len() >= most {
+            return Ok(Reason::TooMany);
+        }
         match take_step(alloc, problem, model, &mut branches, &facts)? {
-            Step::Leaf(leaf) => {
-                if closed == limit {
-                    return Ok(Reason::TooMany);
-                }
-                closed += 1;
-                nodes.push(told_node(alloc, &leaf)?)?;
-            }
+            Step::Leaf(leaf) => nodes.push(told_node(alloc, &leaf)?)?,
             Step::Question(question) => nodes.push(told_node(alloc, &question)?)?,
             Step::Allowed(execution) => return Ok(Reason::Allowed(execution)),
         }

@@ -5,7 +5,7 @@ use Rattle.tso_cli.specs.Vocabulary.{Choice, Entry, is_as_claimed, LeadTo, Litmu
 use Rattle.refutation_laws.specs.Refutations.{asked_claim}
 use Rattle.refutation_laws.specs.Models.{IsMet, depth_of}
 use Rattle.short_refutations.specs.Refutations.{Lemma, Node, refutes}
-use Rattle.short_reasons.specs.Reasons.{ClosesMoreCases, most_cases}
+use Rattle.short_reasons.specs.Reasons.{HasMoreCases, most_cases}
 use Rattle.search_report.specs.PrintedReasons.{ShowsExecution, unfinished_cases_in}
 use Rattle.search_report.specs.ShortReports.{short_refutation_in}
 use Rattle.command_line.specs.Explanation.{Explanation}
@@ -28,5 +28,5 @@ pub data IsWhyAnswer (t : Litmus) (e : Explanation) (json assert : Bool) : List 
       → IsWhyAnswer t e json assert (short_refutation_in json e.model t lemmas tree) (status_of_verdict assert (is_as_claimed t.condition false))
   allowed : (out : List ℕ) → IsAllowedAnswer t e json out
       → IsWhyAnswer t e json assert out (status_of_verdict assert (is_as_claimed t.condition true))
-  too_many : ClosesMoreCases e.model t e.cases → e.cases < most_cases t
+  too_many : HasMoreCases e.model t e.cases → e.cases < most_cases t
       → IsWhyAnswer t e json assert (unfinished_cases_in json t e.cases) Unended

@@ -1,7 +1,7 @@
 -- What `why` prints: why what a test asks is so in no execution of the model, or an execution in which it is, and how to get there.
 -- (Primer, chapter 4, for the axioms of TSO, and chapter 3 for sequential consistency; Herding Cats, section 4, for the refutation.)
 use Rattle.std.specs.Prelude.{ℕ, ◌<◌, ◌≡◌, Bool, true, List, length, Option, Some, None}
-use Rattle.tso_cli.specs.Vocabulary.{Choice, ClosesMoreCases, Condition, Entry, Explanation, final_registers, final_words, LeadTo, Litmus, Model, most_cases, printed_choices, run, short_refutation_in, ShowsExecution, SpellsChoices, truth_of, unfinished_cases_in}
+use Rattle.tso_cli.specs.Vocabulary.{Choice, HasMoreCases, Condition, Entry, Explanation, final_registers, final_words, LeadTo, Litmus, Model, most_cases, printed_choices, run, short_refutation_in, ShowsExecution, SpellsChoices, truth_of, unfinished_cases_in}
 use Rattle.tso_terms.specs.FlatMachine.{registers_in}
 use Rattle.tso_laws.specs.EndedRuns.{End}
 use Rattle.refutation_laws.specs.Models.{IsExecutionOf, depth_of}
@@ -47,5 +47,5 @@ pub record PrintsExecutionOf (t : Litmus) (model : Model) (json : Bool) (out : L
 pub data HeadlineOfReasons (t : Litmus) (e : Explanation) (json : Bool) (out : List ℕ) : Type 0 where
   never : PrintsRefutation t e.model json out → HeadlineOfReasons t e json out
   allowed : PrintsExecutionOf t e.model json out → HeadlineOfReasons t e json out
-  too_many : ClosesMoreCases e.model t e.cases → e.cases < most_cases t → out ≡ unfinished_cases_in json t e.cases
+  too_many : HasMoreCases e.model t e.cases → e.cases < most_cases t → out ≡ unfinished_cases_in json t e.cases
       → HeadlineOfReasons t e json out

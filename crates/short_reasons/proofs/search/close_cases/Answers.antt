@@ -6,20 +6,17 @@ use Rattle.short_reasons.proofs.search.close_cases.Goals as goal
 use Rattle.short_reasons.proofs.search.close_cases.Goals.{in-Leaf+else-closed-limit+in_ok-told_node-in-Leaf+in_ok-push-in-Leaf, in-Question+in_ok-told_node-in-Question+in_ok-push-in-Question}
 
 pub loop-facts-init : goal.loop-facts-init
-loop-facts-init c = record {
-  search =
-      subst (λ ns. IsSearch c.args.model c.args.problem.now.test.now (branches_of c.add_branch.new.branches.items) (map node_of ns) 0)
-      (sym c.new-nodes.ensures.items)
-      (first-case c.args.model c.args.problem.now.test.now c.new-branches.result.items c.add_branch.new.branches.items c.args.given.items
-      c.new-branches.ensures.items c.in_ok-add_branch.ensures c.requires.given);
-  few = omega arith;
-}
+loop-facts-init c =
+    subst (λ ns. IsSearch c.args.model c.args.problem.now.test.now (branches_of c.add_branch.new.branches.items) (map node_of ns))
+    (sym c.new-nodes.ensures.items)
+    (first-case c.args.model c.args.problem.now.test.now c.new-branches.result.items c.add_branch.new.branches.items c.args.given.items
+    c.new-branches.ensures.items c.in_ok-add_branch.ensures c.requires.given)
 
 pub take_step-requires-clause-branch : goal.take_step-requires-clause-branch
 take_step-requires-clause-branch c =
     its-branch c.args.model c.args.problem.now.test.now c.loop-facts.branches.items c.pop.new.self.items c.in-Some.facts c.in-Some.ensures.items
     c.deref.result.now c.deref.ensures.value
-    (map node_of c.loop-facts.nodes.items) c.loop-facts.closed c.loop-facts.invariant.search
+    (map node_of c.loop-facts.nodes.items) c.loop-facts.invariant
 
 pub returns-then-closed-limit : goal.returns-then-closed-limit
 returns-then-closed-limit c =
@@ -27,13 +24,6 @@ returns-then-closed-limit c =
     c.deref.result.now c.deref.ensures.value
     c.in-Leaf.leaf c.loop-facts.nodes.items c.loop-facts.closed c.args.limit c.if-closed-limit.true c.loop-facts.invariant.search
     (subst (IsCaseStep c.args.model c.args.problem.now.test.now (facts_of c.deref.result.now)) c.in-Leaf.is c.in_ok-leaf.ensures.step)
-
-pub overflow_add-closed : goal.overflow_add-closed
-overflow_add-closed c =
-    let few = c.loop-facts.invariant.few in
-    let other = c.if-closed-limit.false in
-    let fits = c.ranges.limit.fits in
-    omega (arith, few, other, fits)
 
 pub loop-facts-smaller : goal.loop-facts-smaller
 loop-facts-smaller c =
@@ -100,5 +90,5 @@ returns c =
     let size = c.loop-facts.branches.ok.0 in
     subst (λ ls. refutes c.args.model c.args.problem.now.test.now (asked_claim c.args.problem.now.test.now.condition) (map lemma_of ls)
     (map node_of c.loop-facts.nodes.items) ≡ true) (sym c.new.ensures.items)
-    (all-done c.args.model c.args.problem.now.test.now c.loop-facts.branches.items (map node_of c.loop-facts.nodes.items) c.loop-facts.closed
-    (nil_from_length c.loop-facts.branches.items (omega (arith, none, size))) c.loop-facts.invariant.search)
+    (all-done c.args.model c.args.problem.now.test.now c.loop-facts.branches.items (map node_of c.loop-facts.nodes.items)
+    (nil_from_length c.loop-facts.branches.items (omega (arith, none, size))) c.loop-facts.invariant)
