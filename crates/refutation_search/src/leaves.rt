@@ -164,13 +164,17 @@ pub fn find_leaf(
     if has_leaf(setting, state, before) {
         return before;
     }
-    if is_false(state) {
-        return Leaf::False;
-    }
-    let leaf = or(find_read(setting, state), find_location(setting, state));
+    // A read without a source leaves its register without a value too: the read tells more.
+    let leaf = find_read(setting, state);
     if !matches!(leaf, Leaf::Nothing) {
         return leaf;
     }
-    let leaf = find_between(setting, state);
-    or(leaf, find_cycle(setting, state, events))
+    if is_false(state) {
+        return Leaf::False;
+    }
+    let leaf = or(find_location(setting, state), find_between(setting, state));
+    if !matches!(leaf, Leaf::Nothing) {
+        return leaf;
+    }
+    find_cycle(setting, state, events)
 }
