@@ -110,7 +110,11 @@ fn counted_as(events: usize) -> usize
     ensures counted { result ≡ spec.counted_as events }
     ensures some { 0 < result }
 {
-    let few = if events < MOST_EVENTS { events } else { MOST_EVENTS };
+    let few = if events < MOST_EVENTS {
+        events
+    } else {
+        MOST_EVENTS
+    };
     let side = 1 + few / 8;
     side * side * side
 }
