@@ -122,7 +122,7 @@ fn says_needless(line: &mut Line, cell: &[u8], rest: &[Token<'_>]) -> bool {
 }
 
 /// Says of a cell that is an instruction of the larger set with LOCK before it, as these tokens have it. Whether it is one.
-fn says_lockless(line: &mut Line, cell: &[u8], locked: &[Token<'_>]) -> bool {
+fn says_lockless<'a>(line: &mut Line, cell: &'a [u8], locked: &[Token<'a>]) -> bool {
     let none = Piece::Text("");
     let (loc, source) = match form_of(Instructions::All, locked) {
         Some(Form::At(Use::CompareExchange, loc, reg)) => {
