@@ -1,8 +1,8 @@
 //! What is said of arithmetic and of a compare with an exchange in an assembler's language: the cells that do the same here.
 
 use crate::assembled::{Order, Pair};
-use crate::larger_set::say_three;
-use crate::line::{Line, Piece};
+use crate::larger_set::{Source, say_three};
+use crate::line::Line;
 use crate::mnemonics::larger_of;
 use crate::moves::{
     Location, STACK, location_of, say_cell, say_cell_alone, says_locked_fence, says_no_place,
@@ -44,16 +44,16 @@ fn says_locked(line: &mut Line, pair: &Pair<'_>, name: &'static str, to: Locatio
 /// Of one in a location that isn't locked. Whether all of it is known.
 fn says_apart(line: &mut Line, pair: &Pair<'_>, name: &'static str, to: Location<'_>) -> bool {
     let source = match pair.from {
-        Operand::Number(value) => [Piece::Text(",$"), Piece::Number(value as usize)],
+        Operand::Number(value) => Source::Number(value),
         Operand::Register(reg) => match parent_of(reg) {
-            Some(parent) => [Piece::Text(","), Piece::Text(parent)],
+            Some(parent) => Source::Register(parent),
             None => return false,
         },
         _ => return false,
     };
     let is_known = !matches!(pair.order, Order::Mixed) && is_of_words(pair, to);
     if is_known {
-        say_three(line, pair.cell, Piece::Text(name), to.name, source);
+        say_three(line, pair.cell, name, to.name, source);
     }
     is_known
 }
@@ -118,14 +118,7 @@ pub fn says_changed(line: &mut Line, pair: &Pair<'_>) -> bool {
         (Some(to), _) => {
             let is_known = is_of_words(pair, to);
             if is_known {
-                let nothing = Piece::Text("");
-                say_three(
-                    line,
-                    pair.cell,
-                    Piece::Text(name),
-                    to.name,
-                    [nothing, nothing],
-                );
+                say_three(line, pair.cell, name, to.name, Source::None);
             }
             return is_known;
         }

@@ -14,15 +14,10 @@ use tso_terms::NoMemory;
 
 const LARGER_SET: &str = "{} is read where all instructions are asked for: add --instructions all";
 
-const WITHOUT_LOCK: &str =
-    "{} isn't read without LOCK, which makes it one step: LOCK CMPXCHG [{}],{}";
+const WITHOUT_LOCK: &str = "{} isn't read without LOCK, which makes it one step: ";
 
 const NEEDLESS_LOCK: &str =
     "{}: LOCK stands before what changes a location in one step: leave it out here: {}";
-
-/// Of an instruction that reads a location and writes it, in two steps of memory.
-const THREE: &str =
-    "{}: without LOCK write three cells: MOV {},[{}]  {} {}{}{}  MOV [{}],{}, with a free register for {}";
 
 const NARROW: &str = "{} isn't read: each access is to a whole word of 32 bits";
 
@@ -122,63 +117,58 @@ fn says_needless(line: &mut Line, cell: &[u8], rest: &[Token<'_>]) -> bool {
 }
 
 /// Says of a cell that is an instruction of the larger set with LOCK before it, as these tokens have it. Whether it is one.
-fn says_lockless<'a>(line: &mut Line, cell: &'a [u8], locked: &[Token<'a>]) -> bool {
-    let none = Piece::Text("");
+fn says_lockless(line: &mut Line, cell: &[u8], locked: &[Token<'_>]) -> bool {
     let (loc, source) = match form_of(Instructions::All, locked) {
         Some(Form::At(Use::CompareExchange, loc, reg)) => {
+            line.say_of(WITHOUT_LOCK, cell);
             line.say_with(
-                WITHOUT_LOCK,
-                &[
-                    Piece::Named(cell),
-                    Piece::Shown(loc),
-                    Piece::Text(reg.name()),
-                ],
+                "LOCK CMPXCHG [{}],{}",
+                &[Piece::Shown(loc), Piece::Text(reg.name())],
             );
             line.say_option();
             return true;
         }
         Some(Form::LockedImm(_, loc, Constant::Spelled(numeral))) => match word_at(0, numeral) {
-            Ok(value) => (loc, [Piece::Text(",$"), Piece::Number(value as usize)]),
+            Ok(value) => (loc, Source::Number(value)),
             Err(_) => return false,
         },
-        Some(Form::LockedReg(_, loc, reg)) => { (loc, [Piece::Text(","), Piece::Text(reg.name())]) }
+        Some(Form::LockedReg(_, loc, reg)) => (loc, Source::Register(reg.name())),
         Some(Form::LockedImm(_, loc, Constant::Meant(_)) | Form::LockedNegate(loc)) => {
-            (loc, [none, none])
+            (loc, Source::None)
         }
         _ => return false,
     };
-    let name = larger_of(digits_and_letters(cell)).unwrap_or("");
-    say_three(line, cell, Piece::Text(name), loc, source);
+    match larger_of(digits_and_letters(cell)) {
+        Some(name) => say_three(line, cell, name, loc, source),
+        None => return false,
+    }
     true
 }
 
-/// Says the three instructions that one is which computes in this location without LOCK, with what stands behind its register.
-pub fn say_three<'a>(
-    line: &mut Line,
-    cell: &'a [u8],
-    name: Piece<'a>,
-    loc: &'a [u8],
-    source: [Piece<'a>; 2],
-) {
-    let free = match source[1] {
-        Piece::Text(reg) if is_one_of("EAX", reg.as_bytes()) => Piece::Text("EBX"),
+/// What an instruction has behind the word that it changes.
+#[derive(Clone, Copy)]
+pub enum Source {
+    None,
+    Number(u32),
+    Register(&'static str),
+}
+
+/// Says the three instructions that one is which computes in this location without LOCK.
+pub fn say_three(line: &mut Line, cell: &[u8], name: &'static str, loc: &[u8], source: Source) {
+    let (sign, value) = match source {
+        Source::None => (Piece::Text(""), Piece::Text("")),
+        Source::Number(number) => (Piece::Text(",$"), Piece::Number(number as usize)),
+        Source::Register(reg) => (Piece::Text(","), Piece::Text(reg)),
+    };
+    let free = match source {
+        Source::Register(reg) if is_one_of("EAX", reg.as_bytes()) => Piece::Text("EBX"),
         _ => Piece::Text("EAX"),
     };
-    line.say_with(
-        THREE,
-        &[
-            Piece::Named(cell),
-            free,
-            Piece::Shown(loc),
-            name,
-            free,
-            source[0],
-            source[1],
-            Piece::Shown(loc),
-            free,
-            free,
-        ],
-    );
+    line.say_of("{}: without LOCK write three cells: ", cell);
+    line.say_with("MOV {},[{}]", &[free, Piece::Shown(loc)]);
+    line.say_with("  {} {}{}{}", &[Piece::Text(name), free, sign, value]);
+    line.say_with("  MOV [{}],{}", &[Piece::Shown(loc), free]);
+    line.say_with(", with a free register for {}", &[free]);
     line.say_option();
 }
 
