@@ -155,20 +155,23 @@ pub enum Source {
 
 /// Says the three instructions that one is which computes in this location without LOCK.
 pub fn say_three(line: &mut Line, cell: &[u8], name: &'static str, loc: &[u8], source: Source) {
-    let (sign, value) = match source {
-        Source::None => (Piece::Text(""), Piece::Text("")),
-        Source::Number(number) => (Piece::Text(",$"), Piece::Number(number as usize)),
-        Source::Register(reg) => (Piece::Text(","), Piece::Text(reg)),
-    };
     let free = match source {
-        Source::Register(reg) if is_one_of("EAX", reg.as_bytes()) => Piece::Text("EBX"),
-        _ => Piece::Text("EAX"),
+        Source::Register(reg) if is_one_of("EAX", reg.as_bytes()) => "EBX",
+        _ => "EAX",
     };
     line.say_of("{}: without LOCK write three cells: ", cell);
-    line.say_with("MOV {},[{}]", &[free, Piece::Shown(loc)]);
-    line.say_with("  {} {}{}{}", &[Piece::Text(name), free, sign, value]);
-    line.say_with("  MOV [{}],{}", &[Piece::Shown(loc), free]);
-    line.say_with(", with a free register for {}", &[free]);
+    line.say_with("MOV {},[{}]", &[Piece::Text(free), Piece::Shown(loc)]);
+    line.say_with("  {} {}", &[Piece::Text(name), Piece::Text(free)]);
+    match source {
+        Source::None => {}
+        Source::Number(number) => line.say_number(",${}", number as usize),
+        Source::Register(reg) => line.say_with(",{}", &[Piece::Text(reg)]),
+    }
+    line.say_with("  MOV [{}],{}", &[Piece::Shown(loc), Piece::Text(free)]);
+    line.say_with(
+        ", with a free register for {}",
+        &[Piece::Text(free)],
+    );
     line.say_option();
 }
 
