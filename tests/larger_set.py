@@ -7,7 +7,7 @@ N (40) tests of two to four cores are made from the seed S (1). What each can en
 (tests/lock_machine.py), which shares nothing with the program, the second program or the tools. Then:
 
 - `outcomes` has just these ends, at depth 32, and prints them as the second program does;
-- tools/theory allows just these ends, of the tests with no more than 20,000 candidates;
+- tools/theory allows just these ends, of the tests with no more than 2,000,000 candidates;
 - `why` is right in each of the three quantifiers, of both models: tests/why.py says how it is judged;
 - `trace` on both buses under each of the four protocols prints what the second program does, and ends in one of these ends; `check` finds
   its order valid, and the choices of `witness` lead there again.
@@ -36,7 +36,7 @@ import litmus as tool_litmus
 
 TESTS, PROCESSOR, SECONDS = 40, 20, 0.1
 
-MOST_CANDIDATES = 20_000
+MOST_CANDIDATES = 2_000_000
 
 # What a run's machine has beside its protocol and bus: the test's turn says which.
 SHAPES = tuple(("--depth %d --sets %d --ways %d --words %d" % shape).split()
