@@ -2,10 +2,12 @@
 
 ghost use Rattle.std.specs.Prelude.{◌≡◌, ◌≢◌, ◌<◌, List, Ok, Err, IfOk, IfErr, MatchResult};
 ghost use Rattle.tso_terms.specs.Litmus.{Litmus};
+ghost use Rattle.tso_terms.specs.Decimals.{decimal_value};
 ghost use Rattle.tso_terms.specs.declared.choice.Choice.{Choice as ChoiceMade};
 ghost use Rattle.tso_terms.specs.declared.execution.Entry.{Entry};
 ghost use Rattle.litmus_reader.specs.GrammarTest.{FollowsGrammar};
 ghost use Rattle.litmus_reader.specs.Spelling.{SpellsTest, IsFault, IsRefused};
+ghost use Rattle.litmus_tokens.specs.Terms.{word_of};
 ghost use Rattle.litmus_tokens.specs.declared.fault.Fault.{Fault as FaultFound};
 ghost use Rattle.litmus_tokens.specs.declared.instructions.Instructions.TheVariants.{Basic};
 ghost use Rattle.litmus_reader.specs.declared.fault.TextFault.{TextFault as TextRefused};
@@ -22,10 +24,18 @@ use litmus_reader::{
     Instructions, ReadError, TextFault, Why, read_test, read_test_in, test_or_fault,
     test_or_fault_in,
 };
+use litmus_tokens::word;
 use order_builder::{OrderFault, read_order};
 use scheduler::{ChoiceFault, read_choices, seeded_choices};
 use std::alloc::Global;
 use tso_terms::{Choice, Execution, NoMemory, Test};
+
+/// Decimal digits are the word of 32 bits that they spell, if one has room for it.
+pub fn digits_are_a_word(digits: &[u8]) -> Option<u32>
+    ensures { result ≡ word_of (decimal_value digits.now) }
+{
+    word(digits)
+}
 
 /// A test is read exactly where a text spells it, and refused exactly as the text is; where memory ran out, of no line.
 pub fn a_test_is_read(alloc: Global, text: &[u8]) -> Result<Test, TextFault>
