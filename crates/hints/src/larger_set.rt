@@ -153,6 +153,14 @@ pub enum Source {
     Register(&'static str),
 }
 
+fn say_load<'a>(line: &mut Line, reg: &'a str, loc: &'a [u8]) {
+    line.say_with("MOV {},[{}]", &[Piece::Text(reg), Piece::Shown(loc)]);
+}
+
+fn say_store<'a>(line: &mut Line, loc: &'a [u8], reg: &'a str) {
+    line.say_with("  MOV [{}],{}", &[Piece::Shown(loc), Piece::Text(reg)]);
+}
+
 /// Says the three instructions that one is which computes in this location without LOCK.
 pub fn say_three(line: &mut Line, cell: &[u8], name: &'static str, loc: &[u8], source: Source) {
     let free = match source {
@@ -160,18 +168,15 @@ pub fn say_three(line: &mut Line, cell: &[u8], name: &'static str, loc: &[u8], s
         _ => "EAX",
     };
     line.say_of("{}: without LOCK write three cells: ", cell);
-    line.say_with("MOV {},[{}]", &[Piece::Text(free), Piece::Shown(loc)]);
+    say_load(line, free, loc);
     line.say_with("  {} {}", &[Piece::Text(name), Piece::Text(free)]);
     match source {
         Source::None => {}
         Source::Number(number) => line.say_number(",${}", number as usize),
         Source::Register(reg) => line.say_with(",{}", &[Piece::Text(reg)]),
     }
-    line.say_with("  MOV [{}],{}", &[Piece::Shown(loc), Piece::Text(free)]);
-    line.say_with(
-        ", with a free register for {}",
-        &[Piece::Text(free)],
-    );
+    say_store(line, loc, free);
+    line.say_with(", with a free register for {}", &[Piece::Text(free)]);
     line.say_option();
 }
 
