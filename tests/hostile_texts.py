@@ -99,8 +99,9 @@ def tasks_begin(calls):
     first, last = calls.write("first.litmus", SB), calls.path("last.litmus")
     os.mkfifo(last)
     other = calls.write("other", SB.replace("X86 SB", "X86 other"))
-    program = calls.stand_in("program", 'case "$*" in --program|--version) exit 2;; esac\n[ -e begun ] || { : > begun; cat "%s" > "%s"; }\n'
-                             'exec "%s" "$@"' % (other, last, calls.program))
+    first_lines = ('case "$*" in --program|--version) exit 2;; *--help) exec "%s" "$@";; esac\n[ -e begun ] || { : > begun; cat "%s" > "%s"; }\n'
+                   'exec "%s" "$@"' % (calls.program, other, last, calls.program))
+    program = calls.stand_in("program", first_lines)
     done = calls.call("campaign", "outcomes", program, "--processes", "1", "--results", calls.path("results"), first, last)
     return None if done.returncode == 0 and done.stdout.count("\n") == 2 and " other " in done.stdout else described(done)
 
