@@ -11,7 +11,7 @@ const bench = { tso: null, bytes: null, task: null, answer: null, tracing: null,
 
 const LONG = ['outcomes', 'sweep', 'counts', 'why'];
 
-/** The bytes of a module that were packed by gzip and stand as a text in base64. */
+/** The bytes that were packed by gzip and are a text in base64. */
 async function unpacked(text) {
   const letters = atob(text), packed = new Uint8Array(letters.length);
   for (let at = 0; at < letters.length; at++) packed[at] = letters.charCodeAt(at);

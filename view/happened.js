@@ -45,20 +45,49 @@ function comparedSentence(core, read, written, eax, from) {
   const isEqual = eax === read.value;
   if (!written) return `${found}${isEqual ? ' too' : ''}: it ${isEqual ? 'will write the new word' : 'will write the old word back'}, and keeps the bus until then.`;
   return isEqual ? `${found} too, so it wrote ${written.location}=${written.value}, in one step.`
-    : `${found}, so it wrote the old word back, and memory is as before.`;
+    : `${found}, so it wrote the old word back: memory is as before, and EAX is ${read.value} now.`;
 }
 
-/** What was committed, in one sentence; `eax` is what EAX was before a compare and exchange, else null. Where no caches are shown (`isPlain`), a word that isn't in its own buffer is in memory. */
-function committedSentence(step, isPlain, eax) {
+/** An operation's name with the value on its right, as it is written between the two. */
+const OPERATIONS = { ADD: '+', XADD: '+', SUB: '−', AND: 'AND', OR: 'OR', XOR: 'XOR' };
+
+/** How a word was made by an instruction that computes, as ` (3 + 2)`; empty where none computed it. `old` is the word that it changes,
+ * and `registers` are those before it. */
+function computedWords(instruction, old, registers) {
+  const [, name, operand] = /^(?:LOCK\s+)?([A-Z]+)\s+[^,]+(?:,\s*(\S+))?$/i.exec(instruction) ?? [];
+  if (name === undefined) return '';
+  if (/^NEG$/i.test(name)) return ` (0 − ${old})`;
+  const sign = OPERATIONS[name.toUpperCase()], value = registers[operand?.toUpperCase()] ?? operand?.replace('$', '');
+  return sign === undefined ? '' : ` (${old} ${sign} ${value})`;
+}
+
+/** What a locked instruction did, in one sentence: `read` and `written` are its parts, or the one that this step made. */
+function lockedSentence(core, instruction, registers, read, written, from) {
+  const name = `P${core}'s ${instruction}`;
+  if (!read) return `${name} wrote ${written.location}=${written.value}, and the bus is free again.`;
+  const found = `${name} read ${read.location}=${read.value}${from}`;
+  return written ? `${found} and wrote ${written.location}=${written.value}${computedWords(instruction, read.value, registers)}, in one step.`
+    : `${found}. It keeps the bus until it has written.`;
+}
+
+/** What an instruction on registers alone did, in one sentence. */
+function movedSentence(core, instruction, registers, moved) {
+  if (!moved) return `P${core}'s ${instruction} changed nothing.`;
+  const old = registers[/^[A-Z]+\s+([A-Z]+)/i.exec(instruction)?.[1].toUpperCase()];
+  return `P${core}'s ${instruction} set ${moved.replace(' ', ' and ')}${computedWords(instruction, old, registers)}.`;
+}
+
+/** What was committed, in one sentence, by an instruction with these registers before it. Where no caches are shown (`isPlain`), a word that
+ * isn't in its own buffer is in memory. */
+function committedSentence(step, isPlain, instruction, registers) {
   const { choice, entries } = step, supplied = isPlain && step.supplied !== 'buffer' ? step.supplied && 'memory' : step.supplied;
   const from = supplied ? ` from ${sourceName(supplied)}` : '';
   const [first, second] = entries.map(entryOf), core = coreOfChoice(choice), is = `${first.location}=${first.value}`;
   switch (first.kind) {
     case 'F': return `P${core}'s fence is done: memory has seen all its earlier stores.`;
     case 'R': return `P${core} read ${is}${from}.`;
-    case 'LW': return `P${core}'s locked instruction wrote ${is}, and the bus is free again.`;
-    case 'LR': return eax !== null ? comparedSentence(core, first, second, eax, from) : `P${core}'s locked instruction read ${is}${from}` +
-      (second ? ` and wrote ${second.location}=${second.value}, in one step.` : '. It keeps the bus until it has written.');
+    case 'LW': return lockedSentence(core, instruction, registers, null, first, from);
+    case 'LR': return isComparing(instruction) ? comparedSentence(core, first, second, registers.EAX, from) : lockedSentence(core, instruction, registers, first, second, from);
     default: return `${isDrain(choice) ? `P${core}'s oldest store ${is} left its buffer` : `P${core} stored ${is}`}: ${seenWords(step, core, first.location, isPlain)}`;
   }
 }
@@ -66,11 +95,11 @@ function committedSentence(step, isPlain, eax) {
 /** What a step of these programs did, in sentences; `before` is the machine before it. Where no caches are shown (`isPlain`), nothing speaks of them. */
 function stepSentences(step, before, programs, isPlain = false) {
   const core = coreOfChoice(step.choice), { place, registers } = before.cores[core];
-  const eax = !isDrain(step.choice) && isComparing(programs[core][place] ?? '') ? registers.EAX : null;
+  const instruction = programs[core][place] ?? '';
   const said = {
     buffered: () => `P${core}'s store ${step.entries[0].replace(/^\S+ W /, '')} waits in its store buffer.`,
-    committed: () => committedSentence(step, isPlain, eax),
-    moved: () => (step.moved ? `P${core} set ${step.moved}.` : `P${core}'s ${programs[core][place]} changed nothing.`),
+    committed: () => committedSentence(step, isPlain, instruction, registers),
+    moved: () => movedSentence(core, instruction, registers, step.moved),
     asked: () => `P${core} asked for the bus, and holds it now.${step.supplied ? ` The word is in ${sourceName(step.supplied)}.` : ''}`,
     stalled: () => `Stalled (${step.stall}), and nothing changed: ${STALLS[step.stall](core, before)}`,
   };

@@ -9,7 +9,11 @@ let lesson = IN_LESSON;
 
 const putLesson = changes => { lesson = Object.freeze({ ...lesson, ...changes }); };
 
-const lessonNamed = name => LESSONS.find(each => each.name === name);
+/** The lessons whose tests this machine reads. */
+const lessonsHere = () => LESSONS.filter(({ text }) => text === undefined || textsHere().some(entry => entry.file === text));
+const lessonNamed = name => lessonsHere().find(each => each.name === name);
+/** The lesson after the one that runs, where there is one. */
+const nextLesson = () => lessonsHere()[lessonsHere().indexOf(lesson.told) + 1];
 const stepNow = () => lesson.told.steps[lesson.at];
 
 /** The choices that the steps before one make. */
@@ -128,7 +132,7 @@ function markWanted() {
 
 /** What stands at the button that goes on: at the last step it begins the next lesson, where there is one. */
 function showNext() {
-  const isLast = lesson.at === lesson.told.steps.length - 1, next = LESSONS[LESSONS.indexOf(lesson.told) + 1];
+  const isLast = lesson.at === lesson.told.steps.length - 1, next = nextLesson();
   byId('lesson-next').textContent = !isLast ? 'Next' : next ? `Next lesson: ${next.title}` : 'End of the lesson';
   byId('lesson-next').disabled = !lesson.isDone;
   byId('lesson-back').disabled = lesson.at === 0;
@@ -148,13 +152,13 @@ function drawLesson() {
 }
 
 function goOn() {
-  const { told: { steps }, told, at } = lesson;
+  const { told: { steps }, at } = lesson;
   if (at < steps.length - 1) {
     enterStep(at + 1);
     focusStep();
     return;
   }
-  const next = LESSONS[LESSONS.indexOf(told) + 1];
+  const next = nextLesson();
   endLesson();
   if (next) beginLesson(next.name);
 }
@@ -166,11 +170,11 @@ function focusStep() {
 
 /** The buttons by which lessons begin: the first one stands above, and all of them in their list. */
 function drawLessons() {
-  const [{ name, title }] = LESSONS, others = LESSONS.length - 1;
+  const lessons = lessonsHere(), [{ name, title }] = lessons, others = lessons.length - 1;
   byId('first-lesson').dataset.lesson = name;
   byId('first-lesson').textContent = title;
   byId('more-lessons').textContent = others === 0 ? '' : `A few minutes. ${others} more ${others === 1 ? 'stands' : 'stand'} at “Lessons”.`;
-  byId('lessons').replaceChildren(...LESSONS.map(each => html('li', {}, html('button', { type: 'button', 'data-lesson': each.name, class: 'quiet' }, each.title))));
+  byId('lessons').replaceChildren(...lessons.map(each => html('li', {}, html('button', { type: 'button', 'data-lesson': each.name, class: 'quiet' }, each.title))));
 }
 
 document.addEventListener('click', ({ target }) => {

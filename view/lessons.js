@@ -102,4 +102,31 @@ const LESSONS = [
       },
     ],
   },
+  {
+    name: 'compare-and-exchange',
+    title: 'Who gets the lock?',
+    text: 'CASLOCK.litmus',
+    steps: [
+      {
+        say: 'l is a lock: 0 is free, 1 is taken. Both cores want it, each by LOCK CMPXCHG [l],EBX, a compare and exchange. In one step it reads l and compares the word with EAX. ' +
+          'If they are the same, it writes EBX to l. If not, l stays as it is. EAX gets the word that was read.',
+      },
+      { ask: 'EAX is 0 and EBX is 1 in each core. So each says: if l is 0, make it 1. Can both get the lock? What do you think?', answers: ['Yes', 'No'], because: 'We try it.' },
+      {
+        ask: 'P0 goes first. It will read l=0. What will l be then?', answers: ['0', '1'], right: '1',
+        because: 'The word is the same as EAX, so P0 writes EBX, which is 1.',
+      },
+      { do: '0s', say: 'Press 0s.', then: 'P0 read l=0 and wrote l=1, in one step. Its EAX is 0: it has the lock. Nothing waits in the store buffer, since what a locked instruction writes is in memory at once.' },
+      {
+        ask: 'Now P1 tries. What will its EAX be?', answers: ['0', '1'], right: '1',
+        because: 'P1 reads l=1, which is not what EAX has. So P1 leaves l as it is, and EAX gets the 1.',
+      },
+      { do: '1s', say: 'Press 1s.', then: 'P1 read l=1. By the 1 in EAX it knows that it has not got the lock.' },
+      { show: 'why', say: 'In this run one core got the lock. Is there a run in which both get it? Press “Why can or can’t it be?”: proved code looks at every case.' },
+      {
+        say: 'There is none. Both would have to read l=0. But no other write comes between the read and the write of a locked instruction, so the second one reads what the first one wrote. ' +
+          'Locks, stacks and queues are made in this way: search for CMPXCHG at “Examples and gallery”.',
+      },
+    ],
+  },
 ];

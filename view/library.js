@@ -1,27 +1,34 @@
 'use strict';
 
-// The list of examples and of the gallery, with a search.
+// The list of examples, of the gallery and of algorithms, with a search.
 
-/** What a gallery's test says of itself in its lines `Name=..`. */
+/** What a test of the gallery or of an algorithm says of itself in its lines `Name=..`. */
 function notesOf(text) {
-  const found = text.matchAll(/^(Family|Asks|TSO|SC|Depth|Words|Source)=(.*)$/gm);
+  const found = text.matchAll(/^(Family|Algorithm|Asks|TSO|SC|Depth|Words|Source)=(.*)$/gm);
   return Object.fromEntries([...found].map(([, name, value]) => [name, value]));
 }
 
 /** The words of a text, for a search: letters and digits, in lower case. */
 const wordsOf = text => text.toLowerCase().split(/[^a-z0-9]+/).filter(word => word !== '');
 
-function entriesOf(texts, group) {
+/** The names of a text's instructions that are more than a load or a store. */
+const instructionsIn = text => text.match(/\b(?:LOCK|CMPXCHG|XADD|XCHG|[LMS]FENCE|PAUSE|NOP|ADD|SUB|AND|OR|XOR|INC|DEC|NEG|NOT)\b(?=[^=\n]*;)/g) ?? [];
+
+/** The entries of some texts; `isLarger` where these are in the larger set of instructions. */
+function entriesOf(texts, group, isLarger = false) {
   return Object.entries(texts).map(([file, text]) => {
     const notes = notesOf(text);
     const verdicts = [notes.TSO && `TSO: ${notes.TSO}`, notes.SC && `SC: ${notes.SC}`];
     const said = [SHOWS[file]?.replaceAll('`', ''), notes.Asks, ...verdicts].filter(Boolean).join(' ');
-    const family = notes.Family ?? group;
-    return { file, text, depth: notes.Depth, words: notes.Words, group: family, said, found: wordsOf(`${file} ${family} ${said} ${notes.Source ?? ''}`) };
+    const family = notes.Family ?? notes.Algorithm ?? group, found = wordsOf([file, family, said, notes.Source ?? '', ...instructionsIn(text)].join(' '));
+    return { file, text, isLarger, depth: notes.Depth, words: notes.Words, group: family, said, found };
   });
 }
 
-const LIBRARY = [...entriesOf(EXAMPLES, 'Examples'), ...entriesOf(GALLERY, 'Orders that would show a forbidden outcome')];
+const LIBRARY = [...entriesOf(EXAMPLES, 'Examples'), ...entriesOf(ALGORITHMS, 'Algorithms', true), ...entriesOf(GALLERY, 'Orders that would show a forbidden outcome')];
+
+/** The texts that this machine reads. */
+const textsHere = () => LIBRARY.filter(({ isLarger }) => bench.hasLargerSet || !isLarger);
 
 function libraryItem(entry) {
   const button = html('button', { type: 'button', 'data-file': entry.file }, entry.file);
@@ -30,10 +37,10 @@ function libraryItem(entry) {
 
 /** Lists the texts in which each word of the search begins a word, by family: so `MP` finds no *examples*. */
 function showLibrary() {
-  const words = wordsOf(byId('search').value);
-  const found = LIBRARY.filter(entry => words.every(word => entry.found.some(each => each.startsWith(word))));
+  const words = wordsOf(byId('search').value), texts = textsHere();
+  const found = texts.filter(entry => words.every(word => entry.found.some(each => each.startsWith(word))));
   const groups = new Map();
   for (const entry of found) groups.set(entry.group, [...(groups.get(entry.group) ?? []), entry]);
-  byId('found').textContent = `${found.length} of ${LIBRARY.length}`;
+  byId('found').textContent = `${found.length} of ${texts.length}`;
   byId('texts').replaceChildren(...[...groups].flatMap(([group, entries]) => [html('h4', {}, group), html('ul', {}, ...entries.map(libraryItem))]));
 }

@@ -28,10 +28,10 @@ function writtenBy(instruction) {
   return REGISTERS.filter(register => new RegExp(`\\b${register}\\b`).test(written.replace(/\[.*?\]/g, '')));
 }
 
-/** The registers that a test uses on a core: in its program, in its condition, or with a word at the start. */
+/** The registers that a test uses on a core: in its program, in its condition, or with a word at the start. To compare uses EAX, unnamed. */
 function usedRegisters({ programs, proposition, start }, core) {
   const asked = [...(proposition ?? '').matchAll(/(\d+)\s*:\s*([A-Z]{3})/g)].filter(([, of]) => Number(of) === core).map(([, , name]) => name);
-  const code = programs[core].join(' ').toUpperCase();
+  const code = [...programs[core], programs[core].some(isComparing) ? 'EAX' : ''].join(' ').toUpperCase();
   return REGISTERS.filter(name => new RegExp(`\\b${name}\\b`).test(code) || asked.includes(name) || start.cores[core].registers[name] !== 0);
 }
 
@@ -91,6 +91,16 @@ function buttonTexts(program, { place, buffer }, bus, core) {
 /** A part's heading, which says at the pointer what the part is; at the first core at the focus too. */
 const partTitle = (text, isFirst, tag = 'h5') => html(tag, { 'data-means': text, ...(isFirst ? { tabindex: 0, 'aria-label': text, 'aria-description': MEANINGS[text] } : {}) }, text);
 
+/** A core's instructions, each with what it does at the pointer; the first of its kind in the test at the focus too. */
+function instructionItems(programs, core) {
+  const before = programs.slice(0, core).flat().map(kindOfInstruction), own = programs[core].map(kindOfInstruction);
+  return programs[core].map((text, at) => {
+    const kind = own[at], isFirst = !before.includes(kind) && own.indexOf(kind) === at;
+    const code = isFirst ? withMeaning({}, kind, text, 'code') : html('code', { 'data-means': kind }, text);
+    return html('li', { value: at }, code);
+  });
+}
+
 class CorePanel {
   constructor(core, history) {
     const { programs, options } = history, title = text => partTitle(text, core === 0);
@@ -98,7 +108,7 @@ class CorePanel {
     this.program = programs[core];
     this.used = usedRegisters(history, core);
     this.depth = options.depth;
-    this.makeParts(options);
+    this.makeParts(options, instructionItems(programs, core));
     this.element = html('section', { class: 'core', 'data-core': core, 'aria-label': `Core P${core}` },
       html('h4', {}, `P${core}`), html('div', { class: 'core-buttons' }, ...['step', 'drain'].map(way => html('div', { class: 'choice' }, this[way], this.stalls[way]))),
       html('div', { class: 'of-core' }, title('Program'), this.list, title('Registers'), this.registers.element,
@@ -106,7 +116,7 @@ class CorePanel {
       html('div', { class: 'of-caches' }, title('Cache'), this.cache));
   }
 
-  makeParts({ sets, ways }) {
+  makeParts({ sets, ways }, items) {
     const button = (way, name) => html('button', { type: 'button', 'data-choice': `${this.core}${name}` },
       html('kbd', { 'aria-hidden': 'true' }, `${this.core}${name}`), ` ${way} `, html('code', {}));
     const list = (name, label, draw) => new Part(html('ul', { class: name, 'aria-label': label }), draw);
@@ -117,7 +127,7 @@ class CorePanel {
     this.stalls = { step: stall('step', 's'), drain: stall('drain', 'd') };
     const isLong = this.program.length > MOST_LINES;
     const named = { 'aria-label': `Program of P${this.core}`, ...(isLong ? { tabindex: 0 } : {}) };
-    this.list = html('ol', { class: isLong ? 'program long' : 'program', start: 0, ...named }, ...this.program.map((text, at) => html('li', { value: at }, html('code', {}, text))));
+    this.list = html('ol', { class: isLong ? 'program long' : 'program', start: 0, ...named }, ...items);
     this.registers = list('registers', 'Registers', registerItems);
     this.buffer = list('buffer', 'Store buffer, the oldest store first', bufferItems);
     this.lines = new Part(html('tbody', {}), cacheRows);

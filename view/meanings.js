@@ -38,10 +38,26 @@ const MEANINGS = {
   'write-back': 'A write-back: the line had to leave the cache. Memory had older words, so the words went to memory.',
 };
 
+/** What each kind of instruction does: its name among the words, how it is written, and its sentence. */
+const INSTRUCTIONS = [
+  ['a compare and exchange', /^LOCK\s+CMPXCHG\b/i, 'In one step: reads the location. If its word is that of EAX, it writes the register to it, and else the old word back. EAX gets the word that was read.'],
+  ['an exchange and add', /^LOCK\s+XADD\b/i, 'In one step: reads the location and writes the sum of its word and the register. The register gets the word that was read.'],
+  ['an exchange', /^XCHG\b.*\[/i, 'In one step, as with LOCK: reads the location and writes the register to it. The register gets the word that was read.'],
+  ['a locked operation', /^LOCK\b/i, 'In one step: reads the location, computes, and writes it. No other core comes between, and the store buffer has to be empty before.'],
+  ['a store', /^MOV\s+\[/i, 'A store: the word goes into the store buffer of this core, and to memory later, when it drains.'],
+  ['a load', /^MOV\b.*\[/i, 'A load: the register gets the newest own store to the location that waits in the buffer, and else memory’s word.'],
+  ['a fence', /^MFENCE\b/i, 'A fence: it waits until the store buffer of its core is empty.'],
+  ['an instruction that does nothing', /^NOP\b/i, 'It does nothing. PAUSE, LFENCE and SFENCE are read as this one: under TSO they add nothing.'],
+  ['register arithmetic', /^/, 'Changes registers of this core alone. Memory and other cores don’t see it.'],
+];
+for (const [name, , meaning] of INSTRUCTIONS) MEANINGS[name] = meaning;
+
+const kindOfInstruction = text => INSTRUCTIONS.find(([, form]) => form.test(text))[0];
+
 /** A word with its meaning at hover and focus; `shown` is what stands there, and `name` the word of the table. */
-function withMeaning(attributes, name, shown) {
+function withMeaning(attributes, name, shown, tag = 'span') {
   const meaning = MEANINGS[name];
-  return html('span', meaning === undefined ? attributes : { ...attributes, tabindex: 0, role: 'note', 'data-means': name, 'aria-label': `${shown}. ${meaning}` }, shown);
+  return html(tag, meaning === undefined ? attributes : { ...attributes, tabindex: 0, role: 'note', 'data-means': name, 'aria-label': `${shown}. ${meaning}` }, shown);
 }
 
 /** Shows what the word under the pointer or the focus means, directly below it. A page that scrolls under a pointer which rests hides nothing

@@ -136,12 +136,12 @@ async function start() {
     putInput(partsOf(EXAMPLES[FIRST_TEXT]).test); // nothing is solved beforehand
     putSettings([]);
     putCommand('run');
-    showLibrary();
   }
   if (!hasMachine || !isOfTest) showAddress();
   if (!hasMachine) return;
   try {
     await makeBench();
+    showLibrary(); // with the texts that this machine reads
   } catch (fault) {
     byId('bench').hidden = true;
     byId('message').textContent = `This browser can't open the machine (${fault.message}), so this page draws runs that were made elsewhere.`;

@@ -29,12 +29,20 @@ function verdictWords(verdict) {
 const sourceText = source => (source === 'initial' ? 'the initial value' : `what ${source} writes`);
 const eitherOf = words => (words.length < 2 ? words.join('') : `${words.slice(0, -1).join(', ')} or ${words.at(-1)}`);
 
+/** What is left for the places of a proposition that can't hold; nothing is told of them where there are none. */
+function falseSentence(places) {
+  const bare = places.filter(([, words]) => words.length === 0).map(([place]) => placeName(place));
+  if (bare.length > 0) return `It can't be: no word is left as which ${eitherOf(bare)} can end.`;
+  const ends = places.map(([place, words]) => `${placeName(place)} ends as ${eitherOf(words.map(String))}`);
+  return `Then ${places.length === 0 ? 'whatever is left' : listed(ends)}, which isn't what is asked for.`;
+}
+
 /** What closes a case says. */
 const CLOSING_SENTENCES = {
   cycle: ({ cycle }) => `It can't be: ${cycle[0].from} would be before itself.`,
   uniproc: ({ cycle }) => `It can't be: among the accesses to one location, ${cycle[0].from} would be before itself.`,
   between: ({ between, read }) => `It can't be: ${between} would come between the two parts of the locked instruction ${read.split(' ')[0]}.`,
-  false: ({ places }) => `Then ${Object.keys(places).length === 0 ? 'whatever is left' : listed(Object.entries(places).map(([place, words]) => `${placeName(place)} ends as ${words.length === 0 ? 'nothing' : eitherOf(words.map(String))}`))}, which isn't what is asked for.`,
+  false: ({ places }) => falseSentence(Object.entries(places)),
   none: step => (Object.hasOwn(NO_ANSWERS, step.question) ? `It can't be: ${NO_ANSWERS[step.question](step.of)}.` : plainStep(step)),
   lemma: ({ lemma }) => `It can't be, by lemma ${lemma}.`,
 };

@@ -3,14 +3,15 @@
 // The page as one file, with what is shown in it: its scripts and styles stand in it, and its policy names their digests.
 
 /** What the scripts of data give their names. */
-const DATA = { 'texts.js': () => ({ EXAMPLES, SHOWS, GALLERY }), 'module.js': () => ({ MODULE }), 'whole.js': () => ({ WHOLE }) };
+const DATA = { 'texts.js': () => ({ EXAMPLES, SHOWS, GALLERY, ALGORITHMS }), 'module.js': () => ({ MODULE }), 'whole.js': () => ({ WHOLE }) };
 
 /** A value as a text of JavaScript in which nothing ends a script. */
 const literalOf = value => JSON.stringify(value).replaceAll('<', '\\u003c');
 
 const dataScript = values => `'use strict';\n\n${Object.entries(values).map(([name, value]) => `const ${name} = ${literalOf(value)};\n`).join('')}`;
 
-const scriptText = name => WHOLE.scripts[name] ?? dataScript(DATA[name]());
+/** The page, its scripts and its styles as texts. */
+const openedWhole = async () => JSON.parse(new TextDecoder().decode(await unpacked(WHOLE)));
 
 /** A text's digest, as a policy names it. */
 async function digestOf(text) {
@@ -33,20 +34,28 @@ const taughtPart = () => (taughtNow() === '' ? '' : `<meta name="taught" content
 
 /** The whole page as one text, which opens what this address tells. */
 async function wholePage(address) {
-  const scripts = [...WHOLE.page.matchAll(/<script src="([a-z]+\.js)">/g)].map(([, name]) => scriptText(name)), styles = Object.values(WHOLE.styles);
+  const whole = await openedWhole(), scriptText = name => whole.scripts[name] ?? dataScript(DATA[name]());
+  const scripts = [...whole.page.matchAll(/<script src="([a-z]+\.js)">/g)].map(([, name]) => scriptText(name)), styles = Object.values(whole.styles);
   const [ofScripts, ofStyles] = await Promise.all([scripts, styles].map(async texts => (await Promise.all(texts.map(digestOf))).join(' ')));
-  const head = WHOLE.page.replace('script-src \'self\'', () => `script-src ${ofScripts}`).replace('style-src \'self\'', () => `style-src ${ofStyles}`)
+  const head = whole.page.replace('script-src \'self\'', () => `script-src ${ofScripts}`).replace('style-src \'self\'', () => `style-src ${ofStyles}`)
     .replace('<title>', () => `<meta name="shown" content="${inAttribute(address)}">\n${taughtPart()}<title>`);
-  const styled = inOneFile(head, /<link rel="stylesheet" href="([a-z]+\.css)">/g, name => WHOLE.styles[name], 'style');
+  const styled = inOneFile(head, /<link rel="stylesheet" href="([a-z]+\.css)">/g, name => whole.styles[name], 'style');
   return inOneFile(styled, /<script src="([a-z]+\.js)"><\/script>/g, scriptText, 'script');
 }
 
 /** What a page that was saved has to open, where its address tells nothing. */
 const savedAddress = () => document.querySelector('meta[name=shown]')?.content ?? '';
 
+/** Why the page can't be saved from here; null where it can. */
+function whyNotSaved() {
+  if (!window.DecompressionStream) return 'This browser can\'t unpack the page\'s parts. So this page can\'t be saved from here.';
+  return window.crypto?.subtle ? null : 'The browser makes digests only for pages from https or from files. So this page can\'t be saved from here.';
+}
+
 async function savePage() {
-  if (!window.crypto?.subtle) {
-    byId('message').textContent = 'The browser makes digests only for pages from https or from files. So this page can\'t be saved from here.';
+  const why = whyNotSaved();
+  if (why !== null) {
+    byId('message').textContent = why;
     return;
   }
   saveText(fileName(pictureName(), '.html'), await wholePage(addressNow()), 'text/html');

@@ -37,7 +37,7 @@ function readLesson(value, at) {
   const where = `lesson ${at + 1}`, { name, title, text, test, settings = {}, caches = false, steps } = readTaughtObject(value, where);
   needTaught(typeof name === 'string' && LESSON_NAME.test(name), `${where} needs a "name" of small letters, digits and -`);
   needTaught(isText(title), `${where} needs a "title"`);
-  needTaught(LIBRARY.some(entry => entry.file === text) || (typeof test === 'string' && BEGINS_TEST.test(test) && whyTooLong(test) === null), `${where} needs a "test", or the name of one of the page's texts ("text")`);
+  needTaught(textsHere().some(entry => entry.file === text) || (typeof test === 'string' && BEGINS_TEST.test(test) && whyTooLong(test) === null), `${where} needs a "test", or the name of one of the page's texts ("text")`);
   needTaught(Array.isArray(steps) && steps.length >= 1 && steps.length <= MOST_TAUGHT.steps, `${where} needs 1 to ${MOST_TAUGHT.steps} "steps"`);
   const known = Object.entries(readTaughtObject(settings, where)).filter(([key]) => SET_NAMES.includes(key)).map(([key, set]) => [key, String(set)]);
   return { name, title, ...(test === undefined ? { text } : { test }), settings: Object.fromEntries(known), caches: caches === true, steps: steps.map((step, of) => readLessonStep(step, `step ${of + 1} of ${where}`)) };

@@ -107,10 +107,10 @@ def state_of(machine, core, line, state):
 
 
 def used_registers(trace, number):
-    """The registers that a core's program and the condition name, and those with a word at the start."""
+    """The registers that a core's program and the condition name, and those with a word at the start. CMPXCHG uses EAX, and doesn't name it."""
     named = re.findall(r"\b%d\s*:\s*([A-Z]{3})\b" % number, trace["proposition"] or "")
     start = trace["trace"]["start"]["cores"][number]["registers"]
-    code = " ".join(trace["programs"][number]).upper()
+    code = " ".join(trace["programs"][number]).upper().replace("CMPXCHG", "CMPXCHG EAX")
     return [name for name in start if re.search(r"\b%s\b" % name, code) or name in named or start[name]]
 
 
