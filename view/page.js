@@ -151,6 +151,7 @@ async function start() {
   if (isOfTest) showAddress();
   const isOpen = drive.isOn || shown.run || bench.task !== null || bench.answer !== null;
   if (!isOpen && byId('line').value === '') beginAtFirst();
+  takeUndoing(window.history.state);
   remember();
 }
 

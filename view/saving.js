@@ -94,9 +94,9 @@ function saveInput() {
 
 const pictureName = () => (isOfTest() ? testName() : shown.run?.test ?? 'page');
 
-/** The trace of the choices that are made, as a text. */
-function traceNow() {
-  return asked({ ...firstHistory().options, command: 'trace' }, inputOfWords(drive.words.slice(0, drive.count))).text;
+/** The trace of the choices that are made, as it is printed or as JSON. */
+function traceNow(json = false) {
+  return asked({ ...firstHistory().options, command: 'trace', json }, inputOfWords(drive.words.slice(0, drive.count))).text;
 }
 
 async function savePoints(name, picture) {
@@ -116,6 +116,7 @@ const SAVES = {
     saveFormat();
   },
   trace: () => saveText(fileName(testName(), '.trace.txt'), traceNow()),
+  'trace-json': () => saveText(fileName(testName(), '.trace.json'), traceNow(true), 'application/json'),
   line: () => saveText(fileName(shown.run.test, '.json'), shown.line + '\n', 'application/json'),
   svg: () => saveDrawn(pictureName(), pictureNow()),
   png: () => savePoints(pictureName(), pictureNow()),

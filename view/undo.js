@@ -3,6 +3,7 @@
 // Undo and redo, for choices, edits and settings; and the way back to one's own run from one of an answer.
 
 const MOST_UNDONE = 300;
+const MOST_KEPT = 100000; // characters that the browser keeps with the address
 const TYPED_TOGETHER = 1000; // milliseconds: what is typed into one field within that is one edit
 
 /** What was before (`past`), what is (`now`), what was undone (`future`), and the field and time of the last edit that was typed. */
@@ -59,6 +60,27 @@ function turn(from, to) {
 
 const undo = () => turn(undoing.past, undoing.future);
 const redo = () => turn(undoing.future, undoing.past);
+
+// A reload keeps what can be undone: the browser keeps it with the address, for this page alone.
+
+/** As many of the last snapshots as have room, the last one at the end. */
+function lastSnapshots(snapshots, room) {
+  const kept = [];
+  for (let at = snapshots.length - 1; at >= 0; at--) {
+    room -= JSON.stringify(snapshots[at]).length;
+    if (room < 0) break;
+    kept.unshift(snapshots[at]);
+  }
+  return kept;
+}
+
+const undoingToKeep = () => ({ past: lastSnapshots(undoing.past, MOST_KEPT), future: lastSnapshots(undoing.future, MOST_KEPT) });
+
+/** Takes what can be undone from what the browser kept, after a reload. */
+function takeUndoing(state) {
+  const { past, future } = state?.undoing ?? {};
+  if (Array.isArray(past) && Array.isArray(future)) Object.assign(undoing, { past, future });
+}
 
 function showUndoing() {
   byId('undo').disabled = undoing.past.length === 0;

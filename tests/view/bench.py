@@ -124,8 +124,9 @@ class Bench:
         return done.returncode, done.stdout.decode(), done.stderr.decode()
 
     def answer(self, text, words):
-        """The module's answer in the page to an input under the words of a command line."""
-        options = {"command": words[0]}
+        """The module's answer in the page to an input under the words of a command line. As the program it reads the instructions of the
+        grammar alone where the words ask for no others."""
+        options = {"command": words[0], "instructions": "basic"}
         if words[0] == "outcomes":
             options["depth"] = 32
         rest = list(words[1:])

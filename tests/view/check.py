@@ -23,7 +23,7 @@ apt-get install -y --no-install-recommends chromium poppler-utils
   the rows of machine.py and looks.py; and so it does where it once went wrong: the rows of repairs.py; what is saved and kept: those of kept.py. Why something can't be, or how it
   can, is told, drawn and run as the program tells it: the rows of reasons.py.
 
-- What teaches: lessons, tasks, terms (teaching.py); work that is long, undo, branches and ways back (working.py); a lecture, lists of tests, tables
+- What teaches: lessons, tasks, terms (teaching.py); the larger set of instructions (larger.py); work that is long, undo, branches and ways back (working.py); a lecture, lists of tests, tables
   and forms (presenting.py); ways of edges that cross nothing, and what moves (drawn_edges.py); what WCAG 2.2 AA asks, as far as a script sees it (access.py).
 - In Firefox, where Debian's firefox-esr is there, some of these rows.
 
@@ -51,6 +51,7 @@ import firefox
 import first
 import given_lines
 import kept
+import larger
 import machine
 import presenting
 import reasons
@@ -124,7 +125,7 @@ def rows_of_reasons(page, room, folder):
 
 def rows_that_teach(page, folder):
     """The rows of what teaches; they ask for outcomes and for `why`, so they need a module that answers these."""
-    return [row for each in (teaching, working, presenting, drawn_edges, access) for row in each.rows(page, folder)]
+    return [row for each in (teaching, larger, working, presenting, drawn_edges, access) for row in each.rows(page, folder)]
 
 
 class Page:
@@ -198,7 +199,7 @@ def all_rows(window, program, room, folder, is_shipped):
 
 # What is held in Firefox too: rows that need no more of a browser than firefox.py has.
 IN_FIREFOX = ("the machine first, at 1280 by 720", "the task", "the test in one line", "keys on buttons", "a setting in the middle", "seeds that are none", "registers that are written",
-              "orders and tables in words", "the first test", "outcomes", "a reload", "what is this", "the least number of choices", "no caches at first", "a lesson, store buffering", "a lesson, fences", "a lesson, false sharing",
+              "orders and tables in words", "the first test", "outcomes", "a reload", "what is this", "the least number of choices", "no caches at first", "a lesson, store buffering", "a lesson, fences", "a lesson, false sharing", "instructions in words", "algorithms in the list",
               "tasks", "a search by steps", "answers that aren't finished", "undo and redo", "branches of a run", "one's own run", "the browser's Back",
               "a lecture hall", "a list of tests", "four protocols abreast", "a table of states", "forms of an answer", "the focus at an answer", "the page as one file", "an address that is too long", "why, SB+mfences under tso")
 

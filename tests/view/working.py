@@ -96,7 +96,19 @@ def undo_row(bench):
         press(bench, "#redo") if at % 2 else bench.value(REDO)
         faults += differs("done again to %d" % at, bench.value(STATE), states[at])
     bench.value("byId('test').focus(); byId('test').dispatchEvent(new KeyboardEvent('keydown', { key: 'z', ctrlKey: true, bubbles: true }))")
-    return faults + differs("in a field of text", bench.value(STATE), states[-1]) + safety(bench)
+    faults += differs("in a field of text", bench.value(STATE), states[-1])
+    bench.value(UNDO)
+    bench.wait("window.history.state?.undoing?.future.length === 1")
+    bench.window.reload()
+    bench.value(READY)
+    bench.wait("drive.isOn && !byId('undo').disabled")
+    faults += differs("after a reload", bench.value(STATE), states[-2])
+    bench.value(UNDO)
+    faults += differs("undone after a reload", bench.value(STATE), states[-3])
+    for at in (-2, -1):
+        bench.value(REDO)
+        faults += differs("done again after a reload, to %d" % at, bench.value(STATE), states[at])
+    return faults + safety(bench)
 
 
 def branch_row(bench):
