@@ -149,6 +149,7 @@ const PLAIN_WORDS = {
 };
 
 function showSaid({ status, hint }, said) {
+  byId('told').classList.toggle('mild', status === Tso.STATUS.unended);
   byId('said').textContent = PLAIN_WORDS[status] ?? said;
   byId('hint').textContent = pageHint(hint);
 }

@@ -124,7 +124,7 @@ const LESSONS = [
       { do: '1s', say: 'Press 1s.', then: 'P1 read l=1. By the 1 in EAX it knows that it has not got the lock.' },
       { show: 'why', say: 'In this run one core got the lock. Is there a run in which both get it? Press “Why can or can’t it be?”: proved code looks at every case.' },
       {
-        say: 'There is none. Both would have to read l=0. But no other write comes between the read and the write of a locked instruction, so the second one reads what the first one wrote. ' +
+        say: 'No, there is no such run. Both cores would have to read l=0. But no other write comes between the read and the write of a locked instruction, so the second one reads what the first one wrote. ' +
           'Locks, stacks and queues are made in this way: search for CMPXCHG at “Examples and gallery”.',
       },
     ],

@@ -14,13 +14,22 @@ const wordsOf = text => text.toLowerCase().split(/[^a-z0-9]+/).filter(word => wo
 /** The names of a text's instructions that are more than a load or a store. */
 const instructionsIn = text => text.match(/\b(?:LOCK|CMPXCHG|XADD|XCHG|[LMS]FENCE|PAUSE|NOP|ADD|SUB|AND|OR|XOR|INC|DEC|NEG|NOT)\b(?=[^=\n]*;)/g) ?? [];
 
+/** What stands at an order of a test that stands above it. */
+const ORDER_SAID = 'An order in which it would be so, for check.';
+
+/** Of a family the plain test comes first, then those with more in their names; each order comes after its test. */
+function comesBefore([one], [other]) {
+  const [a, b] = [one, other].map(file => file.replace(/\.(litmus|order)$/, '')), more = a.split('+').length - b.split('+').length;
+  return more || (a === b ? 0 : a < b ? -1 : 1) || (one < other ? -1 : 1);
+}
+
 /** The entries of some texts; `isLarger` where these are in the larger set of instructions. */
 function entriesOf(texts, group, isLarger = false) {
-  return Object.entries(texts).map(([file, text]) => {
+  return Object.entries(texts).sort(comesBefore).map(([file, text]) => {
     const notes = notesOf(text);
-    const verdicts = [notes.TSO && `TSO: ${notes.TSO}`, notes.SC && `SC: ${notes.SC}`];
-    const said = [SHOWS[file]?.replaceAll('`', ''), notes.Asks, ...verdicts].filter(Boolean).join(' ');
-    const family = notes.Family ?? notes.Algorithm ?? group, found = wordsOf([file, family, said, notes.Source ?? '', ...instructionsIn(text)].join(' '));
+    const verdicts = [notes.TSO && `TSO: ${notes.TSO}`, notes.SC && `SC: ${notes.SC}`].filter(Boolean).join(', ');
+    const told = [SHOWS[file]?.replaceAll('`', ''), notes.Asks, verdicts].filter(Boolean).join(' '), said = file.endsWith('.order') && notes.Asks ? ORDER_SAID : told;
+    const family = notes.Family ?? notes.Algorithm ?? group, found = wordsOf([file, family, told, notes.Source ?? '', ...instructionsIn(text)].join(' '));
     return { file, text, isLarger, depth: notes.Depth, words: notes.Words, group: family, said, found };
   });
 }

@@ -26,7 +26,7 @@ function readMet(text) {
 
 function metSentence({ states, verdict, unfinished }) {
   const many = states.length === 1 ? 'One of the final states was' : `${states.length} of the final states were`;
-  return `The search kept ${unfinished.states} states, its limit, and didn't end. ${many} met before that; there may be others.${verdictWords(verdict)}`;
+  return `The search kept ${unfinished.states.toLocaleString('en')} states, its limit, and didn't end. ${many} met before that; there may be others.${verdictWords(verdict)}`;
 }
 
 const valuesText = values => Object.entries(values).map(([name, word]) => `${name}=${word}`).join(' ');

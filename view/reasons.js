@@ -32,7 +32,7 @@ const eitherOf = words => (words.length < 2 ? words.join('') : `${words.slice(0,
 /** What is left for the places of a proposition that can't hold; nothing is told of them where there are none. */
 function falseSentence(places) {
   const bare = places.filter(([, words]) => words.length === 0).map(([place]) => placeName(place));
-  if (bare.length > 0) return `It can't be: no word is left as which ${eitherOf(bare)} can end.`;
+  if (bare.length > 0) return `It can't be: no word is left that ${eitherOf(bare)} could have at the end.`;
   const ends = places.map(([place, words]) => `${placeName(place)} ends as ${eitherOf(words.map(String))}`);
   return `Then ${places.length === 0 ? 'whatever is left' : listed(ends)}, which isn't what is asked for.`;
 }

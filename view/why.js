@@ -29,6 +29,9 @@ function readTest(input) {
   return { programs, proposition };
 }
 
+/** How events are named. */
+const EVENTS_SAID = 'P0:1 is the second instruction of P0. R is a load, W a store, LR and LW are the two parts of a locked instruction, F is a fence.';
+
 /** Shows what `why --json` told of a test. */
 function showReason(answer, test) {
   const told = JSON.parse(answer.text), { programs, proposition } = readTest(test);
@@ -37,7 +40,7 @@ function showReason(answer, test) {
   Object.assign(sheet, { told, programs, cycle: null });
   const parts = told.answer === 'never' ? refutedParts(told) : allowedParts(told, programs);
   const section = html('section', { class: 'reason', 'aria-label': 'Why' }, answerTitle(told.answer === 'never' ? 'Why it can\'t be' : 'How it can be'),
-    html('p', { role: 'status' }, reasonSentence(told, proposition)), ...parts);
+    html('p', { role: 'status' }, reasonSentence(told, proposition)), html('p', { class: 'small faint' }, EVENTS_SAID), ...parts);
   byId('states').replaceChildren(section);
   const [first] = told.answer === 'never' ? cyclesOf(told.steps) : [];
   if (first) drawCycle(first.at);

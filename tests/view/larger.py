@@ -102,7 +102,7 @@ def answers_row(bench):
 def reasons_row(bench, folder):
     """Why nobody gets a lock twice is told in words where no value is left, and by a cycle through locked instructions."""
     faults = []
-    for name, said in (("CASLOCK", "It can't be: no word is left as which P0's EAX can end."), ("TRYLOCK+both", "It can't be: P0:0 W x=1 would be before itself.")):
+    for name, said in (("CASLOCK", "It can't be: no word is left that P0's EAX could have at the end."), ("TRYLOCK+both", "It can't be: P0:0 W x=1 would be before itself.")):
         bench.open_fresh()
         bench.value("takeFromLibrary('%s.litmus')" % name)
         bench.value("askWhy()")
