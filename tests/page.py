@@ -71,7 +71,10 @@ def faults_of_whole():
     made = subprocess.run([os.path.join(TOP, "tools", "page_whole"), "--print"], capture_output=True, text=True)
     if made.returncode != 0:
         return [made.stderr.strip()]
-    return [] if parts_in(made.stdout) == parts_in(content(VIEW, "whole.js")) is not None else ["tools/page --whole makes another"]
+    try:
+        return [] if parts_in(content(VIEW, "whole.js")) == parts_in(made.stdout) else ["tools/page --whole makes another"]
+    except shipped.Fault as fault:
+        return [str(fault)]
 
 
 def faults_of_policy():
