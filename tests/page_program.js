@@ -28,7 +28,9 @@ const OPTIONS = {
   why: ['model', 'cases', 'json', 'assert'], counts: [...MACHINE, 'from', 'seeds', 'length', 'given', 'json'],
   trace: [...MACHINE, 'json'], step: MACHINE, check: [], witness: ['depth'], tables: ['protocol'],
 };
-const WORDS = { protocol: Tso.PROTOCOLS, bus: Tso.BUSES, model: Tso.MODELS, show: Tso.SHOWN };
+/** Each command that reads a test has this option. The page asks for all instructions, and the program for those of the grammar. */
+const SET = 'instructions';
+const WORDS = { protocol: Tso.PROTOCOLS, bus: Tso.BUSES, model: Tso.MODELS, show: Tso.SHOWN, [SET]: Tso.INSTRUCTIONS };
 const FLAGS = ['json', 'assert', 'given'];
 const OF_SEEDS = ['from', 'seeds', 'length'];
 const MOST = { depth: 254, sets: 254, ways: 254, words: 254 };
@@ -58,12 +60,13 @@ function valueOf(name, word) {
 
 function optionsOf([command, ...words]) {
   if (!Object.hasOwn(OPTIONS, command ?? '')) refuse();
-  const options = { command };
+  const options = { command }, known = command === 'tables' ? OPTIONS[command] : [...OPTIONS[command], SET];
   while (words.length > 0) {
     const [, name, joined] = /^--([a-z]+)(?:=(.*))?$/s.exec(words.shift()) ?? refuse();
-    if (!OPTIONS[command].includes(name) || name in options) refuse();
+    if (!known.includes(name) || name in options) refuse();
     options[name] = FLAGS.includes(name) ? true : valueOf(name, joined ?? words.shift());
   }
+  options[SET] ??= 'basic';
   if (options.given) return OF_SEEDS.some(name => name in options) ? refuse() : { ...options, command: 'counted' };
   return command === 'outcomes' ? { depth: 32, ...options } : options;
 }
