@@ -132,8 +132,10 @@ class Bench:
         rest = list(words[1:])
         while rest:
             name, _, joined = rest.pop(0)[2:].partition("=")
-            value = True if name in ("json", "assert") else joined or rest.pop(0)
+            value = True if name in ("json", "assert", "given") else joined or rest.pop(0)
             options[name] = int(value) if isinstance(value, str) and value.lstrip("+").isdigit() else value
+        if options.pop("given", False):
+            options["command"] = "counted"
         given = text if isinstance(text, bytes) else text.encode()
         found = self.value("(({ status, text, hint }) => [status, text, hint])(bench.tso.answer(%s, Uint8Array.from(atob('%s'), each => each.charCodeAt(0))))"
                            % (json.dumps(options), base64.b64encode(given).decode()))
