@@ -3,7 +3,7 @@
 // A plain machine with store buffers and caches, on either bus, which tells each of its steps as a trace does: docs/DEFINITIONS.md has
 // what it does. It is written from there and from no code of the crates.
 
-const COUNTED = ['hits', 'misses', 'upgrades', 'forwards', 'write_backs', 'flushes'];
+const COUNTS_OF_CACHE = ['hits', 'misses', 'upgrades', 'forwards', 'write_backs', 'flushes'];
 
 // Which copies may be written in place, have to be written back, or supply their words.
 
@@ -20,7 +20,7 @@ class Machine {
     this.memory = Array.from({ length: lines }, (_, line) =>
       test.locations.slice(line * this.words, (line + 1) * this.words).map(name => test.words.get(name) ?? 0));
     this.cores = test.programs.map((program, core) => ({
-      program, place: 0, registers: { ...test.registers[core] }, pending: [], counts: Object.fromEntries(COUNTED.map(name => [name, 0])),
+      program, place: 0, registers: { ...test.registers[core] }, pending: [], counts: Object.fromEntries(COUNTS_OF_CACHE.map(name => [name, 0])),
       cache: Array.from({ length: this.sets }, () => []),
     }));
   }
