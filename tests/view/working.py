@@ -2,7 +2,7 @@
 import json
 import os
 
-from bench import READY, differs, safety
+from bench import EXAMPLES, READY, differs, read, safety
 from driver import STORES_AND_LOADS, Driver
 from machine import LONG_SEARCH
 from teaching import is_in_sight, press, test_of
@@ -52,7 +52,7 @@ def unfinished_row(bench):
     bench.wait("!bench.task")
     faults += differs("allowed", bench.value("[settingOf('states').value, bench.task]"), ["30", None])
     bench.open_fresh()
-    bench.fill("test", test_of("IRIW"))
+    bench.fill("test", read(EXAMPLES, "algorithms", "SEQLOCK.litmus"))
     bench.value("settingOf('cases').value = 1; askWhy()")
     bench.wait("!bench.task && document.querySelector('.ways-on')")
     said = bench.text("#states")
