@@ -84,8 +84,9 @@ class Test:
             return [("store", place, value_of(operands[1]))]
         if mnemonic == "MOV":
             return [("load", place, REGISTERS.index(operands[0].upper()))]
-        made, taken = locked(mnemonic, [operand for operand in operands if operand not in places])
-        return [("lock",), ("load", place, LOADED), ("store", place, made), ("move", taken), ("unlock",)]
+        others = [operand for operand in operands if operand not in places]
+        return [("lock",), ("load", place, LOADED), ("store", place, stored(mnemonic, others)), ("move", taken(mnemonic, others)),
+                ("unlock",)]
 
 
 def value_of(operand):
@@ -118,22 +119,25 @@ def moved(mnemonic, operands):
     return lambda bank: with_changed(bank, (at, OF_TWO[mnemonic](first(bank), second(bank))))
 
 
-def locked(mnemonic, operands):
-    """What a locked instruction stores, of the registers and the word that it loaded; and what it makes of the registers then."""
-    back = lambda bank: with_changed(bank, (LOADED, 0))
+def stored(mnemonic, operands):
+    """What a locked instruction stores, of the registers and the word that it loaded."""
     if mnemonic in OF_ONE:
-        return (lambda bank: word(OF_ONE[mnemonic](bank[LOADED]))), back
+        return lambda bank: word(OF_ONE[mnemonic](bank[LOADED]))
     second = value_of(operands[0])
+    if mnemonic == "XCHG":
+        return second
     if mnemonic == "CMPXCHG":
-        is_same = lambda bank: bank[LOADED] == bank[EAX]
-        # where they are the same EAX has the loaded word already
-        return (lambda bank: second(bank) if is_same(bank) else bank[LOADED]), (
-            lambda bank: with_changed(bank, (EAX, bank[LOADED]), (LOADED, 0)))
-    if mnemonic in ("XCHG", "XADD"):
-        at = REGISTERS.index(operands[0].upper())
-        made = second if mnemonic == "XCHG" else lambda bank: word(bank[LOADED] + second(bank))
-        return made, lambda bank: with_changed(bank, (at, bank[LOADED]), (LOADED, 0))
-    return (lambda bank: word(OF_TWO[mnemonic](bank[LOADED], second(bank)))), back
+        return lambda bank: second(bank) if bank[LOADED] == bank[EAX] else bank[LOADED]
+    combined = OF_TWO["ADD" if mnemonic == "XADD" else mnemonic]
+    return lambda bank: word(combined(bank[LOADED], second(bank)))
+
+
+def taken(mnemonic, operands):
+    """What a locked instruction makes of the registers: one of them, or none, gets the word that was loaded, which isn't kept then."""
+    if mnemonic not in ("XCHG", "XADD", "CMPXCHG"):
+        return lambda bank: with_changed(bank, (LOADED, 0))
+    at = EAX if mnemonic == "CMPXCHG" else REGISTERS.index(operands[0].upper())
+    return lambda bank: with_changed(bank, (at, bank[LOADED]), (LOADED, 0))
 
 
 # ---- the machine
