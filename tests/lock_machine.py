@@ -45,6 +45,17 @@ def number(text):
     return word(sign * int(digits, 16 if digits[:2] in ("0x", "0X") else 10))
 
 
+def plain(place):
+    """A location's name without brackets."""
+    return place.strip(" \t\r\n[]")
+
+
+def parts_of(cell):
+    """The mnemonic of an instruction, without LOCK, and its operands."""
+    mnemonic, _, operands = re.sub(r"(?i)^LOCK\s+", "", cell).partition(" ")
+    return mnemonic.upper(), [operand.strip() for operand in operands.split(",") if operand.strip()]
+
+
 class Test:
     """A test of a text: its locations in the order of first appearance, words and registers at the start, and programs of steps."""
 
@@ -53,40 +64,37 @@ class Test:
         first = [item.split("=") for item in found["first"].split(";") if item.strip()]
         rows = [[cell.strip() for cell in row.split("|")] for row in found["rows"].split(";") if row.strip()]
         self.name, cores = found["name"].strip(), 1 + found["columns"].count("|")
-        self.places = [place.strip(" \t\r\n[]") for place, _ in first if ":" not in place]
-        for name in re.findall(r"\[\s*(\w+)\s*\]", found["rows"]):
-            if name not in self.places:
-                self.places.append(name)
+        named = [plain(place) for place, _ in first if ":" not in place] + re.findall(r"\[\s*(\w+)\s*\]", found["rows"])
+        self.places = list(dict.fromkeys(named))
         self.words = [0] * len(self.places)
         self.registers = [[0] * (1 + len(REGISTERS)) for _ in range(cores)]
         for place, value in first:
-            if ":" in place:
-                core, name = place.split(":")
-                self.registers[int(core)][REGISTERS.index(name.strip().upper())] = number(value)
-            else:
-                self.words[self.places.index(place.strip(" \t\r\n[]"))] = number(value)
+            self.set(place, number(value))
         self.programs = [[step for row in rows if row[core] for step in self.steps_of(row[core])] for core in range(cores)]
+
+    def set(self, place, value):
+        """Gives a register or a location its first value."""
+        core, colon, name = place.partition(":")
+        if colon:
+            self.registers[int(core)][REGISTERS.index(name.strip().upper())] = value
+        else:
+            self.words[self.places.index(plain(place))] = value
 
     def steps_of(self, cell):
         """The steps of an instruction: each its kind, with a location, a register or what makes a value of the registers."""
-        words = cell.upper().split(None, 2 if cell.upper().split()[0] == "LOCK" else 1)
-        is_locked = words[0] == "LOCK"
-        mnemonic = words[is_locked]
-        operands = cell.split(None, len(words) - 1)[-1].split(",") if len(words) > 1 + is_locked else []
-        operands = [operand.strip() for operand in operands]
-        places = [operand for operand in operands if operand.startswith("[")]
+        mnemonic, operands = parts_of(cell)
+        others = [operand for operand in operands if not operand.startswith("[")]
         if not operands:
             return [("fence",)] if mnemonic == "MFENCE" else [("move", lambda bank: bank)]
-        if not places:
+        if others == operands:
             return [("move", moved(mnemonic, operands))]
-        place = self.places.index(places[0].strip("[] "))
-        if mnemonic == "MOV" and operands[0] in places:
-            return [("store", place, value_of(operands[1]))]
-        if mnemonic == "MOV":
+        place = next(self.places.index(plain(operand)) for operand in operands if operand.startswith("["))
+        if mnemonic != "MOV":
+            return [("lock",), ("load", place, LOADED), ("store", place, stored(mnemonic, others)), ("move", taken(mnemonic, others)),
+                    ("unlock",)]
+        if operands[0] in others:
             return [("load", place, REGISTERS.index(operands[0].upper()))]
-        others = [operand for operand in operands if operand not in places]
-        return [("lock",), ("load", place, LOADED), ("store", place, stored(mnemonic, others)), ("move", taken(mnemonic, others)),
-                ("unlock",)]
+        return [("store", place, value_of(operands[1]))]
 
 
 def value_of(operand):
