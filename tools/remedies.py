@@ -27,12 +27,10 @@ LOCKED = (
 # Shifts whose operands are registers and numbers alone.
 REGISTER = r"%?[er](?:[abcd]x|[sd]i)"
 IN_REGISTERS = re.compile(r"(?i)sh[lr][lq]?\s+(?:REG\s*,\s*(?:REG|\$?\d+)|\$\d+\s*,\s*REG)".replace("REG", REGISTER))
-COMPUTES = ("%s isn't read: nothing is computed in registers: leave it out, and where its result is used write the number that is meant, "
-            "as MOV [x],$2")
+COMPUTES = "%s isn't read: leave it out, and where its result is used write the number that is meant, as MOV [x],$2"
 
 # Of one that computes in memory without LOCK, and in registers with it.
-THREE = ("without LOCK it is three instructions, each in a cell of its own: MOV %s,[%s]  %s %s  MOV [%s],%s, with a free register for "
-         "%s")
+THREE = "without LOCK write three cells: MOV %s,[%s]  %s %s  MOV [%s],%s, with a free register for %s"
 NOT_LOCKED = "LOCK stands before an instruction that computes in memory alone"
 
 
