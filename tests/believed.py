@@ -311,7 +311,7 @@ def topic(module):
         return "caches"
     if crate in ("tso_cli", "machine_runs", "simulator", "sweep_runs", "sweeper", "counted_io", "tso_io", "command_line", "page_exports"):
         return "commands"
-    if crate in ("tso_report", "search_report", "counts_report"):
+    if crate in ("tso_report", "search_report", "counts_report", "formats", "told_reasons"):
         return "printed text"
     return "tests, machine, axioms"
 

@@ -1,6 +1,6 @@
 //! What a person who reads a printed refutation by hand can rely on, said again in plain terms.
 
-ghost use Rattle.std.specs.List.{list_any};
+ghost use Rattle.std.specs.List.{AllByRecursion, list_any};
 ghost use Rattle.std.specs.Prelude.{◌+◌, ◌<◌, ◌≡◌, ◌⊎◌, ◌++◌, ◌∷◌, All, Contains, List, None, Some, [], false, length, map, true, ℕ};
 ghost use Rattle.tso_terms.specs.Condition.{Claim, NamesExist, truth_of};
 ghost use Rattle.tso_terms.specs.FinalState.{final_registers, final_words};
@@ -13,17 +13,25 @@ ghost use Rattle.possible_reads.specs.Facts.{Fact, given_by};
 ghost use Rattle.short_refutations.specs.Refutations.{Lemma, Node, answers, is_impossible, is_node, known_from, refutes};
 ghost use Rattle.tso_report.specs.Tally.{shown_value};
 ghost use Rattle.search_report.specs.FalseLines.{IsAsGiven};
-ghost use Rattle.search_report.specs.LineJson.{never_json, never_json_line};
-ghost use Rattle.search_report.specs.LineText.{never_lines, never_text};
+ghost use Rattle.search_report.specs.LineJson.{line_value, never_json, never_json_line};
+ghost use Rattle.search_report.specs.LineText.{line_text, never_lines, never_text};
 ghost use Rattle.search_report.specs.Lines.{Case, Leaf, Line, So, deeper, given_lines, leaves_in, question_word};
 ghost use Rattle.search_report.specs.Shown.{Closing, closing_at, places_false};
 ghost use Rattle.search_report.specs.ShownText.{closing_text};
 ghost use Rattle.promises.specs.ByHand.{AreCasesOf, ClosesBranch, HasClosedCase, HasLemmaFirst, HasOpenCase, HaveCases, IsLeafLine, LinesRefute, LinesRefuteInTurn, LinesRefuteWithin, ListHas, RefuteByHand};
 ghost use Rattle.promises.specs.ByHand.{answer_shown, lemma_line};
+ghost use Rattle.serde_json.specs.Written.{has_float};
+ghost use Rattle.formats.specs.Beginnings.{First, begins_so, is_clear};
+ghost use Rattle.formats.specs.Formats.{FitsFormat, Format, Value, text};
+ghost use Rattle.formats.specs.JsonData.{data_of};
+ghost use Rattle.told_reasons.specs.ReasonFormats.{line_format};
+ghost use Rattle.told_reasons.specs.ShownLines.{LineFits, LineIsChained, shown_asked, shown_line};
 
 use crate::{printed_lines_refute, reasons_tell_their_tests};
+use formats::{data_has_no_float, texts_tell_their_values};
 use search_report::false_lines_are_so;
 use short_refutations::short_refutations_are_sound;
+use told_reasons::{lines_are_of_one_format, printed_reasons_are_told};
 
 /// What is printed of a refutation, as lines or as JSON, is made of lines that refute; and what lines refute is true of no execution.
 pub fn a_reason_is_read_by_hand()
@@ -113,4 +121,42 @@ pub fn reasons_are_told_apart()
         → never_lines model t lines ≡ never_lines other u others → leaves_in lines ≡ leaves_in others }
 {
     reasons_tell_their_tests();
+}
+
+/// What is printed the same of two refutations shows the same lines, and asks the same, whichever tests and models they are of. Each fact,
+/// event and place is told as it is printed.
+pub fn printed_reasons_are_told_apart()
+    ensures lines { (model other : Model) (t u : Litmus) (lines others : List Line) → IsTest t → IsTest u
+        → AllByRecursion (LineFits t) lines → AllByRecursion (LineFits u) others
+        → leaves_in lines < 18446744073709551616 → leaves_in others < 18446744073709551616
+        → never_lines model t lines ≡ never_lines other u others → map (shown_line t) lines ≡ map (shown_line u) others }
+    ensures asked { (model other : Model) (t u : Litmus) (lines others : List Line) → IsTest t → IsTest u
+        → AllByRecursion (LineFits t) lines → AllByRecursion (LineFits u) others
+        → leaves_in lines < 18446744073709551616 → leaves_in others < 18446744073709551616
+        → never_lines model t lines ≡ never_lines other u others → shown_asked t.condition ≡ shown_asked u.condition }
+{
+    printed_reasons_are_told();
+}
+
+/// The text of a line, and its JSON where the edges of a cycle follow one another, are those of one value of one format.
+pub fn a_line_is_of_one_format()
+    ensures texts { (t : Litmus) (l : Line) → text line_format (shown_line t l) ≡ line_text t l }
+    ensures objects { (t : Litmus) (l : Line) → LineIsChained t l → data_of line_format (shown_line t l) ≡ line_value t l }
+{
+    lines_are_of_one_format();
+}
+
+/// Where the next words tell which part of a format comes, a text of the format tells its value and what is behind it. As JSON a value
+/// has no float.
+pub fn a_text_of_a_format_tells_its_value()
+    ensures value { (f : Format) (ways : List (List First)) (x y : Value f) (rest other : List ℕ) → is_clear f ways ≡ true
+        → FitsFormat f x → FitsFormat f y → begins_so ways rest ≡ true → begins_so ways other ≡ true
+        → text f x ++ rest ≡ text f y ++ other → x ≡ y }
+    ensures behind { (f : Format) (ways : List (List First)) (x y : Value f) (rest other : List ℕ) → is_clear f ways ≡ true
+        → FitsFormat f x → FitsFormat f y → begins_so ways rest ≡ true → begins_so ways other ≡ true
+        → text f x ++ rest ≡ text f y ++ other → rest ≡ other }
+    ensures floats { (f : Format) (x : Value f) → has_float (data_of f x) ≡ false }
+{
+    texts_tell_their_values();
+    data_has_no_float();
 }

@@ -1,0 +1,5 @@
+mod Beginnings
+mod Firsts
+pub mod Telling
+pub mod Spelling
+pub mod NoFloats

@@ -1,0 +1,4 @@
+pub mod Formats
+pub mod Beginnings
+pub mod JsonData
+pub mod Laws

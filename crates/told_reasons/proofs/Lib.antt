@@ -1,0 +1,4 @@
+mod ClaimTexts
+pub mod ReasonTexts
+pub mod ReasonData
+pub mod ToldLines

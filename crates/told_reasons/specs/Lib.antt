@@ -1,0 +1,2 @@
+pub mod ReasonFormats
+pub mod ShownLines
