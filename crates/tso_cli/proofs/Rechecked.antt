@@ -30,7 +30,7 @@ entries_few core place (i ∷ rest) registers reads =
     let here = made_by_one core place (action_of i) registers (slice_index reads 0) in
     let further = entries_few core (place + 1) rest (registers_by (action_of i) registers (slice_index reads 0)) (values_after (action_of i) reads) in
     let both = length-append (entries_by core place (action_of i) registers (slice_index reads 0))
-        (entries_of core (place + 1) rest (registers_by (action_of i) registers (slice_index reads 0)) (values_after (action_of i) reads)) in
+    (entries_of core (place + 1) rest (registers_by (action_of i) registers (slice_index reads 0)) (values_after (action_of i) reads)) in
     omega (arith, here, further, both)
 
 made_few : (core : ℕ) (programs : List (List Instr)) (registers : List (List ℕ)) (order : List Entry) → All (λ p. length p ≤ 32) programs
