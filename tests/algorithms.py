@@ -7,7 +7,7 @@
 Each test says in `TSO=` and `SC=` whether what it asks is allowed there, and in `Asks=` what that means.
 
 - `why` answers so in both models, with a right reason (tests/why.py judges it), and `outcomes` at depth 32 and 0;
-- a machine of write buffers and a lock (tests/lock_machine.py) has just the ends that `outcomes` has, and tools/theory the verdict;
+- a machine of write buffers and a lock (tests/checks/machines/lock_machine.py) has just the ends that `outcomes` has, and tools/theory the verdict;
 - run on this machine's processor by tools/hardware, each shows nothing that isn't allowed;
 - README.md has a line for each; --write writes its table anew.
 
@@ -19,11 +19,10 @@ import sys
 
 sys.dont_write_bytecode = True
 
-import hardware_runs
-import instruction_sets
-import judging
-import lock_machine
-import tool_runs
+from checks import instruction_sets, judging
+from checks.machines import lock_machine
+from checks.tools import hardware_runs, tool_runs
+
 import why
 from reference import candidates
 

@@ -5,26 +5,26 @@
 
 - tools/cycles: how many cycles there are of each length, with and without locked accesses; names of the literature have the
   gallery's verdict; what is printed is read back as the same test, and the program takes it.
-- The verdict by the program's `outcomes`, by theory (tools/theory), by the plain search of all runs (flat_machine.py), and by the rule of
-  such cycles: allowed exactly where some core's first access is a plain store, its last a plain load, with no fence or locked access
+- The verdict by the program's `outcomes`, by theory (tools/theory), by the plain search of all runs (checks/machines/flat_machine.py), and by the
+  rule of such cycles: allowed exactly where some core's first access is a plain store, its last a plain load, with no fence or locked access
   between; and all final states by the program and by theory. All cycles of length 4 and 5 with locked accesses, all of length 6 without.
-- Cycles given by hand (cycle_meanings.py): all of two to four edges, and 1,000 drawn ones of five and six, with and without locked
+- Cycles given by hand (checks/tools/cycle_meanings.py): all of two to four edges, and 1,000 drawn ones of five and six, with and without locked
   accesses. One that contradicts itself is refused. Of the others each candidate that makes the condition true has every edge, some
   candidate does, and the verdict is that of the candidates that have the cycle.
-- Wildcards, lists of edges, draws and folders of tools/cycles (cycle_runs.py).
+- Wildcards, lists of edges, draws and folders of tools/cycles (checks/tools/cycle_runs.py).
 - The battery that ships, examples/cycles.list, has just the cycles of length 4 and 5 with locked accesses, with these verdicts.
 - Cycles of ten names have the gallery's states, up to names of cores, locations and registers, and stored values.
 - Theory has the gallery's verdict of each of its tests; and of those with few candidates it allows just the final states that
   the plain search finds.
 - tools/compare: logs of herd7's, litmus7's and this project's forms, and what is said of two of them, or of three.
 - tools/import: forms that are read, each with what it becomes, and forms that are refused, each with its line and why; a test of the
-  gallery is imported as itself. Files in the forms of diy7, litmus7 and herd's libraries (imported_files.py): what is read has the same
+  gallery is imported as itself. Files in the forms of diy7, litmus7 and herd's libraries (checks/tools/imported_files.py): what is read has the same
   final states as the same test written by hand, and a log of the file compares with the answer to what is imported. The gallery's tests in
-  nine such forms are imported as the gallery's own, up to names of registers (foreign_forms.py). Tests with words of
-  two sizes, arrays and addresses in registers have the final states of a plain machine whose memory has bytes (byte_machine.py).
+  nine such forms are imported as the gallery's own, up to names of registers (checks/tools/foreign_forms.py). Tests with words of
+  two sizes, arrays and addresses in registers have the final states of a plain machine whose memory has bytes (checks/tools/byte_machine.py).
 - tools/theory, tools/hardware and tools/campaign read each form that tools/import reads; a text that is no test is named, and the others
   go on; a folder without a test is an error; each that is interrupted ends with one line.
-- tools/tso, the module: each of its answers is what the program prints, and what is no answer is an exception (module_runs.py).
+- tools/tso, the module: each of its answers is what the program prints, and what is no answer is an exception (checks/tools/module_runs.py).
 - tools/graph: pictures of the gallery's runs and reasons have the events and edges of the run's candidate, or of the reason's cycle; what
   can't be drawn is said.
 - tools/hardware: short runs of the gallery on this machine's processor; a wrong table of allowed states is noticed.
@@ -49,36 +49,21 @@ import sys
 import tempfile
 
 sys.dont_write_bytecode = True
-import tool_runs
-from tool_runs import TOP, TOOLS, Tally, gallery, script, tool, write
+from checks import instruction_sets, judging
+from checks.campaigns import cache_questions, cluster_campaigns, kept_campaigns, unkept_campaigns
+from checks.machines import flat_machine
+from checks.tools import (byte_machine, cache_tools, cycle_meanings, cycle_runs, fences_runs, foreign_forms, gallery_shapes, graph_runs,
+                          hardware_runs, imported_files, module_runs, test_sources, tool_runs)
+from checks.tools.import_forms import READ, REFUSED
+from checks.tools.log_forms import COMPARED, LAID_SIDE_BY_SIDE
+from checks.tools.tool_runs import TOOLS, TOP, Tally, gallery, script, tool, write
 
-import byte_machine
 import cache_counts
-import cache_tools
-import campaign_once
-import campaign_runs
-import campaign_week
-import cluster_runs
-import cycle_meanings
-import cycle_runs
 import edges
 import faults
-import fences_runs
-import flat_machine
-import foreign_forms
-import gallery_shapes
-import graph_runs
-import hardware_runs
-import imported_files
 import importer
-import instruction_sets
-import judging
 import litmus
-import module_runs
-import source_runs
 import verdicts
-from import_forms import READ, REFUSED
-from log_forms import COMPARED, LAID_SIDE_BY_SIDE
 
 theory, cycles = script("theory"), script("cycles")
 
@@ -227,9 +212,9 @@ def main():
     judge_imports(tally)
     judge_comparisons(tally)
     judge_program(program, tally)
-    for part in (imported_files, foreign_forms, byte_machine, cycle_meanings, cycle_runs, gallery_shapes, source_runs, module_runs,
-                 graph_runs, hardware_runs, campaign_runs, campaign_once, campaign_week, cache_counts, cache_tools,
-                 fences_runs, cluster_runs):
+    for part in (imported_files, foreign_forms, byte_machine, cycle_meanings, cycle_runs, gallery_shapes, test_sources, module_runs,
+                 graph_runs, hardware_runs, kept_campaigns, unkept_campaigns, cache_questions, cache_counts, cache_tools,
+                 fences_runs, cluster_campaigns):
         part.judge(program, tally)
     return tally.end()
 

@@ -11,7 +11,7 @@ PROMISE is run (on the atomic bus, plain), run-whole (the split bus and JSON too
 why (all three plain), check, witness, headline, axioms, state (the axioms, final state and verdict), answers, reach, page, models, branches, refutations or laws
 (what the contracts name of all functions that PAGES name and that are no methods; what a contract cites through
 another name of a whole file, as `spec.reading_of`, is the code's own way said as a definition, and a word of the inside). A line counts
-where it is neither blank, a comment nor an import. tests/declared.py lists the types of the code that the headline names.
+where it is neither blank, a comment nor an import. tests/declared_types.py lists the types of the code that the headline names.
 
 --arrange gives each definition its folder: specs/ of its crate for what a promise reaches, specs/inner/ for the rest. The last line
 is 'N passed, M failed', M being how many definitions don't stand so.
@@ -23,8 +23,8 @@ import sys
 from functools import lru_cache
 
 sys.dont_write_bytecode = True
-import judging
-from judging import TOP
+from checks import judging
+from checks.judging import TOP
 
 BEGINS = re.compile(r"(?:pub )?(?:abbrev|unfoldable|record|data)(?: pub)? (\S+)")
 NAME = r"[^\W\d][\w'-]*"

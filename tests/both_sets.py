@@ -13,8 +13,7 @@ import sys
 
 sys.dont_write_bytecode = True
 
-import judging
-import rows
+from checks import judging, rows
 from reference import commands, litmus, reading
 
 OPTION = "--instructions"

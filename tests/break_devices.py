@@ -10,7 +10,7 @@ of the answer, and nothing where standard input failed. A signal must not end th
 
 Then each call on standard input and on standard output fails in turn, and none comes after it on the same side; and both
 move one byte a call, which is enough for the whole answer. Of a further program (--also) every fourth call fails. A small
-library does that, tests/failing_calls.c, which is built with the C compiler and preloaded; without a C compiler that counts as
+library does that, tests/checks/failing_calls.c, which is built with the C compiler and preloaded; without a C compiler that counts as
 a failure.
 
 At a terminal a command says that it reads from there, once, and only where standard error is a terminal too. The last line is
@@ -27,9 +27,8 @@ import termios
 import time
 
 sys.dont_write_bytecode = True
-import failing
-import judging
-from judging import BAD_LINE, DIVIDER, ENDED, FAULT, INPUT_FAULT, INVALID, OUTPUT_FAULT, REFUSED, UNFINISHED
+from checks import failing_calls, judging
+from checks.judging import BAD_LINE, DIVIDER, ENDED, FAULT, INPUT_FAULT, INVALID, OUTPUT_FAULT, REFUSED, UNFINISHED
 
 BOTH_LOADS = judging.STORE_BUFFERING + DIVIDER + judging.BOTH_LOADS_PASS
 
@@ -275,7 +274,7 @@ def judge_terminals(program, tally):
 
 def with_calls(program, words, given, told):
     """The answer under the library, which is told so, and its notes of calls that failed or came after such a one."""
-    done, noted = failing.answer(program, words, given, told)
+    done, noted = failing_calls.answer(program, words, given, told)
     return done, [word for word, _ in noted if word != "reading"]
 
 
@@ -329,7 +328,7 @@ def main():
     print("devices broken: %d" % (tally.passed + tally.failed - len(programs) * len(JOBS)))
     for program in programs:
         judge_terminals(program, tally)
-    turns = judging.with_turns(programs) if failing.is_there(tally) else []
+    turns = judging.with_turns(programs) if failing_calls.is_there(tally) else []
     jobs = [(program, every, *job) for program, every in turns for job in JOBS]
     for job, results in zip(jobs, judging.in_processes(lambda job: judge_calls(*job), jobs, at_once=1)):
         calls += tally.add(job[2], results)

@@ -18,8 +18,8 @@ import sys
 import tempfile
 
 sys.dont_write_bytecode = True
-import judging
-from tool_runs import Tally, described, gallery, tool, write
+from checks import judging
+from checks.tools.tool_runs import Tally, described, gallery, tool, write
 from scripts import SAME
 
 RUNS, IN_GATE, LENGTH = 2000, 80, 4000

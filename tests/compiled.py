@@ -18,22 +18,16 @@ import sys
 import tempfile
 
 sys.dont_write_bytecode = True
-import judging
-from judging import TOP, Tally
+from checks import judging
+from checks.judging import TOP, Tally
 
 TOOL = os.path.join(TOP, "tools", "compiled")
 GALLERY = os.path.join(TOP, "examples", "c11")
 sys.path.insert(0, os.path.join(TOP, "tools"))
 MISSING = None
 try:
-    import compiled_bugs
+    from checks.compiled import further_programs, instruction_forms, laid_in_bugs, plain_walk, random_programs, source_model_tests, tool_answers
     import compiled_cycles
-    import compiled_forms
-    import compiled_made
-    import compiled_programs
-    import compiled_sources
-    import compiled_tool
-    import compiled_walk
     from c11 import arithmetic, compiling, instructions, machine, tests, verdicts
     from c11.asking import Asker
     from c11.objects import Image
@@ -88,7 +82,7 @@ def gallery_faults(judged, name, compiler, times):
 def walk_faults(parts):
     """How the final states differ from those of the plain walk, where that comes to an end."""
     compiled, cells, states, _, _ = parts
-    walked = compiled_walk.final_states(compiled.machine, compiled.observer(cells))
+    walked = plain_walk.final_states(compiled.machine, compiled.observer(cells))
     if walked is None:
         return []
     return [] if walked[0] == set(states) else ["the walk has %d states, and not %d" % (len(walked[0]), len(states))]
@@ -115,21 +109,21 @@ def expectation_faults(judged, name):
     source = judged.sources[name]
     allowed = source.allowed(1)
     states = [dict(zip(map(name_of, allowed.cells), state)) for state in allowed.states]
-    found = "allowed" if any(compiled_sources.is_met(source.test.condition, state) for state in states) else "forbidden"
+    found = "allowed" if any(source_model_tests.is_met(source.test.condition, state) for state in states) else "forbidden"
     return [] if found == source.test.fact("C11") else ["C11 says %s, and its file %s" % (found, source.test.fact("C11"))]
 
 
 def model_rows():
     """The tests of the literature: pairs of a name and its faults."""
-    for name, threads, condition, wanted in compiled_sources.TABLE:
-        source, found = verdicts.SourceJudge(tests.read_c(name + ".c", compiled_sources.text_of(threads)), "rc11"), ""
-        for model in compiled_sources.MODELS:
+    for name, threads, condition, wanted in source_model_tests.TABLE:
+        source, found = verdicts.SourceJudge(tests.read_c(name + ".c", source_model_tests.text_of(threads)), "rc11"), ""
+        for model in source_model_tests.MODELS:
             allowed = source.by_model(model).allowed(1)
             states = [dict(zip(map(name_of, allowed.cells), state)) for state in allowed.states]
-            found += "+" if any(compiled_sources.is_met(condition, state) for state in states) else "-"
-        yield name, [] if found == wanted else ["%s say %s, and not %s" % (compiled_sources.MODELS, found, wanted)]
-    for name, threads, wanted in compiled_sources.RACES:
-        allowed = verdicts.SourceJudge(tests.read_c(name + ".c", compiled_sources.text_of(threads)), "rc11").allowed(1)
+            found += "+" if any(source_model_tests.is_met(condition, state) for state in states) else "-"
+        yield name, [] if found == wanted else ["%s say %s, and not %s" % (source_model_tests.MODELS, found, wanted)]
+    for name, threads, wanted in source_model_tests.RACES:
+        allowed = verdicts.SourceJudge(tests.read_c(name + ".c", source_model_tests.text_of(threads)), "rc11").allowed(1)
         yield name, [] if (allowed.race is not None) == wanted else ["a race: %s" % (allowed.race is not None)]
 
 
@@ -142,7 +136,7 @@ def bug_faults(judged, name, compiler, bug, content, counts):
         counts[kind, "not judged"] += 1
         return [] if "walk" not in str(fault) else [str(fault)]
     compiled, cells, states, _, _ = parts
-    walked = compiled_walk.final_states(compiled.machine, compiled.observer(cells))
+    walked = plain_walk.final_states(compiled.machine, compiled.observer(cells))
     if walked is None:
         counts[kind, "too many states for the walk"] += 1
         return []
@@ -158,7 +152,7 @@ def bug_rows(judged, compilers, every, counts):
     number = 0
     for name in judged.sources:
         for compiler in compilers if name not in SLOW else ():
-            for bug, content in compiled_bugs.bugs_in(judged.object(name, compiler)):
+            for bug, content in laid_in_bugs.bugs_in(judged.object(name, compiler)):
                 number += 1
                 if number % every == 0:
                     yield "%s %s: %s" % (name, compiler, bug), bug_faults(judged, name, compiler, bug, content, counts)
@@ -170,7 +164,7 @@ def cycle_rows(asker, threads, how_many, known):
     for batch in compiled_cycles.batches(drawn):
         for source, compiler, word, extra, cells, states, compiled in compiled_cycles.verdicts_on(
                 batch, compiled_cycles.COMPILERS, asker, known):
-            walked = None if compiled is None else compiled_walk.final_states(compiled.machine, compiled.observer(cells))
+            walked = None if compiled is None else plain_walk.final_states(compiled.machine, compiled.observer(cells))
             faults = [] if word == verdicts.OK else ["%s %s" % (word, extra)]
             yield "%s %s" % (source.test.name, compiler), faults + ([] if walked is None or walked[0] == states else [
                 "the walk has %d states, and not %d" % (len(walked[0]), len(states))])
@@ -179,7 +173,7 @@ def cycle_rows(asker, threads, how_many, known):
 def made_rows(asker, compilers, how_many):
     """Programs made at random: no compiler is at fault, and the final states are those of the walk."""
     for seed in range(SEED, SEED + how_many):
-        source = verdicts.SourceJudge(tests.read_c("made.c", compiled_made.program(random.Random(seed))), "rc11")
+        source = verdicts.SourceJudge(tests.read_c("made.c", random_programs.program(random.Random(seed))), "rc11")
         for compiler in compilers:
             content = compiling.object_of(compiler, source.test.text, "made")
             found, parts = verdicts.judge(source, compiler, Image(content), 1, asker)
@@ -189,8 +183,8 @@ def made_rows(asker, compilers, how_many):
 
 def program_rows(asker, compilers):
     """Further programs: that each has as many states as it must, and those of the walk."""
-    for name, (rounds, count, text) in compiled_programs.PROGRAMS.items():
-        source = verdicts.SourceJudge(tests.read_c("program.c", compiled_programs.HEAD + text), "rc11")
+    for name, (rounds, count, text) in further_programs.PROGRAMS.items():
+        source = verdicts.SourceJudge(tests.read_c("program.c", further_programs.HEAD + text), "rc11")
         for compiler in compilers:
             content = compiling.object_of(compiler, source.test.text, "program")
             found, parts = verdicts.judge(source, compiler, Image(content), rounds, asker)
@@ -201,12 +195,12 @@ def program_rows(asker, compilers):
 def joined_rows(asker, compilers, how_many):
     """Words that are used both whole and in parts, of written programs and of some made at random: the final states are those of the walk,
     which goes by the parts."""
-    for name, (count, text) in compiled_programs.JOINED.items():
+    for name, (count, text) in further_programs.JOINED.items():
         for compiler in compilers:
             found = joined_states(asker, compiler, text)
             yield "%s, %s" % (name, compiler), [] if found == (count, count) else ["states and those of the walk: %s" % (found,)]
     for seed in range(SEED, SEED + how_many):
-        found = joined_states(asker, compilers[0], compiled_made.pair_program(random.Random(seed)))
+        found = joined_states(asker, compilers[0], random_programs.pair_program(random.Random(seed)))
         yield "seed %d" % seed, [] if found[0] == found[1] else ["states and those of the walk: %s" % (found,)]
 
 
@@ -222,7 +216,7 @@ def joined_states(asker, compiler, text):
         raise
     cells = compiled.own_cells()
     states = set(compiled.states(cells))
-    walked, _ = compiled_walk.final_states(compiled.machine, compiled.observer(cells))
+    walked, _ = plain_walk.final_states(compiled.machine, compiled.observer(cells))
     return len(states), len(states) if states == walked else "others: %d" % len(walked)
 
 
@@ -238,7 +232,7 @@ def slip_rows():
     for name, table, key, wrong, form in slips:
         right, table[key] = table[key], wrong
         try:
-            found = [faults for _, faults in compiled_forms.faults_of_forms([form], 200, 1)]
+            found = [faults for _, faults in instruction_forms.faults_of_forms([form], 200, 1)]
         finally:
             table[key] = right
         yield name, [] if any(found) else ["it isn't told"]
@@ -269,13 +263,13 @@ def main():
     tally.add("programs", program_rows(asker, ALL if asked.whole else ("gcc -O2",)))
     tally.add("joined words", joined_rows(asker, ALL if asked.whole else IN_GATE, 300 if asked.whole else 12))
     tally.add("rounds", (("%s %s" % (name, compiler), round_faults(judged, name, compiler)) for name in LOOPS for compiler in IN_GATE))
-    tally.add("instructions", compiled_forms.faults_of_forms(compiled_forms.forms(), 1000 if asked.whole else 60, 1))
+    tally.add("instructions", instruction_forms.faults_of_forms(instruction_forms.forms(), 1000 if asked.whole else 60, 1))
     tally.add("slips", slip_rows())
     tally.add("bugs", bug_rows(judged, ("gcc -O2", "clang -O2") if asked.whole else ("gcc -O2",), 1 if asked.whole else 5, counts))
     for (kind, what), count in sorted(counts.items()):
         print("%s: %d %s" % (kind, count, what))
     with tempfile.TemporaryDirectory() as folder:
-        tally.add("tool", compiled_tool.rows(asked.program, folder))
+        tally.add("tool", tool_answers.rows(asked.program, folder))
     return tally.end()
 
 

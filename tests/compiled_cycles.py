@@ -21,8 +21,8 @@ import sys
 import time
 
 sys.dont_write_bytecode = True
-import judging
-from judging import TOP, Tally
+from checks import judging
+from checks.judging import TOP, Tally
 
 from elftools.elf.elffile import ELFFile
 

@@ -15,7 +15,7 @@ import subprocess
 import sys
 
 sys.dont_write_bytecode = True
-import judging
+from checks import judging
 
 # Values that --help tells in words.
 IN_WORDS = {"1, 2 or 4": ["1", "2", "4"]}

@@ -17,11 +17,9 @@ import resource
 import sys
 
 sys.dont_write_bytecode = True
-import instruction_sets
-import judging
-import rows
-from great_texts import ONE_STORE, great_texts, greatest_test
-from judging import DIVIDER, ENDED, INVALID, REFUSED, UNFINISHED
+from checks import instruction_sets, judging, rows
+from checks.great_texts import ONE_STORE, great_texts, greatest_test
+from checks.judging import DIVIDER, ENDED, INVALID, REFUSED, UNFINISHED
 from reference import hints, printing, reasons
 
 # So many texts a process takes at once.

@@ -17,10 +17,9 @@ import sys
 
 sys.dont_write_bytecode = True
 
-import drawn_plans
-import drawn_runs
-import judging
-from judging import EXAMPLES, GALLERY, PROTOCOLS, TOP, content
+from checks import judging
+from checks.documents import plan_pictures, run_pictures
+from checks.judging import EXAMPLES, GALLERY, PROTOCOLS, TOP, content
 
 FOLDER = os.path.join(TOP, "docs", "pictures")
 PAGE = os.path.join(TOP, "docs", "PICTURES.md")
@@ -77,20 +76,20 @@ def told(name):
 
 
 PICTURES = {
-    "store-buffering": lambda program, words: drawn_runs.buffers(
+    "store-buffering": lambda program, words: run_pictures.buffers(
         json_of(program, ["trace"], content(EXAMPLES, "store-buffering.litmus")), words),
-    "outcomes": lambda program, words: drawn_runs.outcomes(
+    "outcomes": lambda program, words: run_pictures.outcomes(
         *(json_of(program, ["outcomes", "--depth", depth], content(EXAMPLES, "store-buffering.litmus")) for depth in ("32", "0")), words),
-    "message-passing": lambda program, words: drawn_runs.cycle(reason_of(program, "MP"), words),
-    "iriw": lambda program, words: drawn_runs.cycle(reason_of(program, "IRIW"), words),
-    "reason": lambda program, words: drawn_runs.reason(json_of(program, ["why"], LOCK), words),
-    "false-sharing": lambda program, words: drawn_runs.lifelines(json_of(program, ["trace", "--words", "2"], SHARING), words),
-    "padded": lambda program, words: drawn_runs.lifelines(json_of(program, ["trace", "--words", "2"], PADDED), words),
-    "split-bus": lambda program, words: drawn_runs.bus_times(json_of(program, ["trace", "--bus", "split"], SPLIT), words),
-    "models": lambda program, words: drawn_plans.rings(gallery_facts(), words),
-    "crates": lambda program, words: drawn_plans.crates(content(TOP, "crates.txt"), words),
+    "message-passing": lambda program, words: run_pictures.cycle(reason_of(program, "MP"), words),
+    "iriw": lambda program, words: run_pictures.cycle(reason_of(program, "IRIW"), words),
+    "reason": lambda program, words: run_pictures.reason(json_of(program, ["why"], LOCK), words),
+    "false-sharing": lambda program, words: run_pictures.lifelines(json_of(program, ["trace", "--words", "2"], SHARING), words),
+    "padded": lambda program, words: run_pictures.lifelines(json_of(program, ["trace", "--words", "2"], PADDED), words),
+    "split-bus": lambda program, words: run_pictures.bus_times(json_of(program, ["trace", "--bus", "split"], SPLIT), words),
+    "models": lambda program, words: plan_pictures.rings(gallery_facts(), words),
+    "crates": lambda program, words: plan_pictures.crates(content(TOP, "crates.txt"), words),
 }
-PICTURES.update({name: lambda program, words, name=name: drawn_plans.protocol(answer(program, ["tables", "--protocol", name]), words)
+PICTURES.update({name: lambda program, words, name=name: plan_pictures.protocol(answer(program, ["tables", "--protocol", name]), words)
                  for name in PROTOCOLS})
 
 
@@ -103,7 +102,7 @@ def faults_of_picture(program, name):
     faults = [] if told(name) != name else ["docs/PICTURES.md doesn't show it"]
     if not os.path.exists(path_of(name)) or content(path_of(name)) != made:
         faults.append("not the picture that is made: tests/document_pictures.py --write makes it anew")
-    return faults + (drawn_plans.faults_of_protocol(made, answer(program, ["tables", "--protocol", name])) if name in PROTOCOLS else [])
+    return faults + (plan_pictures.faults_of_protocol(made, answer(program, ["tables", "--protocol", name])) if name in PROTOCOLS else [])
 
 
 def faults_of_folder():

@@ -12,15 +12,15 @@ PROGRAM there. The blocks of a document run one after the other in one new folde
 
 Blocks fenced as `sh` aren't run: they prove, test, or need a fresh checkout, a browser or a pager (`./test`, `./tso --prove`).
 
-Then come the sentences of README.md and the pages of docs/, none of more than 40 words (tests/document_sentences.py says how they are
+Then come the sentences of README.md and the pages of docs/, none of more than 40 words (tests/checks/documents/sentence_lengths.py says how they are
 counted), the words of README.md (1,200 at most), the links of all documents and the files that they name, the names of refusals among
 the messages, the letters of breaches (each beside its axiom's name), the page of what is proved (short cells), the guided reading (each
 definition with its file where it first has its name), the names of definitions, what each crate rests on (docs/ARCHITECTURE.md), the list of
 all pages (docs/README.md), the lists of files that a further protocol or command touches (docs/HACKING.md), and the tables of
 docs/REFERENCE.md (commands, options, statuses) and of docs/INPUT.md (limits), against the program, its help, the manual page and the limits
-as plain numbers (tests/document_tables.py). The table of what C++'s orders become, and the commands on code of one's own, are held against
-the compilers that are there (tests/document_mapping.py), and each picture of docs/pictures/ is made anew (tests/document_pictures.py). The
-last line is 'N passed, M failed'.
+as plain numbers (tests/checks/documents/reference_tables.py). The table of what C++'s orders become, and the commands on code of one's own, are held
+against the compilers that are there (tests/checks/documents/compiler_mapping.py), and each picture of docs/pictures/ is made anew
+(tests/document_pictures.py). The last line is 'N passed, M failed'.
 """
 import difflib
 import functools
@@ -32,13 +32,12 @@ import sys
 import tempfile
 
 sys.dont_write_bytecode = True
-import document_mapping
+from checks import judging
+from checks.documents import compiler_mapping, reference_tables, sentence_lengths
+from checks.documents.reference_tables import README, SECONDS
+from checks.judging import TOP, content
+
 import document_pictures
-import document_sentences
-import document_tables
-import judging
-from document_tables import README, SECONDS
-from judging import TOP, content
 
 MARK = "-- end of command --"
 
@@ -315,10 +314,10 @@ def faults_of_defined_names():
 
 def faults_of_declared():
     """How many types and views of the code the definitions rest on, where a document says so."""
-    done = subprocess.run([os.path.join(TOP, "tests", "declared.py")], capture_output=True, text=True, timeout=SECONDS)
+    done = subprocess.run([os.path.join(TOP, "tests", "declared_types.py")], capture_output=True, text=True, timeout=SECONDS)
     told = re.search(r"(\d+) types [^.;]*?\band (\d+) views", content(os.path.join(TOP, "docs", "PROVED.md")))
     last = done.stdout.splitlines()[-1:]
-    return [] if told and last == ["%s types, %s views" % told.groups()] else ["tests/declared.py says %s" % last]
+    return [] if told and last == ["%s types, %s views" % told.groups()] else ["tests/declared_types.py says %s" % last]
 
 
 def faults_of_believed():
@@ -375,10 +374,10 @@ def rows_of(program):
         yield "files that %s names" % short(path), lambda path=path: faults_of_named_files(path)
         yield "number of tests in " + short(path), lambda path=path: faults_of_gallery(path)
         yield "letters of breaches in " + short(path), lambda path=path: faults_of_letters(path)
-    for path in document_sentences.pages():
-        yield "length of sentences in " + short(path), lambda path=path: document_sentences.faults_of_length(path)
-    yield from document_tables.rows_of(program)
-    yield from document_mapping.rows_of(program)
+    for path in sentence_lengths.pages():
+        yield "length of sentences in " + short(path), lambda path=path: sentence_lengths.faults_of_length(path)
+    yield from reference_tables.rows_of(program)
+    yield from compiler_mapping.rows_of(program)
     yield from document_pictures.rows_of(program)
     yield "names of refusals", faults_of_names
     yield "scripts of tests/", faults_of_scripts
@@ -413,5 +412,5 @@ def write(words):
 
 if __name__ == "__main__":
     if sys.argv[1:2] == ["--sentences"]:
-        sys.exit(0 if document_sentences.show(sys.argv[2:] or document_sentences.pages()) else 1)
+        sys.exit(0 if sentence_lengths.show(sys.argv[2:] or sentence_lengths.pages()) else 1)
     sys.exit(judging.check_or_write(judging.with_program(__doc__), check, write))

@@ -16,8 +16,8 @@ import sys
 
 sys.dont_write_bytecode = True
 
-import judging
-from judging import BUSES, PROTOCOLS
+from checks import judging
+from checks.judging import BUSES, PROTOCOLS
 
 DEPTHS = range(33)
 SHAPES = tuple(itertools.product(range(1, 9), range(1, 9), (1, 2, 4)))

@@ -13,7 +13,7 @@ against them are
 - `outcomes`: TSO at depth 32, SC at depth 0, and Depth, from which on the outcome is there and at one less isn't, by its words and its
   verdicts; the states that its line `True` names, one or more of an allowed one, with choices under which `run` has the outcome;
 - `why`: the same verdicts of TSO and SC; a forbidden one has a cycle, which the page shows;
-- a plain reference, flat_machine.py, which explores all runs: the same verdicts;
+- a plain reference, checks/machines/flat_machine.py, which explores all runs: the same verdicts;
 - of an allowed one: `run` at that depth has the outcome, no choice stalled and none left over; `witness` finds
   choices for that run's order at that depth, and at one less it says which depth is needed;
 - of a forbidden one: its choices end without the outcome; the order has it, by its own read values, and `check` names
@@ -32,9 +32,9 @@ import urllib.parse
 
 sys.dont_write_bytecode = True
 
-import flat_machine
-import judging
-from judging import EXAMPLES, GALLERY
+from checks import judging
+from checks.judging import EXAMPLES, GALLERY
+from checks.machines import flat_machine
 
 PAGE = os.path.join(EXAMPLES, "GALLERY.md")
 

@@ -3,22 +3,20 @@
 
     tests/hints.py PROGRAM [PART-OF-HINT] [--also PROGRAM]
 
-tests/rows.py says how a row is written; standard error is the hint, and empty where there must be none. Where standard error is closed,
+tests/checks/rows.py says how a row is written; standard error is the hint, and empty where there must be none. Where standard error is closed,
 standard output and the status must be the same.
 
-Then the hints are followed, word by word as tests/cures.py has it: on tests in AT&T's order of operands, which are read in the end as
-the tests that tools/import makes of them (tests/at_and_t.py); and on 400 wrong texts, each of which is read after one to three of them
-(tests/wrong_texts.py).
+Then the hints are followed, word by word as tests/checks/hints/hint_changes.py has it: on tests in AT&T's order of operands, which are read in the
+end as the tests that tools/import makes of them (tests/checks/hints/at_and_t_texts.py); and on 400 wrong texts, each of which is read after one to
+three of them (tests/checks/hints/wrong_texts.py).
 
 The last line is 'N passed, M failed'.
 """
 import sys
 
 sys.dont_write_bytecode = True
-import at_and_t
-import judging
-import rows
-import wrong_texts
+from checks import judging, rows
+from checks.hints import at_and_t_texts, wrong_texts
 
 
 def faults_of(program, row):
@@ -34,7 +32,7 @@ def named(row):
 
 def works(_):
     held = [(named(row), lambda program, row=row: faults_of(program, row)) for row in rows.read("hints").values()]
-    return held + at_and_t.works() + wrong_texts.works()
+    return held + at_and_t_texts.works() + wrong_texts.works()
 
 
 if __name__ == "__main__":

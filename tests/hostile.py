@@ -18,11 +18,8 @@ import sys
 import tempfile
 
 sys.dont_write_bytecode = True
-import fault_loops
-import fault_points
-import hostile_installs
-import hostile_starts
-import judging
+from checks import judging
+from checks.hostile import attacked_installs, attacked_script, fault_loops, fault_points
 
 
 def judge_rows(tally, rows, part):
@@ -61,8 +58,8 @@ def main():
     tally = judging.Tally(shown=100)
     with tempfile.TemporaryDirectory() as room:
         # The script remembers nothing of files that are younger than a second.
-        judge_rows(tally, hostile_starts.rows(room, asked.of, asked.program), asked.part)
-        judge_rows(tally, hostile_installs.rows(room, asked.of), asked.part)
+        judge_rows(tally, attacked_script.rows(room, asked.of, asked.program), asked.part)
+        judge_rows(tally, attacked_installs.rows(room, asked.of), asked.part)
     if fault_points.tracer() is None:
         print("not tried: the fault loops, which trace what they break")
     else:

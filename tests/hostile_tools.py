@@ -3,14 +3,14 @@
 
     tests/hostile_tools.py PROGRAM [PART-OF-NAME] [--tools FOLDER] [--whole] [--seed S]
 
-- What they write (hostile_files.py): files that are one, files that are somebody else's, results that are none, full disks.
-- What they start (hostile_ends.py): each tool is ended by INT, TERM, HUP and KILL, and no process or folder is left.
-- What they read (hostile_texts.py): texts of 64 KiB that would take long, names with markup or with what steers a terminal, JSON of other
-  kinds, streams that are closed; the statuses of all tools.
-- Faults (faulty_writes.py): each call of a tool that writes is killed after a system call that changes a file, or has no more room from
-  one on. What isn't the tool's own is as before, and a second call ends as if there had been no fault. Of these points some are drawn, by
+- What they write (checks/hostile/files_of_others.py): files that are one, files that are somebody else's, results that are none, full disks.
+- What they start (checks/hostile/ended_tools.py): each tool is ended by INT, TERM, HUP and KILL, and no process or folder is left.
+- What they read (checks/hostile/hostile_texts.py): texts of 64 KiB that would take long, names with markup or with what steers a terminal, JSON of
+  other kinds, streams that are closed; the statuses of all tools.
+- Faults (checks/hostile/faulty_writes.py): each call of a tool that writes is killed after a system call that changes a file, or has no more room
+  from one on. What isn't the tool's own is as before, and a second call ends as if there had been no fault. Of these points some are drawn, by
   the seed (1); with --whole each is tried, and those of campaign and of runs on the processor then alone.
-- Options (hostile_options.py): each without a value, and with some that it can't mean; files that can't be read.
+- Options (checks/hostile/senseless_options.py): each without a value, and with some that it can't mean; files that can't be read.
 - Made texts for the importer (made_imports.py), a few hundred; that script makes as many as it's told to.
 
 Each row has a folder of its own. --tools has the tools of another checkout attacked. The last line is 'N passed, M failed'.
@@ -20,15 +20,11 @@ import signal
 import sys
 
 sys.dont_write_bytecode = True
-import faulty_writes
-import hostile_calls
-import hostile_ends
-import hostile_files
-import hostile_options
-import hostile_texts
-import judging
+from checks import judging
+from checks.hostile import attacked_tools, ended_tools, faulty_writes, files_of_others, hostile_texts, senseless_options
+from checks.tools import tool_runs
+
 import made_imports
-import tool_runs
 
 # Texts that are made for the importer.
 MADE = 400
@@ -48,7 +44,7 @@ def main():
     parser.add_argument("--seed", type=int, default=1)
     asked = parser.parse_args()
     heed_signals()
-    rows = hostile_files.ROWS + hostile_texts.ROWS + hostile_ends.ROWS
+    rows = files_of_others.ROWS + hostile_texts.ROWS + ended_tools.ROWS
     rows = [(name, judge) for name, judge in rows if asked.part in name]
     # some that take long stand side by side
     rows = [row for at in range(16) for row in rows[at::16]]
@@ -58,12 +54,12 @@ def main():
     def judged(row):
         # tools/hardware has a processor for each core of a test
         os.sched_setaffinity(0, processors)
-        wrong = hostile_calls.Calls(asked.tools, asked.program).in_room(row[1])
+        wrong = attacked_tools.Calls(asked.tools, asked.program).in_room(row[1])
         return row[0], [wrong] if wrong else []
     tally = judging.Tally(shown=200)
     tally.add("hostile tools", judging.in_processes(judged, rows, at_once=1))
     if os.path.realpath(asked.tools) == os.path.realpath(tool_runs.TOOLS):
-        tally.add("options", hostile_options.judged(asked.program, asked.part))
+        tally.add("options", senseless_options.judged(asked.program, asked.part))
         tally.add("faults", faulty_writes.judged(asked.program, asked.part, None if asked.whole else asked.seed))
         tally.add("made texts", made_imports.judged(MADE, asked.seed) if asked.part in "made texts" else [])
     return tally.end()

@@ -152,7 +152,8 @@ faults_of_documents() {
   python3 -B - "$top/tests" "$program" "$1/share/doc/tso" "$any" << 'END'
 import glob, os, re, sys
 sys.path.insert(0, sys.argv[1])
-import documents, judging
+import documents
+from checks import judging
 program, folder = sys.argv[2:4]
 # The checkout's names of what is installed, but for the script's own words, and for where hints, and the note on them, name a tool.
 CHECKOUT = re.compile(r"""\./tso(?: (?!--prove|--program|--install|--uninstall)|['"]).*|^(?!hint: |These pages ).*\btools/(?:%s)\b""" % sys.argv[4])

@@ -15,8 +15,8 @@ import sys
 import tempfile
 
 sys.dont_write_bytecode = True
-import hardware_runs
-import judging
+from checks import judging
+from checks.tools import hardware_runs
 from reference import arithmetic, reading
 from reference import litmus as voice
 

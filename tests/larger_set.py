@@ -4,7 +4,7 @@
     tests/larger_set.py PROGRAM [--tests N] [--processor M] [--seed S] [--also PROGRAM]
 
 N (40) tests of two to four cores are made from the seed S (1). What each can end with is found by a machine of write buffers and a lock
-(tests/lock_machine.py), which shares nothing with the program, the second program or the tools. Then:
+(tests/checks/machines/lock_machine.py), which shares nothing with the program, the second program or the tools. Then:
 
 - `outcomes` has just these ends, at depth 32, and prints them as the second program does;
 - tools/theory allows just these ends, of the tests with no more than 2,000,000 candidates;
@@ -23,12 +23,10 @@ import tempfile
 
 sys.dont_write_bytecode = True
 
-import hardware_runs
-import instruction_sets
-import judging
-import larger_tests
-import lock_machine
-import tool_runs
+from checks import instruction_sets, judging
+from checks.machines import larger_set_tests, lock_machine
+from checks.tools import hardware_runs, tool_runs
+
 import why
 from reference import commands, litmus
 
@@ -57,7 +55,7 @@ class Due:
     """A made test: its texts, one for each quantifier, and what it can end with, by the names of places."""
 
     def __init__(self, seed, number):
-        self.number, (self.name, self.texts, test, ends) = number, larger_tests.made(seed, number)
+        self.number, (self.name, self.texts, test, ends) = number, larger_set_tests.made(seed, number)
         self.given = self.texts[0].encode()
         self.ends = [lock_machine.named(test, end) for end in ends]
 
@@ -116,7 +114,7 @@ def rows_of(seed, number):
     yield "outcomes", lambda program: faults_of_outcomes(program, due)
     if candidates_in(due) <= MOST_CANDIDATES:
         yield "theory", lambda program: faults_of_theory(due)
-    for quantifier, text in zip(larger_tests.QUANTIFIERS, due.texts):
+    for quantifier, text in zip(larger_set_tests.QUANTIFIERS, due.texts):
         yield "why " + quantifier, lambda program, text=text: why.faults_of_test(program, text, due.number % 10 == 0)
     for protocol, bus in itertools.product(judging.PROTOCOLS, judging.BUSES):
         machine = ["--protocol", protocol, "--bus", bus]
@@ -136,7 +134,7 @@ def judge_processor(program, seed, count, tally):
         return
     with tempfile.TemporaryDirectory() as room:
         for number in range(count):
-            tool_runs.write(os.path.join(room, "larger%d.litmus" % number), larger_tests.made(seed, number)[1][0])
+            tool_runs.write(os.path.join(room, "larger%d.litmus" % number), larger_set_tests.made(seed, number)[1][0])
         done = tool_runs.tool("hardware", "--program", program, "--seconds", str(SECONDS), room)
     last = done.stdout.splitlines()[-1:] or [""]
     print("on this machine's processor: " + last[0])

@@ -14,13 +14,11 @@ import sys
 import time
 
 sys.dont_write_bytecode = True
-import judging
-import tool_runs
+from checks import judging
+from checks.tools import import_forms, imported_files, tool_runs
 
 import faults
-import import_forms
 import importer
-import imported_files
 import litmus
 import sources
 

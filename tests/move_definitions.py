@@ -14,8 +14,8 @@ import re
 import sys
 
 sys.dont_write_bytecode = True
-import judging
-from judging import TOP
+from checks import judging
+from checks.judging import TOP
 
 CRATES = os.path.join(TOP, "crates")
 NAME = r"[^\W\d][\w'-]*"

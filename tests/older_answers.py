@@ -16,7 +16,7 @@ import re
 import sys
 
 sys.dont_write_bytecode = True
-import judging
+from checks import judging
 
 LIST = os.path.join(judging.TESTS, "data", "older_answers.list")
 

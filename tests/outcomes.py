@@ -33,8 +33,7 @@ import sys
 
 sys.dont_write_bytecode = True
 
-import instruction_sets
-import judging
+from checks import instruction_sets, judging
 from reference import arithmetic, conditions, litmus
 
 DEPTHS = (0, 1, 2, 32)

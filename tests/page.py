@@ -9,7 +9,7 @@
 - The module that ships, in view/module.js, answers in Node. Where it was made of the sources that stand, it is asked each row of
   tests/run_rows.py but those of the command line itself, and N inputs made at random (300): output, hint and status are the program's,
   byte for byte. Its last step of a trace alone is that of the program's trace --json, for each row and made input that is a run.
-- Where the sources are newer, it answers what release/tso of its own sources does (tests/shipped.py): the inputs of the rows that
+- Where the sources are newer, it answers what release/tso of its own sources does (tests/checks/page/shipped_module.py): the inputs of the rows that
   stand, those of the rows of its commit, made inputs and last steps, but what that program refuses as a command line.
 - The module that ships, with one of its words changed, doesn't pass.
 - tools/page makes the module of this tree. Where the sources and the tools are those of the module that ships, both are the same, byte
@@ -29,11 +29,10 @@ import sys
 import tempfile
 
 sys.dont_write_bytecode = True
-import judging
-import page_answers
-import shipped
-from judging import TESTS, TOP, content
-from page_answers import Served
+from checks import judging
+from checks.judging import TESTS, TOP, content
+from checks.page import module_answers, shipped_module
+from checks.page.module_answers import Served
 
 VIEW = os.path.join(TOP, "view")
 HISTORIES = os.path.join(TESTS, "view", "histories.js")
@@ -64,7 +63,7 @@ WHOLE = re.compile(r"// [^\n]*\n'use strict';\n\nconst WHOLE = '([A-Za-z0-9+/=]+
 def parts_in(script):
     """The parts that this script has. Other libraries may pack the same texts to other bytes, so the texts are compared."""
     found = WHOLE.fullmatch(script)
-    return json.loads(shipped.unpacked(found.group(1))) if found else None
+    return json.loads(shipped_module.unpacked(found.group(1))) if found else None
 
 
 def faults_of_whole():
@@ -73,7 +72,7 @@ def faults_of_whole():
         return [made.stderr.strip()]
     try:
         return [] if parts_in(content(VIEW, "whole.js")) == parts_in(made.stdout) else ["tools/page --whole makes another"]
-    except shipped.Fault as fault:
+    except shipped_module.Fault as fault:
         return [str(fault)]
 
 
@@ -115,18 +114,18 @@ def faults_of_size(script=None):
 
 def groups_of(told, program, count, room):
     """The groups of works that judge the module that ships. The room is an empty folder, for what they need of another commit."""
-    if told.sources == shipped.digest_of(TOP):
-        return page_answers.groups_that_stand(program, count)
-    tree = shipped.tree_of_release(told.sources, room)
+    if told.sources == shipped_module.digest_of(TOP):
+        return module_answers.groups_that_stand(program, count)
+    tree = shipped_module.tree_of_release(told.sources, room)
     print("view/module.js: the sources are newer than those of version %s, of which it is; it is held against that release" % told.version)
-    return page_answers.groups_of_release(tree, count)
+    return module_answers.groups_of_release(tree, count)
 
 
 def add_groups(tally, name, groups, served):
     """Counts what these groups of works find at a module, and says how many works there are."""
     for group, works in groups:
         print("%s: %d %s" % (name, len(works), group), flush=True)
-        tally.add("%s, %s" % (name, group), page_answers.judged(works, served))
+        tally.add("%s, %s" % (name, group), module_answers.judged(works, served))
 
 
 def faults_of_spoiled(module, groups, room):
@@ -145,15 +144,15 @@ def judge_shipped(tally, program, count):
     """Judges the module that ships. Answers what its script tells, None where that is at fault."""
     told = None
     try:
-        told = shipped.told(shipped.bytes_in(TOP, shipped.SCRIPT))
+        told = shipped_module.told(shipped_module.bytes_in(TOP, shipped_module.SCRIPT))
         with tempfile.TemporaryDirectory() as room, tempfile.TemporaryDirectory() as other:
             groups = groups_of(told, program, count, room)
-            with Served(os.path.join(TOP, shipped.SCRIPT)) as served:
-                add_groups(tally, shipped.SCRIPT, groups, served)
-            tally.add(shipped.SCRIPT, [("with a word changed", faults_of_spoiled(told.module, groups, other))])
-    except shipped.Fault as fault:
-        tally.add(shipped.SCRIPT, [("the module", [str(fault)])])
-    except shipped.Unseen as unseen:
+            with Served(os.path.join(TOP, shipped_module.SCRIPT)) as served:
+                add_groups(tally, shipped_module.SCRIPT, groups, served)
+            tally.add(shipped_module.SCRIPT, [("with a word changed", faults_of_spoiled(told.module, groups, other))])
+    except shipped_module.Fault as fault:
+        tally.add(shipped_module.SCRIPT, [("the module", [str(fault)])])
+    except shipped_module.Unseen as unseen:
         print("left out, what view/module.js answers: %s" % unseen)
     return told
 
@@ -180,9 +179,9 @@ def script_of(tree):
 
 def faults_of_script(script):
     """The script has the module that was made, packed, and the digest of what it was made of."""
-    told = shipped.told(script)
-    faults = [] if told.module == shipped.bytes_in(TOP, MODULE) else ["it has another module"]
-    faults += [] if told.sources == shipped.digest_of(TOP) else ["it has the digest of other sources"]
+    told = shipped_module.told(script)
+    faults = [] if told.module == shipped_module.bytes_in(TOP, MODULE) else ["it has another module"]
+    faults += [] if told.sources == shipped_module.digest_of(TOP) else ["it has the digest of other sources"]
     return faults + ([] if script_of(TOP) == script else ["it is another each time"])
 
 
@@ -192,13 +191,13 @@ def judge_wide(tally, program, count):
     if missing:
         print("left out, what it answers before it is lowered: " + missing)
         return
-    with Served(os.path.join(TOP, WIDE), flags=page_answers.wide_flags()) as served:
-        add_groups(tally, "the module that is made, before it is lowered", page_answers.groups_that_stand(program, count), served)
+    with Served(os.path.join(TOP, WIDE), flags=module_answers.wide_flags()) as served:
+        add_groups(tally, "the module that is made, before it is lowered", module_answers.groups_that_stand(program, count), served)
 
 
 def judge_made(tally, program, count, told):
     """Judges the module that is made of this tree, where the one that ships tells this. Answers whether it can be made."""
-    stands = told is not None and told.sources == shipped.digest_of(TOP)
+    stands = told is not None and told.sources == shipped_module.digest_of(TOP)
     missing = make_module(TOP)
     if missing:
         print("left out, the module that is made: " + missing)
@@ -206,7 +205,7 @@ def judge_made(tally, program, count, told):
             judge_wide(tally, program, count)
         return False
     script = script_of(TOP)
-    made = shipped.told(script)
+    made = shipped_module.told(script)
     tally.add("view/", [("module.js of the module that is made", faults_of_script(script)), ("its size with that", faults_of_size(script))])
     if stands and made.tools == told.tools:
         faults = [] if made.module == told.module else ["it isn't the module that is made of its sources by its tools"]
@@ -215,7 +214,7 @@ def judge_made(tally, program, count, told):
     if stands:
         print("left out, whether view/module.js is the module that is made: it is of other tools, %s" % told.tools)
     with Served(os.path.join(TOP, MODULE)) as served:
-        add_groups(tally, "the module that is made", page_answers.groups_that_stand(program, count), served)
+        add_groups(tally, "the module that is made", module_answers.groups_that_stand(program, count), served)
     return True
 
 

@@ -18,7 +18,7 @@ import threading
 
 sys.dont_write_bytecode = True
 
-import judging
+from checks import judging
 
 STRIDE = 250_000
 # The most states that are added at once: one for each choice of four cores.

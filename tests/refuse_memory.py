@@ -14,16 +14,15 @@ room that it may come to need. Where that is refused it asks for the room of one
 wanting. The other is the whole answer without its hint, on standard error: a hint is left out where there is no memory for
 it, or for keeping the input of which it is made.
 
-The requests are refused by a small library, tests/failing_calls.c, which is built with the C compiler and preloaded; without
+The requests are refused by a small library, tests/checks/failing_calls.c, which is built with the C compiler and preloaded; without
 a C compiler nothing is judged, and that counts as a failure. The last line is 'N passed, M failed'.
 """
 import itertools
 import sys
 
 sys.dont_write_bytecode = True
-import failing
-import judging
-from judging import BAD_LINE, DIVIDER, ENDED, FAULT, INVALID, MEMORY_FAULT, REFUSED, UNFINISHED
+from checks import failing_calls, judging
+from checks.judging import BAD_LINE, DIVIDER, ENDED, FAULT, INVALID, MEMORY_FAULT, REFUSED, UNFINISHED
 
 EVERY_FORM = (b"(* a comment *) X86 every-form\n\"a quotation\" Key=value\n{ x=1; [y]=2; 0:EAX=3; }\n"
               b" P0          | P1               ;\n"
@@ -113,7 +112,7 @@ class Answer:
 def answer(program, words, given, first, last):
     """The answer where the requests from the first to the last are refused; a first of 0 is none, a last of 0 no end."""
     told = {"FAIL_CALL": "memory", "FAIL_FIRST": str(first), "FAIL_LAST": str(last)}
-    return Answer(*failing.answer(program, words, given, told))
+    return Answer(*failing_calls.answer(program, words, given, told))
 
 
 def answers_until_none_is_refused(program, words, given, alone, every):
@@ -186,7 +185,7 @@ def judge_job(program, every, line, given, status):
 def main():
     programs = judging.programs_in(judging.with_programs(__doc__, with_part=False).parse_args())
     tally, requests, granted = judging.Tally(), 0, 0
-    turns = judging.with_turns(programs) if failing.is_there(tally) else []
+    turns = judging.with_turns(programs) if failing_calls.is_there(tally) else []
     jobs = [(program, every, *job) for program, every in turns for job in JOBS]
     for job, (results, again) in zip(jobs, judging.in_processes(lambda job: judge_job(*job), jobs, at_once=1)):
         requests += tally.add(job[2], results) - 1

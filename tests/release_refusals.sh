@@ -207,11 +207,12 @@ held() {
   python3 -B - <<< '
 import sys, tempfile
 sys.path.insert(0, "tests")
-import shipped
+from checks.page import shipped_module
 with tempfile.TemporaryDirectory() as room:
-    sources = shipped.told(shipped.bytes_in(shipped.SCRIPT)).sources
-    names = {room: "the release of its commit", shipped.TOP: "the release that stands"}
-    print("the program" if sources == shipped.digest_of(shipped.TOP) else names[shipped.tree_of_release(sources, room)])'
+    sources = shipped_module.told(shipped_module.bytes_in(shipped_module.SCRIPT)).sources
+    names = {room: "the release of its commit", shipped_module.TOP: "the release that stands"}
+    print("the program" if sources == shipped_module.digest_of(shipped_module.TOP)
+        else names[shipped_module.tree_of_release(sources, room)])'
 }
 holds_against() { accepts held && [ "$(cat "$room/said")" = "$1" ]; }
 

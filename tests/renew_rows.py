@@ -11,8 +11,7 @@ line is 'N written, M as before, K left'.
 import sys
 
 sys.dont_write_bytecode = True
-import judging
-import rows
+from checks import judging, rows
 
 
 def changes(row, done):

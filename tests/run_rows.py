@@ -3,7 +3,7 @@
 
     tests/run_rows.py PROGRAM [PART-OF-NAME] [--also PROGRAM]
 
-A row is a command line with its standard input, and what the answer must be: tests/rows.py says how it is written. The rows of hints
+A row is a command line with its standard input, and what the answer must be: tests/checks/rows.py says how it is written. The rows of hints
 are held by tests/hints.py.
 
 Then come the round trips: of each example whose run ends, the printed order is handed to `witness`, and the choices
@@ -12,7 +12,7 @@ that it finds to `run` again, under each protocol: the same order, no choice sta
 Then come the runs on the split bus: each example's test under its choices and a seed's after them, under each protocol
 and in some shapes of the caches. Each ends, and `check` finds the printed order valid.
 
-Last come files of rows that aren't in the form: each is refused with its line and the reason (tests/row_forms.py).
+Last come files of rows that aren't in the form: each is refused with its line and the reason (tests/checks/row_forms.py).
 
 The last line is 'N passed, M failed'.
 """
@@ -20,10 +20,8 @@ import re
 import sys
 
 sys.dont_write_bytecode = True
-import judging
-import row_forms
-import rows
-from judging import DIVIDER, ENDED, EXAMPLES, PROTOCOLS, REFUSED, UNFINISHED
+from checks import judging, row_forms, rows
+from checks.judging import DIVIDER, ENDED, EXAMPLES, PROTOCOLS, REFUSED, UNFINISHED
 
 SHAPES = (["--sets", "1", "--ways", "1"], ["--sets", "2", "--ways", "2"], ["--ways", "2", "--words", "4"])
 SEED = b" seed 1 5000\n"

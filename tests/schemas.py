@@ -20,9 +20,7 @@ import re
 import sys
 
 sys.dont_write_bytecode = True
-import instruction_sets
-import judging
-import rows
+from checks import instruction_sets, judging, rows
 
 # The commands that print JSON, each with its schema; and the command lines that the examples and the gallery are asked with.
 COMMANDS = ("run", "trace", "counts", "outcomes", "why")

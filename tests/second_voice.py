@@ -28,9 +28,9 @@ import os
 import sys
 
 sys.dont_write_bytecode = True
-import judging
+from checks import judging, rows
+
 import made_inputs
-import rows
 from made_inputs import must_come_up
 from reference import choices, commands, outcomes, reading, seen
 from reference.search import Search

@@ -17,7 +17,7 @@ import tempfile
 import time
 
 sys.dont_write_bytecode = True
-import judging
+from checks import judging
 
 SYSTEM_PYTHON = "/usr/bin/python3"
 PATIENCE = 120

@@ -3,8 +3,8 @@
 
     tests/short_trees.py [PART-OF-NAME]
 
-The texts are in tests/short_slips.py; further ones that are right are the examples of docs/REASONS.md, 'What is printed of reasons': a
-test, and what is printed of it. The last line is 'N passed, M failed'.
+The texts are in tests/checks/reasons/short_refutation_slips.py; further ones that are right are the examples of docs/REASONS.md, 'What is printed of
+reasons': a test, and what is printed of it. The last line is 'N passed, M failed'.
 """
 import argparse
 import os
@@ -13,8 +13,8 @@ import sys
 
 sys.dont_write_bytecode = True
 
-import judging
-import short_slips
+from checks import judging
+from checks.reasons import short_refutation_slips
 from reference import reading, short_reasons
 from reference.candidates import TSO
 
@@ -32,7 +32,7 @@ def main():
     parser = argparse.ArgumentParser(description=__doc__, formatter_class=argparse.RawDescriptionHelpFormatter)
     parser.add_argument("part", nargs="?", default="", metavar="PART-OF-NAME")
     part, tally = parser.parse_args().part, judging.Tally()
-    judged = [*short_slips.judge(), *judge_examples()]
+    judged = [*short_refutation_slips.judge(), *judge_examples()]
     tally.add("the judge of short refutations", [(name, faults) for name, faults in judged if part in name])
     return tally.end()
 

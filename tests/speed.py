@@ -19,7 +19,7 @@ import sys
 import tempfile
 
 sys.dont_write_bytecode = True
-import judging
+from checks import judging
 
 LOCATIONS = "x y z a b c d e f g h i j k l m".split()
 REGISTERS = "EAX EBX ECX EDX ESI EDI".split()

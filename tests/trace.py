@@ -9,7 +9,7 @@ one with an instruction of each kind; under four protocols, in three shapes of t
 - the first two lines, and all after the line `Endtrace`, are those of `run`; of a run that doesn't end its one line comes last;
 - there is a line for each choice that was used, up to the test's end; the lines that stalled are as many as `run` counts;
 - by core the lines count as many hits, misses, upgrades, forwards, write-backs and flushes as the lines `Cache`;
-- each line is the one that the board has (trace_board.py), where the choices are made after it on a plain model of buffers, of lines
+- each line is the one that the board has (checks/machines/trace_board.py), where the choices are made after it on a plain model of buffers, of lines
   with their states and words, and of memory; the entries that the lines commit are the printed order; and each word that a copy
   answers with is the one that a single memory would have.
 
@@ -26,10 +26,9 @@ import sys
 
 sys.dont_write_bytecode = True
 
-import instruction_sets
-import judging
-import trace_board
-from judging import BUSES, ENDED, PROTOCOLS, UNFINISHED
+from checks import instruction_sets, judging
+from checks.judging import BUSES, ENDED, PROTOCOLS, UNFINISHED
+from checks.machines import trace_board
 from reference import choices
 
 SHAPES = ((1, 1, 1), (2, 1, 2), (1, 2, 4))

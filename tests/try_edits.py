@@ -23,8 +23,8 @@ import sys
 import tempfile
 
 sys.dont_write_bytecode = True
-import judging
-from judging import TOP
+from checks import judging
+from checks.judging import TOP
 
 CRATES = os.path.join(TOP, "crates")
 EDITS = os.path.join(TOP, "tests", "data", "edits")

@@ -19,8 +19,8 @@ import sys
 
 sys.dont_write_bytecode = True
 
-import judging
-from judging import BUSES, EXAMPLES, GALLERY
+from checks import judging
+from checks.judging import BUSES, EXAMPLES, GALLERY
 
 SEEDS, LENGTH = 1000, 1000
 

@@ -29,12 +29,9 @@ import time
 
 sys.dont_write_bytecode = True
 
-import instruction_sets
-import judging
-import reason_inputs
-import reason_slips
-import short_slips
-import tool_runs
+from checks import instruction_sets, judging
+from checks.reasons import reason_inputs, reason_slips, short_refutation_slips
+from checks.tools import tool_runs
 from reference import candidates, conditions, litmus, printing, reading, reasons, refutations
 
 import litmus as tool_litmus
@@ -212,7 +209,7 @@ def main():
     parser.add_argument("--seed", type=int, default=1)
     asked = parser.parse_args()
     programs, tally = judging.programs_in(asked), judging.Tally()
-    tally.add("the judge of reasons", short_slips.judge())
+    tally.add("the judge of reasons", short_refutation_slips.judge())
     tally.add("why", judging.judged(rows_of(reason_inputs.repository()), programs, asked.part, at_once=4))
     tally.add("why", judging.judged_in_turn(rows_of(inputs(asked.whole, asked.seed)), programs, asked.part, at_once=4))
     if asked.whole:

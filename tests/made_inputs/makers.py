@@ -2,7 +2,7 @@
 import functools
 import itertools
 
-import judging
+from checks import judging
 from reference import litmus, machine
 from reference.choices import STEP, DRAIN, choices_of_seed, printed_choices
 from reference.machine import Configuration

@@ -1,0 +1,1 @@
+"""For tests/hints.py: what a user does on a hint, and texts that have one."""
