@@ -25,6 +25,7 @@ from functools import lru_cache
 sys.dont_write_bytecode = True
 from checks import judging
 from checks.judging import TOP
+from checks.proofs import code_texts
 
 BEGINS = re.compile(r"(?:pub )?(?:abbrev|unfoldable|record|data)(?: pub)? (\S+)")
 NAME = r"[^\W\d][\w'-]*"
@@ -206,10 +207,7 @@ CLAUSE_USE = re.compile(r"^ghost use Rattle\.([\w.]+)\.\{(.*)\}(?: as (\S+))?;$"
 
 def contract_of(crate, function):
     """What the contract of a public function names: pairs of a module and a name."""
-    room = os.path.join(TOP, "crates", crate, "src")
-    for name in sorted(os.listdir(room)):
-        with open(os.path.join(room, name)) as file:
-            text = file.read()
+    for _, text in code_texts.files_of(crate):
         found = re.search(r"^(?:    )?pub (?:extern \"C\" )?fn " + function + r"\b.*?^(?:    )?\{", text, re.M | re.S)
         if not found:
             continue
@@ -281,13 +279,7 @@ def named_functions():
     """The public functions, but for methods, that PAGES name: pairs of a crate and a name."""
     text = promising_text()
     words = {word for span in re.findall(r"`([^`\n]+)`", text) for word in re.findall(r"\w+", span)}
-    found = []
-    for crate in sorted(os.listdir(os.path.join(TOP, "crates"))):
-        room = os.path.join(TOP, "crates", crate, "src")
-        for name in sorted(os.listdir(room)) if os.path.isdir(room) else ():
-            with open(os.path.join(room, name), encoding="utf-8") as file:
-                found += [(crate, function) for function in FREE_FUNCTION.findall(file.read()) if function in words]
-    return found
+    return [(path.split("/")[0], function) for path, text in code_texts.files() for function in FREE_FUNCTION.findall(text) if function in words]
 
 
 def promises():

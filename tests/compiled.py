@@ -20,13 +20,14 @@ import tempfile
 sys.dont_write_bytecode = True
 from checks import judging
 from checks.judging import TOP, Tally
+from checks.tools import TOOLS
 
-TOOL = os.path.join(TOP, "tools", "compiled")
+TOOL = os.path.join(TOOLS, "compiled")
 GALLERY = os.path.join(TOP, "examples", "c11")
-sys.path.insert(0, os.path.join(TOP, "tools"))
 MISSING = None
 try:
     from checks.compiled import further_programs, instruction_forms, laid_in_bugs, plain_walk, random_programs, source_model_tests, tool_answers
+
     import compiled_cycles
     from c11 import arithmetic, compiling, instructions, machine, tests, verdicts
     from c11.asking import Asker

@@ -21,12 +21,12 @@ import sys
 import time
 
 sys.dont_write_bytecode = True
+import checks.tools
 from checks import judging
-from checks.judging import TOP, Tally
+from checks.judging import Tally
 
 from elftools.elf.elffile import ELFFile
 
-sys.path.insert(0, os.path.join(TOP, "tools"))
 from c11 import compiling, cycles, verdicts
 from c11.asking import Asker
 from c11.objects import Image

@@ -14,8 +14,9 @@ import sys
 sys.dont_write_bytecode = True
 from checks import judging
 from checks.judging import TOP, content
+from checks.proofs import code_texts
+from checks.proofs.code_texts import CRATES
 
-CRATES = os.path.join(TOP, "crates")
 HEADLINE = ("tso_cli.specs.Headline", "Headline")
 
 USE = re.compile(r"(?:pub )?use Rattle\.([\w.]+?)(?:\.\{(.*)\}| as (\w+))?$")
@@ -76,23 +77,17 @@ def declared_from(start):
     return sorted(found)
 
 
-def sources(crate):
-    folder = os.path.join(CRATES, crate, "src")
-    return [os.path.join(folder, name) for name in sorted(os.listdir(folder)) if name.endswith(".rt")]
-
-
 def declarations():
     """The file and the text of each type that the code declares, by its crate and its name."""
     form = re.compile(r"^pub (?:enum|struct) (\w+).*?(?:^}|;$)", re.MULTILINE | re.DOTALL)
-    return {(crate, found.group(1)): (path, re.sub(r"//.*", "", found.group()))
-            for crate in sorted(os.listdir(CRATES)) if os.path.isdir(os.path.join(CRATES, crate, "src"))
-            for path in sources(crate) for found in form.finditer(content(path))}
+    return {(crate, found.group(1)): (os.path.join(CRATES, path), re.sub(r"//.*", "", found.group()))
+            for crate in code_texts.crates() for path, text in code_texts.files_of(crate) for found in form.finditer(text)}
 
 
 def viewed_names():
     """The names of the types with a `ghost view`."""
     crates = {crate for crate, _ in declarations()}
-    return {name for crate in crates for path in sources(crate) for name in re.findall(r"^impl Model for (\w+)", content(path), re.MULTILINE)}
+    return {name for crate in crates for _, text in code_texts.files_of(crate) for name in re.findall(r"^impl Model for (\w+)", text, re.MULTILINE)}
 
 
 def with_held(types):

@@ -8,12 +8,11 @@
 A name may stay where its texts are one text, or where STAY says why. A line of STAY whose name two files no longer define is a
 failure too. Worked examples name their own tests, choices and words: nobody but them speaks of those (EXAMPLES).
 """
-import os
 import re
 import sys
 
 sys.dont_write_bytecode = True
-from checks.judging import TOP
+from checks.proofs import code_texts
 
 import believed
 
@@ -157,14 +156,13 @@ def arguments(text):
 
 def functions():
     """Each function of the code, but for tests and worked examples: its file, its name, its arguments."""
-    for crate in sorted(set(os.listdir(os.path.join(TOP, "crates"))) - set(TESTS)):
-        room = os.path.join(TOP, "crates", crate, "src")
-        for name in sorted(os.listdir(room)):
-            with open(os.path.join(room, name), encoding="utf-8") as file:
-                text = "\n".join(line for line in file.read().split("\n") if not line.lstrip().startswith("//"))
-            for found in FUNCTION.finditer(text):
-                at = text.index("(", found.end() + parameters_end(text, found.end()))
-                yield "crates/%s/src/%s" % (crate, name), found.group(1), arguments(within(text, at))
+    for path, text in code_texts.files():
+        if path.split("/")[0] in TESTS:
+            continue
+        text = "\n".join(line for line in text.split("\n") if not line.lstrip().startswith("//"))
+        for found in FUNCTION.finditer(text):
+            at = text.index("(", found.end() + parameters_end(text, found.end()))
+            yield "crates/" + path, found.group(1), arguments(within(text, at))
 
 
 def parameters_end(text, at):

@@ -14,21 +14,9 @@ program=$(readlink -f "$1")
 room=$(mktemp -d)
 trap 'chmod -R u+w "$room"; rm -rf "$room"' EXIT
 trap 'exit 130' INT
-passed=0
-failed=0
+. "$top/tests/checks/judging.bash"
 tools=(campaign compare cycles fences graph hardware import plot theory uninstall workload)
 any=$(IFS='|' && echo "${tools[*]}")
-
-# Counts a name with the status of the test before.
-judge() {
-  if [ "$2" -eq 0 ]; then
-    passed=$((passed + 1))
-  else
-    failed=$((failed + 1))
-    echo "$1"
-    [ ! -s "$room/said" ] || sed 's/^/    /' "$room/said"
-  fi
-}
 
 # A checkout of what is installed, and a path with only the programs that this takes.
 make_checkout() {
@@ -212,5 +200,4 @@ judge_tools "$room/a folder/of programs"
 judge_documents "$room/a folder/of programs"
 judge_older
 judge_removal "$room/a folder/of programs"
-echo "$passed passed, $failed failed"
-[ "$failed" -eq 0 ]
+end

@@ -24,7 +24,7 @@ from functools import lru_cache
 
 sys.dont_write_bytecode = True
 from checks.judging import TOP
-from checks.proofs import checked_modules, proof_texts, statements
+from checks.proofs import checked_modules, code_texts, proof_texts, statements
 
 import believed
 
@@ -38,7 +38,6 @@ WORKED = re.compile(r"worked_|numbers_of_")
 # What a check's modules call the clause of a function that has one alone, without a name.
 UNNAMED = "1"
 METHODS = re.compile(r"`(\w+)`'s methods")
-FUNCTION = re.compile(r"^( *)pub (?:const )?(?:extern \"C\" )?fn (\w+)\b(.*?)^\1(?:\{\n(.*?)^\1\}|\{\}$)", re.M | re.S)
 IMPLEMENTED = re.compile(r"^impl(?:<[^\n]*?>)? ?(?:\w+ for )?(\w+)", re.M)
 
 
@@ -110,18 +109,14 @@ def passed_on(crate):
 def functions():
     """Each function that other crates can call: its file below crates/, its type if it is a method, its name, clauses and body."""
     found = []
-    for crate in sorted(os.listdir(os.path.join(TOP, "crates"))):
-        room = os.path.join(TOP, "crates", crate, "src")
-        for name in sorted(os.listdir(room)):
-            with open(os.path.join(room, name), encoding="utf-8") as file:
-                text = file.read()
-            for function in FUNCTION.finditer(text):
-                blocks = IMPLEMENTED.findall(text[:function.start()]) if function.group(1) else []
-                clauses = {label: statements.tokens(says) for label, says in proof_texts.ENSURES.findall(function.group(3))}
-                kind = blocks[-1] if blocks else ""
-                if not passed_on(crate) & {name[:-len(".rt")], kind}:
-                    continue
-                found.append(("%s/src/%s" % (crate, name), kind, function.group(2), clauses, function.group(4) or ""))
+    for path, text in code_texts.files():
+        crate, _, name = path.split("/")
+        for function in code_texts.FUNCTION.finditer(text):
+            blocks = IMPLEMENTED.findall(text[:function.start()]) if function.group(1) else []
+            clauses = {label: statements.tokens(says) for label, says in proof_texts.ENSURES.findall(function.group(3))}
+            kind = blocks[-1] if blocks else ""
+            if passed_on(crate) & {name[:-len(".rt")], kind}:
+                found.append((path, kind, function.group(2), clauses, function.group(4) or ""))
     return found
 
 
@@ -179,10 +174,7 @@ def stands(user, thing):
         with open(path, encoding="utf-8") as file:
             return "." + (thing.field if isinstance(thing, Field) else thing.label or "ensures") in file.read()
     crate, _, name = user.partition("::")
-    room = os.path.join(TOP, "crates", crate, "src")
-    for file_name in sorted(os.listdir(room)) if os.path.isdir(room) else ():
-        with open(os.path.join(room, file_name), encoding="utf-8") as file:
-            text = file.read()
+    for _, text in code_texts.files_of(crate):
         begins = r"^( *)(?:pub(?:\(\w+\))? )?(?:const )?fn " + re.escape(name.rpartition("::")[2])
         for function in re.finditer(begins + r"\b.*?^\1\}", text, re.M | re.S):
             if isinstance(thing, Field) or re.search(r"\b" + re.escape(thing.function) + r"\b", function.group()):

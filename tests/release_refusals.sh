@@ -14,8 +14,7 @@ program=$(readlink -f "$1")
 room=$(mktemp -d)
 trap 'rm -rf "$room"' EXIT
 trap 'exit 130' INT
-passed=0
-failed=0
+. "$top/tests/checks/judging.bash"
 sb=$top/examples/store-buffering.litmus
 # The toolchain is asked for its version once, and what is made here gets that answer.
 if command -v rt > /dev/null; then
@@ -26,16 +25,6 @@ if command -v rt > /dev/null; then
   PATH="$room/toolchain here:$PATH"
 fi
 
-# Counts a name with the status of the test before.
-judge() {
-  if [ "$2" -eq 0 ]; then
-    passed=$((passed + 1))
-  else
-    failed=$((failed + 1))
-    echo "$1"
-    [ ! -s "$room/said" ] || sed 's/^/    /' "$room/said"
-  fi
-}
 # Whether the command fails, and says this.
 refuses() {
   local words=$1
@@ -427,5 +416,4 @@ judge_tso
 judge_no_release
 judge_prove
 judge_packages
-echo "$passed passed, $failed failed"
-[ "$failed" -eq 0 ]
+end

@@ -20,10 +20,9 @@ import threading
 
 sys.dont_write_bytecode = True
 from checks.judging import TOP
-from checks.proofs import computed_terms, proof_texts, reference_values
+from checks.proofs import code_texts, computed_terms, proof_texts, reference_values
 
 import believed
-from promise_users import FUNCTION
 
 LIST = os.path.join(TOP, "tests", "data", "worked.list")
 WORKED = re.compile(r"worked_|numbers_of_|premises_are_met|split_premises_are_met|(?:split_)?laws_need_their_premises")
@@ -88,16 +87,12 @@ def said_of(scope, term):
 
 def examples():
     found = []
-    for crate in sorted(os.listdir(os.path.join(TOP, "crates"))):
-        room = os.path.join(TOP, "crates", crate, "src")
-        for name in sorted(os.listdir(room)):
-            with open(os.path.join(room, name), encoding="utf-8") as file:
-                text = file.read()
-            imports = imports_of(text)
-            for function in FUNCTION.finditer(text):
-                if WORKED.match(function.group(2)):
-                    found += [Example("%s/src/%s" % (crate, name), "%s.%s" % (function.group(2), label), says, imports)
-                              for label, says in proof_texts.ENSURES.findall(function.group(3))]
+    for path, text in code_texts.files():
+        imports = imports_of(text)
+        for function in code_texts.FUNCTION.finditer(text):
+            if WORKED.match(function.group(2)):
+                found += [Example(path, "%s.%s" % (function.group(2), label), says, imports)
+                          for label, says in proof_texts.ENSURES.findall(function.group(3))]
     return found
 
 

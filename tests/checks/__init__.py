@@ -1,6 +1,6 @@
 """The modules of the scripts in tests/: what they judge by, what they make, and what each of them shares with others.
 
-    judging           command lines, the tests that the repository has, running a program, judging and counting
+    judging           command lines, the tests that the repository has, running a program, judging and counting; judging.bash does that for commands
     program_starts    a program that is loaded once and started many times (many_starts.c)
     failing_calls     a program under which calls of the C library fail (failing_calls.c)
     rows, row_forms   the rows of tests/data/rows/; files of rows that are refused

@@ -36,20 +36,24 @@ def room():
     return tempfile.TemporaryDirectory()
 
 
+def built(source, name, *words):
+    """The path under which the C compiler puts what it makes of this source file; None, with a word, where it can't be built."""
+    compiler, shown = shlex.split(os.environ.get("CC") or "cc"), os.path.relpath(source, os.path.dirname(TESTS))
+    if shutil.which(compiler[0]) is None:
+        print("no C compiler is there to build " + shown)
+        return None
+    made = os.path.join(room().name, name)
+    done = subprocess.run(compiler + ["-O1", "-o", made, source, *words], stdout=subprocess.PIPE, stderr=subprocess.STDOUT, text=True)
+    if done.returncode != 0:
+        print("%s can't be built:\n%s" % (shown, done.stdout))
+        return None
+    return made
+
+
 @functools.cache
 def library(name):
     """The path of the library of this source file beside this module, built; None, with a word, where it can't be built."""
-    compiler = shlex.split(os.environ.get("CC") or "cc")
-    if shutil.which(compiler[0]) is None:
-        print("no C compiler is there to build tests/checks/%s.c" % name)
-        return None
-    made = os.path.join(room().name, name + ".so")
-    words = compiler + ["-O1", "-shared", "-fPIC", "-o", made, os.path.join(HERE, name + ".c"), "-ldl"]
-    done = subprocess.run(words, stdout=subprocess.PIPE, stderr=subprocess.STDOUT, text=True)
-    if done.returncode != 0:
-        print("tests/checks/%s.c can't be built:\n%s" % (name, done.stdout))
-        return None
-    return made
+    return built(os.path.join(HERE, name + ".c"), name + ".so", "-shared", "-fPIC", "-ldl")
 
 
 class Starter:

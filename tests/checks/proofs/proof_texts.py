@@ -12,6 +12,7 @@ from checks.judging import TOP
 
 import believed
 
+from . import code_texts
 from .statements import OPEN, SHUT, WORD, arguments, atoms, bare, closing, parted, tokens
 
 SIGNATURE = re.compile(r"^( *)(?:pub )?(?:\| )?((?:abbrev |unfoldable )?(?:pub )?)(" + WORD + r") : ")
@@ -164,21 +165,16 @@ def lemmas():
 def contracts():
     """The clauses of each function, by its name: for each function of that name the crate, the file, and its clauses by name."""
     found = {}
-    for crate in sorted(os.listdir(os.path.join(TOP, "crates"))):
-        for folder, _, names in sorted(os.walk(os.path.join(TOP, "crates", crate, "src"))):
-            for name in sorted(names):
-                with open(os.path.join(folder, name), encoding="utf-8") as file:
-                    text = file.read()
-                imports = {}
-                for line in text.split("\n"):
-                    use = believed.CLAUSE_USE.match(line.strip())
-                    for item in use.group(2).split(",") if use else ():
-                        original, _, other = item.strip().partition(" as ")
-                        imports[other or original] = (use.group(1), original)
-                for function in FUNCTION.finditer(text):
-                    clauses = {label or "": tokens(says) for label, says in ENSURES.findall(function.group(2))}
-                    place = os.path.relpath(os.path.join(folder, name), os.path.join(TOP, "crates"))
-                    found.setdefault(function.group(1), []).append((place, Scope(None, imports), clauses))
+    for place, text in code_texts.files():
+        imports = {}
+        for line in text.split("\n"):
+            use = believed.CLAUSE_USE.match(line.strip())
+            for item in use.group(2).split(",") if use else ():
+                original, _, other = item.strip().partition(" as ")
+                imports[other or original] = (use.group(1), original)
+        for function in FUNCTION.finditer(text):
+            clauses = {label or "": tokens(says) for label, says in ENSURES.findall(function.group(2))}
+            found.setdefault(function.group(1), []).append((place, Scope(None, imports), clauses))
     return found
 
 
