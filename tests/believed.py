@@ -26,8 +26,8 @@ sys.dont_write_bytecode = True
 from checks import judging
 from checks.judging import TOP
 from checks.proofs import code_texts
+from checks.proofs.definitions import CLAUSE_USE, files
 
-BEGINS = re.compile(r"(?:pub )?(?:abbrev|unfoldable|record|data)(?: pub)? (\S+)")
 NAME = r"[^\W\d][\w'-]*"
 WORD = re.compile(r"(?<![\w.'])" + NAME + r"(?:\." + NAME + r")*")
 BOUND = (
@@ -35,78 +35,10 @@ BOUND = (
     re.compile(r"λ ([^.]*)\."),
     re.compile(r"\blet (" + NAME + r") ="),
 )
-IMPORT = re.compile(r"^(pub )?use Rattle\.([\w.]+?)(?:\.\{(.*)\})?(?: as (\S+))?$")
 
 # What each command and each promise beside it rests on. Of a definition that goes by commands, only the command's own case counts.
 CASES = {"run": "Run", "trace": "Trace", "sweep": "Sweep", "counts": "Counts", "outcomes": "Outcomes", "why": "Why", "check": "Check",
          "witness": "Witness", "tables": "Tables"}
-
-
-class Definition:
-    def __init__(self, name, path, number):
-        self.name, self.path, self.number, self.text = name, path, number, []
-
-class File:
-    """A file of definitions: what it imports, by the local name, what it hands on, and what it defines."""
-
-    def __init__(self, module, path):
-        self.module, self.path = module, path
-        self.imports, self.definitions, self.passed_on, self.handed_on = {}, {}, [], {}
-        current = None
-        with open(path) as file:
-            lines = file.read().split("\n")
-        at = 0
-        while at < len(lines):
-            line = lines[at]
-            at += 1
-            while line.startswith(("use ", "pub use ")) and line.count("{") > line.count("}"):
-                line += " " + lines[at].strip()
-                at += 1
-            if line.startswith(("use ", "pub use ")):
-                self.read_import(line)
-                current = None
-                continue
-            if not line.strip() or line.lstrip().startswith("--"):
-                continue
-            begins = BEGINS.match(line)
-            if begins:
-                current = Definition(begins.group(1), path, at)
-                self.definitions[current.name] = current
-            if current is not None:
-                current.text.append(line.split(" -- ")[0])
-
-    def read_import(self, line):
-        found = IMPORT.match(line.strip())
-        if not found:
-            return
-        passes_on, module, names, renamed = found.groups()
-        if names is None:
-            self.imports[renamed or module.split(".")[-1]] = (module, None)
-            if passes_on:
-                self.passed_on.append(module)
-            return
-        for item in names.split(","):
-            name, _, other = item.strip().partition(" as ")
-            if name:
-                self.imports[other or name] = (module, name)
-                if passes_on:
-                    self.handed_on[other or name] = (module, name)
-
-
-@lru_cache(None)
-def files():
-    """Each file of definitions of the repository, by its module."""
-    found = {}
-    for crate in sorted(os.listdir(os.path.join(TOP, "crates"))):
-        room = os.path.join(TOP, "crates", crate, "specs")
-        for folder, _, names in os.walk(room):
-            for name in sorted(names):
-                if name.endswith(".antt") and name != "Lib.antt":
-                    path = os.path.join(folder, name)
-                    inner = os.path.relpath(path, room)[:-5].replace(os.sep, ".")
-                    module = "%s.specs.%s" % (crate, inner)
-                    found[module] = File(module, path)
-    return found
 
 
 def names_in(text):
@@ -200,9 +132,6 @@ PROMISES = {
     "state": ([("tso_terms.specs.Axioms", "IsTsoExecution"), ("tso_terms.specs.FinalState", "final_words"),
                ("tso_terms.specs.FinalState", "final_registers"), ("machine_runs.specs.Simulation", "verdict")], None, ()),
 }
-
-
-CLAUSE_USE = re.compile(r"^ghost use Rattle\.([\w.]+)\.\{(.*)\}(?: as (\S+))?;$")
 
 
 def contract_of(crate, function):

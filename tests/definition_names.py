@@ -12,9 +12,7 @@ import re
 import sys
 
 sys.dont_write_bytecode = True
-from checks.proofs import code_texts
-
-import believed
+from checks.proofs import code_texts, definitions
 
 MANY = 6
 EXAMPLES = re.compile(r"^worked_examples\.|\.(?:inner\.)?(?:Worked\w*|Examples)$")
@@ -94,7 +92,7 @@ FUNCTION = re.compile(r"^ *(?:pub(?:\(\w+\))? )?(?:const )?(?:extern \"C\" )?fn 
 def places():
     """The modules that define each name, with the definition's text there."""
     found = {}
-    for module, file in sorted(believed.files().items()):
+    for module, file in sorted(definitions.files().items()):
         if not EXAMPLES.search(module):
             for name, definition in file.definitions.items():
                 found.setdefault(name, {})[module] = text_of(definition)

@@ -20,9 +20,7 @@ import threading
 
 sys.dont_write_bytecode = True
 from checks.judging import TOP
-from checks.proofs import code_texts, computed_terms, proof_texts, reference_values
-
-import believed
+from checks.proofs import code_texts, computed_terms, definitions, proof_texts, reference_values
 
 LIST = os.path.join(TOP, "tests", "data", "worked.list")
 WORKED = re.compile(r"worked_|numbers_of_|premises_are_met|split_premises_are_met|(?:split_)?laws_need_their_premises")
@@ -64,7 +62,7 @@ def shown_argument(scope, term):
     if computed_terms.FUNCTION not in found or term[0] != "name" or term[1] not in scope.imports:
         return found
     module, name = scope.imports[term[1]]
-    file = believed.files().get(module)
+    file = definitions.files().get(module)
     return "%s (%s)" % (term[1], " ".join(" ".join(file.definitions[name].text[1:]).split())) if file and name in file.definitions else found
 
 

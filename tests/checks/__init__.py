@@ -6,6 +6,7 @@
     rows, row_forms   the rows of tests/data/rows/; files of rows that are refused
     instruction_sets  which set of instructions a text needs
     great_texts       the greatest texts that there can be
+    random_tests      tests made at random
     machines/         plain machines on which tests run, and a board for a trace
     hints/            what a user does on a hint; texts that have one
     reasons/          what `why` is asked; reasons with a slip

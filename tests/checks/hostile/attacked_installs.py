@@ -4,7 +4,7 @@ import os
 import shutil
 import subprocess
 
-from . import fault_points, small_checkout
+from . import fault_points
 from .attacked_script import NO_ANSWER, Place, faults
 from .small_checkout import write
 

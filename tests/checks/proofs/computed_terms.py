@@ -7,7 +7,7 @@ import re
 import sys
 from functools import lru_cache
 
-import believed
+from . import definitions
 
 sys.setrecursionlimit(1_000_000)
 # What stands for a function where values are shown.
@@ -280,7 +280,7 @@ class Scope:
     def name(self, name):
         if name in self.bound:
             return self.bound[name]
-        file = believed.files().get(self.module)
+        file = definitions.files().get(self.module)
         if file and name not in self.imports and (name in file.definitions or has_constructor(file, name)):
             return self.imported(self.module, name)
         return self.imported(*self.imports[name]) if name in self.imports and self.imports[name][1] else self.library(name)
@@ -292,7 +292,7 @@ class Scope:
         return LIBRARY[name]
 
     def imported(self, module, name):
-        file = believed.files().get(module)
+        file = definitions.files().get(module)
         if module.startswith(("std.", "core.")):
             return self.library(name)
         if "declared" in module.split("."):
@@ -310,7 +310,7 @@ class Scope:
             self.work.heard.add((module, name))
             return self.work.voices[module, name]
         arity, equations = equations_of(module, name)
-        inside = Scope(believed.files()[module].imports, self.work, module)
+        inside = Scope(definitions.files()[module].imports, self.work, module)
         return curried(arity, lambda *given: inside.by_equations(name, equations, given))
 
     def by_equations(self, name, equations, given):
@@ -388,7 +388,7 @@ class Scope:
 @lru_cache(None)
 def equations_of(module, name):
     """How many arguments a definition takes, and its equations: the patterns, and the body."""
-    text = believed.files()[module].definitions[name].text
+    text = definitions.files()[module].definitions[name].text
     if not re.match(r"(?:abbrev |unfoldable )?(?:pub )?" + re.escape(name) + " :", text[0].removeprefix("abbrev ")) and " : " not in text[0]:
         raise Unknown(name)
     if re.match(r"(?:pub )?(?:record|data) ", text[0]):

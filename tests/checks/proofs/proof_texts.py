@@ -10,9 +10,8 @@ from functools import lru_cache
 
 from checks.judging import TOP
 
-import believed
 
-from . import code_texts
+from . import code_texts, definitions
 from .statements import OPEN, SHUT, WORD, arguments, atoms, bare, closing, parted, tokens
 
 SIGNATURE = re.compile(r"^( *)(?:pub )?(?:\| )?((?:abbrev |unfoldable )?(?:pub )?)(" + WORD + r") : ")
@@ -48,7 +47,7 @@ class Scope:
 def records():
     """The fields of each record of the definitions: by its module and name the scope, and each field's type in words."""
     found = {}
-    for module, file in believed.files().items():
+    for module, file in definitions.files().items():
         scope = Scope(module, file.imports)
         for name, definition in file.definitions.items():
             if "record" in definition.text[0].split()[:3]:
@@ -64,7 +63,7 @@ def records():
 def abbreviations():
     """What each other definition with one equation stands for: by its module and name the scope, and its words."""
     found = {}
-    for module, file in believed.files().items():
+    for module, file in definitions.files().items():
         for name, definition in file.definitions.items():
             body = " ".join(definition.text)
             ends = ends_of_heads(name, body)
@@ -91,7 +90,7 @@ def handed_on(module):
     found = {}
     if re.search(r"\.(?:proofs|specs)\.\w*Vocabulary$", module):
         with open(os.path.join(TOP, "crates", *module.split(".")) + ".antt", encoding="utf-8") as file:
-            lines = [believed.IMPORT.match(line.removeprefix("unfoldable ").strip()) for line in file if "pub use " in line]
+            lines = [definitions.IMPORT.match(line.removeprefix("unfoldable ").strip()) for line in file if "pub use " in line]
         for line in lines:
             found.update({name.strip(): (line.group(2), name.strip()) for name in line.group(3).split(",")})
     return found
@@ -108,7 +107,7 @@ class Source:
             lines = [line.split(" -- ")[0] for line in file.read().split("\n") if not line.lstrip().startswith("--")]
         self.imports, self.lines = {}, []
         for line in lines:
-            found = believed.IMPORT.match(line.strip()) if line.startswith(("use ", "pub use ")) else None
+            found = definitions.IMPORT.match(line.strip()) if line.startswith(("use ", "pub use ")) else None
             if not line.startswith(("use ", "pub use ")):
                 self.lines.append(line)
             elif found and found.group(3) is None:
@@ -152,7 +151,7 @@ def lemmas():
             signature = SIGNATURE.match(text)
             if signature:
                 found[source.module, signature.group(3)] = (source.scope, tokens(text[signature.end():]))
-    for module, file in believed.files().items():
+    for module, file in definitions.files().items():
         for definition in file.definitions.values():
             if "data" in definition.text[0].split()[:2]:
                 for piece in re.split(r"^  (?=" + WORD + r" :)", "\n".join(definition.text[1:]), flags=re.M)[1:]:
@@ -168,7 +167,7 @@ def contracts():
     for place, text in code_texts.files():
         imports = {}
         for line in text.split("\n"):
-            use = believed.CLAUSE_USE.match(line.strip())
+            use = definitions.CLAUSE_USE.match(line.strip())
             for item in use.group(2).split(",") if use else ():
                 original, _, other = item.strip().partition(" as ")
                 imports[other or original] = (use.group(1), original)

@@ -1,10 +1,8 @@
 """Tests for tests/why.py: those of the repository, tests made at random, each under many conditions, and great ones."""
 import random
 
-from checks import judging
+from checks import judging, random_tests
 from checks.tools import tool_runs
-
-import outcomes
 from reference import choices, litmus, machine, reading
 
 import litmus as tool_litmus
@@ -41,7 +39,7 @@ def made(count, seed):
     """Tests made at random."""
     draw = random.Random(seed)
     for number in range(count):
-        make = outcomes.alike_test if number % 3 == 2 else outcomes.made_test
+        make = random_tests.alike_test if number % 3 == 2 else random_tests.made_test
         yield "made test %d of seed %d" % (number, seed), make(draw, number).decode()
 
 
