@@ -3,7 +3,8 @@
     judging           command lines, the tests that the repository has, running a program, judging and counting; judging.bash does that for commands
     program_starts    a program that is loaded once and started many times (many_starts.c)
     failing_calls     a program under which calls of the C library fail (failing_calls.c)
-    rows, row_forms   the rows of tests/data/rows/; files of rows that are refused
+    rows, row_works   the rows of tests/data/rows/, and what is judged by them
+    row_forms         files of rows that are refused
     instruction_sets  which set of instructions a text needs
     great_texts       the greatest texts that there can be
     random_tests      tests made at random

@@ -11,10 +11,9 @@ import subprocess
 import threading
 import typing
 
-from checks import judging, rows
+from checks import judging, row_works, rows
 
 import made_inputs
-import run_rows
 
 PAGE_PROGRAM = os.path.join(judging.TESTS, "page_program.js")
 # What Node needs for addresses of 64 bits, as long as it asks for a word.
@@ -146,7 +145,7 @@ def step_works(program, *lists):
 def groups_that_stand(program, count):
     """The rows but those of the command line itself, made inputs and last steps, for a module of the sources that stand."""
     made = asked_at_random(count)
-    return [("rows", run_rows.works(judging.Program(program), lambda row: row.status != judging.BAD_LINE and is_of_page(row.words))),
+    return [("rows", row_works.works(judging.Program(program), lambda row: row.status != judging.BAD_LINE and is_of_page(row.words))),
             ("made inputs", works_of(faults_of_answer, program, made)),
             ("last steps", step_works(program, asked_by_rows(), made))]
 
