@@ -42,8 +42,6 @@ struct DeclaredCommand {
     name: &'static str,
     about: &'static str,
     help: &'static str,
-    options: &'static [DeclaredOption],
-    further_options: &'static [DeclaredOption],
 }
 
 /// What value an option has.
@@ -85,12 +83,25 @@ impl Subcommand {
 
     /// The options that say what is run, searched or judged.
     pub fn options(self) -> &'static [DeclaredOption] {
-        self.declared().options
+        match self {
+            Subcommand::Run | Subcommand::Trace | Subcommand::Sweep | Subcommand::Counts => MACHINE,
+            Subcommand::Outcomes => SEARCH,
+            Subcommand::Why => REASON,
+            Subcommand::Check => READING,
+            Subcommand::Witness => DEPTH,
+            Subcommand::Tables => PROTOCOL,
+        }
     }
 
     /// The options after these: of a sweep and of counts their seeds, of others the form of their answer.
     pub fn further_options(self) -> &'static [DeclaredOption] {
-        self.declared().further_options
+        match self {
+            Subcommand::Run | Subcommand::Trace => ANSWER,
+            Subcommand::Sweep => PLAN,
+            Subcommand::Counts => COUNTED,
+            Subcommand::Outcomes | Subcommand::Why => VERDICT,
+            Subcommand::Check | Subcommand::Witness | Subcommand::Tables => &[],
+        }
     }
 
     /// Its option of this name, which begins with `--`.
@@ -294,70 +305,52 @@ static RUN: DeclaredCommand = DeclaredCommand {
     name: "run",
     about: "Runs a test under a list of choices, and reports the order that memory saw",
     help: help::RUN,
-    options: MACHINE,
-    further_options: ANSWER,
 };
 
 static TRACE: DeclaredCommand = DeclaredCommand {
     name: "trace",
     about: "Runs a test under a list of choices, and tells what each choice did",
     help: help::TRACE,
-    options: MACHINE,
-    further_options: ANSWER,
 };
 
 static SWEEP: DeclaredCommand = DeclaredCommand {
     name: "sweep",
     about: "Runs a test under the choices of many seeds, and counts its final states",
     help: help::SWEEP,
-    options: MACHINE,
-    further_options: PLAN,
 };
 
 static COUNTS: DeclaredCommand = DeclaredCommand {
     name: "counts",
     about: "Runs a test under the choices of many seeds, and counts what the caches did",
     help: help::COUNTS,
-    options: MACHINE,
-    further_options: COUNTED,
 };
 
 static OUTCOMES: DeclaredCommand = DeclaredCommand {
     name: "outcomes",
     about: "Finds all final values of what the condition names, with choices that lead there",
     help: help::OUTCOMES,
-    options: SEARCH,
-    further_options: VERDICT,
 };
 
 static WHY: DeclaredCommand = DeclaredCommand {
     name: "why",
     about: "Tells why no execution has what the condition asks for, or shows one that has it",
     help: help::WHY,
-    options: REASON,
-    further_options: VERDICT,
 };
 
 static CHECK: DeclaredCommand = DeclaredCommand {
     name: "check",
     about: "Judges an order of a test by the axioms of TSO",
     help: help::CHECK,
-    options: READING,
-    further_options: &[],
 };
 
 static WITNESS: DeclaredCommand = DeclaredCommand {
     name: "witness",
     about: "Finds choices that reach an order of a test",
     help: help::WITNESS,
-    options: DEPTH,
-    further_options: &[],
 };
 
 static TABLES: DeclaredCommand = DeclaredCommand {
     name: "tables",
     about: "Prints the table of a coherence protocol",
     help: help::TABLES,
-    options: PROTOCOL,
-    further_options: &[],
 };
