@@ -74,9 +74,9 @@ pub fn read_input<R: Read>(
     ensures faults { CountsReadFaults result reader.old.1 reader.new.1 }
 {
     let mut input = Vec::new(alloc);
-    let mut chunk = [0u8; 4096];
+    let mut chunk = [0u8; 2048];
     while input.len() < most {
-        let room = (most - input.len()).min(4096);
+        let room = (most - input.len()).min(2048);
         match reader.read(&mut chunk[..room]) {
             Ok(0) => return Ok(input),
             Ok(n) => input.extend_from_slice(&chunk[..n])?,
