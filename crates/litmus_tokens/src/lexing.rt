@@ -188,6 +188,7 @@ fn hexadecimal_len(bytes: &[u8]) -> usize
 }
 
 /// Whether these begin with a hexadecimal number.
+#[inline(always)]
 fn is_hexadecimal(set: Instructions, bytes: &[u8]) -> bool
     ensures { result ≡ terms.is_hexadecimal set bytes.now }
 {
@@ -210,6 +211,7 @@ fn hexadecimal_at(bytes: &[u8]) -> (Lexeme<'_>, &[u8])
 }
 
 /// The decimal number with which the bytes begin, and what stands after it.
+#[inline(always)]
 fn decimal_at(bytes: &[u8]) -> (Lexeme<'_>, &[u8])
     requires some { 0 < length bytes.now }
     requires begins { char.is_ascii_digit (slice_index bytes.now 0) ≡ true }
@@ -221,6 +223,7 @@ fn decimal_at(bytes: &[u8]) -> (Lexeme<'_>, &[u8])
 }
 
 /// The number with which the bytes begin, and what stands after it.
+#[inline(always)]
 fn number_at_front(set: Instructions, bytes: &[u8]) -> (Lexeme<'_>, &[u8])
     requires some { 0 < length bytes.now }
     requires begins { char.is_ascii_digit (slice_index bytes.now 0) ≡ true }

@@ -18,6 +18,7 @@ pub struct Numeral<'a> {
 }
 
 /// The number without a sign at the front, and the tokens after it.
+#[inline(always)]
 #[tactic(auto, unfolding(crate::specs::Front::unsigned_at))]
 fn unsigned_at<'a, 'b>(tokens: &'b [Token<'a>]) -> Option<(Numeral<'a>, &'b [Token<'a>])>
     ensures value { option_map (λ x. (size_of x.0, pieces x.1.now)) result ≡ front.unsigned_at (pieces tokens.now) }
@@ -41,6 +42,7 @@ fn unsigned_at<'a, 'b>(tokens: &'b [Token<'a>]) -> Option<(Numeral<'a>, &'b [Tok
 }
 
 /// The number at the front, perhaps with a sign, and the tokens after it.
+#[inline(always)]
 #[tactic(auto, unfolding(crate::specs::Front::numeral_at))]
 pub fn numeral_at<'a, 'b>(tokens: &'b [Token<'a>]) -> Option<(Numeral<'a>, &'b [Token<'a>])>
     ensures value { option_map (λ x. (numeral_of x.0, pieces x.1.now)) result ≡ front.numeral_at (pieces tokens.now) }
