@@ -30,7 +30,7 @@ import believed
 
 SILENT = os.path.join(TOP, "tests", "data", "silent_users.list")
 # Users are themselves the worked examples, and the functions of `promises` that are no laws, with the definitions that they alone use.
-USERS_THEMSELVES = re.compile(r"worked_examples/|promises/(?:src/(?!laws_of_)|specs/(?:Counted|Locked|Searched|Sources|inner))")
+USERS_THEMSELVES = re.compile(r"worked_examples/|promises/(?:src/(?!laws_of_)|specs/(?:Locked|Searched|Sources|inner))")
 
 # Nothing in Rattle calls the page's exports: the edits of tests/data/edits/page_exports, which the prover has to refuse, hold them.
 HELD_BY_EDITS = "page_exports"

@@ -51,4 +51,3 @@ pub mod ReasonHeads
 pub mod RefutingLines
 pub mod ReadByHand
 pub mod SourcesTold
-mod StepsCounted

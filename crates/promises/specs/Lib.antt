@@ -8,7 +8,6 @@ pub mod Observed
 pub mod Verdicts
 pub mod Traces
 pub mod TracedMachines
-pub mod CountedSteps
 pub mod Reasons
 pub mod ByHand
 pub mod Sources

@@ -1,8 +1,8 @@
 //! What `counts` answers, what its headline says, and what the numbers of a run say of each other and of the run's trace.
 
-ghost use Rattle.std.specs.Prelude.{◌≡◌, ◌+◌, ◌*◌, ◌<◌, ℕ, Bool, List, [], None, Option, length, slice_index_or, true};
+ghost use Rattle.std.specs.Prelude.{◌≡◌, ◌+◌, ◌*◌, ◌<◌, ℕ, Bool, List, [], None, Option, is_some, length, slice_index_or, true};
 ghost use Rattle.tso_terms.specs.Axioms.{IsTsoExecution};
-ghost use Rattle.tso_terms.specs.Litmus.{Litmus};
+ghost use Rattle.tso_terms.specs.Litmus.{IsTest, Litmus};
 ghost use Rattle.basic_laws.specs.Types.{Choice};
 ghost use Rattle.scheduler.specs.Grammar.{SpellsChoices};
 ghost use Rattle.scheduler.specs.Plan.{Plan};
@@ -27,9 +27,11 @@ ghost use Rattle.tso_cli.specs.CountsHeadline.{HeadlineOfCounts, PrintsCounts, P
 ghost use Rattle.tso_cli.specs.Lines.{choices_refusal};
 ghost use Rattle.tso_cli.specs.declared.answer.Status.{Status};
 ghost use Rattle.tso_cli.specs.declared.answer.Status.TheVariants.{Good, Unended};
-ghost use Rattle.promises.specs.CountedSteps.{CountsAreSumsOfSteps};
+ghost use Rattle.trace_report.specs.Steps.{trace_under};
+ghost use Rattle.counted_steps.specs.StepSums.{has_request, lost_by_others, reads_line, steps_of_core, sum_of_steps, was_hit, was_miss, was_upgrade, writes_line};
 
 use cache_counts::{counts_add_up, sums_over_runs_add_up};
+use counted_steps::{counts_are_sums_of_steps, traffic_is_sums_of_steps};
 
 /// What is printed is counted of the runs, over those alone that ended, and the order of each of these is a TSO execution.
 pub fn counts_are_of_executions()
@@ -103,5 +105,45 @@ pub fn counts_of_seeds_add_up()
 
 /// A core's hits, misses, upgrades, forwarded loads and requests are the numbers of its steps of which the run's trace says so.
 pub fn counts_are_sums_of_traced_steps()
-    ensures { CountsAreSumsOfSteps }
-{}
+    ensures hits { (t : Litmus) (kind : ProtocolKind) (c : Configuration) (choices : List Choice) (core : ℕ)
+        → core < length t.programs
+        → (slice_index_or (counts_under t kind c choices) core no_counts).hits
+        ≡ steps_of_core (λ s. was_hit s.access) core (trace_under t kind c choices) }
+    ensures misses { (t : Litmus) (kind : ProtocolKind) (c : Configuration) (choices : List Choice) (core : ℕ)
+        → core < length t.programs
+        → (slice_index_or (counts_under t kind c choices) core no_counts).misses
+        ≡ steps_of_core (λ s. was_miss s.access) core (trace_under t kind c choices) }
+    ensures upgrades { (t : Litmus) (kind : ProtocolKind) (c : Configuration) (choices : List Choice) (core : ℕ)
+        → core < length t.programs
+        → (slice_index_or (counts_under t kind c choices) core no_counts).upgrades
+        ≡ steps_of_core (λ s. was_upgrade s.access) core (trace_under t kind c choices) }
+    ensures forwards { (t : Litmus) (kind : ProtocolKind) (c : Configuration) (choices : List Choice) (core : ℕ)
+        → core < length t.programs
+        → (slice_index_or (counts_under t kind c choices) core no_counts).forwards
+        ≡ steps_of_core (λ s. s.forwarded) core (trace_under t kind c choices) }
+    ensures get_s { (t : Litmus) (kind : ProtocolKind) (c : Configuration) (choices : List Choice) (core : ℕ)
+        → core < length t.programs
+        → (traffic_of (table_of kind) core (uses_of (table_of kind) c t choices)).get_s
+        ≡ steps_of_core (λ s. has_request reads_line s.request) core (trace_under t kind c choices) }
+    ensures get_m { (t : Litmus) (kind : ProtocolKind) (c : Configuration) (choices : List Choice) (core : ℕ)
+        → core < length t.programs
+        → (traffic_of (table_of kind) core (uses_of (table_of kind) c t choices)).get_m
+        ≡ steps_of_core (λ s. has_request writes_line s.request) core (trace_under t kind c choices) }
+{
+    counts_are_sums_of_steps();
+}
+
+/// The copies of others that a core's requests turn to I are the lines of other cores that its steps tell to go to I. The lines that are
+/// written to memory for it are its steps that tell a copy of another core as sent there, and those that tell a write-back.
+pub fn traffic_is_sums_of_traced_steps()
+    ensures invalidations { (t : Litmus) (kind : ProtocolKind) (c : Configuration) (choices : List Choice) (core : ℕ)
+        → IsTest t → 0 < c.shape.words → core < length t.programs
+        → (traffic_of (table_of kind) core (uses_of (table_of kind) c t choices)).invalidations
+        ≡ sum_of_steps (λ s. lost_by_others core s.changes) core (trace_under t kind c choices) }
+    ensures to_memory { (t : Litmus) (kind : ProtocolKind) (c : Configuration) (choices : List Choice) (core : ℕ)
+        → IsTest t → 0 < c.shape.words → core < length t.programs
+        → (traffic_of (table_of kind) core (uses_of (table_of kind) c t choices)).to_memory
+        ≡ steps_of_core (λ s. is_some s.flushed) core (trace_under t kind c choices) + steps_of_core (λ s. is_some s.wrote_back) core (trace_under t kind c choices) }
+{
+    traffic_is_sums_of_steps();
+}

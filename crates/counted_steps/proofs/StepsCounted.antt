@@ -1,7 +1,5 @@
 -- What is counted of a run is the number of steps of its trace that say so.
-use Rattle.std.proofs.Common.{◌≡◌, ◌+◌, ◌<◌, ◌==◌, ℕ, Bool, true, false, if◌then◌else◌, List, [], ◌∷◌, length, Option, None, Some, refl, sym, ap, ◌∙◌, arith}
-use Rattle.tso_terms.specs.FlatMachine.{chosen}
-use Rattle.tso_terms.specs.Runs.{has_ended}
+use Rattle.std.proofs.Common.{◌≡◌, ◌+◌, ◌<◌, ℕ, Bool, true, false, if◌then◌else◌, List, length, Option, None, Some, refl, ap, ◌∙◌, arith}
 use Rattle.basic_laws.specs.Types.{Choice}
 use Rattle.protocol_tables.specs.Tables.{Table, table_of}
 use Rattle.protocol_tables.specs.declared.requests.Request.{Request}
@@ -13,17 +11,18 @@ use Rattle.multiprocessor.specs.Statistics.{with_access, with_write_back}
 use Rattle.multiprocessor.specs.declared.accesses.CacheUse.{CacheUse}
 use Rattle.multiprocessor.specs.declared.accesses.CacheUse.TheVariants.{Asked, Forwarded, Through, Unused}
 use Rattle.multiprocessor.specs.declared.counts.Counts.{Counts}
-use Rattle.machine_core.specs.Running.{Running, machine_after, machine_use, new_machine}
+use Rattle.machine_core.specs.Running.{Running, machine_use, new_machine}
 use Rattle.trace_report.specs.Shown.{ShownStep}
 use Rattle.trace_report.specs.Steps.{access_kind_in, is_forwarded, sent_by, sent_with, steps_from, trace_step_of}
 use Rattle.cache_counts.specs.AddingUp.{sum_of_uses}
 use Rattle.cache_counts.specs.Traffic.{requests_to_read, requests_to_write, with_requested}
-use Rattle.cache_counts.specs.Uses.{core_use_at, uses_from, uses_of}
+use Rattle.cache_counts.specs.Uses.{uses_from, uses_of}
 use Rattle.cache_counts.specs.declared.traffic.Traffic.{Traffic}
-use Rattle.cache_counts.proofs.UseSums.{CountsEach, MovesEach, core-is, counted-by-uses, moved-in-all}
-use Rattle.promises.specs.CountedSteps.{CountsAreSumsOfSteps, has_request, reads_line, steps_of_core, was_hit, was_miss, was_upgrade, writes_line}
+use Rattle.cache_counts.proofs.UseSums.{CountsEach, MovesEach, counted-by-uses, moved-in-all}
+use Rattle.counted_steps.specs.StepSums.{CountsAreSumsOfSteps, has_request, reads_line, steps_of_core, was_hit, was_miss, was_upgrade, writes_line}
+use Rattle.counted_steps.proofs.Along.{along}
 
-abbrev one : Bool → ℕ
+abbrev pub one : Bool → ℕ
 one b = if b then 1 else 0
 
 -- ---- a step says what its use of the caches was
@@ -32,26 +31,9 @@ one b = if b then 1 else 0
 abbrev Tells : (ShownStep → Bool) → (CacheUse → ℕ) → Type 0
 Tells test of_use = (m : Running) (choice : Choice) → one (test (trace_step_of m choice)) ≡ of_use (machine_use m choice).how
 
-its-choice : (m : Running) (choice : Choice) → (trace_step_of m choice).choice ≡ choice
-unfolding trace_step_of
-its-choice m choice = refl
-
-add-both : (a b c d : ℕ) → a ≡ b → c ≡ d → a + c ≡ b + d
-add-both a b c d p q = omega (arith, p, q)
-
 steps-told : (test : ShownStep → Bool) (of_use : CacheUse → ℕ) → Tells test of_use → (k : ℕ) (m : Running) (choices : List Choice)
     → sum_of_uses of_use k (uses_from m choices) ≡ steps_of_core test k (steps_from m choices)
-steps-told test of_use tells k m [] = refl
-steps-told test of_use tells k m (c ∷ cs) = by_end (has_ended m.test m.state.flat) (steps-told test of_use tells k (machine_after m c) cs)
-  where
-    by_end : (b : Bool) → sum_of_uses of_use k (uses_from (machine_after m c) cs) ≡ steps_of_core test k (steps_from (machine_after m c) cs)
-        → sum_of_uses of_use k (if b then [] else core_use_at m c ∷ uses_from (machine_after m c) cs) ≡ steps_of_core test k (if b then [] else trace_step_of m c ∷ steps_from (machine_after m c) cs)
-    by_end true rest = refl
-    by_end false rest =
-        add-both _ _ _ _
-        (ap (λ (i : ℕ). if i == k then of_use (machine_use m c).how else 0) (core-is c ∙ sym (ap chosen (its-choice m c)))
-        ∙ ap (λ (n : ℕ). if chosen (trace_step_of m c).choice == k then n else 0) (sym (tells m c)))
-        rest
+steps-told test of_use tells k m choices = along (λ m. Unit {0}) (λ m c kept. tt) (λ s. one (test s)) of_use k (λ m c kept own. tells m c) m choices tt
 
 -- ---- each number
 

@@ -1,0 +1,10 @@
+mod Sums
+mod Along
+mod StepsCounted
+mod LinesWritten
+mod Requests
+mod Changes
+mod Copies
+mod Awaiting
+mod OtherCores
+mod CopiesLost
