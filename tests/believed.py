@@ -228,7 +228,7 @@ def topic(module):
         return "grammar and refusals of tests"
     if crate in ("scheduler", "witnesses", "order_builder", "commit_order") or module == "tso_terms.specs.Decimals":
         return "choices and orders as texts"
-    if crate in ("snoop_bus", "cache_set", "multiprocessor", "machine_core", "protocol_tables", "cache_counts"):
+    if crate in ("snoop_bus", "cache_set", "multiprocessor", "machine_core", "protocol_tables", "cache_counts", "counted_steps"):
         return "caches"
     if crate in ("tso_cli", "machine_runs", "simulator", "sweep_runs", "sweeper", "counted_io", "tso_io", "command_line", "page_exports"):
         return "commands"

@@ -1,5 +1,5 @@
 -- A sum over what a run's choices had to do with the caches is a sum over the steps of its trace, where each step tells what its choice adds.
-use Rattle.std.proofs.Common.{◌≡◌, ◌+◌, ◌==◌, inl, inr, ℕ, Bool, true, false, if◌then◌else◌, List, [], ◌∷◌, refl, sym, ap, ◌∙◌}
+use Rattle.std.proofs.Common.{◌≡◌, ◌==◌, inl, inr, ℕ, Bool, true, false, if◌then◌else◌, List, [], ◌∷◌, refl, sym, ap, ◌∙◌}
 use Rattle.basic_laws.proofs.Basics.{decide, test-false}
 use Rattle.tso_terms.specs.FlatMachine.{chosen}
 use Rattle.tso_terms.specs.Runs.{has_ended}

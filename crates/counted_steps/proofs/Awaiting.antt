@@ -129,12 +129,12 @@ module _ (on : Bus) (c : Caches) (a : Choice) (before after : Choice → MemoryA
 
   made-asks : IsUseFor c (chosen a) (before a) u → ((on ≡ Atomic) × (holder ≡ Free) × (next ≡ Free)) ⊎ (needs_bus (before a) (hits_by c (chosen a) (before a)) ≡ false)
       → (other : Choice) → holder ≡ HeldBy other → request_in u.how ≡ None
-  made-asks it (inl atomic) other held = absurd (true≢false (ap is_awaited (sym held ∙ atomic.1.0)))
+  made-asks it (inl atomic) other held = absurd (true≢false (ap is_awaited (sym held ∙ atomic.1)))
   made-asks it (inr free) other held = use-asks c (chosen a) (before a) u it free
 
   module _ (words core line : ℕ) (apart : core ≢ chosen a) where
     resting : is_awaited next ≡ false → is_awaited next ≡ is_awaited holder → IsQuiet next u.caches.awaited → BesideOn u.how holder before c.awaited next after u.caches.awaited words core line
-    resting free waits then = nothing (none-here holder before c.awaited words core line (quiet (sym waits ∙ free))) (none-here next after u.caches.awaited words core line (then free))
+    resting free waits after-quiet = nothing (none-here holder before c.awaited words core line (quiet (sym waits ∙ free))) (none-here next after u.caches.awaited words core line (after-quiet free))
 
     -- another action holds the bus before and after, at the same access
     holding : u.caches.awaited ≡ c.awaited → (other : Choice) → next ≡ HeldBy other → holder ≡ HeldBy other → after other ≡ before other → for_line holder before c.awaited words core line ≡ for_line next after u.caches.awaited words core line
@@ -146,9 +146,9 @@ module _ (on : Bus) (c : Caches) (a : Choice) (before after : Choice → MemoryA
 
     staying : (h : Holder) → next ≡ h → u.caches.awaited ≡ c.awaited → Stays before after holder next → IsQuiet next u.caches.awaited
         → ((other : Choice) → holder ≡ HeldBy other → request_in u.how ≡ None) → BesideOn u.how holder before c.awaited next after u.caches.awaited words core line
-    staying Free q awaited stays then asks = resting (ap is_awaited q) stays.waits then
-    staying (HeldBetween e) q awaited stays then asks = resting (ap is_awaited q) stays.waits then
-    staying (HeldBy other) q awaited stays then asks =
+    staying Free q awaited stays after-quiet asks = resting (ap is_awaited q) stays.waits after-quiet
+    staying (HeldBetween e) q awaited stays after-quiet asks = resting (ap is_awaited q) stays.waits after-quiet
+    staying (HeldBy other) q awaited stays after-quiet asks =
         let held = stays.held other q in
         as_before (asks other held.0) (holding awaited other q held.0 held.1)
 

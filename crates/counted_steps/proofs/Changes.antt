@@ -10,21 +10,21 @@ use Rattle.trace_report.specs.declared.step.StateChange.{StateChange}
 use Rattle.trace_report.specs.declared.states.PlacedState.{PlacedState}
 use Rattle.trace_report.proofs.Whole.{words-kept}
 use Rattle.counted_steps.specs.StepSums.{is_gone, lost_by_others}
-use Rattle.counted_steps.proofs.Sums.{add-third, from-none, no-more, of_others, sum-none, sum-same, sum_from, zero-if}
+use Rattle.counted_steps.proofs.Sums.{add-third, from-none, no-more, of_others, sum-none, sum-same, sum_from, unless, unless-zero}
 
 -- ---- one line
 
 -- one copy less, where the state of a line was this and is that
 abbrev pub fell : LineState → LineState → ℕ
-fell before after = if number_of_state before == number_of_state after then 0 else if is_gone after then 1 else 0
+fell before after = unless (number_of_state before == number_of_state after) (if is_gone after then 1 else 0)
 
-change-lost : (k : ℕ) (before after : PlacedState) → lost_by_others k (change_of before after) ≡ (if before.core.0 == k then 0 else fell before.state after.state)
+change-lost : (k : ℕ) (before after : PlacedState) → lost_by_others k (change_of before after) ≡ unless (before.core.0 == k) (fell before.state after.state)
 change-lost k before after = by_same (number_of_state before.state == number_of_state after.state)
   where
     by_same : (same : Bool) → lost_by_others k (if same then [] else record { core = before.core; line = before.line; before = before.state; after = after.state } ∷ [])
-        ≡ (if before.core.0 == k then 0 else if same then 0 else if is_gone after.state then 1 else 0)
-    by_same true = zero-if (before.core.0 == k)
-    by_same false = sym (no-more (if before.core.0 == k then 0 else if is_gone after.state then 1 else 0))
+        ≡ unless (before.core.0 == k) (unless same (if is_gone after.state then 1 else 0))
+    by_same true = sym (unless-zero (before.core.0 == k))
+    by_same false = sym (no-more (unless (before.core.0 == k) (if is_gone after.state then 1 else 0)))
 
 -- ---- lists of lines
 
@@ -34,7 +34,7 @@ add-first a b s t p = omega (arith, p)
 lost-append : (k : ℕ) (xs ys : List StateChange) → lost_by_others k (xs ++ ys) ≡ lost_by_others k xs + lost_by_others k ys
 lost-append k [] ys = from-none (lost_by_others k ys)
 lost-append k (x ∷ xs) ys =
-    add-first (if x.core.0 == k then 0 else if is_gone x.after then 1 else 0) (lost_by_others k (xs ++ ys)) (lost_by_others k xs) (lost_by_others k ys) (lost-append k xs ys)
+    add-first (unless (x.core.0 == k) (if is_gone x.after then 1 else 0)) (lost_by_others k (xs ++ ys)) (lost_by_others k xs) (lost_by_others k ys) (lost-append k xs ys)
 
 -- the lines of a core from this number on, so many; and those of so many cores
 abbrev row : (ℕ → PlacedState) → ℕ → ℕ → List PlacedState
@@ -79,13 +79,13 @@ rows-are m core (suc count) =
 abbrev pub fallen : Running → Running → ℕ → ℕ
 fallen m next core = sum_from (λ line. fell (line_state m core line) (line_state next core line)) 0 (number_of_lines m)
 
-sum-if : (b : Bool) (f : ℕ → ℕ) (count : ℕ) → sum_from (λ i. if b then 0 else f i) 0 count ≡ (if b then 0 else sum_from f 0 count)
+sum-if : (b : Bool) (f : ℕ → ℕ) (count : ℕ) → sum_from (λ i. unless b (f i)) 0 count ≡ unless b (sum_from f 0 count)
 sum-if true f count = sum-none (λ i. 0) 0 count (λ i. refl)
 sum-if false f count = refl
 
 core-lost : (k : ℕ) (m next : Running) (core : ℕ) → sum_from (lost_of k (placed m core) (placed next core)) 0 (number_of_lines m) ≡ of_others k (fallen m next) core
 core-lost k m next core =
-    sum-same (lost_of k (placed m core) (placed next core)) (λ line. if core == k then 0 else fell (line_state m core line) (line_state next core line))
+    sum-same (lost_of k (placed m core) (placed next core)) (λ line. unless (core == k) (fell (line_state m core line) (line_state next core line)))
     (λ line. change-lost k (placed m core line) (placed next core line)) 0 (number_of_lines m)
     ∙ sum-if (core == k) (λ line. fell (line_state m core line) (line_state next core line)) (number_of_lines m)
 

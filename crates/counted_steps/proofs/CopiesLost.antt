@@ -1,6 +1,6 @@
 -- The copies of others that a core's requests turn to I are the lines of other cores that its steps tell to go to I: the others see a
 -- request at once, and no line of theirs changes otherwise.
-use Rattle.std.proofs.Common.{◌≡◌, ◌≢◌, ◌<◌, ◌≤◌, ℕ, List, [], ◌∷◌, ◌++◌, length, Option, None, Some, refl, sym, ap, subst, ◌∙◌}
+use Rattle.std.proofs.Common.{◌≡◌, ◌<◌, ◌≤◌, ℕ, List, [], ◌∷◌, ◌++◌, length, Option, None, Some, refl, sym, ap, subst, ◌∙◌}
 use Rattle.std.specs.Prelude.{slice_set}
 use Rattle.tso_terms.specs.FlatMachine.{chosen}
 use Rattle.tso_terms.specs.Limits.{most_cores}

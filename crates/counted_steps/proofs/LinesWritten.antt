@@ -100,7 +100,7 @@ writing-told k m c h own =
     let there : k < length m.statistics.counts = subst (λ (n : ℕ). k < n) (sym h.kept.cores) h.has in
     let told = step-told k m c h.kept (subst (λ (i : ℕ). i < length m.statistics.counts) (sym own) there) in
     ap one (both-true (chosen (trace_step_of m c).choice == k) (chosen c == k) (is_some (trace_step_of m c).wrote_back) (wrote_in (machine_use m c).how)
-      (test-true (chosen (trace_step_of m c).choice) k (ap chosen (its-choice m c) ∙ own)) (test-true (chosen c) k own) told)
+    (test-true (chosen (trace_step_of m c).choice) k (ap chosen (its-choice m c) ∙ own)) (test-true (chosen c) k own) told)
 
 -- ---- of a whole run
 
@@ -113,6 +113,6 @@ lines-written t kind c choices k test words has =
     moved-in-all table k (λ x. x.to_memory) by_writing (each-written table k) refl (uses_of table c t choices)
     ∙ (sums-add by_sending by_write_back k (uses_of table c t choices)
     ∙ add-both _ _ _ _
-      (along (λ m. Unit {0}) (λ m c kept. tt) (λ s. one (is_some s.flushed)) by_sending k (λ m c kept own. sending-told m c) m choices tt)
-      (along (HasCore k) (core-kept k) (λ s. one (is_some s.wrote_back)) by_write_back k (writing-told k) m choices
-        (record { kept = kept-first table c t test words (protocols-keep kind); has = has })))
+    (along (λ m. Unit {0}) (λ m c kept. tt) (λ s. one (is_some s.flushed)) by_sending k (λ m c kept own. sending-told m c) m choices tt)
+    (along (HasCore k) (core-kept k) (λ s. one (is_some s.wrote_back)) by_write_back k (writing-told k) m choices
+    (record { kept = kept-first table c t test words (protocols-keep kind); has = has })))

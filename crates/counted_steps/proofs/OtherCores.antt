@@ -1,6 +1,6 @@
 -- What a choice makes of the lines of one other core: only the line that is asked for on the bus changes, and it goes where the protocol's
 -- column for the request sends it.
-use Rattle.std.proofs.Common.{◌≡◌, ◌≢◌, ◌<◌, ◌≤◌, ◌==◌, inl, inr, ℕ, Bool, true, false, if◌then◌else◌, List, [], ◌∷◌, length, Option, None, Some, refl, sym, ap, subst, ◌∙◌, arith}
+use Rattle.std.proofs.Common.{◌≡◌, ◌≢◌, ◌<◌, ◌≤◌, ◌==◌, inl, inr, ℕ, Bool, if◌then◌else◌, List, [], ◌∷◌, length, Option, None, Some, refl, sym, ap, subst, ◌∙◌, arith}
 use Rattle.std.proofs.lemmas.Bool.Decides.{eqb_tells}
 use Rattle.std.specs.Prelude.{◌%◌, nat_eq}
 use Rattle.std.specs.Map.{lookup}
@@ -32,21 +32,21 @@ use Rattle.counted_steps.proofs.Awaiting.{AtRest, Beside, as_before, awaits, bes
 use Rattle.counted_steps.proofs.Changes.{fallen, fell}
 use Rattle.counted_steps.proofs.Copies.{given_at}
 use Rattle.counted_steps.proofs.Requests.{line_request, request_in, request-told}
-use Rattle.counted_steps.proofs.Sums.{sum-alone, sum-none, zero-if}
+use Rattle.counted_steps.proofs.Sums.{sum-alone, sum-none, unless, unless-zero}
 
 -- ---- the state of a line
 
 fell-same : (x y : LineState) → x ≡ y → fell x y ≡ 0
 fell-same x y same =
-    let once : fell x x ≡ 0 = ap (λ (b : Bool). if b then 0 else if is_gone x then 1 else 0) (test-true (number_of_state x) (number_of_state x) refl) in
+    let once : fell x x ≡ 0 = ap (λ (b : Bool). unless b (if is_gone x then 1 else 0)) (test-true (number_of_state x) (number_of_state x) refl) in
     ap (fell x) (sym same) ∙ once
 
 fell-from : (s after : protocol.State) → s ≢ I → fell (state.Stable s) (state.Stable after) ≡ becomes_invalid after
 fell-from I after valid = absurd (valid refl)
-fell-from s S valid = sym (zero-if (number_of_state (state.Stable s) == 1))
-fell-from s E valid = sym (zero-if (number_of_state (state.Stable s) == 2))
-fell-from s O valid = sym (zero-if (number_of_state (state.Stable s) == 3))
-fell-from s M valid = sym (zero-if (number_of_state (state.Stable s) == 4))
+fell-from s S valid = unless-zero (number_of_state (state.Stable s) == 1)
+fell-from s E valid = unless-zero (number_of_state (state.Stable s) == 2)
+fell-from s O valid = unless-zero (number_of_state (state.Stable s) == 3)
+fell-from s M valid = unless-zero (number_of_state (state.Stable s) == 4)
 fell-from S I valid = refl
 fell-from E I valid = refl
 fell-from O I valid = refl
@@ -60,16 +60,16 @@ fell-by column (Some s) valid = fell-from s (column s).next (valid s refl)
 -- where the copy is the same
 states-same : (how : CacheUse) (x y : Option Transient) (copy now : Option protocol.State) → Beside how x y → copy ≡ now → state_with x copy ≡ state_with y now
 states-same how x y copy now (as_before none same) tag = ap (λ (w : Option Transient). state_with w copy) same ∙ ap (state_with y) tag
-states-same how x y copy now (nothing before then) tag =
-    ap (λ (w : Option Transient). state_with w copy) before ∙ (ap (state_with None) tag ∙ ap (λ (w : Option Transient). state_with w now) (sym then))
+states-same how x y copy now (nothing before after) tag =
+    ap (λ (w : Option Transient). state_with w copy) before ∙ (ap (state_with None) tag ∙ ap (λ (w : Option Transient). state_with w now) (sym after))
 
 -- where it is asked for
 asked-fell : (how : CacheUse) (q : BusRequest) → request_in how ≡ Some q → (x y : Option Transient) → Beside how x y → (column : protocol.State → Snoop) (copy now : Option protocol.State)
     → or_invalid now ≡ left_of column copy → ((s : protocol.State) → copy ≡ Some s → s ≢ I) → fell (state_with x copy) (state_with y now) ≡ given_up column copy
 asked-fell how q asks x y (as_before none same) column copy now left valid = let clash : None ≡ Some q = sym none ∙ asks in absurd (let z : ⊥ = cc in z)
-asked-fell how q asks x y (nothing before then) column copy now left valid =
+asked-fell how q asks x y (nothing before after) column copy now left valid =
     ap (λ (w : Option Transient). fell (state_with w copy) (state_with y now)) before
-    ∙ (ap (λ (w : Option Transient). fell (state.Stable (or_invalid copy)) (state_with w now)) then
+    ∙ (ap (λ (w : Option Transient). fell (state.Stable (or_invalid copy)) (state_with w now)) after
     ∙ (ap (λ (s : protocol.State). fell (state.Stable (or_invalid copy)) (state.Stable s)) left ∙ fell-by column copy valid))
 
 -- ---- a copy is of one of the lines

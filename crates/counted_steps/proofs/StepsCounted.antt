@@ -1,5 +1,5 @@
 -- What is counted of a run is the number of steps of its trace that say so.
-use Rattle.std.proofs.Common.{◌≡◌, ◌+◌, ◌<◌, ℕ, Bool, true, false, if◌then◌else◌, List, length, Option, None, Some, refl, ap, ◌∙◌, arith}
+use Rattle.std.proofs.Common.{◌≡◌, ◌+◌, ℕ, Bool, true, false, if◌then◌else◌, List, Option, None, Some, refl, ap, ◌∙◌, arith}
 use Rattle.basic_laws.specs.Types.{Choice}
 use Rattle.protocol_tables.specs.Tables.{Table, table_of}
 use Rattle.protocol_tables.specs.declared.requests.Request.{Request}
@@ -17,7 +17,6 @@ use Rattle.trace_report.specs.Steps.{access_kind_in, is_forwarded, sent_by, sent
 use Rattle.cache_counts.specs.AddingUp.{sum_of_uses}
 use Rattle.cache_counts.specs.Traffic.{requests_to_read, requests_to_write, with_requested}
 use Rattle.cache_counts.specs.Uses.{uses_from, uses_of}
-use Rattle.cache_counts.specs.declared.traffic.Traffic.{Traffic}
 use Rattle.cache_counts.proofs.UseSums.{CountsEach, MovesEach, counted-by-uses, moved-in-all}
 use Rattle.counted_steps.specs.StepSums.{CountsAreSumsOfSteps, has_request, reads_line, steps_of_core, was_hit, was_miss, was_upgrade, writes_line}
 use Rattle.counted_steps.proofs.Along.{along}

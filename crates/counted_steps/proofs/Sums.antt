@@ -1,5 +1,5 @@
 -- Sums of numbers, from a place on: where they are all 0, where one alone isn't, and where two sums are the same.
-use Rattle.std.proofs.Common.{◌≡◌, ◌≢◌, ◌<◌, ◌≤◌, ◌+◌, ◌==◌, inl, inr, ℕ, zero, suc, Bool, true, false, if◌then◌else◌, refl, sym, ap, ◌∙◌, arith}
+use Rattle.std.proofs.Common.{◌≡◌, ◌≢◌, ◌<◌, ◌≤◌, ◌+◌, ◌⊎◌, ◌==◌, inl, inr, ℕ, zero, suc, Bool, true, false, if◌then◌else◌, refl, sym, ap, ◌∙◌, arith}
 use Rattle.basic_laws.proofs.Basics.{decide, lt-or, test-true, test-false}
 
 pub add-both : (a b c d : ℕ) → a ≡ b → c ≡ d → a + c ≡ b + d
@@ -14,9 +14,13 @@ from-none a = omega arith
 pub add-third : (a x y s r : ℕ) → a ≡ x + y → y ≡ s + r → a ≡ (x + s) + r
 add-third a x y s r p q = omega (arith, p, q)
 
-pub zero-if : (b : Bool) → 0 ≡ (if b then 0 else 0)
-zero-if true = refl
-zero-if false = refl
+-- a number, or 0 where a test holds
+abbrev pub unless : Bool → ℕ → ℕ
+unless b n = if b then 0 else n
+
+pub unless-zero : (b : Bool) → unless b 0 ≡ 0
+unless-zero true = refl
+unless-zero false = refl
 
 -- the sum of so many numbers from a place on
 abbrev pub sum_from : (ℕ → ℕ) → ℕ → ℕ → ℕ
@@ -97,16 +101,16 @@ sum-alone f target count g none here gone = elim (lt-or count target) [
 -- ---- all but one
 
 abbrev pub of_others : ℕ → (ℕ → ℕ) → ℕ → ℕ
-of_others k f i = if i == k then 0 else f i
+of_others k f i = unless (i == k) (f i)
 
 pub others-none : (k : ℕ) (f : ℕ → ℕ) → ((i : ℕ) → i ≢ k → f i ≡ 0) → (i : ℕ) → of_others k f i ≡ 0
 others-none k f none i = elim (decide i k) [
-  | inl is ↦ ap (λ (b : Bool). if b then 0 else f i) (test-true i k is)
-  | inr n ↦ ap (λ (b : Bool). if b then 0 else f i) (test-false i k n) ∙ none i n
+  | inl is ↦ ap (λ (b : Bool). unless b (f i)) (test-true i k is)
+  | inr n ↦ ap (λ (b : Bool). unless b (f i)) (test-false i k n) ∙ none i n
 ]
 
 pub others-same : (k : ℕ) (f g : ℕ → ℕ) → ((i : ℕ) → i ≢ k → f i ≡ g i) → (i : ℕ) → of_others k f i ≡ of_others k g i
 others-same k f g same i = elim (decide i k) [
-  | inl is ↦ ap (λ (b : Bool). if b then 0 else f i) (test-true i k is) ∙ sym (ap (λ (b : Bool). if b then 0 else g i) (test-true i k is))
-  | inr n ↦ ap (λ (n : ℕ). if i == k then 0 else n) (same i n)
+  | inl is ↦ ap (λ (b : Bool). unless b (f i)) (test-true i k is) ∙ sym (ap (λ (b : Bool). unless b (g i)) (test-true i k is))
+  | inr n ↦ ap (unless (i == k)) (same i n)
 ]
