@@ -26,10 +26,13 @@ own-same i k x y same = elim (decide i k) [
 ]
 
 -- in machines that are kept so, of the choices of one core
-module _ (Kept : Running → Type 0) (kept-next : (m : Running) (c : Choice) → Kept m → Kept (machine_after m c)) (of_step : ShownStep → ℕ) (of_use : CacheUse → ℕ) (k : ℕ)
+module _ (Kept : Running → Type 0)
+    (kept-next : (m : Running) (c : Choice) → Kept m → Kept (machine_after m c)) (of_step : ShownStep → ℕ)
+    (of_use : CacheUse → ℕ) (k : ℕ)
     (tells : (m : Running) (c : Choice) → Kept m → chosen c ≡ k → of_step (trace_step_of m c) ≡ of_use (machine_use m c).how) where
   one-step : (m : Running) (c : Choice) → Kept m
-      → (if (core_use_at m c).core.0 == k then of_use (machine_use m c).how else 0) ≡ (if chosen (trace_step_of m c).choice == k then of_step (trace_step_of m c) else 0)
+      → (if (core_use_at m c).core.0 == k then of_use (machine_use m c).how else 0)
+      ≡ (if chosen (trace_step_of m c).choice == k then of_step (trace_step_of m c) else 0)
   one-step m c is =
       let told : chosen (trace_step_of m c).choice ≡ chosen c = ap chosen (its-choice m c) in
       ap (λ (i : ℕ). if i == k then of_use (machine_use m c).how else 0) (core-is c ∙ sym told)
@@ -40,6 +43,7 @@ module _ (Kept : Running → Type 0) (kept-next : (m : Running) (c : Choice) →
   along m (c ∷ cs) is = by_end (has_ended m.test m.state.flat) (along (machine_after m c) cs (kept-next m c is))
     where
       by_end : (b : Bool) → sum_of_uses of_use k (uses_from (machine_after m c) cs) ≡ sum_of_steps of_step k (steps_from (machine_after m c) cs)
-          → sum_of_uses of_use k (if b then [] else core_use_at m c ∷ uses_from (machine_after m c) cs) ≡ sum_of_steps of_step k (if b then [] else trace_step_of m c ∷ steps_from (machine_after m c) cs)
+          → sum_of_uses of_use k (if b then [] else core_use_at m c ∷ uses_from (machine_after m c) cs)
+          ≡ sum_of_steps of_step k (if b then [] else trace_step_of m c ∷ steps_from (machine_after m c) cs)
       by_end true rest = refl
       by_end false rest = add-both _ _ _ _ (one-step m c is) rest

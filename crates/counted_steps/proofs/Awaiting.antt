@@ -1,6 +1,7 @@
 -- What the bus awaits for the lines of other cores than the one that makes a choice: as much as before where the choice asks for nothing;
 -- else nothing, before and after.
-use Rattle.std.proofs.Common.{◌≡◌, ◌≢◌, ◌⊎◌, ◌/◌, ◌==◌, ◌&&◌, inl, inr, ℕ, Bool, true, false, if◌then◌else◌, List, Option, None, Some, refl, sym, ap, subst, ◌∙◌}
+use Rattle.std.proofs.Common.{◌≡◌, ◌≢◌, ◌⊎◌, ◌/◌, ◌==◌, ◌&&◌, inl, inr, ℕ, Bool, true, false, if◌then◌else◌, List, Option, None, Some, refl}
+use Rattle.std.proofs.Common.{sym, ap, subst, ◌∙◌}
 use Rattle.std.proofs.lemmas.Bool.{true≢false}
 use Rattle.std.specs.Option.{option_map}
 use Rattle.std.specs.Prelude.{is_some, not}
@@ -33,7 +34,8 @@ use Rattle.counted_steps.proofs.Requests.{request_in}
 -- by who holds the bus, the accesses that choices would make, and what the holder awaits
 abbrev for_line : Holder → (Choice → MemoryAccess) → Option Awaited → ℕ → ℕ → ℕ → Option Transient
 for_line Free accesses w words core line = None
-for_line (HeldBy choice) accesses w words core line = awaited_at (at_access None (λ loc write. Some (bus_holder choice loc w)) (accesses choice)) words core line
+for_line (HeldBy choice) accesses w words core line =
+    awaited_at (at_access None (λ loc write. Some (bus_holder choice loc w)) (accesses choice)) words core line
 for_line (HeldBetween e) accesses w words core line = awaited_at (Some (bus_holder (Step e.core) e.loc w)) words core line
 
 line-is : (t : Litmus) (d : ℕ) (flat : State) (w : Option Awaited) (h : Holder) (words core line : ℕ)
@@ -65,7 +67,9 @@ none-here h accesses w words core line none = ap (λ (x : Option Awaited). for_l
 apart-if : (b r : Bool) (x : Option Transient) → b ≡ false → (if b && r then x else None) ≡ None
 apart-if b r x q = ap (λ (c : Bool). if c && r then x else None) q
 
-own-alone : (choice : Choice) (accesses : Choice → MemoryAccess) (w : Option Awaited) (words core line : ℕ) → core ≢ chosen choice → for_line (HeldBy choice) accesses w words core line ≡ None
+own-alone : (choice : Choice) (accesses : Choice → MemoryAccess) (w : Option Awaited) (words core line : ℕ)
+    → core ≢ chosen choice
+    → for_line (HeldBy choice) accesses w words core line ≡ None
 own-alone choice accesses w words core line n = by_access (accesses choice)
   where
     apart : (chosen choice == core) ≡ false
@@ -87,7 +91,10 @@ hit-asks : (t : Table) (write : Bool) (core line : ℕ) (caches : List TagSets) 
 hit-asks t write core line caches copy None hit = absurd (true≢false hit)
 hit-asks t write core line caches copy (Some next) hit = refl
 
-use-asks : (c : Caches) (core : ℕ) (what : MemoryAccess) (u : Used) → IsUseFor c core what u → needs_bus what (hits_by c core what) ≡ false → request_in u.how ≡ None
+use-asks : (c : Caches) (core : ℕ) (what : MemoryAccess) (u : Used)
+    → IsUseFor c core what u
+    → needs_bus what (hits_by c core what) ≡ false
+    → request_in u.how ≡ None
 use-asks c core NoAccess u (inl is) free = ap (λ (x : Used). request_in x.how) is
 use-asks c core NoAccess u (inr is) free = ap (λ (x : Used). request_in x.how) is
 use-asks c core (Locks loc) u is free = absurd (true≢false free)
@@ -120,24 +127,36 @@ pub data Beside (how : CacheUse) (before after : Option Transient) : Type 0 wher
 abbrev BesideOn : CacheUse → Holder → (Choice → MemoryAccess) → Option Awaited → Holder → (Choice → MemoryAccess) → Option Awaited → ℕ → ℕ → ℕ → Type 0
 BesideOn how holder before w next after now words core line = Beside how (for_line holder before w words core line) (for_line next after now words core line)
 
-module _ (on : Bus) (c : Caches) (a : Choice) (before after : Choice → MemoryAccess) (holder next : Holder) (o : Outcome) (u : Used) (quiet : IsQuiet holder c.awaited) where
+module _ (on : Bus) (c : Caches) (a : Choice) (before after : Choice → MemoryAccess) (holder next : Holder)
+    (o : Outcome) (u : Used) (quiet : IsQuiet holder c.awaited) where
   quiet-next : UsesOn on c a before after holder next o u → IsQuiet next u.caches.awaited
   quiet-next (made it why stays) = λ free. (use-keeps c (chosen a) (before a) u it).1 ∙ quiet (sym stays.waits ∙ free)
   quiet-next (unused is stays) = λ free. ap (λ (x : Used). x.caches.awaited) is ∙ quiet (sym stays.waits ∙ free)
   quiet-next (begun split is outcome free held same) = λ rest. absurd (true≢false (sym (ap is_awaited held) ∙ rest))
   quiet-next (ended split is some held rest) = λ free. ap (λ (x : Used). x.caches.awaited) is ∙ completes-awaited c (chosen a) (before a) some
 
-  made-asks : IsUseFor c (chosen a) (before a) u → ((on ≡ Atomic) × (holder ≡ Free) × (next ≡ Free)) ⊎ (needs_bus (before a) (hits_by c (chosen a) (before a)) ≡ false)
+  made-asks : IsUseFor c (chosen a) (before a) u
+      → ((on ≡ Atomic) × (holder ≡ Free) × (next ≡ Free))
+      ⊎ (needs_bus (before a) (hits_by c (chosen a) (before a)) ≡ false)
       → (other : Choice) → holder ≡ HeldBy other → request_in u.how ≡ None
   made-asks it (inl atomic) other held = absurd (true≢false (ap is_awaited (sym held ∙ atomic.1)))
   made-asks it (inr free) other held = use-asks c (chosen a) (before a) u it free
 
   module _ (words core line : ℕ) (apart : core ≢ chosen a) where
-    resting : is_awaited next ≡ false → is_awaited next ≡ is_awaited holder → IsQuiet next u.caches.awaited → BesideOn u.how holder before c.awaited next after u.caches.awaited words core line
-    resting free waits after-quiet = nothing (none-here holder before c.awaited words core line (quiet (sym waits ∙ free))) (none-here next after u.caches.awaited words core line (after-quiet free))
+    resting : is_awaited next ≡ false
+        → is_awaited next ≡ is_awaited holder
+        → IsQuiet next u.caches.awaited
+        → BesideOn u.how holder before c.awaited next after u.caches.awaited words core line
+    resting free waits after-quiet =
+        nothing (none-here holder before c.awaited words core line (quiet (sym waits ∙ free)))
+        (none-here next after u.caches.awaited words core line (after-quiet free))
 
     -- another action holds the bus before and after, at the same access
-    holding : u.caches.awaited ≡ c.awaited → (other : Choice) → next ≡ HeldBy other → holder ≡ HeldBy other → after other ≡ before other → for_line holder before c.awaited words core line ≡ for_line next after u.caches.awaited words core line
+    holding : u.caches.awaited ≡ c.awaited
+        → (other : Choice) → next ≡ HeldBy other
+        → holder ≡ HeldBy other
+        → after other ≡ before other
+        → for_line holder before c.awaited words core line ≡ for_line next after u.caches.awaited words core line
     holding awaited other there here same =
         ap (λ (h : Holder). for_line h before c.awaited words core line) here
         ∙ (ap (λ (what : MemoryAccess). awaited_at (at_access None (λ loc write. Some (bus_holder other loc c.awaited)) what) words core line) (sym same)
@@ -145,7 +164,8 @@ module _ (on : Bus) (c : Caches) (a : Choice) (before after : Choice → MemoryA
         ∙ ap (λ (h : Holder). for_line h after u.caches.awaited words core line) (sym there)))
 
     staying : (h : Holder) → next ≡ h → u.caches.awaited ≡ c.awaited → Stays before after holder next → IsQuiet next u.caches.awaited
-        → ((other : Choice) → holder ≡ HeldBy other → request_in u.how ≡ None) → BesideOn u.how holder before c.awaited next after u.caches.awaited words core line
+        → ((other : Choice) → holder ≡ HeldBy other → request_in u.how ≡ None)
+        → BesideOn u.how holder before c.awaited next after u.caches.awaited words core line
     staying Free q awaited stays after-quiet asks = resting (ap is_awaited q) stays.waits after-quiet
     staying (HeldBetween e) q awaited stays after-quiet asks = resting (ap is_awaited q) stays.waits after-quiet
     staying (HeldBy other) q awaited stays after-quiet asks =
@@ -173,13 +193,19 @@ AtRest m = IsQuiet m.state.holder m.statistics.caches.awaited
 
 pub rest-kept : (m : Running) (c : Choice) → IsSound m → AtRest m → AtRest (machine_after m c)
 rest-kept m c sound quiet =
-    quiet-next m.bus m.statistics.caches c (access_of m.test m.depth m.state.flat) (access_of m.test m.depth (machine_after m c).state.flat) m.state.holder (machine_after m c).state.holder
+    quiet-next m.bus m.statistics.caches c (access_of m.test m.depth m.state.flat)
+    (access_of m.test m.depth (machine_after m c).state.flat) m.state.holder (machine_after m c).state.holder
     (machine_effect m c).effect.outcome (machine_use m c) quiet (uses-of m c sound).0
 
 same-beside : (how : CacheUse) (before was after now : Option Transient) → before ≡ was → after ≡ now → Beside how was now → Beside how before after
-same-beside how before was after now p q b = subst (λ (x : Option Transient). Beside how x after) (sym p) (subst (λ (y : Option Transient). Beside how was y) (sym q) b)
+same-beside how before was after now p q b =
+    subst (λ (x : Option Transient). Beside how x after) (sym p) (subst (λ (y : Option Transient). Beside how was y) (sym q) b)
 
-pub beside : (m : Running) (c : Choice) → IsSound m → AtRest m → (core line : ℕ) → core ≢ chosen c → Beside (machine_use m c).how (awaits m core line) (awaits (machine_after m c) core line)
+pub beside : (m : Running) (c : Choice)
+    → IsSound m
+    → AtRest m
+    → (core line : ℕ) → core ≢ chosen c
+    → Beside (machine_use m c).how (awaits m core line) (awaits (machine_after m c) core line)
 beside m c sound quiet core line apart =
     let next = machine_after m c in
     let words : ℕ = m.statistics.caches.shape.words in
@@ -190,4 +216,5 @@ beside m c sound quiet core line apart =
     (line-is m.test m.depth m.state.flat m.statistics.caches.awaited m.state.holder words core line)
     (line-is m.test m.depth next.state.flat (machine_use m c).caches.awaited next.state.holder next.statistics.caches.shape.words core line
     ∙ ap (λ (n : ℕ). for_line next.state.holder after (machine_use m c).caches.awaited n core line) (words-kept m c))
-    (beside-on m.bus m.statistics.caches c before after m.state.holder next.state.holder (machine_effect m c).effect.outcome (machine_use m c) quiet words core line apart (uses-of m c sound).0)
+    (beside-on m.bus m.statistics.caches c before after m.state.holder next.state.holder
+    (machine_effect m c).effect.outcome (machine_use m c) quiet words core line apart (uses-of m c sound).0)

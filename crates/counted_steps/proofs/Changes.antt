@@ -4,7 +4,8 @@ use Rattle.std.specs.Int.{div_ceil}
 use Rattle.tso_terms.specs.FlatMachine.{chosen}
 use Rattle.basic_laws.specs.Types.{Choice}
 use Rattle.machine_core.specs.Running.{Running, machine_after}
-use Rattle.trace_report.specs.Steps.{change_of, changes_in, line_state, line_states, number_of_lines, number_of_state, placed, placed_states_from, states_of, trace_step_of}
+use Rattle.trace_report.specs.Steps.{change_of, changes_in, line_state, line_states, number_of_lines, number_of_state, placed}
+use Rattle.trace_report.specs.Steps.{placed_states_from, states_of, trace_step_of}
 use Rattle.trace_report.specs.declared.step.LineState.{LineState}
 use Rattle.trace_report.specs.declared.step.StateChange.{StateChange}
 use Rattle.trace_report.specs.declared.states.PlacedState.{PlacedState}
@@ -21,7 +22,8 @@ fell before after = unless (number_of_state before == number_of_state after) (if
 change-lost : (k : ℕ) (before after : PlacedState) → lost_by_others k (change_of before after) ≡ unless (before.core.0 == k) (fell before.state after.state)
 change-lost k before after = by_same (number_of_state before.state == number_of_state after.state)
   where
-    by_same : (same : Bool) → lost_by_others k (if same then [] else record { core = before.core; line = before.line; before = before.state; after = after.state } ∷ [])
+    by_same : (same : Bool)
+        → lost_by_others k (if same then [] else record { core = before.core; line = before.line; before = before.state; after = after.state } ∷ [])
         ≡ unless (before.core.0 == k) (unless same (if is_gone after.state then 1 else 0))
     by_same true = sym (unless-zero (before.core.0 == k))
     by_same false = sym (no-more (unless (before.core.0 == k) (if is_gone after.state then 1 else 0)))
@@ -34,7 +36,8 @@ add-first a b s t p = omega (arith, p)
 lost-append : (k : ℕ) (xs ys : List StateChange) → lost_by_others k (xs ++ ys) ≡ lost_by_others k xs + lost_by_others k ys
 lost-append k [] ys = from-none (lost_by_others k ys)
 lost-append k (x ∷ xs) ys =
-    add-first (unless (x.core.0 == k) (if is_gone x.after then 1 else 0)) (lost_by_others k (xs ++ ys)) (lost_by_others k xs) (lost_by_others k ys) (lost-append k xs ys)
+    add-first (unless (x.core.0 == k) (if is_gone x.after then 1 else 0)) (lost_by_others k (xs ++ ys))
+    (lost_by_others k xs) (lost_by_others k ys) (lost-append k xs ys)
 
 -- the lines of a core from this number on, so many; and those of so many cores
 abbrev row : (ℕ → PlacedState) → ℕ → ℕ → List PlacedState
@@ -49,15 +52,18 @@ abbrev lost_of : ℕ → (ℕ → PlacedState) → (ℕ → PlacedState) → ℕ
 lost_of k at to line = lost_by_others k (change_of (at line) (to line))
 
 row-lost : (k : ℕ) (at to : ℕ → PlacedState) (line count : ℕ) (befores afters : List PlacedState)
-    → lost_by_others k (changes_in (row at line count ++ befores) (row to line count ++ afters)) ≡ sum_from (lost_of k at to) line count + lost_by_others k (changes_in befores afters)
+    → lost_by_others k (changes_in (row at line count ++ befores) (row to line count ++ afters))
+    ≡ sum_from (lost_of k at to) line count + lost_by_others k (changes_in befores afters)
 row-lost k at to line zero befores afters = from-none (lost_by_others k (changes_in befores afters))
 row-lost k at to line (suc count) befores afters =
     let rest : List StateChange = changes_in (row at (line + 1) count ++ befores) (row to (line + 1) count ++ afters) in
-    add-third (lost_by_others k (change_of (at line) (to line) ++ rest)) (lost_of k at to line) (lost_by_others k rest) (sum_from (lost_of k at to) (line + 1) count) (lost_by_others k (changes_in befores afters))
+    add-third (lost_by_others k (change_of (at line) (to line) ++ rest)) (lost_of k at to line) (lost_by_others k rest)
+    (sum_from (lost_of k at to) (line + 1) count) (lost_by_others k (changes_in befores afters))
     (lost-append k (change_of (at line) (to line)) rest) (row-lost k at to (line + 1) count befores afters)
 
 rows-lost : (k : ℕ) (at to : ℕ → ℕ → PlacedState) (lines core count : ℕ)
-    → lost_by_others k (changes_in (rows at lines core count) (rows to lines core count)) ≡ sum_from (λ i. sum_from (lost_of k (at i) (to i)) 0 lines) core count
+    → lost_by_others k (changes_in (rows at lines core count) (rows to lines core count))
+    ≡ sum_from (λ i. sum_from (lost_of k (at i) (to i)) 0 lines) core count
 rows-lost k at to lines core zero = refl
 rows-lost k at to lines core (suc count) =
     row-lost k (at core) (to core) 0 lines (rows at lines (core + 1) count) (rows to lines (core + 1) count)
@@ -83,7 +89,8 @@ sum-if : (b : Bool) (f : ℕ → ℕ) (count : ℕ) → sum_from (λ i. unless b
 sum-if true f count = sum-none (λ i. 0) 0 count (λ i. refl)
 sum-if false f count = refl
 
-core-lost : (k : ℕ) (m next : Running) (core : ℕ) → sum_from (lost_of k (placed m core) (placed next core)) 0 (number_of_lines m) ≡ of_others k (fallen m next) core
+core-lost : (k : ℕ) (m next : Running) (core : ℕ)
+    → sum_from (lost_of k (placed m core) (placed next core)) 0 (number_of_lines m) ≡ of_others k (fallen m next) core
 core-lost k m next core =
     sum-same (lost_of k (placed m core) (placed next core)) (λ line. unless (core == k) (fell (line_state m core line) (line_state next core line)))
     (λ line. change-lost k (placed m core line) (placed next core line)) 0 (number_of_lines m)

@@ -40,7 +40,8 @@ everybody column line most [] few = nobody column line most
 everybody column line zero (sets ∷ caches) few = absurd (too-many (length caches) few)
 everybody column line (suc most) (sets ∷ caches) few =
     ap (λ (n : ℕ). given_up column (tag_in sets line) + n)
-    (everybody column line most caches (one-less (length caches) most few) ∙ sym (sum-behind (given_at column line (sets ∷ caches)) (given_at column line caches) (λ i. refl) (length caches)))
+    (everybody column line most caches (one-less (length caches) most few)
+    ∙ sym (sum-behind (given_at column line (sets ∷ caches)) (given_at column line caches) (λ i. refl) (length caches)))
 
 later-other : (k : ℕ) (f : ℕ → ℕ) (i : ℕ) → of_others (suc k) f (suc i) ≡ of_others k (λ j. f (suc j)) i
 later-other k f i = elim (decide i k) [
@@ -61,8 +62,10 @@ others-given column line zero k (sets ∷ caches) few = absurd (too-many (length
 others-given column line (suc most) zero (sets ∷ caches) few =
     let f : ℕ → ℕ = given_at column line (sets ∷ caches) in
     ap (λ (n : ℕ). 0 + n)
-    (everybody column line most caches (one-less (length caches) most few) ∙ sym (sum-behind (of_others 0 f) (given_at column line caches) (first-other f) (length caches)))
+    (everybody column line most caches (one-less (length caches) most few)
+    ∙ sym (sum-behind (of_others 0 f) (given_at column line caches) (first-other f) (length caches)))
 others-given column line (suc most) (suc k) (sets ∷ caches) few =
     let f : ℕ → ℕ = given_at column line (sets ∷ caches) in
     add-both (given_up column (tag_in sets line)) (of_others (suc k) f 0) _ _ (before-others k f)
-    (others-given column line most k caches (one-less (length caches) most few) ∙ sym (sum-behind (of_others (suc k) f) (of_others k (given_at column line caches)) (later-other k f) (length caches)))
+    (others-given column line most k caches (one-less (length caches) most few)
+    ∙ sym (sum-behind (of_others (suc k) f) (of_others k (given_at column line caches)) (later-other k f) (length caches)))

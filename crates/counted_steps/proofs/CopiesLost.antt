@@ -52,7 +52,8 @@ module _ (m : Running) (c : Choice) (kept : IsKept m) (quiet : AtRest m) (others
   unasked : request_in (machine_use m c).how ≡ None → lost_by_others (chosen c) (trace_step_of m c).changes ≡ 0
   unasked none =
       changes-lost m c
-      ∙ sum-none (of_others (chosen c) (fallen m now)) 0 (length m.test.programs) (others-none (chosen c) (fallen m now) (λ core apart. none-fallen m c kept quiet others core apart none))
+      ∙ sum-none (of_others (chosen c) (fallen m now)) 0 (length m.test.programs)
+      (others-none (chosen c) (fallen m now) (λ core apart. none-fallen m c kept quiet others core apart none))
 
   asked : (q : BusRequest) → request_in (machine_use m c).how ≡ Some q → q.states ≡ states_by_core most_cores q.line contents
       → lost_by_others (chosen c) (trace_step_of m c).changes ≡ copies_given_up (table_in m) (chosen c) q
@@ -60,7 +61,9 @@ module _ (m : Running) (c : Choice) (kept : IsKept m) (quiet : AtRest m) (others
       let column : protocol.State → Snoop = snoop_column (table_in m) q.request in
       let given : ℕ → ℕ = given_at column q.line contents in
       changes-lost m c
-      ∙ (sum-same (of_others (chosen c) (fallen m now)) (of_others (chosen c) given) (others-same (chosen c) (fallen m now) given (λ core apart. asked-fallen m c kept quiet others core apart q asks)) 0 (length m.test.programs)
+      ∙ (sum-same (of_others (chosen c) (fallen m now)) (of_others (chosen c) given)
+      (others-same (chosen c) (fallen m now) given (λ core apart. asked-fallen m c kept quiet others core apart q asks))
+      0 (length m.test.programs)
       ∙ (ap (sum_from (of_others (chosen c) given) 0) (sym size)
       ∙ (sym (others-given column q.line most_cores (chosen c) contents (subst (λ (n : ℕ). n ≤ most_cores) (sym size) few))
       ∙ ap (λ (states : List (Option protocol.State)). given_up_in column (slice_set states (chosen c) None)) (sym told))))
@@ -68,13 +71,17 @@ module _ (m : Running) (c : Choice) (kept : IsKept m) (quiet : AtRest m) (others
   pub step-lost : lost_by_others (chosen c) (trace_step_of m c).changes ≡ given_in (table_in m) (chosen c) (machine_use m c).how
   step-lost = by_request (request_in (machine_use m c).how) refl (states-told m c)
     where
-      by_request : (o : Option BusRequest) → request_in (machine_use m c).how ≡ o → TellsStates contents o → lost_by_others (chosen c) (trace_step_of m c).changes ≡ given_by (table_in m) (chosen c) o
+      by_request : (o : Option BusRequest)
+          → request_in (machine_use m c).how ≡ o
+          → TellsStates contents o
+          → lost_by_others (chosen c) (trace_step_of m c).changes ≡ given_by (table_in m) (chosen c) o
       by_request None q told = unasked q
       by_request (Some r) q told = asked r q told
 
 -- ---- the protocol's table, by its rows
 
-row-same : (table : Table) (request : Request) (copy : Option protocol.State) → given_up (snoop_column (table_of_rows (rows_of table)) request) copy ≡ given_up (snoop_column table request) copy
+row-same : (table : Table) (request : Request) (copy : Option protocol.State)
+    → given_up (snoop_column (table_of_rows (rows_of table)) request) copy ≡ given_up (snoop_column table request) copy
 row-same table request None = refl
 row-same table GetS (Some I) = refl
 row-same table GetS (Some S) = refl
@@ -111,7 +118,9 @@ record IsReached (table : Table) (config : Configuration) (t : Litmus) (m : Runn
   rows : m.statistics.caches.rows ≡ rows_of table
   few : length m.test.programs ≤ most_cores
 
-reached-after : (table : Table) (config : Configuration) (t : Litmus) (m : Running) (c : Choice) → IsReached table config t m → IsReached table config t (machine_after m c)
+reached-after : (table : Table) (config : Configuration) (t : Litmus) (m : Running) (c : Choice)
+    → IsReached table config t m
+    → IsReached table config t (machine_after m c)
 reached-after table config t m c r = record {
   done = r.done ++ c ∷ [];
   there = ap (λ (x : Running). machine_after x c) r.there ∙ sym (after-more (new_machine table config t) r.done c);
@@ -127,10 +136,12 @@ step-told table config t k m c r own =
     let others : OthersSeeTheRequest m c = subst (λ (x : Running). OthersSeeTheRequest x c) (sym r.there) (others-told table config t r.done c) in
     subst (λ (i : ℕ). lost_by_others i (trace_step_of m c).changes ≡ given_in table i (machine_use m c).how) own
     (step-lost m c r.kept r.quiet others r.few
-    ∙ (ap (λ rows. given_by (table_of_rows rows) (chosen c) (request_in (machine_use m c).how)) r.rows ∙ given-same table (chosen c) (request_in (machine_use m c).how)))
+    ∙ (ap (λ rows. given_by (table_of_rows rows) (chosen c) (request_in (machine_use m c).how)) r.rows
+    ∙ given-same table (chosen c) (request_in (machine_use m c).how)))
 
 copies-lost : (t : Litmus) (kind : ProtocolKind) (c : Configuration) (choices : List Choice) (core : ℕ) → IsTest t → 0 < c.shape.words
-    → (traffic_of (table_of kind) core (uses_of (table_of kind) c t choices)).invalidations ≡ sum_of_steps (λ s. lost_by_others core s.changes) core (trace_under t kind c choices)
+    → (traffic_of (table_of kind) core (uses_of (table_of kind) c t choices)).invalidations
+    ≡ sum_of_steps (λ s. lost_by_others core s.changes) core (trace_under t kind c choices)
 copies-lost t kind c choices k test words =
     let table : Table = table_of kind in
     let m : Running = new_machine table c t in

@@ -1,5 +1,6 @@
 -- The lines that are written to memory for a core are its steps that tell a copy as sent there, and those that tell a write-back.
-use Rattle.std.proofs.Common.{◌≡◌, ◌+◌, ◌<◌, ◌==◌, ◌&&◌, ℕ, Bool, true, false, if◌then◌else◌, List, [], ◌∷◌, length, Option, None, Some, refl, sym, ap, subst, ◌∙◌, arith}
+use Rattle.std.proofs.Common.{◌≡◌, ◌+◌, ◌<◌, ◌==◌, ◌&&◌, ℕ, Bool, true, false, if◌then◌else◌, List, [], ◌∷◌, length, Option, None, Some}
+use Rattle.std.proofs.Common.{refl, sym, ap, subst, ◌∙◌, arith}
 use Rattle.std.specs.Prelude.{is_some}
 use Rattle.basic_laws.proofs.Basics.{test-true}
 use Rattle.tso_terms.specs.FlatMachine.{chosen}
@@ -62,9 +63,12 @@ each-written table k Forwarded x = no-more x.to_memory
 each-written table k (Asked q) x = sent-alone x.to_memory (sent q.flushed) (one (is_some q.flushed)) (sent-once q.flushed)
 each-written table k (Through r) x = by_request r.request r.access.wrote_back
   where
-    by_request : (o : Option BusRequest) (b : Bool) → (with_requested table k o x).to_memory + lines_written_back b ≡ x.to_memory + (one (is_some (sent_with o).flushed) + one b)
+    by_request : (o : Option BusRequest) (b : Bool)
+        → (with_requested table k o x).to_memory + lines_written_back b
+        ≡ x.to_memory + (one (is_some (sent_with o).flushed) + one b)
     by_request None b = written-alone x.to_memory (lines_written_back b) (one b) (written-once b)
-    by_request (Some q) b = after-both x.to_memory (sent q.flushed) (lines_written_back b) (one (is_some q.flushed)) (one b) (sent-once q.flushed) (written-once b)
+    by_request (Some q) b =
+        after-both x.to_memory (sent q.flushed) (lines_written_back b) (one (is_some q.flushed)) (one b) (sent-once q.flushed) (written-once b)
 
 -- ---- two sums are one
 
@@ -95,7 +99,10 @@ core-kept k m c h = record { kept = kept-after m c h.kept; has = h.has }
 both-true : (a b x y : Bool) → a ≡ true → b ≡ true → (a && x) ≡ (b && y) → x ≡ y
 both-true a b x y p q same = ap (λ (t : Bool). t && x) (sym p) ∙ (same ∙ ap (λ (t : Bool). t && y) q)
 
-writing-told : (k : ℕ) (m : Running) (c : Choice) → HasCore k m → chosen c ≡ k → one (is_some (trace_step_of m c).wrote_back) ≡ by_write_back (machine_use m c).how
+writing-told : (k : ℕ) (m : Running) (c : Choice)
+    → HasCore k m
+    → chosen c ≡ k
+    → one (is_some (trace_step_of m c).wrote_back) ≡ by_write_back (machine_use m c).how
 writing-told k m c h own =
     let there : k < length m.statistics.counts = subst (λ (n : ℕ). k < n) (sym h.kept.cores) h.has in
     let told = step-told k m c h.kept (subst (λ (i : ℕ). i < length m.statistics.counts) (sym own) there) in
@@ -104,7 +111,10 @@ writing-told k m c h own =
 
 -- ---- of a whole run
 
-pub lines-written : (t : Litmus) (kind : ProtocolKind) (c : Configuration) (choices : List Choice) (core : ℕ) → IsTest t → 0 < c.shape.words → core < length t.programs
+pub lines-written : (t : Litmus) (kind : ProtocolKind) (c : Configuration) (choices : List Choice) (core : ℕ)
+    → IsTest t
+    → 0 < c.shape.words
+    → core < length t.programs
     → (traffic_of (table_of kind) core (uses_of (table_of kind) c t choices)).to_memory
     ≡ steps_of_core (λ s. is_some s.flushed) core (trace_under t kind c choices) + steps_of_core (λ s. is_some s.wrote_back) core (trace_under t kind c choices)
 lines-written t kind c choices k test words has =

@@ -1,6 +1,7 @@
 -- What a choice makes of the lines of one other core: only the line that is asked for on the bus changes, and it goes where the protocol's
 -- column for the request sends it.
-use Rattle.std.proofs.Common.{◌≡◌, ◌≢◌, ◌<◌, ◌≤◌, ◌==◌, inl, inr, ℕ, Bool, if◌then◌else◌, List, [], ◌∷◌, length, Option, None, Some, refl, sym, ap, subst, ◌∙◌, arith}
+use Rattle.std.proofs.Common.{◌≡◌, ◌≢◌, ◌<◌, ◌≤◌, ◌==◌, inl, inr, ℕ, Bool, if◌then◌else◌, List, [], ◌∷◌, length, Option, None, Some, refl}
+use Rattle.std.proofs.Common.{sym, ap, subst, ◌∙◌, arith}
 use Rattle.std.proofs.lemmas.Bool.Decides.{eqb_tells}
 use Rattle.std.specs.Prelude.{◌%◌, nat_eq}
 use Rattle.std.specs.Map.{lookup}
@@ -64,7 +65,10 @@ states-same how x y copy now (nothing before after) tag =
     ap (λ (w : Option Transient). state_with w copy) before ∙ (ap (state_with None) tag ∙ ap (λ (w : Option Transient). state_with w now) (sym after))
 
 -- where it is asked for
-asked-fell : (how : CacheUse) (q : BusRequest) → request_in how ≡ Some q → (x y : Option Transient) → Beside how x y → (column : protocol.State → Snoop) (copy now : Option protocol.State)
+asked-fell : (how : CacheUse) (q : BusRequest)
+    → request_in how ≡ Some q
+    → (x y : Option Transient) → Beside how x y
+    → (column : protocol.State → Snoop) (copy now : Option protocol.State)
     → or_invalid now ≡ left_of column copy → ((s : protocol.State) → copy ≡ Some s → s ≢ I) → fell (state_with x copy) (state_with y now) ≡ given_up column copy
 asked-fell how q asks x y (as_before none same) column copy now left valid = let clash : None ≡ Some q = sym none ∙ asks in absurd (let z : ⊥ = cc in z)
 asked-fell how q asks x y (nothing before after) column copy now left valid =
@@ -74,7 +78,10 @@ asked-fell how q asks x y (nothing before after) column copy now left valid =
 
 -- ---- a copy is of one of the lines
 
-found-of : (P : ℕ → protocol.State → Type 0) (line : ℕ) (s : protocol.State) (es : List (ℕ × protocol.State)) → OfKind P es → lookup (nat_eq line) es ≡ Some s → P line s
+found-of : (P : ℕ → protocol.State → Type 0) (line : ℕ) (s : protocol.State) (es : List (ℕ × protocol.State))
+    → OfKind P es
+    → lookup (nat_eq line) es ≡ Some s
+    → P line s
 found-of P line s [] h q = absurd (let z : ⊥ = cc in z)
 found-of P line s (e ∷ es) h q = elim (eqb_tells line e.0) [
   | inl p ↦
@@ -95,7 +102,10 @@ copy-within lines line core caches s neat q =
     (found-of (Lies lines (length sets) (line % length sets)) line s (tags_at sets line).tags (neat core (line % length sets)).kind q).within
 
 -- of a line beyond those of the test there is none
-none-beyond : (lines line core : ℕ) (caches : List TagSets) (column : protocol.State → Snoop) → AllNeat lines caches → lines ≤ line → given_at column line caches core ≡ 0
+none-beyond : (lines line core : ℕ) (caches : List TagSets) (column : protocol.State → Snoop)
+    → AllNeat lines caches
+    → lines ≤ line
+    → given_at column line caches core ≡ 0
 none-beyond lines line core caches column neat past = by_copy (tag_at core line caches) refl
   where
     by_copy : (o : Option protocol.State) → tag_at core line caches ≡ o → given_up column o ≡ 0
@@ -111,17 +121,27 @@ module _ (m : Running) (c : Choice) (kept : IsKept m) (quiet : AtRest m) (others
   abbrev contents : List TagSets
   contents = m.statistics.caches.contents
 
-  seen : (o : Option BusRequest) → request_in (machine_use m c).how ≡ o → sets_of next.statistics.caches.contents core ≡ with_seen (table_in m) (option_map line_request o) (sets_of contents core)
-  seen o q = others core apart ∙ ap (λ (r : Option LineRequest). with_seen (table_in m) r (sets_of contents core)) (request-told m c ∙ ap (option_map line_request) q)
+  seen : (o : Option BusRequest)
+      → request_in (machine_use m c).how ≡ o
+      → sets_of next.statistics.caches.contents core
+      ≡ with_seen (table_in m) (option_map line_request o) (sets_of contents core)
+  seen o q =
+      others core apart
+      ∙ ap (λ (r : Option LineRequest). with_seen (table_in m) r (sets_of contents core)) (request-told m c ∙ ap (option_map line_request) q)
 
-  same-line : (line : ℕ) → tag_at core line contents ≡ tag_at core line next.statistics.caches.contents → fell (line_state m core line) (line_state next core line) ≡ 0
+  same-line : (line : ℕ)
+      → tag_at core line contents ≡ tag_at core line next.statistics.caches.contents
+      → fell (line_state m core line) (line_state next core line) ≡ 0
   same-line line same =
       fell-same (line_state m core line) (line_state next core line)
-      (states-same (machine_use m c).how (awaits m core line) (awaits next core line) (tag_at core line contents) (tag_at core line next.statistics.caches.contents) (beside m c kept.sound quiet core line apart) same)
+      (states-same (machine_use m c).how (awaits m core line) (awaits next core line) (tag_at core line contents)
+      (tag_at core line next.statistics.caches.contents) (beside m c kept.sound quiet core line apart) same)
 
   -- where nothing is asked for
   pub none-fallen : request_in (machine_use m c).how ≡ None → fallen m next core ≡ 0
-  none-fallen none = sum-none (λ line. fell (line_state m core line) (line_state next core line)) 0 (number_of_lines m) (λ line. same-line line (ap (λ (sets : TagSets). tag_in sets line) (sym (seen None none))))
+  none-fallen none =
+      sum-none (λ line. fell (line_state m core line) (line_state next core line)) 0 (number_of_lines m)
+      (λ line. same-line line (ap (λ (sets : TagSets). tag_in sets line) (sym (seen None none))))
 
   module _ (q : BusRequest) (asks : request_in (machine_use m c).how ≡ Some q) where
     abbrev column : protocol.State → Snoop
@@ -142,5 +162,6 @@ module _ (m : Running) (c : Choice) (kept : IsKept m) (quiet : AtRest m) (others
 
     pub asked-fallen : fallen m next core ≡ given_at column q.line contents core
     asked-fallen =
-        sum-alone (λ line. fell (line_state m core line) (line_state next core line)) q.line (number_of_lines m) (given_at column q.line contents core) other-line its-line
+        sum-alone (λ line. fell (line_state m core line) (line_state next core line)) q.line (number_of_lines m)
+        (given_at column q.line contents core) other-line its-line
         (none-beyond (number_of_lines m) q.line core contents column kept.neat)

@@ -75,7 +75,8 @@ abbrev pub TellsStates : List TagSets → Option BusRequest → Type 0
 TellsStates caches None = Unit {0}
 TellsStates caches (Some q) = q.states ≡ states_by_core most_cores q.line caches
 
-asking-states : (t : Table) (request : Request) (line : ℕ) (caches : List TagSets) (o : Option Transient) → TellsStates caches (request_in (asking_use (option_map (requesting t request line caches) o)))
+asking-states : (t : Table) (request : Request) (line : ℕ) (caches : List TagSets) (o : Option Transient)
+    → TellsStates caches (request_in (asking_use (option_map (requesting t request line caches) o)))
 unfolding requesting
 asking-states t request line caches None = tt
 asking-states t request line caches (Some x) = refl
@@ -89,10 +90,12 @@ completed-quiet t core line (Some x) caches = by_transient x.transient
     by_transient ImD = refl
     by_transient SmD = refl
 
-completed-states : (t : Table) (core line : ℕ) (w : Option Awaited) (caches other : List TagSets) → TellsStates other (completed t core line w caches).report.request
+completed-states : (t : Table) (core line : ℕ) (w : Option Awaited) (caches other : List TagSets)
+    → TellsStates other (completed t core line w caches).report.request
 completed-states t core line w caches other = subst (TellsStates other) (sym (completed-quiet t core line w caches)) tt
 
-whole-states : (t : Table) (write : Bool) (core line : ℕ) (caches : List TagSets) (copy next : Option protocol.State) → TellsStates caches (whole_in t write core line caches copy next).report.request
+whole-states : (t : Table) (write : Bool) (core line : ℕ) (caches : List TagSets) (copy next : Option protocol.State)
+    → TellsStates caches (whole_in t write core line caches copy next).report.request
 unfolding requesting
 whole-states t write core line caches copy (Some next) = tt
 whole-states t write core line caches copy None = refl
@@ -104,7 +107,9 @@ states-told m c =
     let t = table_of_rows caches.rows in
     let line : ℕ → ℕ = λ loc. loc / caches.shape.words in
     each-use (λ u. TellsStates caches.contents (request_in u.how)) caches tt tt
-    (λ core loc write. whole-states t write core (line loc) caches.contents (tag_at core (line loc) caches.contents) (next_in_place t write (tag_at core (line loc) caches.contents))) (chosen c)
+    (λ core loc write. whole-states t write core (line loc) caches.contents (tag_at core (line loc) caches.contents)
+    (next_in_place t write (tag_at core (line loc) caches.contents)))
+    (chosen c)
     (λ loc write. asking-states t (request_for write) (line loc) caches.contents (asked_for (request_for write) (chosen c) (line loc) caches.contents))
     (λ loc. completed-states t (chosen c) (line loc) caches.awaited caches.contents caches.contents)
     (is_awaited m.state.holder) (is_awaited f.holder) (access_of m.test m.depth m.state.flat c) (core_of m.state.flat (chosen c)).pending f.effect.commits

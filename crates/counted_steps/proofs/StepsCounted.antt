@@ -162,8 +162,12 @@ sums-of-steps t kind c choices k l =
     let table : Table = table_of kind in
     let m : Running = new_machine table c t in
     record {
-      hits = counted-by-uses (λ c. c.hits) (by_access was_hit) each-hit table c t choices k l ∙ steps-told (λ s. was_hit s.access) (by_access was_hit) (access-told was_hit) k m choices;
-      misses = counted-by-uses (λ c. c.misses) (by_access was_miss) each-miss table c t choices k l ∙ steps-told (λ s. was_miss s.access) (by_access was_miss) (access-told was_miss) k m choices;
+      hits =
+          counted-by-uses (λ c. c.hits) (by_access was_hit) each-hit table c t choices k l
+          ∙ steps-told (λ s. was_hit s.access) (by_access was_hit) (access-told was_hit) k m choices;
+      misses =
+          counted-by-uses (λ c. c.misses) (by_access was_miss) each-miss table c t choices k l
+          ∙ steps-told (λ s. was_miss s.access) (by_access was_miss) (access-told was_miss) k m choices;
       upgrades = counted-by-uses (λ c. c.upgrades) (by_access was_upgrade) each-upgrade table c t choices k l
           ∙ steps-told (λ s. was_upgrade s.access) (by_access was_upgrade) (access-told was_upgrade) k m choices;
       forwards = counted-by-uses (λ c. c.forwards) (λ how. one (is_forwarded how)) each-forward table c t choices k l

@@ -28,7 +28,8 @@ ghost use Rattle.tso_cli.specs.Lines.{choices_refusal};
 ghost use Rattle.tso_cli.specs.declared.answer.Status.{Status};
 ghost use Rattle.tso_cli.specs.declared.answer.Status.TheVariants.{Good, Unended};
 ghost use Rattle.trace_report.specs.Steps.{trace_under};
-ghost use Rattle.counted_steps.specs.StepSums.{has_request, lost_by_others, reads_line, steps_of_core, sum_of_steps, was_hit, was_miss, was_upgrade, writes_line};
+ghost use Rattle.counted_steps.specs.StepSums.{has_request, lost_by_others, reads_line, steps_of_core, sum_of_steps};
+ghost use Rattle.counted_steps.specs.StepSums.{was_hit, was_miss, was_upgrade, writes_line};
 
 use cache_counts::{counts_add_up, sums_over_runs_add_up};
 use counted_steps::{counts_are_sums_of_steps, traffic_is_sums_of_steps};
@@ -143,7 +144,8 @@ pub fn traffic_is_sums_of_traced_steps()
     ensures to_memory { (t : Litmus) (kind : ProtocolKind) (c : Configuration) (choices : List Choice) (core : ℕ)
         → IsTest t → 0 < c.shape.words → core < length t.programs
         → (traffic_of (table_of kind) core (uses_of (table_of kind) c t choices)).to_memory
-        ≡ steps_of_core (λ s. is_some s.flushed) core (trace_under t kind c choices) + steps_of_core (λ s. is_some s.wrote_back) core (trace_under t kind c choices) }
+        ≡ steps_of_core (λ s. is_some s.flushed) core (trace_under t kind c choices)
+        + steps_of_core (λ s. is_some s.wrote_back) core (trace_under t kind c choices) }
 {
     traffic_is_sums_of_steps();
 }
