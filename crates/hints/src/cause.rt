@@ -7,8 +7,8 @@ use crate::quotes::first_word;
 use crate::reader::Request;
 use crate::search_end::SearchEnd;
 use crate::unended::count_instructions;
-use crate::unused::{first_unused, location_named};
-use crate::unwritten::first_unwritten;
+use crate::unused::{first_unused, location_named, uses_all_locations};
+use crate::unwritten::{first_unwritten, names_unwritten};
 use litmus_reader::Fault;
 use litmus_tokens::{Instructions, tokens_of};
 use order_builder::OrderFault;
@@ -137,7 +137,11 @@ impl Cause {
         test: &Test,
         text: &[u8],
     ) -> Result<Option<Cause>, NoMemory> {
-        if test.cond().is_none() {
+        let Some(cond) = test.cond() else {
+            return Ok(None);
+        };
+        // Of most tests nothing is to be told, which is known without reading their text again.
+        if uses_all_locations(test) && !names_unwritten(test, &cond.prop) {
             return Ok(None);
         }
         let body = body_of(text);

@@ -201,13 +201,14 @@ fn is_of_value(place: &Place<'_>) -> bool {
 
 /// The number of the last core that a test's row of cores names.
 fn last_core(text: &[u8]) -> usize {
-    let mut is_at_start = true;
-    for at in 0..text.len() {
-        let rest = &text[at..];
-        if is_at_start && is_row_of_cores(up_to(rest, b'\n')) {
+    let mut rest = text;
+    'lines: while !rest.is_empty() {
+        let line = up_to(rest, b'\n');
+        if is_row_of_cores(line) {
             return bars_in(up_to(rest, b';'));
         }
-        is_at_start = text[at] == b'\n';
+        let (_, after) = rest.split_at(line.len().saturating_add(1).min(rest.len()));
+        rest = after;
     }
     0
 }

@@ -19,6 +19,10 @@ pub enum Region {
 
 /// The part of a test in which a place stands, as far as the text before it tells.
 pub fn region_of(place: &Place<'_>) -> Region {
+    // Without a brace no initial state begins, which is known without a second reading of the lines before it.
+    if !place.before.contains(&b'{') {
+        return Region::Information;
+    }
     let body = body_of(place.before);
     if body.is_empty() {
         Region::Information

@@ -60,6 +60,16 @@ pub fn first_unused(
     None
 }
 
+/// Whether each location is used by a program.
+pub fn uses_all_locations(test: &Test) -> bool {
+    for loc in 0..test.locations() {
+        if !is_used(test, Loc(loc)) {
+            return false;
+        }
+    }
+    true
+}
+
 /// Whether a program uses a location.
 fn is_used(test: &Test, loc: Loc) -> bool {
     for core in 0..test.cores() {

@@ -9,7 +9,7 @@ use crate::place::Place;
 use crate::quotes::first_bytes;
 use crate::unused::location_named;
 use litmus_tokens::{Lexeme, Symbol, Token, is_symbol, numeral_at, word, word_at};
-use tso_terms::{Action, Change, Core, Loc, Reg, Test};
+use tso_terms::{Action, Change, Core, Loc, Prop, Reg, Test};
 
 /// Says that a register, which comes after so many bytes of an input, keeps this value.
 pub fn keeps_register(line: &mut Line, input: &[u8], first: usize, named: (Core, Reg), value: u32) {
@@ -42,6 +42,21 @@ pub fn keeps_location(line: &mut Line, input: &[u8], first: usize, length: usize
 
 fn place_in(input: &[u8], first: usize) -> Place<'_> {
     Place::new(input, input.len().saturating_sub(first))
+}
+
+/// Whether a proposition names a register or a location that no instruction writes.
+pub fn names_unwritten(test: &Test, prop: &Prop) -> bool {
+    match prop {
+        Prop::Truth(_) => false,
+        Prop::RegIs(core, reg, _) => {
+            core.0 >= test.cores() || !writes_register(test, *core, *reg)
+        }
+        Prop::LocIs(loc, _) => !writes_location(test, *loc),
+        Prop::Not(inner) => names_unwritten(test, inner),
+        Prop::And(left, right) | Prop::Or(left, right) => {
+            names_unwritten(test, left) || names_unwritten(test, right)
+        }
+    }
 }
 
 /// The first register that no instruction of its core writes, by the tokens of the condition of a test, which this text
