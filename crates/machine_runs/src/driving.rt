@@ -145,6 +145,8 @@ pub struct Progress {
 /// answers along all of them fit, those after the end too: there nobody holds the bus.
 ///
 /// Errors: those of the observer, and out of memory.
+// It is a part of its callers: as a call it has a sweep on the split bus execute 7 in 100 instructions more.
+#[inline(always)]
 pub fn drive_machine<P: Protocol, C: Choices, O: Observer>(
     machine: &mut Machine<'_, P>,
     observer: &mut O,
