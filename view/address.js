@@ -55,7 +55,7 @@ function keepAddress() {
   const address = currentAddress(), isLong = address.length > LONGEST_ADDRESS;
   if (location.hash === '' && (isLong || address === kept.atFirst)) return;
   const isOther = kept.isNew || currentCommand() !== kept.command, put = isOther ? 'pushState' : 'replaceState';
-  window.history[put]({ undoing: undoingToKeep() }, '', isLong ? location.href.split('#')[0] : '#' + address); // none where one that was kept would tell another test
+  window.history[put]({ undoing: undoingToKeep(), list: listToKeep() }, '', isLong ? location.href.split('#')[0] : '#' + address); // none where one that was kept would tell another test
   Object.assign(kept, { command: currentCommand(), isNew: false });
 }
 

@@ -231,7 +231,7 @@ function showWayBack() {
 
 /** Shows the run again, as it was before the answer. */
 function backToRun() {
-  if (ownRun.kept !== null) return backToOwnRun();
+  if (ownRun.kept !== null) return backToShownRun();
   putCommand('run');
   answerNow();
 }
@@ -259,7 +259,7 @@ function showOutcomes(answer, beside, test) {
   const outcomes = readOutcomes(answer.text), sequential = beside?.status === Tso.STATUS.good ? readOutcomes(beside.text) : null;
   showAnswer(answer);
   foldReport(answer);
-  const said = [observationSentence(outcomes), sequential ? besideSentence(outcomes, sequential) : ''].join(' ').trim();
+  const said = [observationSentence(outcomes, test), sequential ? besideSentence(outcomes, sequential) : ''].join(' ').trim();
   byId('states').replaceChildren(answerTitle('All final states'), html('p', { role: 'status' }, said), ...statesSheet(outcomes, sequential, truthsOf(outcomes, test)));
 }
 

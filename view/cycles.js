@@ -91,7 +91,7 @@ function relationList(edges) {
   return html('ul', { class: 'small relations', 'aria-label': 'Relations' }, ...used.map(relation => html('li', {}, html('span', { class: `relation edge-${relation}` }, relation), ` ${relationNamed(relation).means}`)));
 }
 
-/** A cycle, drawn and told edge by edge. It shows so many of its edges, at first all. */
+/** A cycle, drawn and told edge by edge. It shows so many of its edges, at first one. */
 class CyclePanel {
   constructor(programs, cycle) {
     this.cycle = cycle;
@@ -103,7 +103,7 @@ class CyclePanel {
     this.buttons = ['First', 'Back', 'Next', 'All'].map(name => html('button', { type: 'button', 'data-edges': name.toLowerCase() }, name));
     this.element = html('div', { class: 'cycle' }, html('div', { class: 'buttons' }, ...this.buttons, this.count), this.said,
       html('div', { class: 'beside' }, this.picture, html('div', { class: 'told-edges' }, this.sentences, this.end, relationList(cycle))));
-    this.show(cycle.length);
+    this.show(1);
   }
 
   move(way) {
@@ -125,7 +125,7 @@ class CyclePanel {
       else item.removeAttribute('aria-current');
     });
     this.end.classList.toggle('later', !isAll);
-    this.count.textContent = `Edge ${shown} of ${this.cycle.length}`;
+    this.count.textContent = `Step ${shown} of ${this.cycle.length}`;
     const isOff = { first: shown === 1, back: shown === 1, next: isAll, all: isAll };
     for (const button of this.buttons) button.disabled = isOff[button.dataset.edges];
   }

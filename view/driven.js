@@ -10,7 +10,8 @@ function showDrive() {
   showPicture();
   const step = history.steps[count - 1];
   const before = step && history.machineAfter(count - 1);
-  byId('sentence').textContent = step ? `${step.choice}: ${stepSentences(step, before, history.programs, isPlain).join(' ')}` : count === 0 ? startSentence(history) : 'The first machine\'s test has ended.';
+  const said = step ? `${step.choice}: ${stepSentences(step, before, history.programs, isPlain).join(' ')}` : count === 0 ? startSentence(history) : 'The first machine\'s test has ended.';
+  byId('sentence').textContent = said + nextSentence();
   byId('count').textContent = `${count} ${count === 1 ? 'choice' : 'choices'} made`;
   showMoves();
   showBranches();
@@ -40,6 +41,12 @@ function startSentence(history) {
   return `The machine at its start. Choose what a core does: step or drain.${next}`;
 }
 
+
+/** In a lecture, at a run's end: which test of the list a clicker opens next. */
+function nextSentence() {
+  const next = taught.list[playlist.at + 1];
+  return isLecture() && next !== undefined && drive.count > 0 && isAtEnd(drive) ? ` Next: ${next.name}.` : '';
+}
 
 function showMoves() {
   const isFirst = drive.count === 0, isLast = drive.count === drive.words.length;

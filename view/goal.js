@@ -65,6 +65,22 @@ function isMet(history, count, condition, quantifier) {
   return isTrue === null ? null : isTrue !== (quantifier === 'forall');
 }
 
+/** The registers whose last word is there already and is another than is wanted: no instruction that is left names them. So no end of this run
+ * can be as is wanted. CMPXCHG writes EAX without naming it. */
+function lostPlaces(history, count, places) {
+  const { cores } = history.machineAfter(count);
+  const isLast = ({ core, register }) => history.programs[core] !== undefined && !history.programs[core].slice(cores[core].place)
+    .some(text => text.includes(register) || (register === 'EAX' && text.includes('CMPXCHG')));
+  return missedPlaces(history, count, places.filter(isRegister).filter(isLast));
+}
+
+/** Of a run that isn't over: says when the task can't be reached in it any more, and what to do. */
+function lostSentence(history, count, quantifier) {
+  const places = quantifier === 'forall' ? null : wantedWords(history.proposition);
+  const lost = places ? lostPlaces(history, count, places).map(part => `${placeWords(part)} is ${part.is}, not ${part.word}`) : [];
+  return lost.length === 0 ? '' : ` No longer possible in this run: ${listed(lost)}. Press Undo, or go back.`;
+}
+
 /** What was another than is wanted, in words. */
 function missedSentence(history, count, quantifier) {
   const places = wantedWords(history.proposition);
@@ -75,7 +91,7 @@ function missedSentence(history, count, quantifier) {
 
 /** What is said after a try. */
 function afterTry(history, count, met, quantifier) {
-  if (met === null) return '';
+  if (met === null) return lostSentence(history, count, quantifier);
   if (!met) return ` ${missedSentence(history, count, quantifier)} Go back, or make other choices.`;
   const claim = quantifier === 'exists' ? '' : ' So the claim of the test is wrong.';
   const passes = passesOf(history.order.slice(0, history.momentAfter(count).rows), '').filter(sentence => sentence !== '');

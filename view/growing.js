@@ -7,7 +7,8 @@
 // other pieces is on the sheet of its last row, and hangs over this sheet's upper edge. So of a sheet that lies above what is in sight
 // nothing can be seen, and the browser has less to go through while it is hidden.
 
-const STRIP = 34; // pixels under the last row
+const STRIP = 46; // pixels under the last row
+const NOT_YET = 'still in buffer'; // so that nobody takes the strip for a part of memory
 const PIECE = 16; // rows
 const SPARE = 2; // pieces above what is in sight that aren't hidden, for one who scrolls
 const LAYERS = ['grounds', 'waits', 'arrows', 'entries'];
@@ -44,7 +45,8 @@ function mostRows(programs) {
 /** What the strip says of a core: the stores that wait, the oldest first. */
 function drawStores(layout, core, text) {
   const { left, lane, tracks, pitch } = layout, from = left(core) + INSET + tracks * pitch + 4;
-  return fittingText({ class: 'faint', x: (from + left(core) + lane) / 2, y: 21 }, 13, text, left(core) + lane - from - 4);
+  const x = (from + left(core) + lane) / 2, room = left(core) + lane - from - 4;
+  return svg('g', { class: 'not-yet' }, fittingText({ class: 'faint', x, y: 18 }, 12, NOT_YET, room), fittingText({ x, y: 36 }, 14, text, room));
 }
 
 /** The load part of a locked instruction whose store part is to come, in the strip. */

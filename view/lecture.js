@@ -50,7 +50,9 @@ function click(isOn) {
   if (isDrawn && !(isOn && cycle.shown === cycle.cycle.length && lesson.told !== null)) return cycle.move(isOn ? 'next' : 'back');
   if (lesson.told !== null) return clickLesson(isOn);
   if (!drive.isOn) return undefined;
-  if (isOn && drive.count === drive.words.length && isAtEnd(drive)) return openListed(playlist.at + 1);
+  const isLast = isOn && drive.count === drive.words.length;
+  if (isLast && isAtEnd(drive)) return openListed(playlist.at + 1);
+  if (isLast) return sayOfDriving(`No ${drive.count === 0 ? '' : 'more '}choices yet: press a step or a drain of a core.`);
   return moveDriven(isOn ? 'forward' : 'back');
 }
 

@@ -68,6 +68,16 @@ function endLesson() {
   keepAddressSoon();
 }
 
+/** Leaves the lesson for its test at its start, with the task open. */
+function leaveLesson() {
+  endLesson();
+  putChoices('');
+  putCommand('run');
+  answerNow(true);
+  byId('run').scrollIntoView({ block: 'nearest' });
+  (document.querySelector('[data-choice]:enabled') ?? byId('frame')).focus({ preventScroll: true });
+}
+
 /** Whether a choice is one that the lesson waits for, or that is free. At the last step each is. */
 function lessonAllows(word) {
   if (lesson.told === null || lesson.at === lesson.told.steps.length - 1) return true;
@@ -185,4 +195,4 @@ document.addEventListener('click', ({ target }) => {
 });
 byId('lesson-next').addEventListener('click', goOn);
 byId('lesson-back').addEventListener('click', () => enterStep(lesson.at - 1));
-byId('lesson-leave').addEventListener('click', endLesson);
+byId('lesson-leave').addEventListener('click', leaveLesson);

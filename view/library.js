@@ -36,6 +36,10 @@ function entriesOf(texts, group, isLarger = false) {
 
 const LIBRARY = [...entriesOf(EXAMPLES, 'Examples'), ...entriesOf(ALGORITHMS, 'Algorithms', true), ...entriesOf(GALLERY, 'Orders that would show a forbidden outcome')];
 
+/** What stands on top of the list while nothing is searched for: the texts to begin with. */
+const START_HERE = 'Start here';
+const STARTS = ['store-buffering.litmus', 'store-buffering-fenced.litmus', 'MP.litmus', 'false-sharing.litmus', 'CASLOCK.litmus'];
+
 /** The texts that this machine reads. */
 const textsHere = () => LIBRARY.filter(({ isLarger }) => bench.hasLargerSet || !isLarger);
 
@@ -44,12 +48,13 @@ function libraryItem(entry) {
   return html('li', {}, button, entry.said === '' ? '' : ` ${entry.said}`);
 }
 
-/** Lists the texts in which each word of the search begins a word, by family: so `MP` finds no *examples*. */
+/** Lists the texts in which each word of the search begins a word, by family: so `MP` finds no *examples*. Those to begin with stand on top. */
 function showLibrary() {
   const words = wordsOf(byId('search').value), texts = textsHere();
   const found = texts.filter(entry => words.every(word => entry.found.some(each => each.startsWith(word))));
-  const groups = new Map();
-  for (const entry of found) groups.set(entry.group, [...(groups.get(entry.group) ?? []), entry]);
+  const starts = words.length > 0 ? [] : STARTS.flatMap(file => found.find(entry => entry.file === file) ?? []);
+  const groups = new Map(starts.length > 0 ? [[START_HERE, starts]] : []);
+  for (const entry of found) if (!starts.includes(entry)) groups.set(entry.group, [...(groups.get(entry.group) ?? []), entry]);
   byId('found').textContent = `${found.length} of ${texts.length}`;
   byId('texts').replaceChildren(...[...groups].flatMap(([group, entries]) => [html('h4', {}, group), html('ul', {}, ...entries.map(libraryItem))]));
 }

@@ -8,13 +8,21 @@ function readOutcomes(text) {
   return { states, observation, verdict, unfinished, depth };
 }
 
-function observationSentence({ states, observation, verdict, depth }) {
-  const many = states.length === 1 ? 'One final state' : `${states.length} final states`;
+/** The sentence on top: in plain words how many states are as the condition says, and after it the words of the field. `test` is the text of
+ * the test, whose condition has the words. */
+function observationSentence({ states, observation, verdict, depth }, test) {
   const where = depth === 32 ? 'under TSO' : depth === 0 ? 'under sequential consistency' : `with store buffers of depth ${depth}`;
-  if (observation === null) return `${many} ${where}. The test has no condition.`;
+  if (observation === null) return `${states.length === 1 ? 'One final state' : `${states.length} final states`} ${where}. The test has no condition.`;
   const { word, true: yes, false: no } = observation;
-  const said = { Never: 'No run ends', Always: 'Every run ends', Sometimes: 'Some runs end' }[word];
-  return `${many} ${where}. ${word}: ${said} in a state that makes the condition's proposition true (true in ${yes} of the states, false in ${no}).${verdictWords(verdict)}`;
+  return `${countSentence(states.length, yes, where, test)} Observation: ${word} (true in ${yes} of the states, false in ${no}).${verdictWords(verdict)}`;
+}
+
+/** How many of the states are as the condition says. Where it asks whether any is, the sentence begins with yes or no. */
+function countSentence(all, yes, where, test) {
+  const { proposition } = readTest(test), wanted = proposition && wantedWords(proposition), said = wanted ? wantedSentence(wanted) : 'what the condition says';
+  const isAsked = quantifierOf(test) !== 'forall', few = yes === 0 ? 'none' : String(yes);
+  const count = `${few} of ${all} final ${all === 1 ? 'state' : 'states'} ${where} ${yes > 1 ? 'have' : 'has'} ${said}.`;
+  return isAsked ? `${yes > 0 ? 'Yes' : 'No'}: ${count}` : count[0].toUpperCase() + count.slice(1);
 }
 
 /** Of a search that met its limit: the final states that it had met, and a verdict where one of them decides it. A module that is older

@@ -22,6 +22,7 @@ function takeText(text) {
   beginAddress();
   forgetOwnRun();
   endLesson();
+  putDrive({ beside: null });
   const isOrder = putInput(text);
   putCommand(isOrder ? 'check' : 'run');
   answerNow();
@@ -30,6 +31,7 @@ function takeText(text) {
 
 /** Takes a text of the list of examples, and brings the machine with it into sight. */
 function takeFromLibrary(file) {
+  putDrive({ beside: null }); // what stood beside another test
   loadText(file);
   if (bench.answer?.status === Tso.STATUS.refused) return;
   byId('test-part').open = byId('about').open = false;
@@ -128,7 +130,7 @@ function lackOf() {
 
 /** Fills the bench with the first test, shows what the address tells, and else the first test's run. */
 async function start() {
-  const lack = lackOf(), hasMachine = lack === null, told = addressAtFirst(), isOfTest = TEST_ADDRESS.test(told);
+  const lack = lackOf(), hasMachine = lack === null, keptState = window.history.state, told = addressAtFirst(), isOfTest = TEST_ADDRESS.test(told);
   byId('bench').hidden = !hasMachine;
   if (!hasMachine) byId(lack).hidden = false;
   byId('input').open = !hasMachine || (told !== '' && !isOfTest);
@@ -151,7 +153,8 @@ async function start() {
   if (isOfTest) showAddress();
   const isOpen = drive.isOn || shown.run || bench.task !== null || bench.answer !== null;
   if (!isOpen && byId('line').value === '') beginAtFirst();
-  takeUndoing(window.history.state);
+  takeUndoing(keptState);
+  if (keptState?.list?.length > 0) takeKeptList(keptState);
   remember();
 }
 

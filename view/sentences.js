@@ -66,8 +66,8 @@ function verdictSentence({ condition }, proposition = null) {
   const outcome = kind === 'exists' ? 'the outcome that is asked for' : 'the outcome that should not exist';
   const shows = `This run ${holds ? 'shows' : 'doesn\'t show'} ${outcome}.`;
   const ends = `This run ${holds ? 'ended' : 'didn\'t end'} as every run should.`;
-  const here = `Its proposition is ${holds} in this run's final state.`;
-  return `Condition: ${kind}${proposition === null ? '' : ` (${proposition})`}. ${here} ${kind === 'forall' ? ends : shows} This tells nothing about other runs.`;
+  const written = `${kind}${proposition === null ? '' : ` (${proposition})`}`;
+  return `${kind === 'forall' ? ends : shows} This tells nothing about other runs. Condition: ${written}, ${holds} at this end.`;
 }
 
 function unfinishedSentence(numbers) {

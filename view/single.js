@@ -58,7 +58,9 @@ async function savePage() {
     byId('message').textContent = why;
     return;
   }
-  saveText(fileName(pictureName(), '.html'), await wholePage(addressNow()), 'text/html');
+  const name = fileName(pictureName(), '.html');
+  saveText(name, await wholePage(addressNow()), 'text/html');
+  for (const said of document.querySelectorAll('.page-saved')) putText(said, `Saved as ${name}, where your browser puts downloads.`);
 }
 
 SAVES.page = savePage;

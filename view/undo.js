@@ -89,16 +89,18 @@ function showUndoing() {
 
 // One's own run, which an answer's run takes the place of.
 
-const ownRun = { kept: null };
+/** One's own run (`kept`), and the answer's run that was shown when something was asked (`shown`), each null where there is none. */
+const ownRun = { kept: null, shown: null };
 
 /** Keeps the run that is one's own before another is shown: the one that is driven, unless that is an answer's. */
 function keepOwnRun() {
   const isOwn = drive.isOn && byId('own-run').hidden;
   if (isOwn || ownRun.kept === null) ownRun.kept = { ...snapshotNow(), command: 'run' };
+  if (drive.isOn) ownRun.shown = isOwn ? null : { ...snapshotNow(), said: byId('own-said').textContent };
 }
 
 function forgetOwnRun() {
-  ownRun.kept = null;
+  Object.assign(ownRun, { kept: null, shown: null });
   showOwnRun();
 }
 
@@ -106,6 +108,15 @@ function forgetOwnRun() {
 function showOwnRun(said = '') {
   byId('own-run').hidden = ownRun.kept === null;
   putText(byId('own-said'), said);
+}
+
+/** Back to the answer's run that was shown before something was asked, or to one's own. */
+function backToShownRun() {
+  const { shown: run } = ownRun;
+  if (run === null) return backToOwnRun();
+  stopTask();
+  restore(run);
+  showOwnRun(run.said);
 }
 
 function backToOwnRun() {

@@ -72,7 +72,6 @@ function allowedParts(told, programs) {
 /** Draws the cycle of a step of the tree. */
 function drawCycle(at) {
   sheet.cycle = new CyclePanel(sheet.programs, closingOf(sheet.told.steps[at]).cycle);
-  if (isLecture()) sheet.cycle.show(1); // edge by edge
   byId('states').querySelector('.drawn').replaceChildren(sheet.cycle.element);
   for (const button of document.querySelectorAll('[data-cycle]')) button.setAttribute('aria-pressed', String(Number(button.dataset.cycle) === at));
 }
