@@ -42,7 +42,7 @@ const valuesText = values => Object.entries(values).map(([name, word]) => `${nam
 /** What stands beside the states of TSO: how many sequential consistency has, and which are new. */
 function besideSentence(outcomes, sequential) {
   const isNew = newStates(outcomes, sequential), count = isNew.filter(Boolean).length;
-  const word = sequential.observation === null ? '' : ` (${sequential.observation.word})`;
+  const word = sequential.observation === null ? '' : ` (observation ${sequential.observation.word})`;
   const many = sequential.states.length === 1 ? 'one final state' : `${sequential.states.length} final states`;
   return `Sequential consistency has ${many}${word}: ${count === 0 ? 'none is new here' : `${count} ${count === 1 ? 'is' : 'are'} new here`}.`;
 }

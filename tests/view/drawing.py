@@ -63,7 +63,7 @@ def faults_of_tables(page, run):
     counts = [[name.replace("_", "-")] + [str(core[name]) for core in run["cache"]]
               for name in ("hits", "misses", "upgrades", "forwards", "write_backs", "flushes")]
     faults = differs("registers, memory and cache", cells, [registers, memory, counts])
-    said = "none" if run["condition"] is None else "%(kind)s. Its proposition is %(holds)s " % run["condition"]
+    said = "none" if run["condition"] is None else "Condition: %(kind)s, %(holds)s at this end." % run["condition"]
     return faults + ([] if said.lower() in page.text("#verdict").lower() else ["verdict: " + page.text("#verdict")])
 
 

@@ -71,7 +71,7 @@ def begins_row(bench, folder):
     for count in range(1, 7):
         bench.window.click("[data-move=forward]")
         faults += faults_at(bench, trace, count)
-    said = "Condition: exists (0:EAX=0 /\\ 1:EAX=0). Its proposition is true in this run's final state."
+    said = "This run shows the outcome that is asked for. This tells nothing about other runs. Condition: exists (0:EAX=0 /\\ 1:EAX=0), true at this end."
     faults += [] if said in bench.text("#verdict") else ["the verdict: " + bench.text("#verdict")]
     faults += differs("at its end", bench.value("[byId('at-end').hidden, document.querySelector('[data-move=forward]').disabled, byId('play').disabled]"), [False, True, True])
     return faults + safety(bench)

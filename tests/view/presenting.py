@@ -77,6 +77,64 @@ def list_row(bench, folder):
     return faults + safety(bench)
 
 
+def clicker_row(bench):
+    """A clicker's key says what to do where no choice is known, and names the next test at a run's end."""
+    bench.open_fresh()
+    bench.value("addToList(); loadText('MP.litmus'); addToList(); openListed(0); putLecture(true)")
+    bench.value(CLICKED % "PageDown")
+    faults = differs("said", bench.text("#sentence"), "No choices yet: press a step or a drain of a core.")
+    for choice in "0s 1s 0s 1s 0d 1d".split():
+        press(bench, "[data-choice='%s']" % choice)
+    faults += [] if bench.text("#sentence").endswith(" Next: MP.") else ["at the end it says " + bench.text("#sentence")]
+    bench.value(CLICKED % "PageDown")
+    faults += differs("the next", bench.value("testName()"), "MP")
+    bench.value("putLecture(false)")
+    return faults + safety(bench)
+
+
+def kept_list_row(bench):
+    """A list says what was added, takes no test twice, and outlives a reload; what stands beside the machine belongs to its test; and a saved page is named."""
+    bench.open_fresh()
+    press(bench, "#add-to-list")
+    faults = differs("added", bench.text("#listed"), "Added as 1 of 1.")
+    press(bench, "#add-to-list")
+    faults += differs("twice", [bench.text("#listed"), bench.value("taught.list.length")], ["It is there already, as 1 of 1.", 1])
+    bench.value("putBeside(JSON.stringify(ABREAST)); takeFromLibrary('MP.litmus')")
+    faults += differs("beside the next test", bench.value("[drive.beside, drive.histories.length]"), [None, 1])
+    press(bench, "#add-to-list")
+    faults += differs("added", bench.text("#listed"), "Added as 2 of 2.")
+    bench.value("new Promise(done => setTimeout(done, 300))")
+    bench.window.reload()
+    bench.value(READY)
+    bench.wait("drive.isOn")
+    faults += differs("after a reload", bench.value("taught.list.map(({ name }) => name)"), ["SB", "MP"])
+    bench.value("document.querySelectorAll('[data-unlisted]')[1].click()")
+    bench.window.reload()
+    bench.value(READY)
+    bench.wait("drive.isOn")
+    faults += differs("after one was taken off", bench.value("taught.list.map(({ name }) => name)"), ["SB"])
+    bench.value("saveFile = () => {}; savePage()")
+    bench.wait("document.querySelector('.page-saved').textContent !== ''")
+    faults += [] if "Saved as MP.html" in bench.value("document.querySelector('.page-saved').textContent") else ["it doesn't say what was saved"]
+    return faults + safety(bench)
+
+
+def back_to_answer_row(bench):
+    """From why the way back leads to the run of an answer that was shown, and from there to one's own."""
+    bench.open_fresh()
+    press(bench, "[data-choice='1s']")
+    bench.value("findOutcomes()")
+    bench.wait("!bench.task && document.querySelector('.states-sheet')")
+    bench.value("document.querySelector('#states [data-choices]').click()")
+    before = bench.value("[drive.words, drive.count, readSettings('run').options.depth, byId('own-said').textContent]")
+    bench.value("askWhy()")
+    bench.wait("!bench.task && document.querySelector('.reason')")
+    press(bench, "#to-run")
+    faults = differs("the run", bench.value("[drive.words, drive.count, readSettings('run').options.depth, byId('own-said').textContent]"), before)
+    press(bench, "#own-back")
+    return faults + differs("one's own", bench.value("[drive.words, drive.count]"), [["1s"], 1]) + safety(bench)
+
+
 def abreast_row(bench, folder):
     """MSI, MESI, MOESI and MOSI stand abreast under the same choices, and what differs from the first is marked."""
     bench.open_fresh(width=1920)
@@ -184,6 +242,9 @@ def rows(page, folder):
     return [
         ("a lecture hall", lambda: lecture_hall_row(bench, folder)),
         ("a list of tests", lambda: list_row(bench, folder)),
+        ("a clicker with nothing known", lambda: clicker_row(bench)),
+        ("a list that is kept", lambda: kept_list_row(bench)),
+        ("back to an answer's run", lambda: back_to_answer_row(bench)),
         ("four protocols abreast", lambda: abreast_row(bench, folder)),
         ("a table of states", lambda: table_row(bench)),
         ("forms of an answer", lambda: forms_row(bench)),

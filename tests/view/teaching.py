@@ -145,7 +145,51 @@ def guided_row(bench):
     faults += differs("after a reload", bench.value("[lesson.told.name, lesson.at, drive.words]"), ["store-buffering", 3, ["0s"]])
     press(bench, "#lesson-leave")
     press(bench, "[data-choice='0s']")
-    faults += differs("free", bench.value("[lesson.told, drive.words, byId('lesson').hidden, byId('task').hidden]"), [None, ["0s", "0s"], True, False])
+    faults += differs("free, at the start", bench.value("[lesson.told, drive.words, byId('lesson').hidden, byId('task').hidden]"), [None, ["0s"], True, False])
+    bench.value("beginLesson('store-buffering'); enterStep(lesson.told.steps.length - 1)")
+    press(bench, "#lesson-leave")
+    faults += differs("after the last step", bench.value("[drive.isOn, drive.words, byId('task').matches('.met'), byId('states').children.length]"), [True, [], False, 0])
+    return faults + safety(bench)
+
+
+def lost_row(bench):
+    """Where a load has returned another word than the task wants, the page says that this run can't reach it, and Undo leads out."""
+    bench.open_fresh()
+    for word in "0s 0d 1s".split():
+        bench.key_choice(word)
+    faults = [] if "No longer" not in bench.text("#task") else ["too early: " + bench.text("#task")]
+    bench.key_choice("1s")
+    said = bench.text("#task")
+    faults += [] if "No longer possible in this run: P1's EAX is 1, not 0. Press Undo" in said else ["it says " + said]
+    press(bench, "#undo")
+    faults += [] if "No longer" not in bench.text("#task") else ["after Undo: " + bench.text("#task")]
+    bench.fill("test", test_of("SB").replace("exists", "forall"))
+    for word in "0s 0d 1s 1s".split():
+        bench.key_choice(word)
+    return faults + ([] if "No longer" not in bench.text("#task") else ["of forall: " + bench.text("#task")]) + safety(bench)
+
+
+def plain_words_row(bench):
+    """What waits is named in the picture, an answer begins with yes or no, a cycle at its first edge, and the list with what to begin with."""
+    bench.open_fresh()
+    bench.key_choice("0s")
+    faults = differs("what waits", bench.value("[...document.querySelectorAll('.not-yet')].map(each => each.textContent)"), ["still in bufferx=1"])
+    sizes = bench.value("['#sentence', '.registers .word', '.memory .word', '.slot'].map(each => parseFloat(getComputedStyle(document.querySelector(each)).fontSize))")
+    faults += [] if min(sizes[1:]) >= sizes[0] else ["sizes of the sentence, registers, memory, buffers: %s" % sizes]
+    for name, begins in (("SB", "Yes: 1 of 4 final states under TSO has 0 in P0's EAX and 0 in P1's EAX."), ("MP", "No: none of 3 final states under TSO has ")):
+        bench.fill("test", test_of(name))
+        bench.value("findOutcomes()")
+        bench.wait("!bench.task && document.querySelector('.states-sheet')")
+        faults += [] if bench.text("#states p").startswith(begins) else ["of %s it says %s" % (name, bench.text("#states p"))]
+    bench.value("askWhy()")
+    bench.wait("!bench.task && document.querySelector('.cycle')")
+    faults += [] if bench.text(".cycle .buttons").strip().endswith("Step 1 of 4") else ["the cycle begins at " + bench.text(".cycle .buttons")]
+    bench.open_fresh()
+    first = bench.value("[document.querySelector('#texts h4').textContent, ...[...document.querySelector('#texts ul').querySelectorAll('button')].map(each => each.textContent)]")
+    faults += differs("the list", first[:5], ["Start here", "store-buffering.litmus", "store-buffering-fenced.litmus", "MP.litmus", "false-sharing.litmus"])
+    faults += differs("with a lock", len(first) == 6, bench.value("bench.hasLargerSet"))
+    bench.fill("search", "MP")
+    faults += [] if bench.text("#texts h4") != "Start here" else ["a search has what to begin with"]
     return faults + safety(bench)
 
 
@@ -235,4 +279,6 @@ def rows(page, folder):
         ("a lesson of the documents", lambda: documented_row(bench)),
         ("a lesson of a teacher", lambda: taught_row(bench, folder)),
         ("tasks", lambda: tasks_row(bench)),
+        ("a task out of reach", lambda: lost_row(bench)),
+        ("plain words", lambda: plain_words_row(bench)),
     ]
