@@ -4,7 +4,6 @@ import os
 
 from bench import OVERHANGING, differs, safety
 from driver import SHARED, Driver
-from teaching import is_in_sight
 
 IN_SIGHT = """(() => {
   const parts = ['[data-choice]', '.buffer', '.registers', '.cache', '.bus', '.memory', '#frame [data-entry]', '#task', '#sentence'];
@@ -188,7 +187,7 @@ def lecture_row(bench, folder):
     faults = [] if min(bench.value(CODE_SIZES)) >= 20 else ["code has a size of %s" % min(bench.value(CODE_SIZES))]
     faults += bench.value(OVERHANGING) + differs("entries", bench.value("document.querySelectorAll('#frame [data-entry]').length"), 4)
     out = ["header", "#saves", "#input", "footer", "#legend"]
-    faults += [] if is_in_sight(bench, "#beside-it") else ["what stands beside the machine can't be chosen"]
+    faults += differs("the choice of what stands beside", bench.value("byId('beside-it').getClientRects().length"), 1)
     faults += differs("in sight", bench.value("%r.filter(each => document.querySelector(each).getClientRects().length > 0)" % out), [])
     bench.window.screenshot(os.path.join(folder, "lecture.png"), whole=False)
     bench.value("putLecture(false)")
