@@ -15,7 +15,7 @@ public functions that these pages name, with a name or without. Such a thing is 
   is: it has to stand, and to call what the clause is of. What a check leaves of its modules names it (tests/checks/proofs/checked_modules.py).
 
 Not asked for are a field that a later field of its record speaks of (that one is asked for), and the clauses of worked examples and of
-`promises`, which are users themselves (but for its laws, in files `laws_of_..`).
+`promises`, which are users themselves.
 """
 import os
 import re
@@ -29,8 +29,8 @@ from checks.proofs import checked_modules, code_texts, proof_texts, statements
 import believed
 
 SILENT = os.path.join(TOP, "tests", "data", "silent_users.list")
-# Users are themselves the worked examples, and the functions of `promises` that are no laws, with the definitions that they alone use.
-USERS_THEMSELVES = re.compile(r"worked_examples/|promises/(?:src/(?!laws_of_)|specs/(?:Locked|Searched|Sources|inner))")
+# Users are themselves the worked examples, and the functions of `promises`, with the definitions that they alone use.
+USERS_THEMSELVES = re.compile(r"worked_examples/|promises/")
 
 # Nothing in Rattle calls the page's exports: the edits of tests/data/edits/page_exports, which the prover has to refuse, hold them.
 HELD_BY_EDITS = "page_exports"
@@ -142,7 +142,7 @@ def said_again():
     for path, _, name, said, body in functions():
         call = re.search(r"(?:(\w+)(?:::\w+)?\.)?(\w+)\(", body.strip()) if path.startswith("promises/") else None
         if call:
-            user = "%s::%s" % (path[:-len(".rt")].replace("/src/", "::"), name)
+            user = "%s::%s" % (path[:-len(".rt")].replace("/src/", "::").replace("/", "::"), name)
             for words in said.values():
                 found.setdefault(call.group(2), []).append((without_names(words, {call.group(1)}), user))
     return found

@@ -1,14 +1,4 @@
 pub mod Locked
 pub mod Searched
-pub mod Vocabulary
-pub mod Telling
-pub mod OfRuns
-pub mod Outcomes
-pub mod Observed
-pub mod Verdicts
-pub mod Traces
-pub mod TracedMachines
-pub mod Reasons
-pub mod ByHand
 pub mod Sources
 pub mod inner

@@ -1,4 +1,0 @@
-use Rattle.promises.proofs.branches.what_is_cut_off_has_a_mark.Goals as goal
-
-pub returns : goal.returns
-returns c = c.cut_off_paths_show.ensures

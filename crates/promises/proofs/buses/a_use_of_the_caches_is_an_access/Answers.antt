@@ -1,7 +1,0 @@
-use Rattle.promises.proofs.buses.a_use_of_the_caches_is_an_access.Goals as goal
-
-pub returns-clause-uses : goal.returns-clause-uses
-returns-clause-uses c = c.accesses_are_what_is_counted.ensures.uses
-
-pub returns-clause-answers : goal.returns-clause-answers
-returns-clause-answers c = c.accesses_are_what_is_counted.ensures.answers

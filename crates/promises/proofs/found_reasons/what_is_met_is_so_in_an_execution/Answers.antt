@@ -1,4 +1,0 @@
-use Rattle.promises.proofs.found_reasons.what_is_met_is_so_in_an_execution.Goals as goal
-
-pub returns : goal.returns
-returns c = λ model t claim order met. (met.execution, met.holds)

@@ -1,5 +1,0 @@
-use Rattle.promises.proofs.StatesFit.{states-fit}
-use Rattle.promises.proofs.laws_of_outcomes.printed_states_fit_their_test.Goals as goal
-
-pub returns : goal.returns
-returns c = states-fit c.values_are_words.ensures.in_runs

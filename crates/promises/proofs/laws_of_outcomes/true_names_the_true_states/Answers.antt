@@ -1,8 +1,0 @@
-use Rattle.promises.proofs.TrueStates.{true-names, holds-tells}
-use Rattle.promises.proofs.laws_of_outcomes.true_names_the_true_states.Goals as goal
-
-pub returns-clause-lines : goal.returns-clause-lines
-returns-clause-lines c = true-names c.truth_is_shown.ensures
-
-pub returns-clause-json : goal.returns-clause-json
-returns-clause-json c = holds-tells c.truth_is_shown.ensures

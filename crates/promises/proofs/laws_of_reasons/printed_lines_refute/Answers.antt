@@ -1,9 +1,0 @@
-use Rattle.promises.proofs.RefutingLines.{printed-lines-refute}
-use Rattle.promises.proofs.ReadByHand.{refuting-lines-are-refutations}
-use Rattle.promises.proofs.laws_of_reasons.printed_lines_refute.Goals as goal
-
-pub returns-clause-printed : goal.returns-clause-printed
-returns-clause-printed c = printed-lines-refute
-
-pub returns-clause-read : goal.returns-clause-read
-returns-clause-read c = refuting-lines-are-refutations

@@ -1,8 +1,0 @@
-use Rattle.promises.proofs.Unfinished.{line-tells, json-tells}
-use Rattle.promises.proofs.laws_of_runs.unfinished_runs_are_told.Goals as goal
-
-pub returns-clause-line : goal.returns-clause-line
-returns-clause-line c = line-tells
-
-pub returns-clause-json : goal.returns-clause-json
-returns-clause-json c = json-tells

@@ -1,4 +1,0 @@
-use Rattle.promises.proofs.printed_reasons.a_printed_execution_is_a_candidate_of_its_order.Goals as goal
-
-pub returns : goal.returns
-returns c = λ json model t order choices out shows. (shows.candidate, shows.of_order, shows.printed)

@@ -1,7 +1,0 @@
-use Rattle.promises.proofs.reasons_told.a_printed_refutation_rules_out.Goals as goal
-
-pub returns-clause-executions : goal.returns-clause-executions
-returns-clause-executions c = λ t model json out order said. said.executions order
-
-pub returns-clause-runs : goal.returns-clause-runs
-returns-clause-runs c = λ t model json out depth choices said. said.runs depth choices

@@ -1,7 +1,0 @@
-use Rattle.promises.proofs.refuted_claims.an_edge_has_its_relation.Goals as goal
-
-pub returns-clause-edge : goal.returns-clause-edge
-returns-clause-edge c = c.edges_have_relations.ensures.edge
-
-pub returns-clause-holds : goal.returns-clause-holds
-returns-clause-holds c = c.edges_have_relations.ensures.holds

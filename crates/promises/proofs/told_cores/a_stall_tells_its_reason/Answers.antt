@@ -1,4 +1,0 @@
-use Rattle.promises.proofs.told_cores.a_stall_tells_its_reason.Goals as goal
-
-pub returns : goal.returns
-returns c = record { reason = c.steps_are_told.ensures.stalls }

@@ -1,4 +1,0 @@
-use Rattle.promises.proofs.told_lines.a_printed_false_line_is_so.Goals as goal
-
-pub returns : goal.returns
-returns c = c.false_lines_are_so.ensures

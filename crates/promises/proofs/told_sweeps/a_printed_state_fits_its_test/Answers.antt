@@ -1,4 +1,0 @@
-use Rattle.promises.proofs.told_sweeps.a_printed_state_fits_its_test.Goals as goal
-
-pub returns : goal.returns
-returns c = c.printed_states_fit_their_test.ensures

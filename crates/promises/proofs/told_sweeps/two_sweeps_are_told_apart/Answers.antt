@@ -1,4 +1,0 @@
-use Rattle.promises.proofs.told_sweeps.two_sweeps_are_told_apart.Goals as goal
-
-pub returns : goal.returns
-returns c = c.sweeps_tell_their_counts.ensures

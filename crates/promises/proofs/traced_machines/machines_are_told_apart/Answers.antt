@@ -1,4 +1,0 @@
-use Rattle.promises.proofs.traced_machines.machines_are_told_apart.Goals as goal
-
-pub returns : goal.returns
-returns given = given.values_of_machines_tell_them.ensures

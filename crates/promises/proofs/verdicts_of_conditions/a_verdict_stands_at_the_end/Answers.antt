@@ -1,7 +1,0 @@
-use Rattle.promises.proofs.verdicts_of_conditions.a_verdict_stands_at_the_end.Goals as goal
-
-pub returns-clause-line : goal.returns-clause-line
-returns-clause-line c = λ word out said. (said.front, said.text)
-
-pub returns-clause-member : goal.returns-clause-member
-returns-clause-member c = λ word out said. (said.front, said.text)
