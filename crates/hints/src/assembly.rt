@@ -3,7 +3,7 @@
 
 use crate::assembled::{Instruction, Pair, alone_in, instruction_in, pair_in};
 use crate::computed::{says_changed, says_combined, says_compare_exchange};
-use crate::line::{Line, Piece};
+use crate::line::{Filling, Line};
 use crate::mnemonics::{Kind, kind_of, larger_of};
 use crate::moves::{STACK, says_address, says_locked, says_locked_fence, says_move};
 use crate::operand::{Operand, operand_in};
@@ -99,7 +99,7 @@ fn says_compare(line: &mut Line, pair: &Pair<'_>) -> bool {
     match (pair.to, pair.from) {
         (Operand::Word(loc) | Operand::Bare(loc), _) | (_, Operand::Word(loc)) => line.say_with(
             COMPARES_LOCATION,
-            &[Piece::Named(pair.name), Piece::Shown(loc)],
+            &[Filling::Named(pair.name), Filling::Shown(loc)],
         ),
         _ => return false,
     }
@@ -117,7 +117,7 @@ fn says_computed(line: &mut Line, pair: &Pair<'_>) -> bool {
         }
         (Operand::Register(_), Operand::Word(loc) | Operand::Bare(loc)) => line.say_with(
             LOADS_AND_COMPUTES,
-            &[Piece::Named(pair.name), Piece::Shown(loc)],
+            &[Filling::Named(pair.name), Filling::Shown(loc)],
         ),
         _ => return false,
     }

@@ -2,7 +2,7 @@
 
 use crate::c_forms::is_type;
 use crate::faults::NO_ARRAYS;
-use crate::line::{Line, Piece};
+use crate::line::{Filling, Line};
 use crate::numbers::number_in;
 use crate::quotes::{after_byte, first_word, is_all_digits, up_to, up_to_any};
 use crate::statement::Statement;
@@ -66,7 +66,10 @@ pub fn says_assignment(line: &mut Line, statement: &Statement<'_>) -> bool {
         return true;
     }
     if let Some(name) = address_in(statement) {
-        line.say_with(ADDRESS, &[Piece::Named(statement.cell), Piece::Shown(name)]);
+        line.say_with(
+            ADDRESS,
+            &[Filling::Named(statement.cell), Filling::Shown(name)],
+        );
         return true;
     }
     if says_event(line, statement) || says_pointed(line, statement) {
@@ -138,7 +141,7 @@ fn says_pointed(line: &mut Line, statement: &Statement<'_>) -> bool {
         {
             line.say_with(
                 "{}: no register can hold an address: write the name of the location that {} points to, as MOV [x],$1 or MOV EAX,[x]",
-                &[Piece::Named(statement.cell), Piece::Shown(name)],
+                &[Filling::Named(statement.cell), Filling::Shown(name)],
             );
             return true;
         }

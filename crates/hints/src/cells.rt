@@ -7,7 +7,7 @@ use crate::faults::STORE_AND_LOAD;
 use crate::instructions::{ALONE, FORMS, FORMS_OF_EXCHANGE, LABEL, LOCKED, SIZED, UNLOCKED};
 use crate::keywords::{begins_instruction, is_instruction, near_instruction, near_larger};
 use crate::larger_set::says_forms;
-use crate::line::{Line, Piece};
+use crate::line::{Filling, Line};
 use crate::mnemonics::{Kind, is_known_name, is_narrow_name, kind_of, larger_of};
 use crate::pairs::{says_of_pair, says_of_parts};
 use crate::prefixes::said_of_prefix;
@@ -135,7 +135,7 @@ fn says_near_larger(line: &mut Line, name: &[u8], operands: &[Token<'_>], is_loc
         } else {
             "{} is no instruction: write {}"
         };
-        line.say_with(sentence, &[Piece::Named(name), Piece::Text(meant)]);
+        line.say_with(sentence, &[Filling::Named(name), Filling::Text(meant)]);
         line.say_option();
     }
     fits
@@ -160,7 +160,7 @@ fn says_joined(line: &mut Line, word: &[u8]) -> bool {
         if begins_with_one_of(name, word) && Reg::from_name(rest).is_some() {
             line.say_with(
                 "{}: write a space behind {}",
-                &[Piece::Named(word), Piece::Text(name)],
+                &[Filling::Named(word), Filling::Text(name)],
             );
             if larger_of(name.as_bytes()).is_some() {
                 line.say_option();
@@ -196,7 +196,7 @@ fn says_near_instruction(
         } else {
             "{} is no instruction: write {}"
         };
-        line.say_with(sentence, &[Piece::Named(name), Piece::Text(meant)]);
+        line.say_with(sentence, &[Filling::Named(name), Filling::Text(meant)]);
     }
     fits
 }

@@ -1,7 +1,7 @@
 //! What is said of a byte that isn't printable: a character that other texts have is told by its code point, since a hint is
 //! ASCII, with what stands for it here.
 
-use crate::line::{Line, Piece};
+use crate::line::{Filling, Line};
 use crate::place::Place;
 use crate::quotes::first_bytes;
 use crate::signs::DIVIDER;
@@ -94,9 +94,9 @@ fn says_wide(line: &mut Line, place: &Place<'_>) -> bool {
     line.say_with(
         "{}, in column {}, is as wide as a Chinese character: write {}",
         &[
-            Piece::Character(character),
-            Piece::Number(place.column()),
-            Piece::Shown(&sign),
+            Filling::Character(character),
+            Filling::Number(place.column()),
+            Filling::Shown(&sign),
         ],
     );
     true
@@ -132,9 +132,9 @@ fn says_foreign_at(line: &mut Line, place: &Place<'_>, said: &str) -> bool {
     line.say_with(
         "{}, in column {}, isn't ASCII: {}",
         &[
-            Piece::Character(character),
-            Piece::Number(place.column()),
-            Piece::Text(said_of_front(&BLANKS, place.rest).unwrap_or(said)),
+            Filling::Character(character),
+            Filling::Number(place.column()),
+            Filling::Text(said_of_front(&BLANKS, place.rest).unwrap_or(said)),
         ],
     );
     true

@@ -4,7 +4,7 @@ use crate::characters::says_foreign;
 use crate::divider::begins_order;
 use crate::faults::{MARKDOWN, ONE_TEST};
 use crate::hinting::NOTHING_KNOWN;
-use crate::line::{Line, Piece};
+use crate::line::{Filling, Line};
 use crate::quotes::{digits_at, is_all_digits, last_bytes, word};
 use crate::tables::{Alike, is_exactly_one_of, is_one_of, said_of, said_of_front};
 use scheduler::{ChoiceFault, MAX_CHOICES};
@@ -34,7 +34,10 @@ pub fn say_choices(line: &mut Line, cores: u8, text: &[u8], fault: ChoiceFault) 
             let (word, _) = begin_word(line, text, number);
             line.say_with(
                 "{}: the test has {}, numbered from 0",
-                &[Piece::Named(word), Piece::Count(usize::from(cores), "core")],
+                &[
+                    Filling::Named(word),
+                    Filling::Count(usize::from(cores), "core"),
+                ],
             );
         }
         ChoiceFault::TooMany(number) => {
@@ -138,13 +141,13 @@ fn bad_first(line: &mut Line, word: &[u8]) {
     if is_all_digits(word) {
         // A letter belongs to the number.
         let core = if word.len() < 10 {
-            Piece::Shown(word)
+            Filling::Shown(word)
         } else {
-            Piece::Text("0")
+            Filling::Text("0")
         };
         return line.say_with(
             "{} lacks its letter: {}s steps that core, {}d drains it, with no space between",
-            &[Piece::Named(word), core, core],
+            &[Filling::Named(word), core, core],
         );
     }
     let said = if begins_order(word) {
@@ -191,20 +194,20 @@ fn other_first(line: &mut Line, word: &[u8]) {
         return line.say_with(
             "{}: write {}s where core {} steps, and {}d where it drains a store",
             &[
-                Piece::Named(word),
-                Piece::Shown(core),
-                Piece::Shown(core),
-                Piece::Shown(core),
+                Filling::Named(word),
+                Filling::Shown(core),
+                Filling::Shown(core),
+                Filling::Shown(core),
             ],
         );
     };
     line.say_with(
         "{}: write {}{}{}",
         &[
-            Piece::Named(word),
-            Piece::Shown(core),
-            Piece::Text(letter),
-            Piece::Text(small),
+            Filling::Named(word),
+            Filling::Shown(core),
+            Filling::Text(letter),
+            Filling::Text(small),
         ],
     );
 }

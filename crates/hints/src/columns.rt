@@ -5,7 +5,7 @@ use crate::faults::{COMES_LAST, ENDS_ROW, unfit};
 use crate::headers::has_row_of_cores;
 use crate::items::KEYS;
 use crate::keywords::begins_instruction;
-use crate::line::{Line, Piece};
+use crate::line::{Filling, Line};
 use crate::mnemonics::larger_of;
 use crate::numbers::number_in;
 use crate::place::Place;
@@ -197,8 +197,8 @@ fn says_core(line: &mut Line, place: &Place<'_>) -> bool {
                 "{}: write P{} in its place: the row of cores is P0 | P1 | .. in order, ended by ;"
             },
             &[
-                Piece::Named(cell),
-                Piece::Number(bars_in(place.line_before())),
+                Filling::Named(cell),
+                Filling::Number(bars_in(place.line_before())),
             ],
         );
     }

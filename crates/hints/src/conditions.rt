@@ -10,7 +10,7 @@ use crate::faults::{
 };
 use crate::items::{is_no_number, says_foreign_register};
 use crate::keywords::begins_instruction;
-use crate::line::{Line, Piece};
+use crate::line::{Filling, Line};
 use crate::near::near_word;
 use crate::place::Place;
 use crate::points::{CORE_AND_REGISTER, is_of_core};
@@ -101,7 +101,7 @@ fn says_joint(line: &mut Line, place: &Place<'_>) -> bool {
     if is_joint && (place.rest.is_empty() || place.rest.starts_with(b")")) {
         line.say_with(
             "no atom stands after {}: write one, as x=1, or leave {} out",
-            &[Piece::Shown(last_bytes(before, 2)); 2],
+            &[Filling::Shown(last_bytes(before, 2)); 2],
         );
         return true;
     }
@@ -256,7 +256,7 @@ fn says_valueless(line: &mut Line, last: &[u8]) -> bool {
     if let Some(meant) = near_word("true false", last) {
         line.say_with(
             "{} is no atom: write {}",
-            &[Piece::Named(last), Piece::Text(meant)],
+            &[Filling::Named(last), Filling::Text(meant)],
         );
         return true;
     }
@@ -364,7 +364,7 @@ pub fn trailing(line: &mut Line, asked: Asked, place: &Place<'_>) {
     } else if !is_own_line && is_location_name(token) {
         line.say_with(
             "{} stands after the end of the condition: join a further atom by /\\ or \\/, and leave other words out",
-            &[Piece::Named(token)],
+            &[Filling::Named(token)],
         );
     } else {
         let sentence = if is_own_line && is_bare(token) && !asked.is_divided {

@@ -1,6 +1,6 @@
 //! What is said of a text that has cycles of edges, from which diy makes tests.
 
-use crate::line::{Line, Piece};
+use crate::line::{Filling, Line};
 use crate::quotes::{after_byte, first_word, last_bytes, up_to, up_to_any, word};
 use crate::tables::is_one_of;
 
@@ -33,7 +33,7 @@ pub fn says_cycle(line: &mut Line, head: &[u8]) -> bool {
     } else if edges.len() <= MAX_EDGES && !has_choices {
         line.say_with(
             "a cycle of edges is no test: the tool cycles makes a test of each: cycles {}",
-            &[Piece::Shown(edges)],
+            &[Filling::Shown(edges)],
         );
     } else if edges.contains(&b'[') {
         line.say(

@@ -3,7 +3,7 @@
 
 use crate::instructions::LABEL;
 use crate::keywords::{begins_instruction, is_instruction};
-use crate::line::{Line, Piece};
+use crate::line::{Filling, Line};
 use crate::mnemonics::larger_of;
 use crate::numbers::number_in;
 use crate::quotes::{digits_and_letters, is_all_digits, is_bare, last_bytes, up_to, word};
@@ -38,7 +38,7 @@ pub fn says_directive(line: &mut Line, cell: &[u8]) -> bool {
     } else if is_repetition(first, rest) {
         line.say_with(
             "{} is for an assembler: write the instruction {} times, each in a row of its own",
-            &[Piece::Named(first), Piece::Shown(word(rest))],
+            &[Filling::Named(first), Filling::Shown(word(rest))],
         );
     } else if (is_address(first) && is_byte(word(rest))) || begins_with_bytes(cell) {
         line.say_of(DISASSEMBLED, first);
@@ -81,7 +81,11 @@ fn say_data(line: &mut Line, cell: &[u8], name: &[u8], value: &[u8]) {
     };
     line.say_with(
         DATA_ITEM,
-        &[Piece::Named(cell), Piece::Shown(name), Piece::Shown(value)],
+        &[
+            Filling::Named(cell),
+            Filling::Shown(name),
+            Filling::Shown(value),
+        ],
     );
 }
 

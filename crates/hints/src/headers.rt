@@ -6,7 +6,7 @@ use crate::characters::{COLOURS, says_foreign};
 use crate::divider::Asked;
 use crate::faults::MARKDOWN;
 use crate::kinds::{KERNEL, has_instructions, has_kernel_words, is_model, says_kind};
-use crate::line::{Line, Piece};
+use crate::line::{Filling, Line};
 use crate::mnemonics::is_narrow_name;
 use crate::place::Place;
 use crate::quotes::{
@@ -109,7 +109,7 @@ fn no_text(line: &mut Line, asked: Asked, comments: &[u8]) {
     } else {
         line.say_with(
             "no test: give one on standard input, as in: tso {} < FILE",
-            &[Piece::Text(asked.reader.name())],
+            &[Filling::Text(asked.reader.name())],
         );
     }
 }

@@ -4,7 +4,7 @@ use crate::c_forms::is_type;
 use crate::characters::says_foreign_in;
 use crate::faults::{ADDRESS, NO_ARRAYS, NO_VALUE, line_of_initial_state, says_digit_first};
 use crate::keywords::is_instruction;
-use crate::line::{Line, Piece};
+use crate::line::{Filling, Line};
 use crate::place::Place;
 use crate::points::{CORE_AND_REGISTER, is_of_core};
 use crate::quotes::{
@@ -35,7 +35,7 @@ pub fn bad_init(line: &mut Line, place: &Place<'_>) {
     if is_in_row_of_cores(place) {
         return line.say_with(
             "no } closes the { of line {}",
-            &[Piece::Number(line_of_initial_state(place.text))],
+            &[Filling::Number(line_of_initial_state(place.text))],
         );
     }
     if says_digit_first(line, place) {

@@ -3,7 +3,7 @@
 
 use crate::faults::COMMENT;
 use crate::instructions::{FORMS, SIZED, UNLOCKED};
-use crate::line::{Line, Piece};
+use crate::line::{Filling, Line};
 use crate::mnemonics::larger_of;
 use crate::near::near_word;
 use crate::place::Place;
@@ -90,7 +90,7 @@ pub fn says_condition(line: &mut Line, place: &Place<'_>) -> bool {
         return true;
     }
     if let Some(said) = said_of_keyword(token) {
-        line.say_with(said, &[Piece::Named(token); 3]);
+        line.say_with(said, &[Filling::Named(token); 3]);
         return true;
     }
     if is_exactly_one_of("not", token) && place.after_token().starts_with(b"(") {

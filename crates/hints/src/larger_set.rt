@@ -1,6 +1,6 @@
 //! Instructions that are read where all are asked for, and what is close to them.
 
-use crate::line::{Line, Piece};
+use crate::line::{Filling, Line};
 use crate::mnemonics::{is_narrow_name, larger_of};
 use crate::numbers::{say_over, spelled};
 use crate::quotes::{digits_and_letters, first_word, last_bytes};
@@ -89,7 +89,7 @@ pub fn say_numeral(line: &mut Line, numeral: Numeral<'_>) {
     };
     line.say_with(
         sentence,
-        &[sign, base, digits, Piece::Number(value as usize)],
+        &[sign, base, digits, Filling::Number(value as usize)],
     );
     line.say(", or add --instructions all");
 }
@@ -110,7 +110,10 @@ fn says_needless(line: &mut Line, cell: &[u8], rest: &[Token<'_>]) -> bool {
     if is_needless {
         let after = cell.len().saturating_sub(first_word(cell).len());
         let alone = last_bytes(cell, after).trim_ascii_start();
-        line.say_with(NEEDLESS_LOCK, &[Piece::Named(cell), Piece::Shown(alone)]);
+        line.say_with(
+            NEEDLESS_LOCK,
+            &[Filling::Named(cell), Filling::Shown(alone)],
+        );
         line.say_option();
     }
     is_needless
@@ -123,7 +126,7 @@ fn says_lockless(line: &mut Line, cell: &[u8], locked: &[Token<'_>]) -> bool {
             line.say_of(WITHOUT_LOCK, cell);
             line.say_with(
                 "LOCK CMPXCHG [{}],{}",
-                &[Piece::Shown(loc), Piece::Text(reg.name())],
+                &[Filling::Shown(loc), Filling::Text(reg.name())],
             );
             line.say_option();
             return true;
@@ -154,11 +157,11 @@ pub enum Source {
 }
 
 fn say_load<'a>(line: &mut Line, reg: &'a str, loc: &'a [u8]) {
-    line.say_with("MOV {},[{}]", &[Piece::Text(reg), Piece::Shown(loc)]);
+    line.say_with("MOV {},[{}]", &[Filling::Text(reg), Filling::Shown(loc)]);
 }
 
 fn say_store<'a>(line: &mut Line, loc: &'a [u8], reg: &'a str) {
-    line.say_with("  MOV [{}],{}", &[Piece::Shown(loc), Piece::Text(reg)]);
+    line.say_with("  MOV [{}],{}", &[Filling::Shown(loc), Filling::Text(reg)]);
 }
 
 /// Says the three instructions that one is which computes in this location without LOCK.
@@ -169,14 +172,14 @@ pub fn say_three(line: &mut Line, cell: &[u8], name: &'static str, loc: &[u8], s
     };
     line.say_of("{}: without LOCK write three cells: ", cell);
     say_load(line, free, loc);
-    line.say_with("  {} {}", &[Piece::Text(name), Piece::Text(free)]);
+    line.say_with("  {} {}", &[Filling::Text(name), Filling::Text(free)]);
     match source {
         Source::None => {}
         Source::Number(number) => line.say_number(",${}", number as usize),
-        Source::Register(reg) => line.say_with(",{}", &[Piece::Text(reg)]),
+        Source::Register(reg) => line.say_with(",{}", &[Filling::Text(reg)]),
     }
     say_store(line, loc, free);
-    line.say_with(", with a free register for {}", &[Piece::Text(free)]);
+    line.say_with(", with a free register for {}", &[Filling::Text(free)]);
     line.say_option();
 }
 
@@ -189,7 +192,7 @@ pub fn says_forms(line: &mut Line, word: &[u8]) -> bool {
         line.say_of(NARROW, word);
         return true;
     }
-    line.say_with(forms_of(name), &[Piece::Text(name); 5]);
+    line.say_with(forms_of(name), &[Filling::Text(name); 5]);
     line.say_option();
     true
 }

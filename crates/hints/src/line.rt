@@ -15,7 +15,7 @@ const DIGITS: &[u8; 16] = b"0123456789ABCDEF";
 
 /// What is in a gap of a sentence.
 #[derive(Clone, Copy)]
-pub enum Piece<'a> {
+pub enum Filling<'a> {
     /// These words.
     Text(&'a str),
     /// Bytes of the input: bare where they are a name or a number, and else in quotation marks.
@@ -90,44 +90,44 @@ impl Line {
 
     /// Writes a sentence; in its gap `{}`, if it has one, this is named.
     pub fn say_of(&mut self, sentence: &str, named: &[u8]) {
-        self.say_with(sentence, &[Piece::Named(named)]);
+        self.say_with(sentence, &[Filling::Named(named)]);
     }
 
     /// Writes a sentence with this number in its gap.
     pub fn say_number(&mut self, sentence: &str, number: usize) {
-        self.say_with(sentence, &[Piece::Number(number)]);
+        self.say_with(sentence, &[Filling::Number(number)]);
     }
 
     /// Writes a sentence; in its first gap this is named, and in its second stands this number.
     pub fn say_of_number(&mut self, sentence: &str, named: &[u8], number: usize) {
-        self.say_with(sentence, &[Piece::Named(named), Piece::Number(number)]);
+        self.say_with(sentence, &[Filling::Named(named), Filling::Number(number)]);
     }
 
-    /// Writes a sentence, whose gaps `{}` the pieces fill in their order. A piece without a gap isn't written.
-    pub fn say_with(&mut self, sentence: &str, pieces: &[Piece<'_>]) {
+    /// Writes a sentence, with what fills its gaps `{}`, in their order. What has no gap isn't written.
+    pub fn say_with(&mut self, sentence: &str, fillings: &[Filling<'_>]) {
         let mut rest = sentence;
-        for piece in pieces {
+        for filling in fillings {
             if let Some((before, after)) = rest.split_once("{}") {
                 self.push(before.as_bytes());
-                self.push_piece(*piece);
+                self.push_filling(*filling);
                 rest = after;
             }
         }
         self.push(rest.as_bytes());
     }
 
-    fn push_piece(&mut self, piece: Piece<'_>) {
-        match piece {
-            Piece::Text(text) => self.push(text.as_bytes()),
-            Piece::Named(name) if is_bare(name) => self.push_shown(name),
-            Piece::Named(name) => {
+    fn push_filling(&mut self, filling: Filling<'_>) {
+        match filling {
+            Filling::Text(text) => self.push(text.as_bytes()),
+            Filling::Named(name) if is_bare(name) => self.push_shown(name),
+            Filling::Named(name) => {
                 self.push(b"'");
                 self.push_shown(name);
                 self.push(b"'");
             }
-            Piece::Shown(shown) => self.push_shown(shown),
-            Piece::Number(number) => self.push_number(number),
-            Piece::Count(count, unit) => {
+            Filling::Shown(shown) => self.push_shown(shown),
+            Filling::Number(number) => self.push_number(number),
+            Filling::Count(count, unit) => {
                 self.push_number(count);
                 self.push(b" ");
                 self.push(unit.as_bytes());
@@ -135,7 +135,7 @@ impl Line {
                     self.push(b"s");
                 }
             }
-            Piece::Character(character) => self.push_code_point(character),
+            Filling::Character(character) => self.push_code_point(character),
         }
     }
 

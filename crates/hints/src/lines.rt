@@ -4,7 +4,7 @@
 ghost use Rattle.std.specs.Prelude.{IfOk, IfSome, string_bytes};
 ghost use Rattle.hints.specs.Hint.{IsHint};
 
-use crate::line::{Line, Piece};
+use crate::line::{Filling, Line};
 use crate::meant::{is_tool, meant_by};
 use crate::printing::printed;
 use crate::quotes::{after_byte, is_all_digits, is_choice, up_to};
@@ -56,7 +56,7 @@ fn say_no_command(line: &mut Line, name: &str) {
         if command.name().as_bytes().eq_ignore_ascii_case(word) {
             return line.say_with(
                 "{}: write {}, in small letters",
-                &[Piece::Named(word), Piece::Text(command.name())],
+                &[Filling::Named(word), Filling::Text(command.name())],
             );
         }
     }
@@ -67,7 +67,7 @@ fn say_no_command(line: &mut Line, name: &str) {
     } else if word.starts_with(b"-") {
         "write a command before its options, as in tso run {} < FILE"
     } else if word.contains(&b'.') || word.contains(&b'/') {
-        let file = [Piece::Text(shown_file(name))];
+        let file = [Filling::Text(shown_file(name))];
         return line.say_with(
             "write a command first; tso reads the test from standard input: tso run < {}",
             &file,
@@ -75,7 +75,7 @@ fn say_no_command(line: &mut Line, name: &str) {
     } else {
         "the commands are run, trace, sweep, counts, outcomes, why, check, witness and tables"
     };
-    line.say_with(sentence, &[Piece::Shown(word), Piece::Shown(word)]);
+    line.say_with(sentence, &[Filling::Shown(word), Filling::Shown(word)]);
 }
 
 /// Of the first word after a command that it hasn't, or of a value that no option lets pass.
@@ -115,7 +115,7 @@ fn say_excluded<'a>(line: &mut Line, command: Subcommand, words: &[&'a str]) {
         {
             return line.say_with(
                 "{} is one run, of the choices after a line ====, and {} is of many: leave out one of the two",
-                &[Piece::Shown(flag), Piece::Shown(other)],
+                &[Filling::Shown(flag), Filling::Shown(other)],
             );
         }
     }
@@ -159,10 +159,10 @@ fn say_value<'a>(line: &mut Line, command: Subcommand, option: &'a [u8], value: 
         line.say_with(
             "{} is no number: {} is one from {} to {}",
             &[
-                Piece::Named(value),
-                Piece::Shown(option),
-                Piece::Number(not_negative(least)),
-                Piece::Number(not_negative(most)),
+                Filling::Named(value),
+                Filling::Shown(option),
+                Filling::Number(not_negative(least)),
+                Filling::Number(not_negative(most)),
             ],
         );
     }
@@ -185,7 +185,7 @@ fn say_option<'a>(line: &mut Line, command: Subcommand, word: &'a str, next: &'a
         if matches!(declared.value, Value::Flag(_)) && bytes.contains(&b'=') {
             line.say_with(
                 "{} takes no value: leave out what stands after it",
-                &[Piece::Shown(option)],
+                &[Filling::Shown(option)],
             );
         } else if bytes.contains(&b'=') {
             say_value(line, command, option, after_byte(bytes, b'='));
@@ -195,7 +195,7 @@ fn say_option<'a>(line: &mut Line, command: Subcommand, word: &'a str, next: &'a
     if let Some(sentence) = meant_by(command.name().as_bytes(), option) {
         return line.say_with(
             sentence,
-            &[Piece::Shown(option), Piece::Text(shown_file(next))],
+            &[Filling::Shown(option), Filling::Text(shown_file(next))],
         );
     }
     say_owners(line, option);
@@ -206,9 +206,9 @@ fn say_option<'a>(line: &mut Line, command: Subcommand, word: &'a str, next: &'a
         line.say_with(
             "{} is no option of {}: tso {} --help lists its options",
             &[
-                Piece::Shown(option),
-                Piece::Text(command.name()),
-                Piece::Text(command.name()),
+                Filling::Shown(option),
+                Filling::Text(command.name()),
+                Filling::Text(command.name()),
             ],
         );
     }
@@ -226,7 +226,7 @@ fn say_operand<'a>(line: &mut Line, command: Subcommand, before: &'a str, word: 
     if !is_file && command.option_named(before.as_bytes()).is_some() {
         line.say_with(
             "{} takes no value: leave out {}",
-            &[Piece::Text(before), Piece::Shown(bytes)],
+            &[Filling::Text(before), Filling::Shown(bytes)],
         );
     } else if is_exactly_one_of("help", bytes) {
         line.say("write tso ");
@@ -237,17 +237,20 @@ fn say_operand<'a>(line: &mut Line, command: Subcommand, before: &'a str, word: 
     } else if is_choice(bytes) {
         line.say_with(
             "{}: choices stand in the input, after the test and a line ====",
-            &[Piece::Shown(bytes)],
+            &[Filling::Shown(bytes)],
         );
     } else if !is_file {
         line.say_with(
             "{} stands after no option: an option has two hyphens, and a test is read from standard input: tso {} < FILE",
-            &[Piece::Shown(bytes), Piece::Text(command.name())],
+            &[Filling::Shown(bytes), Filling::Text(command.name())],
         );
     } else {
         line.say_with(
             "tso reads standard input, so don't name a file without <: tso {} < {}",
-            &[Piece::Text(command.name()), Piece::Text(shown_file(word))],
+            &[
+                Filling::Text(command.name()),
+                Filling::Text(shown_file(word)),
+            ],
         );
     }
 }
@@ -266,7 +269,7 @@ fn say_hyphens(line: &mut Line, option: &[u8]) {
                 if declared.name.as_bytes().eq_ignore_ascii_case(name) && line.is_empty() {
                     line.say_with(
                         "{}: an option is written in small letters after two hyphens: --{}",
-                        &[Piece::Shown(shown), Piece::Text(declared.name)],
+                        &[Filling::Shown(shown), Filling::Text(declared.name)],
                     );
                 }
             }
@@ -303,7 +306,7 @@ fn say_owners(line: &mut Line, option: &[u8]) {
     for command in &SUBCOMMANDS {
         if command.option_named(option).is_some() {
             if left == owners {
-                line.say_with("{} is an option of ", &[Piece::Shown(option)]);
+                line.say_with("{} is an option of ", &[Filling::Shown(option)]);
             }
             left = left.saturating_sub(1);
             line.say(command.name());

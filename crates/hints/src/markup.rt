@@ -1,6 +1,6 @@
 //! What is said of signs that lay a text out in other languages: in HTML, in Markdown or TeX, and in tables.
 
-use crate::line::{Line, Piece};
+use crate::line::{Filling, Line};
 use crate::operands::cell_at;
 use crate::place::Place;
 use crate::quotes::{has, up_to};
@@ -32,7 +32,7 @@ pub fn says_entity(line: &mut Line, place: &Place<'_>) -> bool {
     };
     line.say_with(
         "{}; is a sign as HTML has it: write {}",
-        &[Piece::Shown(up_to(place.rest, b';')), Piece::Text(said)],
+        &[Filling::Shown(up_to(place.rest, b';')), Filling::Text(said)],
     );
     true
 }

@@ -2,7 +2,7 @@
 
 use crate::assembled::{Order, Pair};
 use crate::instructions::SUM_OF_REGISTERS;
-use crate::line::{Line, Piece};
+use crate::line::{Filling, Line};
 use crate::operand::Operand;
 use crate::operands::said_of_sum;
 use crate::quotes::{digits_and_letters, has};
@@ -186,7 +186,7 @@ fn says_load(line: &mut Line, pair: &Pair<'_>, reg: &[u8], from: Operand<'_>) ->
                 pair.cell,
             );
             say_target(line, Target::Load(reg, name));
-            line.say_with(NO_ADDRESS_THEN, &[Piece::Shown(name)]);
+            line.say_with(NO_ADDRESS_THEN, &[Filling::Shown(name)]);
         }
         Operand::Address(_) => return says_address(line, pair),
         _ => return says_no_place(line, pair),
@@ -242,7 +242,10 @@ pub fn says_address(line: &mut Line, pair: &Pair<'_>) -> bool {
         (
             Operand::Register(_),
             Operand::Address(name) | Operand::Word(name) | Operand::Bare(name),
-        ) => line.say_with(NO_ADDRESS, &[Piece::Named(pair.cell), Piece::Shown(name)]),
+        ) => line.say_with(
+            NO_ADDRESS,
+            &[Filling::Named(pair.cell), Filling::Shown(name)],
+        ),
         _ => return false,
     }
     true
@@ -291,10 +294,10 @@ fn say_two_places(line: &mut Line, pair: &Pair<'_>, to: &[u8], from: &[u8], is_a
             "{}: write three cells, one below the other: MOV EAX,[{}]  XCHG [{}],EAX  MOV [{}],EAX, with a free register for EAX; together they aren't one step"
         },
         &[
-            Piece::Named(pair.cell),
-            Piece::Shown(from),
-            Piece::Shown(to),
-            Piece::Shown(from),
+            Filling::Named(pair.cell),
+            Filling::Shown(from),
+            Filling::Shown(to),
+            Filling::Shown(from),
         ],
     );
 }
@@ -365,5 +368,5 @@ fn say_holder(line: &mut Line, holder: &[u8], target: Target<'_>) {
             ", where x is the location whose address is in {} (the tool import finds it by an item 0:{}=x)"
         }
     };
-    line.say_with(sentence, &[Piece::Shown(holder); 2]);
+    line.say_with(sentence, &[Filling::Shown(holder); 2]);
 }

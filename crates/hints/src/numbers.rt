@@ -1,6 +1,6 @@
 //! Numbers in the forms that other languages have; and what is said of one that is too great.
 
-use crate::line::{Line, Piece};
+use crate::line::{Filling, Line};
 use crate::quotes::{first_bytes, is_all_digits, last_bytes};
 use crate::tables::is_one_of;
 use litmus_tokens::{
@@ -44,18 +44,18 @@ pub fn say_over(line: &mut Line, numeral: Numeral<'_>) {
         "{}{}{} is over {}, the greatest value: write that or a smaller one"
     };
     let [sign, base, digits] = spelled(numeral);
-    line.say_with(sentence, &[sign, base, digits, Piece::Number(GREATEST)]);
+    line.say_with(sentence, &[sign, base, digits, Filling::Number(GREATEST)]);
 }
 
 /// A number as it is spelled: its sign, its base and its digits.
-pub fn spelled<'a>(numeral: Numeral<'a>) -> [Piece<'a>; 3] {
+pub fn spelled<'a>(numeral: Numeral<'a>) -> [Filling<'a>; 3] {
     [
-        Piece::Text(if numeral.is_negative { "-" } else { "" }),
-        Piece::Text(if numeral.is_hexadecimal { "0x" } else { "" }),
+        Filling::Text(if numeral.is_negative { "-" } else { "" }),
+        Filling::Text(if numeral.is_hexadecimal { "0x" } else { "" }),
         if numeral.digits.is_empty() {
-            Piece::Number(0)
+            Filling::Number(0)
         } else {
-            Piece::Shown(numeral.digits)
+            Filling::Shown(numeral.digits)
         },
     ]
 }

@@ -8,7 +8,7 @@ use crate::faults::{COMES_LAST, COMMENT, NESTED};
 use crate::headers::has_row_of_cores;
 use crate::items::KEYS;
 use crate::keywords::{is_instruction, near_instruction};
-use crate::line::{Line, Piece};
+use crate::line::{Filling, Line};
 use crate::place::Place;
 use crate::quotes::{
     after_byte, after_last, begins_with_letter, ends_with_name, has, is_all_digits, is_bare,
@@ -142,9 +142,9 @@ pub fn bad_token(line: &mut Line, place: &Place<'_>) {
         return line.say_with(
             "{} has {} bytes: a name has at most {}",
             &[
-                Piece::Named(token),
-                Piece::Number(token.len()),
-                Piece::Number(MAX_NAME),
+                Filling::Named(token),
+                Filling::Number(token.len()),
+                Filling::Number(MAX_NAME),
             ],
         );
     }

@@ -3,7 +3,7 @@
 use crate::c_forms::said_of_access;
 use crate::faults::LEAVE_OUT;
 use crate::keywords::{begins_instruction, is_instruction};
-use crate::line::{Line, Piece};
+use crate::line::{Filling, Line};
 use crate::numbers::{is_of_larger_set, number_in};
 use crate::operands::is_in_brackets;
 use crate::place::Place;
@@ -67,7 +67,7 @@ fn say_unsigned(line: &mut Line, digits: &[u8]) {
             let unsigned = 0u32.wrapping_sub(value);
             line.say_with(
                 sentence,
-                &[Piece::Shown(digits), Piece::Number(unsigned as usize)],
+                &[Filling::Shown(digits), Filling::Number(unsigned as usize)],
             );
             if value <= LEAST && is_of_larger_set(digits) {
                 line.say(", or add --instructions all");

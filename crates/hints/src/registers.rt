@@ -1,6 +1,6 @@
 //! What is said of registers that aren't read.
 
-use crate::line::{Line, Piece};
+use crate::line::{Filling, Line};
 use crate::near::near_word;
 use crate::place::Place;
 use crate::quotes::{
@@ -132,7 +132,7 @@ fn says_near(line: &mut Line, word: &[u8]) -> bool {
     };
     line.say_with(
         "{} is no register: write {}",
-        &[Piece::Named(word), Piece::Text(meant)],
+        &[Filling::Named(word), Filling::Text(meant)],
     );
     true
 }
@@ -154,7 +154,7 @@ pub fn says_percent(line: &mut Line, place: &Place<'_>, after: &[u8]) -> bool {
             } else {
                 "%{}: a register is written without %, after its core and a colon: 0:{}"
             },
-            &[Piece::Shown(name), Piece::Text(written)],
+            &[Filling::Shown(name), Filling::Text(written)],
         );
     }
     true
@@ -212,7 +212,11 @@ fn says_part(line: &mut Line, word: &[u8]) -> bool {
     };
     line.say_with(
         sentence,
-        &[Piece::Named(word), Piece::Text(parent), Piece::Text(parent)],
+        &[
+            Filling::Named(word),
+            Filling::Text(parent),
+            Filling::Text(parent),
+        ],
     );
     true
 }

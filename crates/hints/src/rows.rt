@@ -6,7 +6,7 @@ use crate::faults::COMMENT;
 use crate::forms::says_cell;
 use crate::instructions::{LOOP, STRAIGHT};
 use crate::keywords::{begins_instruction, is_instruction};
-use crate::line::{Line, Piece};
+use crate::line::{Filling, Line};
 use crate::passed::{Limit, after_curly, limit_at};
 use crate::place::Place;
 use crate::prefixes::said_of_prefix;
@@ -43,7 +43,7 @@ pub fn wrong_cells(alloc: Global, line: &mut Line, place: &Place<'_>) -> Result<
     let cores = cores_before(alloc, place)?;
     line.say_with(
         sentence_of_row(place.rest, row, cells > cores),
-        &[Piece::Count(cells, "cell"), Piece::Count(cores, "core")],
+        &[Filling::Count(cells, "cell"), Filling::Count(cores, "core")],
     );
     Ok(())
 }
@@ -249,7 +249,7 @@ pub fn too_large(alloc: Global, line: &mut Line, place: &Place<'_>) -> Result<()
     if length > MAX_TEXT {
         line.say_with(
             "the test has {} bytes: at most {} may stand before the line ====",
-            &[Piece::Number(length), Piece::Number(MAX_TEXT)],
+            &[Filling::Number(length), Filling::Number(MAX_TEXT)],
         );
     } else if matches!(after_gap(place.text), Ok(rest) if rest.len() == place.rest.len()) {
         // Nothing comes before it but white space and comments.

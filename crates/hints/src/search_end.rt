@@ -5,7 +5,7 @@ ghost use Rattle.std.specs.Prelude.{◌≡◌, ◌⊎◌, [], IfOk, string_bytes
 ghost use Rattle.hints.specs.Hint.{IsRunsLine, longest_runs_line};
 
 use crate::cause::Cause;
-use crate::line::{Line, Piece};
+use crate::line::{Filling, Line};
 use scheduler::choices_text;
 use std::alloc::Global;
 use tso_terms::{Choice, NoMemory};
@@ -47,8 +47,8 @@ pub struct SearchEnd {
 /// Of a search that ended at its limit.
 pub fn search_ends(line: &mut Line, end: &SearchEnd) {
     let met = match end.finals {
-        0 => Piece::Text("none"),
-        finals => Piece::Number(finals),
+        0 => Filling::Text("none"),
+        finals => Filling::Number(finals),
     };
     let limit = match (end.is_raisable, end.is_buffered) {
         (true, true) => "the limit of --states: raise it, lower --depth, or ",
@@ -71,11 +71,11 @@ pub fn search_ends(line: &mut Line, end: &SearchEnd) {
     line.say_with(
         "the machine can reach more than {} states, {}{}; {} of the final states {}",
         &[
-            Piece::Number(end.most as usize),
-            Piece::Text(limit),
-            Piece::Text(condition),
+            Filling::Number(end.most as usize),
+            Filling::Text(limit),
+            Filling::Text(condition),
             met,
-            Piece::Text(met_words),
+            Filling::Text(met_words),
         ],
     );
 }

@@ -6,7 +6,7 @@ use crate::c_forms::{COMPILER, is_type, said_of_access, said_of_assembly, told_o
 use crate::calls::{Act, act_of, is_sequential};
 use crate::instructions::{LOOP, STRAIGHT};
 use crate::keywords::is_instruction;
-use crate::line::{Line, Piece};
+use crate::line::{Filling, Line};
 use crate::mnemonics::is_known_name;
 use crate::numbers::number_in;
 use crate::quotes::{
@@ -297,11 +297,11 @@ fn says_compared<'a>(line: &mut Line, statement: &Statement<'a>, call: &Call<'a>
     line.say_with(
         COMPARED,
         &[
-            Piece::Named(statement.cell),
-            Piece::Number(expected as usize),
-            Piece::Number(new as usize),
-            Piece::Shown(place),
-            Piece::Shown(place),
+            Filling::Named(statement.cell),
+            Filling::Number(expected as usize),
+            Filling::Number(new as usize),
+            Filling::Shown(place),
+            Filling::Shown(place),
         ],
     );
     line.say_option();
@@ -331,7 +331,10 @@ fn says_access(
     value: &[u8],
 ) -> bool {
     if matches!(act, Act::Lock) {
-        line.say_with(MUTEX, &[Piece::Named(statement.cell), Piece::Shown(place)]);
+        line.say_with(
+            MUTEX,
+            &[Filling::Named(statement.cell), Filling::Shown(place)],
+        );
         return true;
     }
     let Some(target) = target_of(act, statement.left, place, value) else {
@@ -353,7 +356,7 @@ fn says_access(
     {
         line.say_with(
             ", which then has what {} gets",
-            &[Piece::Shown(statement.left)],
+            &[Filling::Shown(statement.left)],
         );
     }
     if matches!(act, Act::Store | Act::Unlock)

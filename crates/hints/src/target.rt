@@ -1,6 +1,6 @@
 //! The cells that do here what an instruction or a statement of another language does, as a hint writes them.
 
-use crate::line::{Line, Piece};
+use crate::line::{Filling, Line};
 use crate::registers::parent_of;
 use crate::tables::is_one_of;
 
@@ -36,12 +36,12 @@ pub enum Target<'a> {
 
 impl<'a> Target<'a> {
     /// The form of its cells, and what stands in the gaps.
-    fn form(self) -> (&'static str, [Piece<'a>; 6]) {
+    fn form(self) -> (&'static str, [Filling<'a>; 6]) {
         match self.larger_form() {
             Some(larger) => larger,
             None => {
                 let (form, [first, second]) = self.basic_form();
-                let none = Piece::Text("");
+                let none = Filling::Text("");
                 (form, [first, second, none, none, none, none])
             }
         }
@@ -68,22 +68,22 @@ impl<'a> Target<'a> {
     }
 
     /// The form where an instruction of the larger set is in it.
-    fn larger_form(self) -> Option<(&'static str, [Piece<'a>; 6])> {
-        let none = Piece::Text("");
-        let (form, pieces) = match self {
+    fn larger_form(self) -> Option<(&'static str, [Filling<'a>; 6])> {
+        let none = Filling::Text("");
+        let (form, fillings) = match self {
             Target::CompareExchange(loc, reg) => (
                 "LOCK CMPXCHG [{}],{}",
-                [Piece::Shown(loc), register(reg), none, none, none, none],
+                [Filling::Shown(loc), register(reg), none, none, none, none],
             ),
             Target::CompareExchangeNumber(loc, value) => (
                 "MOV EBX,${}, and in the next cell LOCK CMPXCHG [{}],EBX, with a free register for EBX",
-                [number(value), Piece::Shown(loc), none, none, none, none],
+                [number(value), Filling::Shown(loc), none, none, none, none],
             ),
             Target::LockNumber(name, loc, value) => (
                 "LOCK {} [{}],${}",
                 [
-                    Piece::Text(name),
-                    Piece::Shown(loc),
+                    Filling::Text(name),
+                    Filling::Shown(loc),
                     number(value),
                     none,
                     none,
@@ -93,8 +93,8 @@ impl<'a> Target<'a> {
             Target::LockRegister(name, loc, reg) => (
                 "LOCK {} [{}],{}",
                 [
-                    Piece::Text(name),
-                    Piece::Shown(loc),
+                    Filling::Text(name),
+                    Filling::Shown(loc),
                     register(reg),
                     none,
                     none,
@@ -103,14 +103,21 @@ impl<'a> Target<'a> {
             ),
             Target::LockAlone(name, loc) => (
                 "LOCK {} [{}]",
-                [Piece::Text(name), Piece::Shown(loc), none, none, none, none],
+                [
+                    Filling::Text(name),
+                    Filling::Shown(loc),
+                    none,
+                    none,
+                    none,
+                    none,
+                ],
             ),
             Target::LockLocation(name, to, from) => (
                 "MOV EAX,[{}], and in the next cell LOCK {} [{}],EAX, with a free register for EAX",
                 [
-                    Piece::Shown(from),
-                    Piece::Text(name),
-                    Piece::Shown(to),
+                    Filling::Shown(from),
+                    Filling::Text(name),
+                    Filling::Shown(to),
                     none,
                     none,
                     none,
@@ -119,7 +126,7 @@ impl<'a> Target<'a> {
             Target::CombineNumber(name, reg, value) => (
                 "{} {},${}",
                 [
-                    Piece::Text(name),
+                    Filling::Text(name),
                     register(reg),
                     number(value),
                     none,
@@ -130,7 +137,7 @@ impl<'a> Target<'a> {
             Target::CombineRegister(name, reg, other) => (
                 "{} {},{}",
                 [
-                    Piece::Text(name),
+                    Filling::Text(name),
                     register(reg),
                     register(other),
                     none,
@@ -144,8 +151,8 @@ impl<'a> Target<'a> {
                     "MOV {},[{}], and in the next cell {} {},{}, with a free register for {}",
                     [
                         free,
-                        Piece::Shown(loc),
-                        Piece::Text(name),
+                        Filling::Shown(loc),
+                        Filling::Text(name),
                         register(reg),
                         free,
                         free,
@@ -154,30 +161,36 @@ impl<'a> Target<'a> {
             }
             Target::Change(name, reg) => (
                 "{} {}",
-                [Piece::Text(name), register(reg), none, none, none, none],
+                [Filling::Text(name), register(reg), none, none, none, none],
             ),
             _ => return None,
         };
-        Some((form, pieces))
+        Some((form, fillings))
     }
 
-    fn basic_form(self) -> (&'static str, [Piece<'a>; 2]) {
-        let none = Piece::Text("");
+    fn basic_form(self) -> (&'static str, [Filling<'a>; 2]) {
+        let none = Filling::Text("");
         match self {
-            Target::StoreNumber(loc, value) => ("MOV [{}],${}", [Piece::Shown(loc), number(value)]),
-            Target::StoreRegister(loc, reg) => ("MOV [{}],{}", [Piece::Shown(loc), register(reg)]),
-            Target::Load(reg, loc) => ("MOV {},[{}]", [register(reg), Piece::Shown(loc)]),
+            Target::StoreNumber(loc, value) => (
+                "MOV [{}],${}",
+                [Filling::Shown(loc), number(value)],
+            ),
+            Target::StoreRegister(loc, reg) => (
+                "MOV [{}],{}",
+                [Filling::Shown(loc), register(reg)],
+            ),
+            Target::Load(reg, loc) => ("MOV {},[{}]", [register(reg), Filling::Shown(loc)]),
             Target::SetNumber(reg, value) => ("MOV {},${}", [register(reg), number(value)]),
             Target::SetRegister(reg, other) => ("MOV {},{}", [register(reg), register(other)]),
-            Target::Exchange(loc, reg) => ("XCHG [{}],{}", [Piece::Shown(loc), register(reg)]),
-            Target::Add(loc, reg) => ("LOCK XADD [{}],{}", [Piece::Shown(loc), register(reg)]),
+            Target::Exchange(loc, reg) => ("XCHG [{}],{}", [Filling::Shown(loc), register(reg)]),
+            Target::Add(loc, reg) => ("LOCK XADD [{}],{}", [Filling::Shown(loc), register(reg)]),
             Target::ExchangeNumber(loc, value) => (
                 "MOV EAX,${}, and in the next cell XCHG [{}],EAX, with a free register for EAX",
-                [number(value), Piece::Shown(loc)],
+                [number(value), Filling::Shown(loc)],
             ),
             Target::AddNumber(loc, value) => (
                 "MOV EAX,${}, and in the next cell LOCK XADD [{}],EAX, with a free register for EAX",
-                [number(value), Piece::Shown(loc)],
+                [number(value), Filling::Shown(loc)],
             ),
             _ => ("MFENCE", [none, none]),
         }
@@ -224,10 +237,10 @@ impl<'a> Target<'a> {
 }
 
 /// A register that is read, and isn't this one.
-fn free_beside<'a>(reg: &[u8]) -> Piece<'a> {
+fn free_beside<'a>(reg: &[u8]) -> Filling<'a> {
     match parent_of(reg) {
-        Some(parent) if parent == "EBX" => Piece::Text("EAX"),
-        _ => Piece::Text("EBX"),
+        Some(parent) if parent == "EBX" => Filling::Text("EAX"),
+        _ => Filling::Text("EBX"),
     }
 }
 
@@ -267,8 +280,8 @@ pub fn say_cells(line: &mut Line, target: Target<'_>) {
     let (first, second) = target.registers();
     let for_first = written_for(first, second);
     let for_second = written_for(second, for_first);
-    let (form, pieces) = target.with_registers(for_first, for_second).form();
-    line.say_with(form, &pieces);
+    let (form, fillings) = target.with_registers(for_first, for_second).form();
+    line.say_with(form, &fillings);
 }
 
 /// Says which registers are written for others.
@@ -289,12 +302,12 @@ pub fn say_registers(line: &mut Line, target: Target<'_>) {
 }
 
 /// These bytes as what stands in gaps.
-fn shown(named: [&[u8]; 4]) -> [Piece<'_>; 4] {
+fn shown(named: [&[u8]; 4]) -> [Filling<'_>; 4] {
     [
-        Piece::Shown(named[0]),
-        Piece::Shown(named[1]),
-        Piece::Shown(named[2]),
-        Piece::Shown(named[3]),
+        Filling::Shown(named[0]),
+        Filling::Shown(named[1]),
+        Filling::Shown(named[2]),
+        Filling::Shown(named[3]),
     ]
 }
 
@@ -302,18 +315,18 @@ fn shown(named: [&[u8]; 4]) -> [Piece<'_>; 4] {
 pub fn say_copy(line: &mut Line, to: &[u8], from: &[u8]) {
     line.say_with(
         "MOV EAX,[{}], and in the next cell MOV [{}],EAX, with a free register for EAX",
-        &[Piece::Shown(from), Piece::Shown(to)],
+        &[Filling::Shown(from), Filling::Shown(to)],
     );
 }
 
 /// A register by the name that is read, or by its own if it has none.
-fn register(name: &[u8]) -> Piece<'_> {
+fn register(name: &[u8]) -> Filling<'_> {
     match parent_of(name) {
-        Some(parent) => Piece::Text(parent),
-        None => Piece::Shown(name),
+        Some(parent) => Filling::Text(parent),
+        None => Filling::Shown(name),
     }
 }
 
-fn number<'a>(value: u32) -> Piece<'a> {
-    Piece::Number(value as usize)
+fn number<'a>(value: u32) -> Filling<'a> {
+    Filling::Number(value as usize)
 }

@@ -1,7 +1,7 @@
 //! What is said of a run or a search that didn't end, and of a sweep that saw too little: what to ask for instead. A sweep
 //! that never saw a state doesn't show that there is none.
 
-use crate::line::{Line, Piece};
+use crate::line::{Filling, Line};
 use scheduler::Stalls;
 use tso_terms::{Choice, Core, Instr, Stall, Test};
 
@@ -23,8 +23,8 @@ pub fn never_seen(line: &mut Line, runs: u32, depth: u8) {
     } else {
         "Never tells of {} only: outcomes --depth {} tells of all runs"
     };
-    let runs = Piece::Count(runs as usize, "run");
-    line.say_with(sentence, &[runs, Piece::Number(usize::from(depth))]);
+    let runs = Filling::Count(runs as usize, "run");
+    line.say_with(sentence, &[runs, Filling::Number(usize::from(depth))]);
 }
 
 /// Of a run under choices that are too few, of which these stalled, of a test that takes at least so many steps and
@@ -37,7 +37,10 @@ pub fn choices_end(line: &mut Line, steps: usize, drains: usize, stalls: &Stalls
     };
     line.say_with(
         sentence,
-        &[Piece::Count(steps, "step"), Piece::Count(drains, "drain")],
+        &[
+            Filling::Count(steps, "step"),
+            Filling::Count(drains, "drain"),
+        ],
     );
     if stalls.count() == 0 {
         return;
@@ -68,8 +71,8 @@ fn choice_stalled(line: &mut Line, choice: Choice, reason: Stall) {
         Stall::Empty => "{}{} Empty (no store)",
         Stall::Bus => "{}{} Bus (held)",
     };
-    let core = Piece::Number(usize::from(core.0));
-    line.say_with(sentence, &[core, Piece::Text(letter), core]);
+    let core = Filling::Number(usize::from(core.0));
+    line.say_with(sentence, &[core, Filling::Text(letter), core]);
 }
 
 /// How many instructions the cores have, or how many plain stores alone.

@@ -5,7 +5,7 @@ ghost use Rattle.std.specs.Prelude.{◌<◌, IfSome, length};
 
 use crate::body::is_name;
 use crate::cause::Cause;
-use crate::line::{Line, Piece};
+use crate::line::{Filling, Line};
 use crate::place::Place;
 use crate::quotes::first_bytes;
 use litmus_tokens::{Symbol, Token, is_symbol};
@@ -19,7 +19,10 @@ pub const UNUSED: &str =
 pub fn say_named(line: &mut Line, sentence: &str, input: &[u8], first: usize, length: usize) {
     let place = Place::new(input, input.len().saturating_sub(first));
     let name = first_bytes(place.rest, length);
-    line.say_with(sentence, &[Piece::Number(place.line()), Piece::Named(name)]);
+    line.say_with(
+        sentence,
+        &[Filling::Number(place.line()), Filling::Named(name)],
+    );
 }
 
 /// The location of a test that has this name.

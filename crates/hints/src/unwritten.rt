@@ -4,7 +4,7 @@
 ghost use Rattle.std.specs.Prelude.{◌<◌, IfSome, length};
 
 use crate::cause::Cause;
-use crate::line::{Line, Piece};
+use crate::line::{Filling, Line};
 use crate::place::Place;
 use crate::quotes::first_bytes;
 use crate::unused::location_named;
@@ -14,15 +14,15 @@ use tso_terms::{Action, Change, Core, Loc, Prop, Reg, Test};
 /// Says that a register, which comes after so many bytes of an input, keeps this value.
 pub fn keeps_register(line: &mut Line, input: &[u8], first: usize, named: (Core, Reg), value: u32) {
     let (core, reg) = named;
-    let core = Piece::Number(usize::from(core.0));
+    let core = Filling::Number(usize::from(core.0));
     line.say_with(
         "line {}: the condition names {}:{}, which no instruction of core {} writes: it stays {}",
         &[
-            Piece::Number(place_in(input, first).line()),
+            Filling::Number(place_in(input, first).line()),
             core,
-            Piece::Text(reg.name()),
+            Filling::Text(reg.name()),
             core,
-            Piece::Number(value as usize),
+            Filling::Number(value as usize),
         ],
     );
 }
@@ -33,9 +33,9 @@ pub fn keeps_location(line: &mut Line, input: &[u8], first: usize, length: usize
     line.say_with(
         "line {}: the condition names {}, which no instruction writes: it stays {}",
         &[
-            Piece::Number(place.line()),
-            Piece::Named(first_bytes(place.rest, length)),
-            Piece::Number(value as usize),
+            Filling::Number(place.line()),
+            Filling::Named(first_bytes(place.rest, length)),
+            Filling::Number(value as usize),
         ],
     );
 }

@@ -6,7 +6,7 @@ use crate::faults::{COMMENT, NO_VALUE, says_digit_first};
 use crate::instructions::WORDS;
 use crate::items::is_no_number;
 use crate::keywords::begins_instruction;
-use crate::line::{Line, Piece};
+use crate::line::{Filling, Line};
 use crate::mnemonics::larger_of;
 use crate::numbers::number_in;
 use crate::place::Place;
@@ -71,9 +71,9 @@ fn says_parted(line: &mut Line, operands: &[Token<'_>]) -> bool {
             line.say_with(
                 "{} {}: write {}, without a space",
                 &[
-                    Piece::Shown(first),
-                    Piece::Shown(second),
-                    Piece::Text(meant),
+                    Filling::Shown(first),
+                    Filling::Shown(second),
+                    Filling::Text(meant),
                 ],
             );
             return true;

@@ -23,13 +23,13 @@ pub struct Proposal<'t> {
 
 /// A part on a sheet: where it begins and ends, and the lemma that it shows; `NONE` for the tree.
 #[derive(Clone, Copy)]
-struct Piece {
+struct Section {
     lemma: usize,
     from: usize,
     to: usize,
 }
 
-const NO_PIECE: Piece = Piece {
+const NO_SECTION: Section = Section {
     lemma: NONE,
     from: 0,
     to: 0,
@@ -43,12 +43,12 @@ fn facts_of(hunt: &Hunt, lemma: usize, facts: &mut List<Fact>) {
     }
 }
 
-fn print_piece(
+fn print_section(
     setting: &Setting<'_>,
     problem: &Problem<'_>,
     hunt: &Hunt,
     sheet: &mut Sheet,
-    pieces: &mut List<Piece>,
+    sections: &mut List<Section>,
     lemma: usize,
     node: usize,
 ) -> bool {
@@ -57,7 +57,7 @@ fn print_piece(
     let from = sheet.nodes.len();
     let is_printed = print_part(setting, problem, hunt, sheet, node, &facts, lemma);
     sheet.nodes.is_refused |= facts.is_refused;
-    pieces.push(Piece {
+    sections.push(Section {
         lemma,
         from,
         to: sheet.nodes.len(),
@@ -71,20 +71,20 @@ fn print_all(
     problem: &Problem<'_>,
     hunt: &Hunt,
     sheet: &mut Sheet,
-    pieces: &mut List<Piece>,
+    sections: &mut List<Section>,
     node: usize,
 ) -> bool {
     sheet.nodes.cut(0);
     sheet.events.cut(0);
-    pieces.cut(0);
+    sections.cut(0);
     sheet.uses.items.fill(0);
-    if !print_piece(setting, problem, hunt, sheet, pieces, NONE, node) {
+    if !print_section(setting, problem, hunt, sheet, sections, NONE, node) {
         return false;
     }
     for lemma in (0..hunt.lemmas.lemmas.len()).rev() {
         let is_apart = (sheet.uses.at(lemma) > 0) & !sheet.is_inside.at(lemma);
         let shown = hunt.lemmas.lemmas.at(lemma).node;
-        if is_apart && !print_piece(setting, problem, hunt, sheet, pieces, lemma, shown) {
+        if is_apart && !print_section(setting, problem, hunt, sheet, sections, lemma, shown) {
             return false;
         }
     }
@@ -103,12 +103,12 @@ fn put_inside(sheet: &mut Sheet) -> bool {
     is_changed
 }
 
-/// How many lines all pieces have, each lemma one more than its part.
-fn all_lines(setting: &Setting<'_>, sheet: &Sheet, pieces: &List<Piece>) -> usize {
+/// How many lines all sections have, each lemma one more than its part.
+fn all_lines(setting: &Setting<'_>, sheet: &Sheet, sections: &List<Section>) -> usize {
     let mut lines = 0usize;
-    for i in 0..pieces.len() {
-        let piece = pieces.at(i);
-        let part = count_lines(setting.alloc, sheet, piece.from, piece.to);
+    for i in 0..sections.len() {
+        let section = sections.at(i);
+        let part = count_lines(setting.alloc, sheet, section.from, section.to);
         lines = lines.wrapping_add(part).wrapping_add(1);
     }
     lines.wrapping_sub(1)
@@ -120,30 +120,30 @@ fn tell<'t>(
     setting: &Setting<'t>,
     hunt: &Hunt,
     sheet: &Sheet,
-    pieces: &List<Piece>,
+    sections: &List<Section>,
 ) -> Result<Proposal<'t>, NoMemory> {
-    let count = pieces.len();
+    let count = sections.len();
     let mut numbers = List::new(alloc, hunt.lemmas.lemmas.len(), NONE);
     let mut facts = List::new(alloc, 0, NO_FACT);
     let mut lemmas = Vec::new(alloc);
     for i in (1..count).rev() {
-        let piece = pieces.at(i);
-        facts_of(hunt, piece.lemma, &mut facts);
+        let section = sections.at(i);
+        facts_of(hunt, section.lemma, &mut facts);
         let mut told = Vec::new(alloc);
         add_told(setting, &facts, &mut told)?;
-        let tree = told_nodes(alloc, setting, sheet, &numbers, piece.from, piece.to)?;
-        numbers.put(piece.lemma, lemmas.len());
+        let tree = told_nodes(alloc, setting, sheet, &numbers, section.from, section.to)?;
+        numbers.put(section.lemma, lemmas.len());
         lemmas.push(Lemma { facts: told, tree })?;
     }
-    let piece = pieces.at(0);
-    let tree = told_nodes(alloc, setting, sheet, &numbers, piece.from, piece.to)?;
+    let section = sections.at(0);
+    let tree = told_nodes(alloc, setting, sheet, &numbers, section.from, section.to)?;
     if numbers.is_refused | facts.is_refused {
         return Err(NoMemory);
     }
     Ok(Proposal {
         lemmas,
         tree,
-        lines: all_lines(setting, sheet, pieces),
+        lines: all_lines(setting, sheet, sections),
     })
 }
 
@@ -161,18 +161,18 @@ pub fn propose<'t>(
     node: usize,
 ) -> Result<Option<Proposal<'t>>, NoMemory> {
     let mut sheet = Sheet::new(alloc, setting, hunt.lemmas.lemmas.len());
-    let mut pieces = List::new(alloc, 0, NO_PIECE);
+    let mut sections = List::new(alloc, 0, NO_SECTION);
     let mut best = None;
     for _print in 0..MOST_PRINTS {
-        if !print_all(setting, problem, hunt, &mut sheet, &mut pieces, node) {
+        if !print_all(setting, problem, hunt, &mut sheet, &mut sections, node) {
             break;
         }
-        best = Some(tell(alloc, setting, hunt, &sheet, &pieces)?);
+        best = Some(tell(alloc, setting, hunt, &sheet, &sections)?);
         if !put_inside(&mut sheet) {
             break;
         }
     }
-    if sheet.is_refused() | pieces.is_refused {
+    if sheet.is_refused() | sections.is_refused {
         return Err(NoMemory);
     }
     Ok(best)

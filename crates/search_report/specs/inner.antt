@@ -4,7 +4,7 @@ pub mod WrittenOutcomes
 pub mod Hidden
 pub mod Views
 pub mod ShownExecutions
-pub mod Pieces
+pub mod Contents
 pub mod Standing
 pub mod LineParts
 pub mod LineViews

@@ -10,10 +10,10 @@ ghost use Rattle.search_report.specs.ShownText.{fact_text};
 ghost use Rattle.search_report.specs.inner.ShownViews.{shown_closing_of, shown_fact_of};
 
 use crate::asked::{asked_value, model_name};
+use crate::contents::Content;
+use crate::contents_as_json::content_value;
 use crate::items::{Valued, Written, array_of};
 use crate::lines::{Answered, Line, leaves_in};
-use crate::pieces::Piece;
-use crate::pieces_json::piece_value;
 use crate::shown::{Closing, Edge, ShownFact};
 use crate::shown_text::text_of;
 use crate::verdict::outcomes_verdict_value;
@@ -66,15 +66,21 @@ impl Valued for Closing {
             Closing::Cycle(edges) => cycle_closing(alloc, test, "cycle", edges),
             Closing::Between(read, between, write) => {
                 Object::new(alloc)
-                    .member("between", piece_value(alloc, test, Piece::Event(between)))
-                    .member("read", piece_value(alloc, test, Piece::Event(read)))
+                    .member(
+                        "between",
+                        content_value(alloc, test, Content::Event(between)),
+                    )
+                    .member("read", content_value(alloc, test, Content::Event(read)))
                     .member("step", word_value(alloc, "between"))
-                    .member("write", piece_value(alloc, test, Piece::Event(write)))
+                    .member("write", content_value(alloc, test, Content::Event(write)))
                     .value()
             }
             Closing::False(places) => {
                 Object::new(alloc)
-                    .member("places", piece_value(alloc, test, Piece::Places(places)))
+                    .member(
+                        "places",
+                        content_value(alloc, test, Content::Places(places)),
+                    )
                     .member("step", word_value(alloc, "false"))
                     .value()
             }

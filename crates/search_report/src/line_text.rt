@@ -7,14 +7,14 @@ ghost use Rattle.std.specs.Option.{option_map};
 ghost use Rattle.search_report.specs.inner.ShownViews.{shown_closing_of};
 
 use crate::asked::{model_name, write_asked};
+use crate::contents::Content;
+use crate::contents_as_text::write_shown;
 use crate::items::{Written, write_each, write_separated};
 use crate::lines::{Answered, Line, leaves_in};
-use crate::pieces::Piece;
-use crate::pieces_text::write_piece;
 use crate::verdict::write_verdict;
 use refutation_laws::Model;
 use std::alloc::Global;
-use tso_report::pieces::{Piece as Printed, write_characters, write_pieces};
+use tso_report::pieces::{Piece, write_characters, write_pieces};
 use tso_terms::{NoMemory, Test};
 
 /// The word of a question, if it has one.
@@ -24,7 +24,7 @@ fn write_question(text: &mut String, question: &str) -> Result<(), NoMemory>
     if question.is_empty() {
         return Ok(());
     }
-    write_pieces(text, &[Printed::Text(question), Printed::Text(" ")])
+    write_pieces(text, &[Piece::Text(question), Piece::Text(" ")])
 }
 
 /// `P0:1 R x=0 from initial: Cycle ..`
@@ -55,29 +55,29 @@ fn write_content(text: &mut String, test: &Test, line: &Line) -> Result<(), NoMe
         }
         Line::Never(number, facts) => {
             let head = [
-                Printed::Text("Lemma "),
-                Printed::Number(*number as u64),
-                Printed::Text(" "),
+                Piece::Text("Lemma "),
+                Piece::Number(*number as u64),
+                Piece::Text(" "),
             ];
             write_pieces(text, &head)?;
             facts.write(text, test)
         }
         Line::Case(depth, answered) => {
-            write_piece(text, test, Piece::Depth(*depth))?;
+            write_shown(text, test, Content::Depth(*depth))?;
             write_characters(text, "Case ")?;
             answered.write(text, test)
         }
         Line::So(depth, answered) => {
-            write_piece(text, test, Piece::Depth(*depth))?;
+            write_shown(text, test, Content::Depth(*depth))?;
             write_characters(text, "So ")?;
             answered.write(text, test)
         }
         Line::Leaf(depth, closing) => {
-            write_piece(text, test, Piece::Depth(*depth))?;
+            write_shown(text, test, Content::Depth(*depth))?;
             closing.write(text, test)
         }
         Line::Endcases(depth) => {
-            write_piece(text, test, Piece::Depth(*depth))?;
+            write_shown(text, test, Content::Depth(*depth))?;
             write_characters(text, "Endcases")
         }
     }
@@ -105,13 +105,13 @@ pub fn never_text(
     ensures { IfOk result (λ text. string_bytes text ≡ spec.never_lines model test.now (map reason_line_of lines.now)) }
 {
     let head = [
-        Printed::Text("Test "),
-        Printed::Text(test.name()),
-        Printed::Text("\nNever "),
-        Printed::Text(model_name(model)),
-        Printed::Text(" leaves="),
-        Printed::Number(leaves_in(lines) as u64),
-        Printed::Text("\n"),
+        Piece::Text("Test "),
+        Piece::Text(test.name()),
+        Piece::Text("\nNever "),
+        Piece::Text(model_name(model)),
+        Piece::Text(" leaves="),
+        Piece::Number(leaves_in(lines) as u64),
+        Piece::Text("\n"),
     ];
     let mut text = String::new(alloc);
     write_pieces(&mut text, &head)?;

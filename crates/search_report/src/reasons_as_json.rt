@@ -7,16 +7,16 @@ ghost use Rattle.relational_model.specs.Candidates.{Candidate};
 ghost use Rattle.tso_report.specs.Tally.{looked_at};
 ghost use Rattle.tso_report.specs.inner.Tally.{NameExists};
 ghost use Rattle.search_report.specs.ReasonJson as spec;
-ghost use Rattle.search_report.specs.inner.Pieces.{with_fields};
+ghost use Rattle.search_report.specs.inner.Contents.{with_fields};
 ghost use Rattle.search_report.specs.inner.ShownExecutions.{IsShown, reading_value, coherence_members_by};
 
 use crate::allowed::Shown;
 use crate::asked::{asked_value, model_name};
+use crate::contents::Field;
+use crate::contents_as_json::{content_value, writes_value};
 use crate::fields::reading_fields;
 use crate::items::{Valued, array_of};
 use crate::outcomes_as_json::{choices_value, values_value};
-use crate::pieces::Field;
-use crate::pieces_json::{piece_value, writes_value};
 use crate::readings::Reading;
 use crate::reasons_as_text::has_write;
 use crate::verdict::outcomes_verdict_value;
@@ -73,8 +73,8 @@ fn object_of(alloc: Global, test: &Test, fields: &[Field<'_>]) -> Result<Value, 
     ensures { IfOk result (λ value. view value ≡ object (with_fields test.now fields.now no_members)) }
 {
     let mut object = Object::new(alloc);
-    for (_before, key, piece) in fields {
-        object = object.member(key, piece_value(alloc, test, *piece));
+    for (_before, key, content) in fields {
+        object = object.member(key, content_value(alloc, test, *content));
     }
     object.value()
 }

@@ -7,22 +7,22 @@ ghost use Rattle.relational_model.specs.Candidates.{Candidate};
 ghost use Rattle.tso_report.specs.Tally.{looked_at};
 ghost use Rattle.tso_report.specs.inner.Tally.{NameExists};
 ghost use Rattle.search_report.specs.ReasonText as spec;
-ghost use Rattle.search_report.specs.inner.Pieces.{field_text};
+ghost use Rattle.search_report.specs.inner.Contents.{field_text};
 ghost use Rattle.search_report.specs.inner.ShownExecutions.{IsShown, reading_line, coherence_by};
 
 use crate::allowed::Shown;
 use crate::asked::{model_name, write_asked};
+use crate::contents::Field;
+use crate::contents_as_text::{write_shown, write_writes};
 use crate::fields::reading_fields;
 use crate::items::{Written, write_each};
-use crate::pieces::Field;
-use crate::pieces_text::{write_piece, write_writes};
 use crate::readings::Reading;
 use crate::verdict::write_verdict;
 use refutation_laws::Model;
 use refutations::events::writes_to;
 use scheduler::write_after;
 use std::alloc::Global;
-use tso_report::pieces::{Piece as Printed, write_characters, write_pieces};
+use tso_report::pieces::{Piece, write_characters, write_pieces};
 use tso_report::printed_values::write_values;
 use tso_terms::{Entry, Loc, NoMemory, Test};
 
@@ -58,11 +58,11 @@ fn write_allowed(
         → string_bytes text.new ≡ string_bytes text.old ++ spec.allowed_text model test.now c shown.now.choices.now) }
 {
     let head = [
-        Printed::Text("Test "),
-        Printed::Text(test.name()),
-        Printed::Text("\nAllowed "),
-        Printed::Text(model_name(model)),
-        Printed::Text("\n"),
+        Piece::Text("Test "),
+        Piece::Text(test.name()),
+        Piece::Text("\nAllowed "),
+        Piece::Text(model_name(model)),
+        Piece::Text("\n"),
     ];
     write_pieces(text, &head)?;
     write_asked(text, test)?;
@@ -83,22 +83,22 @@ pub fn unfinished_text(alloc: Global, limit: u32) -> Result<String, NoMemory>
     ensures { IfOk result (λ text. string_bytes text ≡ spec.unfinished_reason_line limit) }
 {
     let pieces = [
-        Printed::Text("Unfinished cases="),
-        Printed::Number(limit as u64),
-        Printed::Text("\n"),
+        Piece::Text("Unfinished cases="),
+        Piece::Number(limit as u64),
+        Piece::Text("\n"),
     ];
     let mut text = String::new(alloc);
     write_pieces(&mut text, &pieces)?;
     Ok(text)
 }
 
-/// Adds a line: each piece after what comes before it.
+/// Adds a line: what is shown, each time after what comes before it.
 fn write_line(text: &mut String, test: &Test, fields: &[Field<'_>]) -> Result<(), NoMemory>
     ensures { OnOk result (string_bytes text.new ≡ string_bytes text.old ++ (flat_map (field_text test.now) fields.now ++ (10 ∷ []))) }
 {
-    for (before, _key, piece) in fields {
+    for (before, _key, content) in fields {
         write_characters(text, before)?;
-        write_piece(text, test, *piece)?;
+        write_shown(text, test, *content)?;
     }
     write_characters(text, "\n")
 }
@@ -119,8 +119,8 @@ fn write_coherence(text: &mut String, test: &Test, order: &[Entry]) -> Result<()
         let loc = Loc(number);
         if has_write(order, loc) {
             let head = [
-                Printed::Text("Coherence "),
-                Printed::Text(test.location_name(loc)),
+                Piece::Text("Coherence "),
+                Piece::Text(test.location_name(loc)),
             ];
             write_pieces(text, &head)?;
             write_writes(text, test, order, loc)?;

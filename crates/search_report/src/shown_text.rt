@@ -8,14 +8,14 @@ ghost use Rattle.search_report.specs.ShownText as spec;
 ghost use Rattle.search_report.specs.inner.ShownViews.{shown_closing_of, shown_fact_of, subject_of};
 ghost use Rattle.search_report.specs.inner.LineViews.{shown_facts_of};
 
+use crate::contents::Content;
+use crate::contents_as_text::write_shown;
 use crate::items::{Written, write_separated};
 use crate::keys::write_key;
-use crate::pieces::Piece;
-use crate::pieces_text::write_piece;
 use crate::shown::{Closing, Event, ShownFact, Subject};
 use std::alloc::Global;
 use tso_report::named::Named;
-use tso_report::pieces::{Piece as Printed, write_characters, write_pieces};
+use tso_report::pieces::{Piece, write_characters, write_pieces};
 use tso_terms::{NoMemory, Prop, Test};
 
 // ---- propositions
@@ -25,10 +25,7 @@ fn write_value(text: &mut String, value: u32, truth: bool) -> Result<(), NoMemor
     ensures { OnOk result (string_bytes text.new ≡ string_bytes text.old ++ claims.value_text value truth) }
 {
     let before = if truth { "=" } else { " not " };
-    write_pieces(
-        text,
-        &[Printed::Text(before), Printed::Number(value as u64)],
-    )
+    write_pieces(text, &[Piece::Text(before), Piece::Number(value as u64)])
 }
 
 /// `0:EAX=1`, or `x not 1`
@@ -50,7 +47,7 @@ fn write_claim(text: &mut String, test: &Test, prop: &Prop) -> Result<(), NoMemo
     ensures { OnOk result (string_bytes text.new ≡ string_bytes text.old ++ claims.claim_text test.now (claim_of prop.now)) }
 {
     match prop {
-        Prop::Truth(truth) => write_pieces(text, &[Printed::Truth(*truth)]),
+        Prop::Truth(truth) => write_pieces(text, &[Piece::Truth(*truth)]),
         Prop::RegIs(core, reg, value) => {
             write_atom(text, test, Named::Register(*core, *reg), *value, true)
         }
@@ -106,7 +103,7 @@ pub fn holds_text(alloc: Global, test: &Test, prop: &Prop, truth: bool) -> Resul
 fn write_event(text: &mut String, test: &Test, event: &Event) -> Result<(), NoMemory>
     ensures { OnOk result (string_bytes text.new ≡ string_bytes text.old ++ event_text test.now event.now) }
 {
-    write_piece(text, test, Piece::Event(event))
+    write_shown(text, test, Content::Event(event))
 }
 
 fn not_text(truth: bool) -> &'static str
@@ -181,11 +178,11 @@ impl Written for Closing {
         match self {
             Closing::Uniproc(edges) => {
                 write_characters(text, "Uniproc")?;
-                write_piece(text, test, Piece::Cycle(edges))
+                write_shown(text, test, Content::Cycle(edges))
             }
             Closing::Cycle(edges) => {
                 write_characters(text, "Cycle")?;
-                write_piece(text, test, Piece::Cycle(edges))
+                write_shown(text, test, Content::Cycle(edges))
             }
             Closing::Between(read, between, write) => {
                 write_characters(text, "Between ")?;
@@ -197,23 +194,19 @@ impl Written for Closing {
             }
             Closing::False(places) => {
                 write_characters(text, "False")?;
-                write_piece(text, test, Piece::Places(places))
+                write_shown(text, test, Content::Places(places))
             }
             Closing::NoAnswer(kind, subject) => {
                 write_pieces(
                     text,
-                    &[
-                        Printed::Text("No "),
-                        Printed::Text(kind),
-                        Printed::Text(" "),
-                    ],
+                    &[Piece::Text("No "), Piece::Text(kind), Piece::Text(" ")],
                 )?;
                 subject.write(text, test)
             }
             Closing::ByLemma(number) => {
                 write_pieces(
                     text,
-                    &[Printed::Text("By lemma "), Printed::Number(*number as u64)],
+                    &[Piece::Text("By lemma "), Piece::Number(*number as u64)],
                 )
             }
         }

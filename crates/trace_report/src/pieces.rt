@@ -10,7 +10,7 @@ use tso_terms::NoMemory;
 
 /// A piece of a line.
 #[derive(Clone, Copy)]
-pub enum Piece<'a> {
+pub enum LinePart<'a> {
     /// These characters.
     Word(&'a str),
     /// A number.
@@ -20,13 +20,13 @@ pub enum Piece<'a> {
 /// Adds pieces to a text, one after the other.
 ///
 /// Errors: out of memory only; the text may have grown then.
-pub fn write_pieces(text: &mut String, pieces: &[Piece<'_>]) -> Result<(), NoMemory>
+pub fn write_pieces(text: &mut String, pieces: &[LinePart<'_>]) -> Result<(), NoMemory>
     ensures { OnOk result (string_bytes text.new ≡ string_bytes text.old ++ flat_map trace_piece pieces.now) }
 {
     for piece in pieces {
         match piece {
-            Piece::Word(word) => text.push_str(word)?,
-            Piece::Number(number) => write_number(text, *number)?,
+            LinePart::Word(word) => text.push_str(word)?,
+            LinePart::Number(number) => write_number(text, *number)?,
         }
     }
     Ok(())

@@ -14,7 +14,7 @@ ghost use Rattle.trace_report.specs.Known.{IsLine, IsAt, StepNamesExist};
 ghost use Rattle.trace_report.specs.Stalls.{stall_line};
 
 use crate::names::{access_name, request_name, stall_name, state_name};
-use crate::pieces::{Piece, write_number, write_pieces};
+use crate::pieces::{LinePart, write_number, write_pieces};
 use crate::step::{Given, LineRequest, Moved, StateChange, Step, core_of};
 use order_builder::write_entry;
 use snoop_bus::AccessKind;
@@ -26,7 +26,7 @@ use tso_terms::{Choice, Core, Entry, Loc, NoMemory, Outcome, Stall, Test};
 pub fn write_start(text: &mut String) -> Result<(), NoMemory>
     ensures { OnOk result (string_bytes text.new ≡ string_bytes text.old ++ line (codes "Trace")) }
 {
-    write_pieces(text, &[Piece::Word("Trace\n")])
+    write_pieces(text, &[LinePart::Word("Trace\n")])
 }
 
 /// Writes the last line of a trace of so many steps, `Endtrace 6`.
@@ -36,9 +36,9 @@ pub fn write_end(text: &mut String, count: usize) -> Result<(), NoMemory>
     ensures { OnOk result (string_bytes text.new ≡ string_bytes text.old ++ end_line count) }
 {
     let pieces = [
-        Piece::Word("Endtrace "),
-        Piece::Number(count),
-        Piece::Word("\n"),
+        LinePart::Word("Endtrace "),
+        LinePart::Number(count),
+        LinePart::Word("\n"),
     ];
     write_pieces(text, &pieces)
 }
@@ -62,7 +62,7 @@ pub fn write_step(
     write_bus_traffic(text, test, words, step)?;
     write_changes(text, test, words, &step.changes)?;
     write_buffer(text, test, core_of(step.choice), &step.buffer)?;
-    write_pieces(text, &[Piece::Word("\n")])
+    write_pieces(text, &[LinePart::Word("\n")])
 }
 
 /// Writes the line of a step with this number that stalled, `5 0d stalled Empty`: nothing else is told of it.
@@ -144,10 +144,10 @@ fn write_given(text: &mut String, given: Given) -> Result<(), NoMemory>
     ensures { OnOk result (string_bytes text.new ≡ string_bytes text.old ++ (codes " " ++ printed_given given)) }
 {
     let pieces = [
-        Piece::Word(" "),
-        Piece::Word(given.reg.name()),
-        Piece::Word("="),
-        Piece::Number(given.value as usize),
+        LinePart::Word(" "),
+        LinePart::Word(given.reg.name()),
+        LinePart::Word("="),
+        LinePart::Number(given.value as usize),
     ];
     write_pieces(text, &pieces)
 }
@@ -170,7 +170,10 @@ fn write_access(text: &mut String, access: Option<AccessKind>) -> Result<(), NoM
 {
     match access {
         None => Ok(()),
-        Some(kind) => write_pieces(text, &[Piece::Word(" "), Piece::Word(access_name(kind))]),
+        Some(kind) => write_pieces(
+            text,
+            &[LinePart::Word(" "), LinePart::Word(access_name(kind))],
+        ),
     }
 }
 
@@ -186,7 +189,10 @@ fn write_bus_traffic(text: &mut String, test: &Test, words: u8, step: &Step) -> 
     }
     if let Some(core) = step.flushed {
         let number = usize::from(core.0);
-        write_pieces(text, &[Piece::Word(" flush P"), Piece::Number(number)])?;
+        write_pieces(
+            text,
+            &[LinePart::Word(" flush P"), LinePart::Number(number)],
+        )?;
     }
     match step.wrote_back {
         None => Ok(()),
@@ -210,7 +216,7 @@ pub fn write_line_request(
     ensures { OnOk result (string_bytes text.new ≡ string_bytes text.old ++ printed_request test.now words request) }
 {
     let name = request_name(request.request);
-    write_pieces(text, &[Piece::Word(name), Piece::Word(" ")])?;
+    write_pieces(text, &[LinePart::Word(name), LinePart::Word(" ")])?;
     write_line_name(text, test, words, request.line)
 }
 
@@ -232,7 +238,7 @@ pub fn write_line_name(
     text.push_str(test.location_name(Loc(first)))?;
     for loc in first + 1..end {
         let name = test.location_name(Loc(loc));
-        write_pieces(text, &[Piece::Word("+"), Piece::Word(name)])?;
+        write_pieces(text, &[LinePart::Word("+"), LinePart::Word(name)])?;
     }
     Ok(())
 }
@@ -266,15 +272,15 @@ pub fn write_change(
     ensures { OnOk result (string_bytes text.new ≡ string_bytes text.old ++ printed_change test.now words change) }
 {
     let core = [
-        Piece::Word("P"),
-        Piece::Number(usize::from(change.core.0)),
-        Piece::Word("."),
+        LinePart::Word("P"),
+        LinePart::Number(usize::from(change.core.0)),
+        LinePart::Word("."),
     ];
     let states = [
-        Piece::Word(" "),
-        Piece::Word(state_name(change.before)),
-        Piece::Word(">"),
-        Piece::Word(state_name(change.after)),
+        LinePart::Word(" "),
+        LinePart::Word(state_name(change.before)),
+        LinePart::Word(">"),
+        LinePart::Word(state_name(change.after)),
     ];
     write_pieces(text, &core)?;
     write_line_name(text, test, words, change.line)?;
@@ -295,13 +301,13 @@ fn write_buffer(
         return Ok(());
     };
     let front = [
-        Piece::Word(" P"),
-        Piece::Number(usize::from(core.0)),
-        Piece::Word("["),
+        LinePart::Word(" P"),
+        LinePart::Number(usize::from(core.0)),
+        LinePart::Word("["),
     ];
     write_pieces(text, &front)?;
     write_stores(text, test, stores)?;
-    write_pieces(text, &[Piece::Word("]")])
+    write_pieces(text, &[LinePart::Word("]")])
 }
 
 /// `x=1 y=2`
@@ -312,10 +318,10 @@ fn write_stores(text: &mut String, test: &Test, stores: &[Entry]) -> Result<(), 
     for (at, store) in stores.iter().enumerate() {
         let space = if at == 0 { "" } else { " " };
         let pieces = [
-            Piece::Word(space),
-            Piece::Word(test.location_name(store.loc)),
-            Piece::Word("="),
-            Piece::Number(store.value as usize),
+            LinePart::Word(space),
+            LinePart::Word(test.location_name(store.loc)),
+            LinePart::Word("="),
+            LinePart::Number(store.value as usize),
         ];
         write_pieces(text, &pieces)?;
     }

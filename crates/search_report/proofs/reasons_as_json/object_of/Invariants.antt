@@ -1,6 +1,6 @@
 use Rattle.tso_report.specs.inner.Objects.{HasMembers}
 use Rattle.search_report.proofs.Vocabulary.{◌≡◌, drop, Members, no_members}
-use Rattle.search_report.specs.inner.Pieces.{with_fields}
+use Rattle.search_report.specs.inner.Contents.{with_fields}
 use Rattle.search_report.proofs.reasons_as_json.object_of.Given as goal
 
 -- it has members to which those still to come are added

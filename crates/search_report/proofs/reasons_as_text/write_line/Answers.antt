@@ -1,5 +1,5 @@
 use Rattle.search_report.proofs.Vocabulary.{◌∙◌, ◌++◌, [], ◌∷◌, ap, refl, append_assoc, string_bytes, flat_map, on_ok_weaker}
-use Rattle.search_report.specs.inner.Pieces.{field_text}
+use Rattle.search_report.specs.inner.Contents.{field_text}
 use Rattle.search_report.proofs.Growing.{all-made}
 use Rattle.search_report.proofs.reasons_as_text.write_line.Goals as goal
 

@@ -1,5 +1,5 @@
 use Rattle.search_report.proofs.Vocabulary.{◌≡◌, ◌++◌, drop, string_bytes, flat_map}
-use Rattle.search_report.specs.inner.Pieces.{field_text}
+use Rattle.search_report.specs.inner.Contents.{field_text}
 use Rattle.search_report.proofs.reasons_as_text.write_line.Given as goal
 
 abbrev pub invariant-loop-before : goal.invariant-loop-before

@@ -9,13 +9,13 @@ pub returns-in-Between : goal.returns-in-Between
 returns-in-Between c =
     subst (λ (x : Closing). IfOk c.value.result (λ value. view value ≡ closing_value c.args.test.now (shown_closing_of x))) (sym c.in-Between.is)
     (c.value.ensures _ (c.member-in-Between-3.ensures _ _ (c.member-in-Between-2.ensures _ _ (c.member-in-Between.ensures _ _ (c.member.ensures _ _ c.new.ensures
-    c.piece_value.ensures) c.piece_value-in-Between.ensures) c.word_value.ensures) c.piece_value-in-Between-2.ensures))
+    c.content_value.ensures) c.content_value-in-Between.ensures) c.word_value.ensures) c.content_value-in-Between-2.ensures))
 
 pub returns-in-False : goal.returns-in-False
 returns-in-False c =
     subst (λ (x : Closing). IfOk c.value-in-False.result (λ value. view value ≡ closing_value c.args.test.now (shown_closing_of x))) (sym c.in-False.is)
     (subst (λ ps. IfOk c.value-in-False.result (λ value. view value ≡ closing_value c.args.test.now (False (map place_of ps)))) c.deref-in-False.ensures.value
-    (c.value-in-False.ensures _ (c.member-in-False-2.ensures _ _ (c.member-in-False.ensures _ _ c.new-in-False.ensures c.piece_value-in-False.ensures)
+    (c.value-in-False.ensures _ (c.member-in-False-2.ensures _ _ (c.member-in-False.ensures _ _ c.new-in-False.ensures c.content_value-in-False.ensures)
     c.word_value-in-False.ensures)))
 
 pub returns-in-NoAnswer : goal.returns-in-NoAnswer

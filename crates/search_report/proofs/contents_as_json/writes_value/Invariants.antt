@@ -1,6 +1,6 @@
 use Rattle.tso_report.specs.inner.Arrays.{IsBegun}
 use Rattle.search_report.proofs.Vocabulary.{drop, map, filter, string, writes_to, printed_entry}
-use Rattle.search_report.proofs.pieces_json.writes_value.Given as goal
+use Rattle.search_report.proofs.contents_as_json.writes_value.Given as goal
 
 abbrev pub invariant-loop-entry : goal.invariant-loop-entry
 invariant-loop-entry l =

@@ -1,6 +1,6 @@
 use Rattle.search_report.proofs.Vocabulary.{◌≡◌, subst, codes, IfOk, Data, string, put, object, view, no_members}
 use Rattle.search_report.specs.ReasonText.{event_text, relation_text}
-use Rattle.search_report.proofs.pieces_json.EdgeValued.value.Goals as goal
+use Rattle.search_report.proofs.contents_as_json.EdgeValued.value.Goals as goal
 
 pub returns : goal.returns
 returns c =

@@ -1,4 +1,4 @@
-//! Pieces of a line as text: events, cycles, places and the like.
+//! What lines show as text: events, cycles, places and the like.
 
 ghost use Rattle.std.specs.Prelude.{◌≡◌, ◌++◌, OnOk, codes, filter, string_bytes};
 ghost use Rattle.std.specs.Fmt.{decimal};
@@ -7,37 +7,37 @@ ghost use Rattle.tso_terms.specs.ProgramOrder as program_order;
 ghost use Rattle.tso_terms.specs.declared.execution.Entry as declared;
 ghost use Rattle.order_builder.specs.PrintedOrder.{printed_entry};
 ghost use Rattle.search_report.specs.ReasonText as spec;
-ghost use Rattle.search_report.specs.inner.Pieces.{piece_text};
+ghost use Rattle.search_report.specs.inner.Contents.{content_text};
 ghost use Rattle.search_report.specs.inner.Views.{hop_end, place_end};
 
+use crate::contents::Content;
 use crate::items::{Written, write_each, write_separated};
 use crate::keys::{name_of, write_key};
-use crate::pieces::Piece;
 use crate::readings::event_of;
 use crate::shown::{Edge, Event, Place};
 use order_builder::letters_of;
 use refutation_laws::Relation;
 use refutations::events::writes_to;
-use tso_report::pieces::{Piece as Printed, write_characters, write_named, write_pieces};
+use tso_report::pieces::{Piece, write_characters, write_named, write_pieces};
 use tso_terms::{Entry, Kind, Loc, NoMemory, Test};
 
-/// Adds a piece to a line.
+/// Adds what is shown to a line.
 ///
 /// Errors: out of memory only; the text may have grown then.
-pub fn write_piece(text: &mut String, test: &Test, piece: Piece<'_>) -> Result<(), NoMemory>
-    ensures { OnOk result (string_bytes text.new ≡ string_bytes text.old ++ piece_text test.now piece.entry) }
+pub fn write_shown(text: &mut String, test: &Test, content: Content<'_>) -> Result<(), NoMemory>
+    ensures { OnOk result (string_bytes text.new ≡ string_bytes text.old ++ content_text test.now content.entry) }
 {
-    match piece {
-        Piece::Word(characters, _) => write_characters(text, characters),
-        Piece::Depth(depth) => {
+    match content {
+        Content::Word(characters, _) => write_characters(text, characters),
+        Content::Depth(depth) => {
             for _deeper in 0..depth {
                 write_characters(text, " ")?;
             }
             Ok(())
         }
-        Piece::Event(event) => write_event(text, test, event),
-        Piece::Source(write) => write.write(text, test),
-        Piece::Cycle(edges) => {
+        Content::Event(event) => write_event(text, test, event),
+        Content::Source(write) => write.write(text, test),
+        Content::Cycle(edges) => {
             let Some((first, _)) = edges.split_first() else {
                 return Ok(());
             };
@@ -45,7 +45,7 @@ pub fn write_piece(text: &mut String, test: &Test, piece: Piece<'_>) -> Result<(
             write_event(text, test, &first.source)?;
             write_each(text, test, " ", edges)
         }
-        Piece::Places(places) => write_each(text, test, " ", places),
+        Content::Places(places) => write_each(text, test, " ", places),
     }
 }
 
@@ -102,7 +102,7 @@ impl Written for u32 {
     ghost written = { λ _ value. decimal value };
 
     fn write(&self, text: &mut String, _test: &Test) -> Result<(), NoMemory> {
-        write_pieces(text, &[Printed::Number(*self as u64)])
+        write_pieces(text, &[Piece::Number(*self as u64)])
     }
 }
 
@@ -133,12 +133,12 @@ fn write_event(text: &mut String, test: &Test, event: &Event) -> Result<(), NoMe
 {
     let entry = &event.entry;
     let pieces = [
-        Printed::Text("P"),
-        Printed::Number(entry.core.0 as u64),
-        Printed::Text(":"),
-        Printed::Number(entry.place as u64),
-        Printed::Text(" "),
-        Printed::Text(letters_of(entry.kind)),
+        Piece::Text("P"),
+        Piece::Number(entry.core.0 as u64),
+        Piece::Text(":"),
+        Piece::Number(entry.place as u64),
+        Piece::Text(" "),
+        Piece::Text(letters_of(entry.kind)),
     ];
     write_pieces(text, &pieces)?;
     if let Kind::F = entry.kind {
@@ -146,7 +146,7 @@ fn write_event(text: &mut String, test: &Test, event: &Event) -> Result<(), NoMe
     }
     let name = name_of(test, entry.loc);
     match event.value {
-        None => write_pieces(text, &[Printed::Text(" "), Printed::Text(name)]),
+        None => write_pieces(text, &[Piece::Text(" "), Piece::Text(name)]),
         Some(value) => write_named(text, name, value),
     }
 }

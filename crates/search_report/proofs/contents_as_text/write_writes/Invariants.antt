@@ -1,5 +1,5 @@
 use Rattle.search_report.proofs.Vocabulary.{◌≡◌, ◌++◌, drop, string_bytes, filter, codes, flat_map, writes_to, Entry, printed_entry}
-use Rattle.search_report.proofs.pieces_text.write_writes.Given as goal
+use Rattle.search_report.proofs.contents_as_text.write_writes.Given as goal
 
 abbrev pub invariant-loop-entry : goal.invariant-loop-entry
 invariant-loop-entry l =

@@ -2,9 +2,9 @@
 
 use crate::shown::{Edge, Event, Place};
 
-/// A piece of a line, or what is under a key.
+/// What a line has behind the words before it, and an object under a key.
 #[derive(Clone, Copy)]
-pub enum Piece<'a> {
+pub enum Content<'a> {
     /// A word, as a line has it and as an object has it.
     Word(&'a str, &'a str),
     /// How deep a step stands: so many blanks in a line.
@@ -19,5 +19,5 @@ pub enum Piece<'a> {
     Places(&'a [Place]),
 }
 
-/// What comes before a piece in a line, its key in an object, and the piece.
-pub type Field<'a> = (&'a str, &'a str, Piece<'a>);
+/// What comes before it in a line, its key in an object, and what is shown.
+pub type Field<'a> = (&'a str, &'a str, Content<'a>);

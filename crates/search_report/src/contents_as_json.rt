@@ -1,4 +1,4 @@
-//! Pieces as JSON values: events, cycles, places and the like.
+//! What lines show as JSON values: events, cycles, places and the like.
 
 ghost use Rattle.std.specs.Prelude.{◌≡◌, IfOk, OnOk, filter, map};
 ghost use Rattle.serde_json.specs.Data.{array, string};
@@ -6,12 +6,12 @@ ghost use Rattle.serde_json.specs.View.{view, members_view, items_of};
 ghost use Rattle.tso_terms.specs.ProgramOrder as program_order;
 ghost use Rattle.order_builder.specs.PrintedOrder.{printed_entry};
 ghost use Rattle.search_report.specs.ReasonJson as spec;
-ghost use Rattle.search_report.specs.inner.Pieces as pieces;
+ghost use Rattle.search_report.specs.inner.Contents as contents;
 
+use crate::contents::Content;
+use crate::contents_as_text::{relation_text, write_shown};
 use crate::items::{Valued, array_of};
 use crate::keys::key_text;
-use crate::pieces::Piece;
-use crate::pieces_text::{relation_text, write_piece};
 use crate::readings::event_of;
 use crate::shown::Edge;
 use refutations::events::writes_to;
@@ -25,15 +25,15 @@ use tso_terms::{Entry, Loc, NoMemory, Test};
 /// What is under a key.
 ///
 /// Errors: out of memory only.
-pub fn piece_value(alloc: Global, test: &Test, piece: Piece<'_>) -> Result<Value, NoMemory>
-    ensures { IfOk result (λ value. view value ≡ pieces.piece_value test.now piece.entry) }
+pub fn content_value(alloc: Global, test: &Test, content: Content<'_>) -> Result<Value, NoMemory>
+    ensures { IfOk result (λ value. view value ≡ contents.content_value test.now content.entry) }
 {
-    match piece {
-        Piece::Word(_, word) => word_value(alloc, word),
-        Piece::Depth(depth) => Ok(Value::from(depth)),
-        Piece::Event(_) | Piece::Source(_) => text_value(alloc, test, piece),
-        Piece::Cycle(edges) => array_of(alloc, test, edges),
-        Piece::Places(places) => {
+    match content {
+        Content::Word(_, word) => word_value(alloc, word),
+        Content::Depth(depth) => Ok(Value::from(depth)),
+        Content::Event(_) | Content::Source(_) => text_value(alloc, test, content),
+        Content::Cycle(edges) => array_of(alloc, test, edges),
+        Content::Places(places) => {
             let mut members = Object::new(alloc);
             for at in (0..places.len()).rev() {
                 let place = &places[at];
@@ -61,18 +61,18 @@ pub fn writes_value(
     for entry in order {
         if writes_to(loc.0, entry) {
             let write = event_of(entry);
-            values = values.with(text_value(alloc, test, Piece::Event(&write)));
+            values = values.with(text_value(alloc, test, Content::Event(&write)));
         }
     }
     values.value()
 }
 
-/// A piece as it is in a line, as a string.
-fn text_value(alloc: Global, test: &Test, piece: Piece<'_>) -> Result<Value, NoMemory>
-    ensures { IfOk result (λ value. view value ≡ string (pieces.piece_text test.now piece.entry)) }
+/// What is shown as it is in a line, as a string.
+fn text_value(alloc: Global, test: &Test, content: Content<'_>) -> Result<Value, NoMemory>
+    ensures { IfOk result (λ value. view value ≡ string (contents.content_text test.now content.entry)) }
 {
     let mut text = String::new(alloc);
-    write_piece(&mut text, test, piece)?;
+    write_shown(&mut text, test, content)?;
     Ok(Value::String(text))
 }
 
@@ -81,11 +81,14 @@ impl Valued for Edge {
 
     fn value(&self, alloc: Global, test: &Test) -> Result<Value, NoMemory> {
         let relation = relation_text(self.relation);
-        let relation = Piece::Word(relation, relation);
+        let relation = Content::Word(relation, relation);
         Object::new(alloc)
-            .member("from", text_value(alloc, test, Piece::Event(&self.source)))
+            .member(
+                "from",
+                text_value(alloc, test, Content::Event(&self.source)),
+            )
             .member("relation", text_value(alloc, test, relation))
-            .member("to", text_value(alloc, test, Piece::Event(&self.target)))
+            .member("to", text_value(alloc, test, Content::Event(&self.target)))
             .value()
     }
 }
