@@ -8,7 +8,6 @@ pub mod one_run;
 pub mod runs;
 pub mod spread;
 pub mod traffic;
-pub mod worked;
 
 pub use laws::{counts_add_up, counts_tell_their_runs, sums_over_runs_add_up};
 pub use one_run::count_run;

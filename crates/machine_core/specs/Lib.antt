@@ -1,6 +1,5 @@
 pub mod Vocabulary
 pub mod Running
-pub mod WorkedCounts
 pub mod Looking
 pub mod Hits
 pub mod Owners

@@ -14,7 +14,6 @@ pub mod looking;
 pub mod machine;
 mod restarting;
 mod split;
-pub mod worked;
 
 pub use ending::FinalState;
 pub use looking::BusHolder;

@@ -18,8 +18,6 @@ pub mod LineText
 pub mod LineJson
 pub mod ShortReports
 pub mod FalseLines
-pub mod WorkedLines
-pub mod Worked
 pub mod inner
 pub use Rattle.refutation_laws.specs.Known
 pub use Rattle.refutation_laws.specs.Refutations

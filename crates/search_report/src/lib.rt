@@ -44,8 +44,6 @@ mod shown_places;
 mod shown_text;
 pub mod standing;
 pub mod verdict;
-mod worked;
-mod worked_lines;
 
 pub use hidden::hidden_registers;
 pub use laws_of_lines::false_lines_are_so;
@@ -55,5 +53,3 @@ pub use printed_reasons::{allowed_report, unfinished_cases_report};
 pub use reasons_as_json::unfinished_reason_json;
 pub use reasons_as_text::unfinished_text;
 pub use short_reports::short_refutation_report;
-pub use worked::worked_reasons;
-pub use worked_lines::worked_short_reasons;

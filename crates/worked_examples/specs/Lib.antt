@@ -11,4 +11,7 @@ pub mod WriteHits
 pub mod PrintedTraces
 pub mod RefusedTexts
 pub mod SpelledTexts
+pub mod PrintedExecutions
+pub mod PrintedRefutations
+pub mod CountedRuns
 pub mod inner

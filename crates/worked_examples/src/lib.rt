@@ -9,12 +9,15 @@
 pub mod accesses;
 pub mod caches;
 pub mod conditions;
+pub mod counts;
 pub mod larger_set;
 pub mod limits;
 pub mod names;
 pub mod order;
 pub mod outcomes;
+pub mod printed_executions;
 pub mod printed_outcomes;
+pub mod printed_refutations;
 pub mod refusals;
 pub mod searches;
 pub mod sets;
@@ -23,6 +26,7 @@ pub mod tables;
 pub mod texts;
 pub mod threads;
 pub mod traces;
+pub mod traffic;
 pub mod write_in_place;
 
 pub use accesses::{worked_accesses, worked_needs};
@@ -31,6 +35,7 @@ pub use caches::{
     worked_sharing, worked_words,
 };
 pub use conditions::{worked_atoms, worked_propositions};
+pub use counts::worked_counts;
 pub use larger_set::{
     worked_changes, worked_compare_exchange, worked_larger_actions, worked_operators,
     worked_updates,
@@ -39,10 +44,12 @@ pub use limits::{numbers_of_machines, numbers_of_tests, numbers_of_texts};
 pub use names::{worked_location_names, worked_register_names, worked_test_names};
 pub use order::{worked_due_values, worked_kinds_of_entries, worked_pairs, worked_program_order};
 pub use outcomes::{worked_outcomes, worked_stalls};
+pub use printed_executions::worked_reasons;
 pub use printed_outcomes::{
     worked_decided_verdicts, worked_met_states, worked_printed_states, worked_shown_values,
     worked_verdicts,
 };
+pub use printed_refutations::worked_short_reasons;
 pub use refusals::{
     worked_ending_refusals, worked_header_refusals, worked_initial_refusals,
     worked_larger_refusals, worked_limits_of_texts, worked_table_refusals,
@@ -56,4 +63,5 @@ pub use tables::{
 pub use texts::worked_texts;
 pub use threads::{worked_actions, worked_run, worked_thread};
 pub use traces::worked_traces;
+pub use traffic::worked_traffic;
 pub use write_in_place::worked_write_hits;

@@ -5,7 +5,7 @@ ghost use Rattle.relational_model.specs.WorkedCandidates.{sb_candidate};
 ghost use Rattle.refutation_laws.specs.declared.model.Model.TheVariants.{Tso};
 ghost use Rattle.search_report.specs.ReasonText.{allowed_text};
 ghost use Rattle.search_report.specs.ReasonJson.{allowed_json};
-ghost use Rattle.search_report.specs.Worked.{sb_asked, sb_choices, sb_text, sb_json};
+ghost use Rattle.worked_examples.specs.PrintedExecutions.{sb_asked, sb_choices, sb_text, sb_json};
 
 /// What is printed of store buffering, which happens, byte for byte, and as JSON.
 pub fn worked_reasons()

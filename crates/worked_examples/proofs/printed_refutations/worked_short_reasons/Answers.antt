@@ -1,7 +1,8 @@
-use Rattle.search_report.proofs.Vocabulary.{refl, all_registers}
+use Rattle.std.proofs.Common.{refl}
+use Rattle.tso_report.specs.Report.{all_registers}
 use Rattle.std.specs.Fmt.{digits}
 use Rattle.json.specs.Print.{escape_byte, print_from}
-use Rattle.search_report.proofs.worked_lines.worked_short_reasons.Goals as goal
+use Rattle.worked_examples.proofs.printed_refutations.worked_short_reasons.Goals as goal
 
 pub returns-clause-passing : goal.returns-clause-passing
 unfolding digits all_registers

@@ -1,7 +1,9 @@
 -- Worked runs, for what their accesses come to: each shows one rule of the statistics at work, on counts that one can make
 -- by hand. (Primer, chapter 7, for the tables that they go by.)
 use Rattle.std.specs.Prelude.{ℕ, List, [], ◌∷◌, None, codes}
-use Rattle.machine_core.specs.Vocabulary.{drain, Geometry, geometry, Litmus, step}
+use Rattle.tso_terms.specs.FlatMachine.{drain, step}
+use Rattle.cache_set.specs.Geometry.{Geometry, geometry}
+use Rattle.tso_terms.specs.Litmus.{Litmus}
 use Rattle.tso_terms.specs.Examples.{loc_x, loc_y, zeros}
 use Rattle.basic_laws.specs.Types.{Eax, Ebx, Loc, Instr, StoreImm, Load, Xchg, Xadd, Choice}
 use Rattle.multiprocessor.specs.declared.counts.Counts.{Counts}

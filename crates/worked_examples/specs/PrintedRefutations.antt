@@ -1,12 +1,15 @@
 -- Worked refutations: what is printed of the literature's small tests, of a lock and of a counter, byte for byte.
 use Rattle.std.specs.Prelude.{ℕ, List, [], ◌∷◌, ◌++◌, codes}
-use Rattle.search_report.specs.Vocabulary.{entry, Exists, Litmus, NotExists, printed_lines, W}
+use Rattle.tso_terms.specs.Thread.{entry}
+use Rattle.basic_laws.specs.Types.{Exists, NotExists, W}
+use Rattle.tso_terms.specs.Litmus.{Litmus}
+use Rattle.order_builder.specs.PrintedOrder.{printed_lines}
 use Rattle.basic_laws.specs.Types.{R}
 use Rattle.tso_terms.specs.Examples.{loc_x, loc_y}
 use Rattle.possible_reads.specs.Facts.{Before}
 use Rattle.short_refutations.specs.Refutations.{Node, Asks, Globally, ReadsFrom}
 use Rattle.short_refutations.specs.Worked.{counter_of_three, counts_two, lock_of_three, none_has_it, second_first_and_last, exchanged_in_turn, two_have_it}
-use Rattle.search_report.specs.Worked.{asking}
+use Rattle.worked_examples.specs.PrintedExecutions.{asking}
 
 -- message passing: the flag is read as set, and x as not yet stored
 abbrev pub passing_lines : List ℕ

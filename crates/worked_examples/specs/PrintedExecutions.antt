@@ -1,6 +1,10 @@
 -- The literature's small tests with what they ask; and what is printed of an execution of one of them, byte for byte.
 use Rattle.std.specs.Prelude.{List, ℕ, [], ◌∷◌, ◌++◌, Some, codes}
-use Rattle.search_report.specs.Vocabulary.{Choice, Claim, entry, Exists, Litmus, NotExists, printed_lines, Quantifier, W}
+use Rattle.basic_laws.specs.Types.{Choice, Exists, NotExists, Quantifier, W}
+use Rattle.tso_terms.specs.Condition.{Claim}
+use Rattle.tso_terms.specs.Thread.{entry}
+use Rattle.tso_terms.specs.Litmus.{Litmus}
+use Rattle.order_builder.specs.PrintedOrder.{printed_lines}
 use Rattle.tso_terms.specs.Examples.{sb, n6, loc_x}
 use Rattle.tso_terms.specs.FlatMachine.{step, drain}
 use Rattle.relational_model.specs.WorkedCandidates.{passing, between}

@@ -5,11 +5,11 @@ ghost use Rattle.tso_terms.specs.Examples.{sb, sb_choices, n6};
 ghost use Rattle.tso_terms.specs.declared.choice.Bus.TheVariants.{Atomic, Split};
 ghost use Rattle.protocol_tables.specs.Tables.{msi, mesi, moesi};
 ghost use Rattle.multiprocessor.specs.Statistics.{counts, counts_of};
-ghost use Rattle.machine_core.specs.WorkedCounts.{two_lines, one_line, missed, in_turn, sb_steps, own_store_first};
-ghost use Rattle.machine_core.specs.WorkedCounts.{load_store, load_store_choices, load_store_steps, two_stores, between};
-ghost use Rattle.machine_core.specs.WorkedCounts.{five_loads, five_loads_choices, sb_asks, sb_waits};
-ghost use Rattle.machine_core.specs.WorkedCounts.{beside_load, load_waits, beside_two_loads, load_between};
-ghost use Rattle.machine_core.specs.WorkedCounts.{store_exchange, store_exchange_choices};
+ghost use Rattle.worked_examples.specs.CountedRuns.{two_lines, one_line, missed, in_turn, sb_steps, own_store_first};
+ghost use Rattle.worked_examples.specs.CountedRuns.{load_store, load_store_choices, load_store_steps, two_stores, between};
+ghost use Rattle.worked_examples.specs.CountedRuns.{five_loads, five_loads_choices, sb_asks, sb_waits};
+ghost use Rattle.worked_examples.specs.CountedRuns.{beside_load, load_waits, beside_two_loads, load_between};
+ghost use Rattle.worked_examples.specs.CountedRuns.{store_exchange, store_exchange_choices};
 
 /// Counts of worked runs: hits, misses, upgrades, forwards, write-backs and flushes, in this order.
 #[tactic(auto, unfolding(snoop_bus::specs::Asks::awaiting))]

@@ -5,7 +5,7 @@ ghost use Rattle.std.specs.Prelude.{◌≡◌};
 ghost use Rattle.tso_terms.specs.Examples.{sb, sb_choices};
 ghost use Rattle.tso_terms.specs.declared.choice.Bus.TheVariants.{Atomic};
 ghost use Rattle.protocol_tables.specs.Tables.{msi};
-ghost use Rattle.machine_core.specs.WorkedCounts.{two_lines, in_turn};
+ghost use Rattle.worked_examples.specs.CountedRuns.{two_lines, in_turn};
 ghost use Rattle.cache_counts.specs.Traffic.{traffic, traffic_of};
 ghost use Rattle.cache_counts.specs.Uses.{uses_of};
 
