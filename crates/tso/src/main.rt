@@ -137,7 +137,8 @@ fn settings_of_arguments(rt: &HostRuntime) -> Result<Settings, LineError>
 fn run_on_standard_streams(rt: &HostRuntime, settings: &Settings) -> u8
     requires { HasDepth settings.now }
 {
-    let mut reader = Counted::new(rt.reader());
+    // What is read is gathered anyway: a reader with a buffer of its own would fill one for nothing.
+    let mut reader = Counted::new(rt.stdin());
     let mut writer = Counted::new(io::writer(rt));
     let mut teller = Teller::new(rt.stdin().is_terminal(), rt.stderr());
     match run(rt.alloc(), &mut reader, &mut writer, &mut teller, settings) {
