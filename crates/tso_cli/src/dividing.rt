@@ -1,9 +1,12 @@
 //! The two parts of an input, before and after the dividing line, borrowed from the one copy that was read.
 
-ghost use Rattle.std.specs.Prelude.{◌≡◌, ◌<◌, ◌≤◌, length};
+ghost use Rattle.std.specs.Prelude.{◌≡◌, cond, None};
 ghost use Rattle.std.specs.Option.{option_map};
 ghost use Rattle.tso_cli.specs.Dividing as words;
-ghost use Rattle.tso_cli.specs.inner.Dividing as inner;
+ghost use Rattle.tso_cli.specs.inner.Dividing.{begins_line, signs};
+ghost use Rattle.memchr.specs.Find.{FindsNeedle};
+
+use memchr::memmem;
 
 /// The two parts of an input: the text of a test, and choices or an order.
 #[derive(Clone, Copy)]
@@ -18,14 +21,14 @@ pub fn parts_of(input: &[u8]) -> Parts<'_>
     ensures test { result.test.now ≡ (words.parts_of input.now).test }
     ensures rest { result.rest.now ≡ (words.parts_of input.now).rest }
 {
-    // Where a line begins.
+    // In most texts these signs are in the dividing line alone.
     let mut at = 0;
-    while at < input.len() {
-        let (test, lines) = input.split_at(at);
-        if let Some(rest) = after_divider(lines) {
+    while let Some(sign) = next_signs(&input[at..]) {
+        let (test, lines) = input.split_at(at + sign);
+        if let Some(rest) = divided_at(test, lines) {
             return Parts { test, rest };
         }
-        at += line_length(lines);
+        at += sign + 1;
     }
     Parts {
         test: input,
@@ -33,19 +36,32 @@ pub fn parts_of(input: &[u8]) -> Parts<'_>
     }
 }
 
-/// How many bytes the first line of a text has, its line feed included.
-#[tactic(auto, using(crate::proofs::Lines::line_lengths))]
-fn line_length(text: &[u8]) -> usize
-    ensures exact { result ≡ inner.line_length text.now }
-    ensures within { result ≤ length text.now }
-    ensures some { 0 < length text.now → 0 < result }
+/// Where the signs of a dividing line are next.
+fn next_signs(text: &[u8]) -> Option<usize>
+    ensures { FindsNeedle text.now signs 0 result }
 {
-    for at in 0..text.len() {
-        if text[at] == b'\n' {
-            return at + 1;
-        }
+    memmem::find(text, b"====".as_slice())
+}
+
+/// What comes after the dividing line with which `lines` begin, where a line begins after `front`.
+fn divided_at<'a>(front: &[u8], lines: &'a [u8]) -> Option<&'a [u8]>
+    ensures { option_map (λ rest. rest.now) result ≡ cond (begins_line front.now) (words.after_divider lines.now) None }
+{
+    if begins_line(front) {
+        after_divider(lines)
+    } else {
+        None
     }
-    text.len()
+}
+
+/// Whether a line begins after these bytes.
+fn begins_line(front: &[u8]) -> bool
+    ensures { result ≡ begins_line front.now }
+{
+    match front.split_last() {
+        None => true,
+        Some((last, _)) => *last == b'\n',
+    }
 }
 
 fn after_divider(text: &[u8]) -> Option<&[u8]>
