@@ -1,5 +1,7 @@
 -- What this project's machine reaches with bounded buffers, and what the abstract machine does.
-use Rattle.abstract_machine.proofs.Vocabulary.{◌≤◌, ◌<◌, ◌↔◌, ℕ, suc, List, [], ◌∷◌, length, slice_index_or, arith, subst, Litmus, IsTest, action_of, IsTsoExecution, Instr, Action, Entry, store_count, stores_in, most_stores, needed, choices_along, IsReached, max-within, Machine, EndsWith, IsReachedFreely}
+use Rattle.abstract_machine.proofs.Vocabulary.{◌≤◌, ◌<◌, ◌↔◌, ℕ, suc, List, [], ◌∷◌, length, slice_index_or, arith, subst, Litmus, IsTest}
+use Rattle.abstract_machine.proofs.Vocabulary.{action_of, IsTsoExecution, Instr, Action, Entry, store_count, stores_in, most_stores, needed}
+use Rattle.abstract_machine.proofs.Vocabulary.{choices_along, IsReached, max-within, Machine, EndsWith, IsReachedFreely}
 use Rattle.abstract_machine.proofs.Leading.{Reaches}
 use Rattle.abstract_machine.proofs.Returning.{Executions}
 

@@ -1,6 +1,12 @@
 -- The states of the flat machine that runs of the abstract machine are held against: at a depth that no buffer fills, with
 -- plain stores alone pending.
-use Rattle.abstract_machine.proofs.Vocabulary.{◌≡◌, ◌<◌, ◌≤◌, ℕ, ◌+◌, suc, Bool, true, false, List, [], ◌∷◌, ◌++◌, length, Some, slice_get, slice_set, arith, ap, sym, ◌∙◌, refl, inl, inr, subst, if◌then◌else◌, nat_lt, IfSome, nat_tests, get_or_past, Litmus, IsTest, KnownLocation, action_of, location_of, is_write, step, drain, CoreState, State, Effect, stored, effect_by, idle, program_of, effect_of, memory_after, applied, after_choice, started, start, Loc, Instr, Operand, Action, Store, Entry, W, Choice, Committed, Buffered, IsPossible, Each, each-at, length-set, lt-or, length-starts}
+use Rattle.abstract_machine.proofs.Vocabulary.{◌≡◌, ◌<◌, ◌≤◌, ℕ, ◌+◌, suc, Bool, true, false, List, [], ◌∷◌, ◌++◌, length, Some, slice_get}
+use Rattle.abstract_machine.proofs.Vocabulary.{slice_set, arith, ap, sym, ◌∙◌, refl, inl, inr, subst, if◌then◌else◌, nat_lt, IfSome}
+use Rattle.abstract_machine.proofs.Vocabulary.{nat_tests, get_or_past, Litmus, IsTest, KnownLocation, action_of, location_of, is_write}
+use Rattle.abstract_machine.proofs.Vocabulary.{step, drain, CoreState, State, Effect, stored, effect_by, idle, program_of, effect_of}
+use Rattle.abstract_machine.proofs.Vocabulary.{memory_after, applied, after_choice, started, start, Loc, Instr, Operand, Action, Store}
+use Rattle.abstract_machine.proofs.Vocabulary.{Entry, W, Choice, Committed, Buffered, IsPossible, Each, each-at, length-set, lt-or}
+use Rattle.abstract_machine.proofs.Vocabulary.{length-starts}
 use Rattle.abstract_machine.proofs.Lists.{each-set, within, get-or}
 
 -- each choice leads from one possible state to another one

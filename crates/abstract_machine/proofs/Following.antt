@@ -1,6 +1,15 @@
 -- A choice of the flat machine is followed by a run of the abstract machine.
 use Rattle.tso_terms.specs.Thread.{with_taken}
-use Rattle.abstract_machine.proofs.Vocabulary.{◌≡◌, ◌<◌, ℕ, ◌+◌, suc, Bool, true, false, List, [], ◌∷◌, ◌++◌, length, map, Option, None, Some, slice_get, slice_set, slice_index, slice_index_or, arith, ap, sym, ◌∙◌, refl, inl, inr, subst, if◌then◌else◌, nat_lt, slice_get-get_or, Litmus, action_of, entry, fence, value_in, value_of, with_value, updated, is_write, CoreState, State, Effect, is_none_pending, stalled, effect_by, step_of, drain_of, idle, program_of, core_of, chosen, effect_of, memory_after, applied, after_choice, Reg, Loc, Instr, Update, Action, Store, Load, Move, Fence, Lock, Entry, W, LR, LW, Choice, Stall, Buffered, NotLocked, HasBegun, HasRead, HasWritten, HardwareThread, Machine, with_thread, with_write, with_buffer, from_memory, read, write, flush, move, mfence, lock, locked_read, locked_write, unlock, Runs, rests, goes_on, Each, each-append, each-at, map-set, set-set, length-set, length-map}
+use Rattle.abstract_machine.proofs.Vocabulary.{◌≡◌, ◌<◌, ℕ, ◌+◌, suc, Bool, true, false, List, [], ◌∷◌, ◌++◌, length, map, Option, None}
+use Rattle.abstract_machine.proofs.Vocabulary.{Some, slice_get, slice_set, slice_index, slice_index_or, arith, ap, sym, ◌∙◌, refl, inl, inr}
+use Rattle.abstract_machine.proofs.Vocabulary.{subst, if◌then◌else◌, nat_lt, slice_get-get_or, Litmus, action_of, entry, fence, value_in}
+use Rattle.abstract_machine.proofs.Vocabulary.{value_of, with_value, updated, is_write, CoreState, State, Effect, is_none_pending, stalled}
+use Rattle.abstract_machine.proofs.Vocabulary.{effect_by, step_of, drain_of, idle, program_of, core_of, chosen, effect_of, memory_after}
+use Rattle.abstract_machine.proofs.Vocabulary.{applied, after_choice, Reg, Loc, Instr, Update, Action, Store, Load, Move, Fence, Lock}
+use Rattle.abstract_machine.proofs.Vocabulary.{Entry, W, LR, LW, Choice, Stall, Buffered, NotLocked, HasBegun, HasRead, HasWritten}
+use Rattle.abstract_machine.proofs.Vocabulary.{HardwareThread, Machine, with_thread, with_write, with_buffer, from_memory, read, write}
+use Rattle.abstract_machine.proofs.Vocabulary.{flush, move, mfence, lock, locked_read, locked_write, unlock, Runs, rests, goes_on, Each}
+use Rattle.abstract_machine.proofs.Vocabulary.{each-append, each-at, map-set, set-set, length-set, length-map}
 use Rattle.tso_terms.specs.declared.choice.Choice.TheVariants as choice
 use Rattle.tso_terms.specs.declared.choice.Stall.TheVariants as stall
 use Rattle.abstract_machine.proofs.Lists.{map-get, set-get, set-same, each-set}

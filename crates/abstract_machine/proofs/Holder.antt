@@ -1,12 +1,18 @@
 -- The steps of the thread that holds the lock, by how far it is with its locked instruction.
 use Rattle.tso_terms.specs.FlatMachine.{advanced_taking}
-use Rattle.abstract_machine.proofs.Vocabulary.{◌≡◌, ◌<◌, ℕ, ◌+◌, suc, List, [], ◌∷◌, ◌++◌, length, map, Some, None, slice_get, slice_set, slice_index, arith, ap, sym, ◌∙◌, refl, subst, Litmus, action_of, CoreState, State, Effect, advanced_with, effect_by, load_value, memory_after, applied, Lock, Entry, Committed, NotLocked, HasBegun, HasRead, HardwareThread, Machine, with_thread, with_write, with_buffer, with_progress, ThreadStep, read, write, flush, move, mfence, lock, locked_read, locked_write, unlock, each-at, append-nil, map-set, set-set}
+use Rattle.abstract_machine.proofs.Vocabulary.{◌≡◌, ◌<◌, ℕ, ◌+◌, suc, List, [], ◌∷◌, ◌++◌, length, map, Some, None, slice_get, slice_set}
+use Rattle.abstract_machine.proofs.Vocabulary.{slice_index, arith, ap, sym, ◌∙◌, refl, subst, Litmus, action_of, CoreState, State, Effect}
+use Rattle.abstract_machine.proofs.Vocabulary.{advanced_with, effect_by, load_value, memory_after, applied, Lock, Entry, Committed}
+use Rattle.abstract_machine.proofs.Vocabulary.{NotLocked, HasBegun, HasRead, HardwareThread, Machine, with_thread, with_write, with_buffer}
+use Rattle.abstract_machine.proofs.Vocabulary.{with_progress, ThreadStep, read, write, flush, move, mfence, lock, locked_read, locked_write}
+use Rattle.abstract_machine.proofs.Vocabulary.{unlock, each-at, append-nil, map-set, set-set}
 use Rattle.abstract_machine.proofs.Lists.{map-get, set-get, set-same, not-empty, within}
 use Rattle.abstract_machine.proofs.Reading.{was-read, flush-leaves}
 use Rattle.abstract_machine.proofs.States.{thread}
 use Rattle.abstract_machine.proofs.Joining.{Joins, store-plain, plain-joins, waits-joins, pair-joins}
 use Rattle.abstract_machine.proofs.FlatStates.{Nexts, IsSound, Base, base-step, drained, draining, oldest-store, base-drain}
-use Rattle.abstract_machine.proofs.Tracks.{InLock, in_lock, load_part, store_part, writer, leaver, Tied, begun, has_read, written, left, locked_by, Tracks, unheld, held, machine-is}
+use Rattle.abstract_machine.proofs.Tracks.{InLock, in_lock, load_part, store_part, writer, leaver, Tied, begun, has_read, written, left}
+use Rattle.abstract_machine.proofs.Tracks.{locked_by, Tracks, unheld, held, machine-is}
 
 -- ---- what such a step changes
 

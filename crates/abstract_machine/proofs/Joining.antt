@@ -1,5 +1,6 @@
 -- What the abstract machine gives, put together, against what the flat machine commits.
-use Rattle.abstract_machine.proofs.Vocabulary.{◌≡◌, ◌==◌, ◌&&◌, Bool, true, false, if◌then◌else◌, List, [], ◌∷◌, ◌++◌, ap, sym, ◌∙◌, refl, append_assoc, same_kind, IsStorePart, put_before, put_together, Entry, W, LR, LW, Each}
+use Rattle.abstract_machine.proofs.Vocabulary.{◌≡◌, ◌==◌, ◌&&◌, Bool, true, false, if◌then◌else◌, List, [], ◌∷◌, ◌++◌, ap, sym, ◌∙◌, refl}
+use Rattle.abstract_machine.proofs.Vocabulary.{append_assoc, same_kind, IsStorePart, put_before, put_together, Entry, W, LR, LW, Each}
 use Rattle.abstract_machine.proofs.Together.{before-part}
 
 -- a load part that waits is put before its store part, in what comes after it

@@ -1,5 +1,11 @@
 -- A run of the flat machine that ends the test is followed by one of the abstract machine that ends it too.
-use Rattle.abstract_machine.proofs.Vocabulary.{◌≡◌, ◌<◌, ◌≤◌, ◌==◌, ℕ, ◌+◌, zero, suc, Bool, true, false, List, [], ◌∷◌, ◌++◌, length, None, Some, slice_get, slice_index_or, arith, sym, ◌∙◌, refl, subst, if◌then◌else◌, append_assoc, nat_tests, Litmus, IsTest, IsAdjacent, IsTsoExecution, CoreState, State, is_none_pending, program_of, chosen, effect_of, after_choice, started, start, is_done, all_done, has_ended, Run, resting, then_run, run_from, run, CoresExist, Instr, Entry, Choice, needed, choices_along, LeadTo, Machine, Runs, rests, goes_on, IsFinished, AllAreFinished, IsReachedFreely, and-left, and-right, Each, length-set, length-starts, is_none-is}
+use Rattle.abstract_machine.proofs.Vocabulary.{◌≡◌, ◌<◌, ◌≤◌, ◌==◌, ℕ, ◌+◌, zero, suc, Bool, true, false, List, [], ◌∷◌, ◌++◌, length, None}
+use Rattle.abstract_machine.proofs.Vocabulary.{Some, slice_get, slice_index_or, arith, sym, ◌∙◌, refl, subst, if◌then◌else◌, append_assoc}
+use Rattle.abstract_machine.proofs.Vocabulary.{nat_tests, Litmus, IsTest, IsAdjacent, IsTsoExecution, CoreState, State, is_none_pending}
+use Rattle.abstract_machine.proofs.Vocabulary.{program_of, chosen, effect_of, after_choice, started, start, is_done, all_done, has_ended}
+use Rattle.abstract_machine.proofs.Vocabulary.{Run, resting, then_run, run_from, run, CoresExist, Instr, Entry, Choice, needed}
+use Rattle.abstract_machine.proofs.Vocabulary.{choices_along, LeadTo, Machine, Runs, rests, goes_on, IsFinished, AllAreFinished}
+use Rattle.abstract_machine.proofs.Vocabulary.{IsReachedFreely, and-left, and-right, Each, length-set, length-starts, is_none-is}
 use Rattle.abstract_machine.proofs.Together.{already-together}
 use Rattle.abstract_machine.proofs.Lists.{get-map}
 use Rattle.abstract_machine.proofs.States.{thread, lifted, first-lifted}

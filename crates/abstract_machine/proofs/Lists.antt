@@ -1,5 +1,6 @@
 -- Small facts on lists that are written and mapped.
-use Rattle.abstract_machine.proofs.Vocabulary.{◌≡◌, ◌≢◌, ◌<◌, ℕ, zero, suc, List, [], ◌∷◌, ◌++◌, length, map, Some, slice_get, slice_set, slice_index_or, arith, ap, sym, refl, Each}
+use Rattle.abstract_machine.proofs.Vocabulary.{◌≡◌, ◌≢◌, ◌<◌, ℕ, zero, suc, List, [], ◌∷◌, ◌++◌, length, map, Some, slice_get, slice_set}
+use Rattle.abstract_machine.proofs.Vocabulary.{slice_index_or, arith, ap, sym, refl, Each}
 
 pub map-get : {A B : Type 0} (f : A → B) (xs : List A) (k : ℕ) (x : A) → slice_get xs k ≡ Some x → slice_get (map f xs) k ≡ Some (f x)
 map-get f [] k x e = absurd (let z : ⊥ = cc in z)

@@ -1,5 +1,8 @@
 -- One step of a thread in any machine, rule by rule, against the lock.
-use Rattle.abstract_machine.proofs.Vocabulary.{◌≡◌, ℕ, zero, suc, List, [], ◌∷◌, Some, None, slice_get, slice_set, ap, sym, refl, ◌⊎◌, inl, inr, Litmus, Entry, NotLocked, HasWritten, HardwareThread, Machine, IsNotBlocked, with_buffer, ThreadStep, read, write, flush, move, mfence, lock, locked_read, locked_write, unlock, IsBlocked, KeepsBuffer, ReadsAndFlushesNothing, Unlocks, append-nil}
+use Rattle.abstract_machine.proofs.Vocabulary.{◌≡◌, ℕ, zero, suc, List, [], ◌∷◌, Some, None, slice_get, slice_set, ap, sym, refl, ◌⊎◌, inl}
+use Rattle.abstract_machine.proofs.Vocabulary.{inr, Litmus, Entry, NotLocked, HasWritten, HardwareThread, Machine, IsNotBlocked}
+use Rattle.abstract_machine.proofs.Vocabulary.{with_buffer, ThreadStep, read, write, flush, move, mfence, lock, locked_read, locked_write}
+use Rattle.abstract_machine.proofs.Vocabulary.{unlock, IsBlocked, KeepsBuffer, ReadsAndFlushesNothing, Unlocks, append-nil}
 
 -- what is at a place that was written
 put : (xs : List HardwareThread) (p : ℕ) (h after : HardwareThread) → slice_get (slice_set xs p h) p ≡ Some after → h ≡ after

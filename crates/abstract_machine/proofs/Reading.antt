@@ -1,5 +1,8 @@
 -- What a thread can read is what a load of the flat machine gets.
-use Rattle.abstract_machine.proofs.Vocabulary.{◌≡◌, ◌<◌, ℕ, Bool, true, false, List, [], ◌∷◌, ◌++◌, length, filter, slice_index, slice_set, ap, sym, refl, ◌⊎◌, inl, inr, subst, get_or-set_same, get_or-set_other, writes_to, last_value, Entry, W, HardwareThread, Machine, CanRead, from_memory, from_buffer, decide, test-true, test-false}
+use Rattle.abstract_machine.proofs.Vocabulary.{◌≡◌, ◌<◌, ℕ, Bool, true, false, List, [], ◌∷◌, ◌++◌, length, filter, slice_index, slice_set}
+use Rattle.abstract_machine.proofs.Vocabulary.{ap, sym, refl, ◌⊎◌, inl, inr, subst, get_or-set_same, get_or-set_other, writes_to}
+use Rattle.abstract_machine.proofs.Vocabulary.{last_value, Entry, W, HardwareThread, Machine, CanRead, from_memory, from_buffer, decide}
+use Rattle.abstract_machine.proofs.Vocabulary.{test-true, test-false}
 
 record Newest (loc : ℕ) (q : List Entry) : Type 0 where
   older : List Entry

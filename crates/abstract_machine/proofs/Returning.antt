@@ -1,5 +1,11 @@
 -- A run of the abstract machine that ends the test leads to a state of the flat machine that has ended it too.
-use Rattle.abstract_machine.proofs.Vocabulary.{◌≡◌, ◌<◌, ℕ, suc, true, List, [], ◌∷◌, ◌++◌, length, map, None, Some, slice_get, slice_set, slice_index_or, arith, ap, sym, ◌∙◌, refl, inl, inr, subst, append_assoc, Litmus, IsTest, IsTsoExecution, final_words, final_registers, CoreState, State, program_of, registers_in, start, is_done, all_done, has_ended, run, put_together, Instr, Entry, Choice, IsPossible, End, IsExecution, StopsAtTheEnd, HardwareThread, Machine, first, ThreadStep, Runs, rests, goes_on, IsFinished, AllAreFinished, registers_of_threads, EndsWith, decide, test-true, append-nil}
+use Rattle.abstract_machine.proofs.Vocabulary.{◌≡◌, ◌<◌, ℕ, suc, true, List, [], ◌∷◌, ◌++◌, length, map, None, Some, slice_get, slice_set}
+use Rattle.abstract_machine.proofs.Vocabulary.{slice_index_or, arith, ap, sym, ◌∙◌, refl, inl, inr, subst, append_assoc, Litmus, IsTest}
+use Rattle.abstract_machine.proofs.Vocabulary.{IsTsoExecution, final_words, final_registers, CoreState, State, program_of, registers_in}
+use Rattle.abstract_machine.proofs.Vocabulary.{start, is_done, all_done, has_ended, run, put_together, Instr, Entry, Choice, IsPossible}
+use Rattle.abstract_machine.proofs.Vocabulary.{End, IsExecution, StopsAtTheEnd, HardwareThread, Machine, first, ThreadStep, Runs, rests}
+use Rattle.abstract_machine.proofs.Vocabulary.{goes_on, IsFinished, AllAreFinished, registers_of_threads, EndsWith, decide, test-true}
+use Rattle.abstract_machine.proofs.Vocabulary.{append-nil}
 use Rattle.abstract_machine.proofs.Lists.{map-get, map-map, set-get, within}
 use Rattle.abstract_machine.proofs.States.{thread, lifted, first-lifted}
 use Rattle.abstract_machine.proofs.FlatStates.{Nexts, HasRoom, IsKnown, test-room, test-known, first-base}

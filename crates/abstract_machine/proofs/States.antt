@@ -1,5 +1,6 @@
 -- The states of the flat machine as states of the abstract machine.
-use Rattle.abstract_machine.proofs.Vocabulary.{◌≡◌, ℕ, ◌+◌, List, [], ◌∷◌, map, None, slice_index_or, ap, refl, CoreState, State, started, Instr, NotLocked, HardwareThread, Machine, first_threads}
+use Rattle.abstract_machine.proofs.Vocabulary.{◌≡◌, ℕ, ◌+◌, List, [], ◌∷◌, map, None, slice_index_or, ap, refl, CoreState, State, started}
+use Rattle.abstract_machine.proofs.Vocabulary.{Instr, NotLocked, HardwareThread, Machine, first_threads}
 
 -- a core of the flat machine, as a hardware thread that isn't in a locked instruction
 abbrev pub thread : CoreState → HardwareThread

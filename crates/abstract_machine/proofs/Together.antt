@@ -1,5 +1,7 @@
 -- An order in which each load part is followed by its store part is put together already.
-use Rattle.abstract_machine.proofs.Vocabulary.{◌≡◌, suc, Bool, true, false, List, [], ◌∷◌, Some, slice_get, ap, ◌∙◌, refl, if◌then◌else◌, same_kind, is_at, IsAdjacent, IsStorePart, put_before, put_together, Entry, Kind, LR, LW, test-true, arith}
+use Rattle.abstract_machine.proofs.Vocabulary.{◌≡◌, suc, Bool, true, false, List, [], ◌∷◌, Some, slice_get, ap, ◌∙◌, refl, if◌then◌else◌}
+use Rattle.abstract_machine.proofs.Vocabulary.{same_kind, is_at, IsAdjacent, IsStorePart, put_before, put_together, Entry, Kind, LR, LW}
+use Rattle.abstract_machine.proofs.Vocabulary.{test-true, arith}
 
 load-kind : (k : Kind) → same_kind k LR ≡ true → k ≡ LR
 load-kind k h = grind arith

@@ -1,7 +1,12 @@
 -- How far a run of the flat machine has come where the abstract machine stands: a locked instruction is made when its write
 -- leaves the buffer.
 use Rattle.tso_terms.specs.Thread.{with_taken}
-use Rattle.abstract_machine.proofs.Vocabulary.{◌≡◌, ◌≢◌, ℕ, ◌+◌, List, [], ◌∷◌, ◌++◌, map, Option, Some, None, slice_get, slice_set, ap, sym, ◌∙◌, refl, inl, inr, subst, Litmus, action_of, entry, value_in, with_value, updated, CoreState, State, load_value, program_of, memory_after, applied, Reg, Loc, Instr, Update, Lock, Entry, LR, LW, HasBegun, HasRead, HasWritten, HardwareThread, Machine, IsNotBlocked, with_progress, ThreadStep, read, write, flush, move, mfence, lock, locked_read, locked_write, unlock, append-nil, map-set, set_comm}
+use Rattle.abstract_machine.proofs.Vocabulary.{◌≡◌, ◌≢◌, ℕ, ◌+◌, List, [], ◌∷◌, ◌++◌, map, Option, Some, None, slice_get, slice_set, ap}
+use Rattle.abstract_machine.proofs.Vocabulary.{sym, ◌∙◌, refl, inl, inr, subst, Litmus, action_of, entry, value_in, with_value, updated}
+use Rattle.abstract_machine.proofs.Vocabulary.{CoreState, State, load_value, program_of, memory_after, applied, Reg, Loc, Instr, Update}
+use Rattle.abstract_machine.proofs.Vocabulary.{Lock, Entry, LR, LW, HasBegun, HasRead, HasWritten, HardwareThread, Machine, IsNotBlocked}
+use Rattle.abstract_machine.proofs.Vocabulary.{with_progress, ThreadStep, read, write, flush, move, mfence, lock, locked_read, locked_write}
+use Rattle.abstract_machine.proofs.Vocabulary.{unlock, append-nil, map-set, set_comm}
 use Rattle.abstract_machine.proofs.Lists.{get-map, get-other}
 use Rattle.abstract_machine.proofs.States.{thread, lifted}
 use Rattle.abstract_machine.proofs.Joining.{Joins, plain-joins}

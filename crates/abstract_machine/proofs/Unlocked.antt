@@ -2,7 +2,12 @@
 use Rattle.std.specs.Prelude.{Option}
 use Rattle.tso_terms.specs.Thread.{changed}
 use Rattle.tso_terms.specs.FlatMachine.{advanced_to}
-use Rattle.abstract_machine.proofs.Vocabulary.{◌≡◌, ℕ, ◌+◌, List, [], ◌∷◌, ◌++◌, filter, Some, None, slice_get, slice_set, slice_index, arith, ap, sym, ◌∙◌, refl, Litmus, entry, fence, value_of, writes_to, last_value, CoreState, State, Effect, advanced, advanced_with, memory_after, applied, Reg, Loc, Update, Store, Load, Move, Fence, Lock, Entry, R, W, Committed, Buffered, Moved, NotLocked, HasBegun, Machine, with_thread, with_lock, with_progress, StandsAt, ThreadStep, read, write, flush, move, mfence, lock, locked_read, locked_write, unlock, Each, each-append, each-at}
+use Rattle.abstract_machine.proofs.Vocabulary.{◌≡◌, ℕ, ◌+◌, List, [], ◌∷◌, ◌++◌, filter, Some, None, slice_get, slice_set, slice_index}
+use Rattle.abstract_machine.proofs.Vocabulary.{arith, ap, sym, ◌∙◌, refl, Litmus, entry, fence, value_of, writes_to, last_value, CoreState}
+use Rattle.abstract_machine.proofs.Vocabulary.{State, Effect, advanced, advanced_with, memory_after, applied, Reg, Loc, Update, Store, Load}
+use Rattle.abstract_machine.proofs.Vocabulary.{Move, Fence, Lock, Entry, R, W, Committed, Buffered, Moved, NotLocked, HasBegun, Machine}
+use Rattle.abstract_machine.proofs.Vocabulary.{with_thread, with_lock, with_progress, StandsAt, ThreadStep, read, write, flush, move}
+use Rattle.abstract_machine.proofs.Vocabulary.{mfence, lock, locked_read, locked_write, unlock, Each, each-append, each-at}
 use Rattle.abstract_machine.proofs.Lists.{append-one}
 use Rattle.abstract_machine.proofs.Reading.{was-read}
 use Rattle.abstract_machine.proofs.States.{thread}

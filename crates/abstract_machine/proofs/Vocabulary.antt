@@ -1,12 +1,19 @@
 -- The names that the proofs of this crate bring in from definitions and from crates below; each file takes its own from here.
-pub use Rattle.std.proofs.Common.{◌≡◌, ◌<◌, ℕ, ◌+◌, suc, List, [], ◌∷◌, ◌++◌, length, map, Some, None, slice_get, slice_set, slice_index, arith, ap, sym, ◌∙◌, refl, subst, true, slice_index_or, inl, inr, append_assoc, ◌≤◌, Bool, false, ◌⊎◌, if◌then◌else◌, nat_lt, filter, get_or-set_same, get_or-set_other, ◌↔◌, Option, ◌≢◌, zero, ◌==◌, ◌&&◌, rules}
+pub use Rattle.std.proofs.Common.{◌≡◌, ◌<◌, ℕ, ◌+◌, suc, List, [], ◌∷◌, ◌++◌, length, map, Some, None, slice_get, slice_set, slice_index}
+pub use Rattle.std.proofs.Common.{arith, ap, sym, ◌∙◌, refl, subst, true, slice_index_or, inl, inr, append_assoc, ◌≤◌, Bool, false, ◌⊎◌}
+pub use Rattle.std.proofs.Common.{if◌then◌else◌, nat_lt, filter, get_or-set_same, get_or-set_other, ◌↔◌, Option, ◌≢◌, zero, ◌==◌, ◌&&◌}
+pub use Rattle.std.proofs.Common.{rules}
 pub use Rattle.tso_terms.specs.Litmus.{Litmus, IsTest, KnownLocation}
 pub use Rattle.tso_terms.specs.Actions.{action_of, location_of}
-pub use Rattle.tso_terms.specs.FlatMachine.{CoreState, State, Effect, advanced_with, effect_by, load_value, memory_after, applied, program_of, registers_in, start, step, drain, stored, idle, effect_of, after_choice, started, is_none_pending, stalled, step_of, drain_of, core_of, chosen, advanced}
+pub use Rattle.tso_terms.specs.FlatMachine.{CoreState, State, Effect, advanced_with, effect_by, load_value, memory_after, applied}
+pub use Rattle.tso_terms.specs.FlatMachine.{program_of, registers_in, start, step, drain, stored, idle, effect_of, after_choice, started}
+pub use Rattle.tso_terms.specs.FlatMachine.{is_none_pending, stalled, step_of, drain_of, core_of, chosen, advanced}
 pub use Rattle.tso_terms.specs.declared.action.Action.TheVariants.{Lock, Store, Load, Move, Fence}
 pub use Rattle.basic_laws.specs.Types.{Entry, Committed, Buffered, Moved, Instr, Choice, Loc, Operand, Action, W, LR, LW, R, Reg, Update, Stall, Kind}
-pub use Rattle.abstract_machine.specs.Machine.{NotLocked, HasBegun, HasRead, HardwareThread, Machine, with_thread, with_write, with_buffer, with_progress, first, first_threads, HasWritten, IsNotBlocked, with_lock}
-pub use Rattle.abstract_machine.specs.Steps.{ThreadStep, read, write, flush, move, mfence, lock, locked_read, locked_write, unlock, Runs, rests, goes_on, CanRead, from_memory, from_buffer, StandsAt}
+pub use Rattle.abstract_machine.specs.Machine.{NotLocked, HasBegun, HasRead, HardwareThread, Machine, with_thread, with_write, with_buffer}
+pub use Rattle.abstract_machine.specs.Machine.{with_progress, first, first_threads, HasWritten, IsNotBlocked, with_lock}
+pub use Rattle.abstract_machine.specs.Steps.{ThreadStep, read, write, flush, move, mfence, lock, locked_read, locked_write, unlock, Runs}
+pub use Rattle.abstract_machine.specs.Steps.{rests, goes_on, CanRead, from_memory, from_buffer, StandsAt}
 pub use Rattle.basic_laws.proofs.Lists.{each-at, append-nil, Each, each-append}
 pub use Rattle.tso_terms.specs.Axioms.{IsTsoExecution, last_value, IsAdjacent}
 pub use Rattle.tso_terms.specs.FinalState.{final_words, final_registers}

@@ -72,7 +72,9 @@ pub same-executions : (b : Branching) (order : List Entry) (outputs : List (List
     → IsBranchExecution b order outputs ↔ IsBranchExecution (with_updates b) order outputs
 same-executions b order outputs = (
   λ h. record {
-    done = subst (λ z. Give (all_written_out b.trees) z outputs) (sym (all-values 0 b.trees order)) (give-out b.trees (values_from 0 b.trees order) outputs h.done);
+    done =
+        subst (λ z. Give (all_written_out b.trees) z outputs) (sym (all-values 0 b.trees order))
+        (give-out b.trees (values_from 0 b.trees order) outputs h.done);
     count = subst (λ z. length order ≡ length z) (sym (all-made 0 b.trees order)) h.count;
     each = subst (λ z. (k : ℕ) (e : Entry) → slice_get z k ≡ Some e → (i : ℕ) × (slice_get order i ≡ Some e)) (sym (all-made 0 b.trees order)) h.each;
     program_order = h.program_order;

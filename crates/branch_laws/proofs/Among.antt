@@ -1,5 +1,6 @@
 -- Members of lists, by the ways in which the lists are made.
-use Rattle.std.proofs.Common.{◌≡◌, ℕ, zero, suc, List, [], ◌∷◌, ◌++◌, Some, map, filter, Bool, true, false, if◌then◌else◌, ◌⊎◌, ◌<◌, length, slice_get, arith, ap, sym, ◌∙◌, refl, subst, inl, inr}
+use Rattle.std.proofs.Common.{◌≡◌, ℕ, zero, suc, List, [], ◌∷◌, ◌++◌, Some, map, filter, Bool, true, false, if◌then◌else◌, ◌⊎◌, ◌<◌, length}
+use Rattle.std.proofs.Common.{slice_get, arith, ap, sym, ◌∙◌, refl, subst, inl, inr}
 use Rattle.branch_laws.specs.Rounds.{StandsAmong, for_each}
 
 pub among-left : {A : Type 0} (x : A) (xs ys : List A) → StandsAmong x xs → StandsAmong x (xs ++ ys)
@@ -26,12 +27,17 @@ map-among f z [] h = absurd h
 map-among f z (x ∷ xs) (inl q) = (x, inl refl, q)
 map-among f z (x ∷ xs) (inr h) = let r = map-among f z xs h in (r.0, inr r.1, r.2)
 
-pub among-for-each : {A : Type 0} (x : A) (v : ℕ) (vs : List ℕ) (ways : ℕ → List A) → StandsAmong v vs → StandsAmong x (ways v) → StandsAmong x (for_each vs ways)
+pub among-for-each : {A : Type 0} (x : A) (v : ℕ) (vs : List ℕ) (ways : ℕ → List A)
+    → StandsAmong v vs
+    → StandsAmong x (ways v)
+    → StandsAmong x (for_each vs ways)
 among-for-each x v [] ways h k = absurd h
 among-for-each x v (w ∷ vs) ways (inl q) k = among-left x (ways w) (for_each vs ways) (subst (λ z. StandsAmong x (ways z)) q k)
 among-for-each x v (w ∷ vs) ways (inr h) k = among-right x (ways w) (for_each vs ways) (among-for-each x v vs ways h k)
 
-pub for-each-among : {A : Type 0} (x : A) (vs : List ℕ) (ways : ℕ → List A) → StandsAmong x (for_each vs ways) → (v : ℕ) × StandsAmong v vs × StandsAmong x (ways v)
+pub for-each-among : {A : Type 0} (x : A) (vs : List ℕ) (ways : ℕ → List A)
+    → StandsAmong x (for_each vs ways)
+    → (v : ℕ) × StandsAmong v vs × StandsAmong x (ways v)
 for-each-among x [] ways h = absurd h
 for-each-among x (v ∷ vs) ways h = elim (among-either x (ways v) (for_each vs ways) h) [
   | inl k ↦ (v, inl refl, k)

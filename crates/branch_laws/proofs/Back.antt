@@ -1,5 +1,6 @@
 -- What the straight-line program of a path does, its tree does too: a move before a locked instruction is no step of it.
-use Rattle.std.proofs.Common.{◌≡◌, ◌≢◌, ℕ, ◌+◌, zero, suc, List, [], ◌∷◌, ◌++◌, None, Bool, true, false, ◌<◌, ◌≤◌, nat_lt, if◌then◌else◌, length, slice_index, slice_get, take, drop, ap, sym, ◌∙◌, refl, subst}
+use Rattle.std.proofs.Common.{◌≡◌, ◌≢◌, ℕ, ◌+◌, zero, suc, List, [], ◌∷◌, ◌++◌, None, Bool, true, false, ◌<◌, ◌≤◌, nat_lt, if◌then◌else◌}
+use Rattle.std.proofs.Common.{length, slice_index, slice_get, take, drop, ap, sym, ◌∙◌, refl, subst}
 use Rattle.basic_laws.proofs.Lists.{Each, each-append}
 use Rattle.tso_terms.specs.Actions.{action_of}
 use Rattle.tso_terms.specs.Thread.{entry, fence, with_value, value_in}
@@ -27,7 +28,9 @@ pub record Half (c : ℕ) (program : List Instr) (xs : List Entry) (f : CoreStat
   pub within : place + 1 ≤ length program
   pub own : Each (IsOwn c) pending
   pub held : value_in registers Ebx ≡ operand change (slice_index (values_along c place (Locks loc change next) xs) 0)
-  pub left_over : drop (place + 1) program ≡ locking change loc Ebx ∷ path (next (slice_index (values_along c place (Locks loc change next) xs) 0)) (drop 1 (values_along c place (Locks loc change next) xs))
+  pub left_over : drop (place + 1) program
+      ≡ locking change loc Ebx
+      ∷ path (next (slice_index (values_along c place (Locks loc change next) xs) 0)) (drop 1 (values_along c place (Locks loc change next) xs))
 
 pub data Tied (c : ℕ) (program : List Instr) (xs : List Entry) (f : CoreState) (s : TreeCore) : Type 0 where
   level : Even c program xs f s → Tied c program xs f s
@@ -85,8 +88,20 @@ even-back n memory c program xs regs p (Reads loc next) q φ is l w o e =
     let f : CoreState = record { place = p; registers = regs; pending = q } in
     let a = at-drop program p (Load Eax loc) _ e in
     let z : φ ≡ effect_by (suc n) memory c (action_of (Load Eax loc)) f = is ∙ ap (λ z. step_of (suc n) memory c z f) a.at in
-    let b = at-drop program p (Load Eax loc) _ (e ∙ ap (λ y. path (Reads loc next) (values_along c p (Reads loc next) (y.commits ++ xs))) z ∙ ap (λ z. path (Reads loc next) z) (reads-left c p loc next v xs)) in
-    loud (ap (λ y. y.commits) z) (level (record { registers = with_value regs Eax v; is = ap (λ y. y.after) z; long = still-long regs 0 v l; within = a.within; own = o; left_over = b.next }))
+    let b =
+    at-drop program p (Load Eax loc) _
+    (e
+    ∙ ap (λ y. path (Reads loc next) (values_along c p (Reads loc next) (y.commits ++ xs))) z
+    ∙ ap (λ z. path (Reads loc next) z) (reads-left c p loc next v xs)) in
+    loud (ap (λ y. y.commits) z)
+    (level (record {
+      registers = with_value regs Eax v;
+      is = ap (λ y. y.after) z;
+      long = still-long regs 0 v l;
+      within = a.within;
+      own = o;
+      left_over = b.next;
+    }))
 even-back n memory c program xs regs p (Stores loc value next) q φ is l w o e = go (nat_lt (length q) (suc n)) refl
   where
     s : TreeCore
@@ -168,7 +183,8 @@ even-back n memory c program xs regs p (Locks loc change next) q φ is l w o e =
     let f : CoreState = record { place = p; registers = regs; pending = q } in
     let first : List ℕ = values_along c p (Locks loc change next) (φ.commits ++ xs) in
     let a = at-drop program p (SetImm Ebx (operand change (slice_index first 0))) _ e in
-    let z : φ ≡ effect_by (suc n) memory c (action_of (SetImm Ebx (operand change (slice_index first 0)))) f = is ∙ ap (λ z. step_of (suc n) memory c z f) a.at in
+    let z : φ ≡ effect_by (suc n) memory c (action_of (SetImm Ebx (operand change (slice_index first 0)))) f =
+    is ∙ ap (λ z. step_of (suc n) memory c z f) a.at in
     let none : φ.commits ≡ [] = ap (λ y. y.commits) z in
     let later : List ℕ = values_along c p (Locks loc change next) xs in
     let u : ℕ = operand change (slice_index later 0) in
@@ -190,12 +206,16 @@ even-back n memory c program xs regs p (Locks loc change next) q φ is l w o e =
       left_over = b.next;
     }))
 
-half-back : (n : ℕ) (memory : List ℕ) (c : ℕ) (program : List Instr) (xs : List Entry) (regs : List ℕ) (p : ℕ) (loc : Loc) (change : Change) (next : ℕ → Tree) (q : List Entry) (φ : Effect)
+half-back : (n : ℕ) (memory : List ℕ) (c : ℕ) (program : List Instr) (xs : List Entry) (regs : List ℕ) (p : ℕ)
+    (loc : Loc) (change : Change) (next : ℕ → Tree) (q : List Entry) (φ : Effect)
     → φ ≡ step_of (suc n) memory c (slice_get program (p + 1)) (record { place = p + 1; registers = regs; pending = q })
     → 1 < length regs → p + 1 ≤ length program → Each (IsOwn c) q
     → value_in regs Ebx ≡ operand change (slice_index (values_along c p (Locks loc change next) (φ.commits ++ xs)) 0)
-    → drop (p + 1) program ≡ locking change loc Ebx ∷ path (next (slice_index (values_along c p (Locks loc change next) (φ.commits ++ xs)) 0)) (drop 1 (values_along c p (Locks loc change next) (φ.commits ++ xs)))
-    → Back c program xs φ (record { place = p; rest = Locks loc change next; pending = q }) (act (suc n) memory c (Locks loc change next) (record { place = p; rest = Locks loc change next; pending = q }))
+    → drop (p + 1) program ≡ locking change loc Ebx
+    ∷ path (next (slice_index (values_along c p (Locks loc change next) (φ.commits ++ xs)) 0))
+    (drop 1 (values_along c p (Locks loc change next) (φ.commits ++ xs)))
+    → Back c program xs φ (record { place = p; rest = Locks loc change next; pending = q })
+    (act (suc n) memory c (Locks loc change next) (record { place = p; rest = Locks loc change next; pending = q }))
 half-back n memory c program xs regs p loc change next q φ is l w o held e = go (is_none_pending q) refl
   where
     v : ℕ
@@ -243,7 +263,11 @@ half-back n memory c program xs regs p loc change next q φ is l w o held e = go
     go false b =
         let a = at-drop program (p + 1) (locking change loc Ebx) _ e in
         let some : ℕ = left_by change v (value_in regs Ebx) in
-        let z : φ ≡ stalled stall.Lock f = is ∙ ap (λ z. step_of (suc n) memory c z f) a.at ∙ locking-any (suc n) memory c change loc Ebx f ∙ ap (λ z. if z then done some else stalled stall.Lock f) b in
+        let z : φ ≡ stalled stall.Lock f =
+        is
+        ∙ ap (λ z. step_of (suc n) memory c z f) a.at
+        ∙ locking-any (suc n) memory c change loc Ebx f
+        ∙ ap (λ z. if z then done some else stalled stall.Lock f) b in
         let same : values_along c p (Locks loc change next) (φ.commits ++ xs) ≡ values_along c p (Locks loc change next) xs
         = ap (λ y. values_along c p (Locks loc change next) (y.commits ++ xs)) z in
         quiet (ap (λ y. y.commits) z) (between (record {
@@ -266,10 +290,13 @@ pub tied-back : (n : ℕ) (memory : List ℕ) (c : ℕ) (program : List Instr) (
     → φ ≡ step_of (suc n) memory c (slice_get program f.place) f → Tied c program (φ.commits ++ xs) f s
     → Back c program xs φ s (act (suc n) memory c s.rest s)
 tied-back n memory c program xs f s φ is (level e) =
-    even-back n memory c program xs e.registers s.place s.rest s.pending φ (is ∙ ap (λ z. step_of (suc n) memory c (slice_get program z.place) z) e.is) e.long e.within e.own e.left_over
+    even-back n memory c program xs e.registers s.place s.rest s.pending φ
+    (is ∙ ap (λ z. step_of (suc n) memory c (slice_get program z.place) z) e.is) e.long e.within e.own e.left_over
 tied-back n memory c program xs f s φ is (between e) =
     subst (λ z. Back c program xs φ z (act (suc n) memory c z.rest z)) (sym e.s_is)
-    (half-back n memory c program xs e.registers e.place e.loc e.change e.next e.pending φ (is ∙ ap (λ z. step_of (suc n) memory c (slice_get program z.place) z) e.is) e.long e.within e.own e.held e.left_over)
+    (half-back n memory c program xs e.registers e.place e.loc e.change e.next e.pending φ
+    (is ∙ ap (λ z. step_of (suc n) memory c (slice_get program z.place) z) e.is) e.long e.within e.own e.held
+    e.left_over)
 
 -- drains
 
@@ -281,7 +308,9 @@ pub record DrainsBack (c : ℕ) (program : List Instr) (xs : List Entry) (f : Co
 half-drain : (c : ℕ) (program : List Instr) (xs : List Entry) (regs : List ℕ) (p : ℕ) (loc : Loc) (change : Change) (next : ℕ → Tree) (q : List Entry)
     → 1 < length regs → p + 1 ≤ length program → Each (IsOwn c) q
     → value_in regs Ebx ≡ operand change (slice_index (values_along c p (Locks loc change next) (take 1 q ++ xs)) 0)
-    → drop (p + 1) program ≡ locking change loc Ebx ∷ path (next (slice_index (values_along c p (Locks loc change next) (take 1 q ++ xs)) 0)) (drop 1 (values_along c p (Locks loc change next) (take 1 q ++ xs)))
+    → drop (p + 1) program ≡ locking change loc Ebx
+    ∷ path (next (slice_index (values_along c p (Locks loc change next) (take 1 q ++ xs)) 0))
+    (drop 1 (values_along c p (Locks loc change next) (take 1 q ++ xs)))
     → DrainsBack c program xs (record { place = p + 1; registers = regs; pending = q }) (record { place = p; rest = Locks loc change next; pending = q })
 half-drain c program xs regs p loc change next [] l w o held e = record {
   commits = refl;
@@ -332,7 +361,9 @@ drain-commits f = go f.pending refl
     go [] e = rw e refl
     go (x ∷ q) e = rw e refl
 
-pub tied-drain : (c : ℕ) (program : List Instr) (xs : List Entry) (f : CoreState) (s : TreeCore) → Tied c program ((drain_of f).commits ++ xs) f s → DrainsBack c program xs f s
+pub tied-drain : (c : ℕ) (program : List Instr) (xs : List Entry) (f : CoreState) (s : TreeCore)
+    → Tied c program ((drain_of f).commits ++ xs) f s
+    → DrainsBack c program xs f s
 tied-drain c program xs f s (level e) =
     let q : (drain_of f).commits ≡ take 1 s.pending = drain-commits f ∙ ap (λ z. take 1 z.pending) e.is in
     let h : Even c program (take 1 s.pending ++ xs) f s = record {
@@ -351,6 +382,8 @@ tied-drain c program xs f s (level e) =
 tied-drain c program xs f s (between e) =
     let q : (drain_of f).commits ≡ take 1 e.pending = drain-commits f ∙ ap (λ z. take 1 z.pending) e.is in
     let same = ap (λ z. values_along c e.place (Locks e.loc e.change e.next) (z ++ xs)) q in
-    subst (λ z. DrainsBack c program xs z s) (sym e.is) (subst (λ z. DrainsBack c program xs (record { place = e.place + 1; registers = e.registers; pending = e.pending }) z) (sym e.s_is)
+    subst (λ z. DrainsBack c program xs z s) (sym e.is)
+    (subst (λ z. DrainsBack c program xs (record { place = e.place + 1; registers = e.registers; pending = e.pending }) z) (sym e.s_is)
     (half-drain c program xs e.registers e.place e.loc e.change e.next e.pending e.long e.within e.own
-    (e.held ∙ ap (λ y. operand e.change (slice_index y 0)) same) (e.left_over ∙ ap (λ y. locking e.change e.loc Ebx ∷ path (e.next (slice_index y 0)) (drop 1 y)) same)))
+    (e.held ∙ ap (λ y. operand e.change (slice_index y 0)) same)
+    (e.left_over ∙ ap (λ y. locking e.change e.loc Ebx ∷ path (e.next (slice_index y 0)) (drop 1 y)) same)))

@@ -43,7 +43,9 @@ agrees c p (Stores loc value next) (Stores at other more) order outputs h e =
     let r = agrees c (p + 1) next more order outputs h.2 e in
     record {
       values = r.values;
-      entries = ap (λ z. z ∷ entries_along c (p + 1) more (values_along c (p + 1) next order)) (ap (λ z. entry c p W z other) (sym h.0) ∙ ap (λ z. entry c p W loc z) (sym h.1))
+      entries =
+          ap (λ z. z ∷ entries_along c (p + 1) more (values_along c (p + 1) next order))
+          (ap (λ z. entry c p W z other) (sym h.0) ∙ ap (λ z. entry c p W loc z) (sym h.1))
           ∙ ap (λ z. entry c p W loc value ∷ z) r.entries;
       gives = r.gives;
     }
@@ -102,7 +104,10 @@ all-agree c (tree ∷ trees) (w ∷ wholes) order (o ∷ outputs) h g =
     }
 
 -- where the bounded trees have outputs, the two tests have the same executions
-to-whole : (b whole : Branching) (order : List Entry) (outputs : List (List ℕ)) → IsBounded b whole → IsBranchExecution b order outputs → IsBranchExecution whole order outputs
+to-whole : (b whole : Branching) (order : List Entry) (outputs : List (List ℕ))
+    → IsBounded b whole
+    → IsBranchExecution b order outputs
+    → IsBranchExecution whole order outputs
 to-whole b whole order outputs w h =
     let a = all-agree 0 b.trees whole.trees order outputs w.trees h.done in
     record {
@@ -143,7 +148,10 @@ from-whole b whole order outputs w none h =
           → x.value ≡ last_value (counting x front back) (slice_index z x.loc.0)) (sym w.words) h.read_values;
     }
 
-pub each-outcome : (b whole : Branching) (outputs : List (List ℕ)) (memory : List ℕ) → IsBounded b whole → IsBranchOutcome b outputs memory → IsBranchOutcome whole outputs memory
+pub each-outcome : (b whole : Branching) (outputs : List (List ℕ)) (memory : List ℕ)
+    → IsBounded b whole
+    → IsBranchOutcome b outputs memory
+    → IsBranchOutcome whole outputs memory
 each-outcome b whole outputs memory w h = record {
   order = h.order;
   execution = to-whole b whole h.order outputs w h.execution;

@@ -1,5 +1,6 @@
 -- What a tree writes and which path it takes rest on what it reads before: where these values are of a domain, so are they.
-use Rattle.std.proofs.Common.{◌≡◌, ℕ, ◌+◌, List, [], ◌∷◌, ◌++◌, map, Some, true, false, if◌then◌else◌, ◌<◌, ◌≤◌, slice_index, drop, arith, ap, sym, ◌∙◌, refl, subst, inl, inr}
+use Rattle.std.proofs.Common.{◌≡◌, ℕ, ◌+◌, List, [], ◌∷◌, ◌++◌, map, Some, true, false, if◌then◌else◌, ◌<◌, ◌≤◌, slice_index, drop, arith}
+use Rattle.std.proofs.Common.{ap, sym, ◌∙◌, refl, subst, inl, inr}
 use Rattle.std.proofs.lemmas.Bool.Decides.{nat_tests}
 use Rattle.basic_laws.proofs.Basics.{before, test-true}
 use Rattle.basic_laws.proofs.Lists.{Each, each-map}
@@ -28,7 +29,10 @@ placed c p (Stores loc value next) values = (record { core = refl; place = omega
 placed c p (Fences next) values = (record { core = refl; place = omega arith }, further c (p + 1) p _ (omega arith) (placed c (p + 1) next values))
 placed c p (Locks loc change next) values = (
   record { core = refl; place = omega arith },
-  (record { core = refl; place = omega arith }, further c ((p + 1) + 1) p _ (omega arith) (placed c ((p + 1) + 1) (next (slice_index values 0)) (drop 1 values))),
+  (
+    record { core = refl; place = omega arith },
+    further c ((p + 1) + 1) p _ (omega arith) (placed c ((p + 1) + 1) (next (slice_index values 0)) (drop 1 values)),
+  ),
 )
 
 pub each-among : {A : Type 0} (P : A → Type 0) (x : A) (xs : List A) → Each P xs → StandsAmong x xs → P x
@@ -79,7 +83,8 @@ write-rests domain c p (Locks loc change next) order w (inl q) i f = absurd (let
 write-rests domain c p (Locks loc change next) order w (inr (inl q)) i f =
     let v : ℕ = read_value c (p + 1) LR order in
     among-for-each w.value v (domain loc.0) (λ v. seen_at w.loc.0 loc (written change v) ++ may_write domain w.loc.0 (next v))
-    (f (entry c (p + 1) LR loc v) (inl refl) refl (subst (λ z. is_before (entry c (p + 1) LR loc v) z ≡ true) (sym q) (own-part c (p + 1) loc v (written change v))))
+    (f (entry c (p + 1) LR loc v) (inl refl) refl
+    (subst (λ z. is_before (entry c (p + 1) LR loc v) z ≡ true) (sym q) (own-part c (p + 1) loc v (written change v))))
     (among-left w.value (seen_at w.loc.0 loc (written change v)) (may_write domain w.loc.0 (next v))
     (subst (λ z. StandsAmong z.value (seen_at z.loc.0 loc (written change v))) (sym q) (seen-here loc (written change v))))
 write-rests domain c p (Locks loc change next) order w (inr (inr m)) i f =

@@ -1,5 +1,6 @@
 -- One core: what a step of its tree does, the straight-line program of its path does too.
-use Rattle.std.proofs.Common.{◌≡◌, ◌≢◌, ℕ, ◌+◌, zero, suc, List, [], ◌∷◌, ◌++◌, Some, Bool, true, false, ◌<◌, ◌≤◌, nat_lt, if◌then◌else◌, length, slice_index, slice_get, take, drop, arith, ap, sym, ◌∙◌, refl, subst}
+use Rattle.std.proofs.Common.{◌≡◌, ◌≢◌, ℕ, ◌+◌, zero, suc, List, [], ◌∷◌, ◌++◌, Some, Bool, true, false, ◌<◌, ◌≤◌, nat_lt, if◌then◌else◌}
+use Rattle.std.proofs.Common.{length, slice_index, slice_get, take, drop, arith, ap, sym, ◌∙◌, refl, subst}
 use Rattle.basic_laws.proofs.Lists.{Each, each-append}
 use Rattle.tso_terms.specs.Actions.{action_of}
 use Rattle.tso_terms.specs.Thread.{entry, fence, with_value}
@@ -41,7 +42,11 @@ at-drop [] (suc k) i rest e = absurd (let z : ⊥ = cc in z)
 at-drop (x ∷ p) zero i rest e = record { at = ap Some (first-of x i p rest e); next = rest-of x i p rest e; within = omega arith }
 at-drop (x ∷ p) (suc k) i rest e =
     let r = at-drop p k i rest e in
-    record { at = r.at; next = subst (λ z. drop z (x ∷ p) ≡ rest) (let z : suc (k + 1) ≡ suc k + 1 = omega arith in z) r.next; within = (let w = r.within in omega arith) }
+    record {
+      at = r.at;
+      next = subst (λ z. drop z (x ∷ p) ≡ rest) (let z : suc (k + 1) ≡ suc k + 1 = omega arith in z) r.next;
+      within = (let w = r.within in omega arith);
+    }
 
 pub drop-all : (p : List Instr) (k : ℕ) → drop k p ≡ [] → k ≤ length p → length p ≡ k
 drop-all [] zero e l = refl
@@ -79,14 +84,22 @@ pub data OneCore (d : ℕ) (memory : List ℕ) (c : ℕ) (program : List Instr) 
 
 pub one-core : (n : ℕ) (memory : List ℕ) (c : ℕ) (program : List Instr) (xs : List Entry) (regs : List ℕ) (p : ℕ) (tree : Tree) (q : List Entry)
     → 1 < length regs → p ≤ length program → Each (IsOwn c) q
-    → drop p program ≡ path tree (left c (record { place = p; rest = tree; pending = q }) ((act (suc n) memory c tree (record { place = p; rest = tree; pending = q })).commits ++ xs))
-    → OneCore (suc n) memory c program xs (record { place = p; rest = tree; pending = q }) regs (act (suc n) memory c tree (record { place = p; rest = tree; pending = q }))
+    → drop p program ≡ path tree
+    (left c (record { place = p; rest = tree; pending = q })
+    ((act (suc n) memory c tree (record { place = p; rest = tree; pending = q })).commits ++ xs))
+    → OneCore (suc n) memory c program xs (record { place = p; rest = tree; pending = q }) regs
+    (act (suc n) memory c tree (record { place = p; rest = tree; pending = q }))
 one-core n memory c program xs regs p (Done outputs) q l w o e = none refl
 one-core n memory c program xs regs p Cut q l w o e = none refl
 one-core n memory c program xs regs p (Reads loc next) q l w o e =
     let v : ℕ = seen_value memory q loc.0 in
     let a = at-drop program p (Load Eax loc) _ (e ∙ ap (λ z. path (Reads loc next) z) (reads-left c p loc next v xs)) in
-    one (Load Eax loc) (effect_by (suc n) memory c (action_of (Load Eax loc)) (flat (record { place = p; rest = Reads loc next; pending = q }) regs)) a.at refl refl (record {
+    one (Load Eax loc) (effect_by (suc n) memory c (action_of (Load Eax loc)) (flat (record {
+      place = p;
+      rest = Reads loc next;
+      pending = q;
+    }) regs))
+    a.at refl refl (record {
       registers = with_value regs Eax v;
       is = refl;
       long = still-long regs 0 v l;
@@ -183,7 +196,14 @@ one-core n memory c program xs regs p (Locks loc change next) q l w o e = go (is
         two (SetImm Ebx u) (locking change loc Ebx) (effect_by (suc n) memory c (action_of (SetImm Ebx u)) (flat s regs)) done a.at refl refl a2.at
         (locking-step (suc n) memory c change loc Ebx m (moved-in regs u l) ∙ ap (λ z. if z then done else stalled stall.Lock m) b)
         refl
-        (record { registers = with_value held Ebx v; is = refl; long = still-long held 1 v (still-long regs 1 u l); within = a2.within; own = o; left_over = a2.next })
+        (record {
+          registers = with_value held Ebx v;
+          is = refl;
+          long = still-long held 1 v (still-long regs 1 u l);
+          within = a2.within;
+          own = o;
+          left_over = a2.next;
+        })
     go false b e = none refl
 
 -- the entries of a step are of its core
@@ -193,12 +213,26 @@ act-core d memory c Cut s = tt
 act-core d memory c (Reads loc next) s = (refl, tt)
 act-core d memory c (Stores loc value next) s = go (nat_lt (length s.pending) d)
   where
-    go : (t : Bool) → Each (λ e. e.core.0 ≡ c) (if t then record { after = record { place = s.place + 1; rest = next; pending = s.pending ++ entry c s.place W loc value ∷ [] }; commits = [] } else stays s).commits
+    go : (t : Bool)
+        → Each (λ e. e.core.0 ≡ c)
+        (if t
+        then record {
+          after = record { place = s.place + 1; rest = next; pending = s.pending ++ entry c s.place W loc value ∷ [] };
+          commits = [];
+        }
+        else stays s).commits
     go true = tt
     go false = tt
 act-core d memory c (Fences next) s = go (is_none_pending s.pending)
   where
-    go : (t : Bool) → Each (λ e. e.core.0 ≡ c) (if t then record { after = record { place = s.place + 1; rest = next; pending = s.pending }; commits = fence c s.place ∷ [] } else stays s).commits
+    go : (t : Bool)
+        → Each (λ e. e.core.0 ≡ c)
+        (if t
+        then record {
+          after = record { place = s.place + 1; rest = next; pending = s.pending };
+          commits = fence c s.place ∷ [];
+        }
+        else stays s).commits
     go true = (refl, tt)
     go false = tt
 act-core d memory c (Locks loc change next) s = go (is_none_pending s.pending)

@@ -1,5 +1,6 @@
 -- Counting the entries of a list that pass a test on their place and on themselves.
-use Rattle.std.proofs.Common.{◌≡◌, ℕ, ◌+◌, zero, suc, List, [], ◌∷◌, Some, filter, Bool, true, false, if◌then◌else◌, ◌<◌, ◌≤◌, length, slice_get, arith, ap, sym, ◌∙◌, refl, subst}
+use Rattle.std.proofs.Common.{◌≡◌, ℕ, ◌+◌, zero, suc, List, [], ◌∷◌, Some, filter, Bool, true, false, if◌then◌else◌, ◌<◌, ◌≤◌, length}
+use Rattle.std.proofs.Common.{slice_get, arith, ap, sym, ◌∙◌, refl, subst}
 use Rattle.basic_laws.specs.Types.{Entry}
 
 abbrev pub one_if : Bool → ℕ

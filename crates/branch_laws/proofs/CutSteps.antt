@@ -1,11 +1,13 @@
 -- A run of the whole test is one of the bounded test until a core is cut off.
-use Rattle.std.proofs.Common.{◌≡◌, ℕ, List, [], ◌∷◌, ◌++◌, Bool, true, false, ◌⊎◌, ◌<◌, nat_lt, length, slice_index, take, drop, arith, ap, sym, ◌∙◌, refl, subst, inl, inr}
+use Rattle.std.proofs.Common.{◌≡◌, ℕ, List, [], ◌∷◌, ◌++◌, Bool, true, false, ◌⊎◌, ◌<◌, nat_lt, length, slice_index, take, drop, arith, ap}
+use Rattle.std.proofs.Common.{sym, ◌∙◌, refl, subst, inl, inr}
 use Rattle.basic_laws.proofs.Basics.{decide}
 use Rattle.tso_terms.specs.FlatMachine.{memory_after}
 use Rattle.tso_terms.specs.Runs.{CoresExist}
 use Rattle.basic_laws.specs.Types.{Entry, Choice, Step, Drain}
 use Rattle.branch_laws.specs.Trees.{Tree, Done, Cut, Reads, Stores, Fences, Locks}
-use Rattle.branch_laws.specs.TreeMachine.{TreeCore, TreeState, TreeEffect, seen_value, act, drain_tree, tree_core, tree_effect, tree_choice, tree_applied, tree_after, tree_commits}
+use Rattle.branch_laws.specs.TreeMachine.{TreeCore, TreeState, TreeEffect, seen_value, act, drain_tree, tree_core, tree_effect, tree_choice}
+use Rattle.branch_laws.specs.TreeMachine.{tree_applied, tree_after, tree_commits}
 use Rattle.branch_laws.specs.Bounds.{IsCutFrom}
 use Rattle.branch_laws.proofs.States.{tree-changed}
 use Rattle.branch_laws.proofs.KeptStores.{at_tree}
@@ -17,7 +19,9 @@ record StepsAlike (d : ℕ) (memory : List ℕ) (c p : ℕ) (tree whole : Tree) 
   pub pending : (act d memory c tree (at_tree p tree q)).after.pending ≡ (act d memory c whole (at_tree p whole q)).after.pending
   pub cut : IsCutFrom (act d memory c tree (at_tree p tree q)).after.rest (act d memory c whole (at_tree p whole q)).after.rest
 
-steps-alike : (d : ℕ) (memory : List ℕ) (c p : ℕ) (tree whole : Tree) (q : List Entry) → IsCutFrom tree whole → (tree ≡ Cut) ⊎ StepsAlike d memory c p tree whole q
+steps-alike : (d : ℕ) (memory : List ℕ) (c p : ℕ) (tree whole : Tree) (q : List Entry)
+    → IsCutFrom tree whole
+    → (tree ≡ Cut) ⊎ StepsAlike d memory c p tree whole q
 steps-alike d memory c p Cut whole q h = inl refl
 steps-alike d memory c p (Done o) (Done u) q h = inr (record { commits = refl; place = refl; pending = refl; cut = h })
 steps-alike d memory c p (Done o) Cut q h = absurd h
@@ -26,14 +30,20 @@ steps-alike d memory c p (Done o) (Stores at other more) q h = absurd h
 steps-alike d memory c p (Done o) (Fences more) q h = absurd h
 steps-alike d memory c p (Done o) (Locks at other more) q h = absurd h
 steps-alike d memory c p (Reads loc next) (Reads at more) q h =
-    inr (subst (λ z. StepsAlike d memory c p (Reads loc next) (Reads z more) q) h.0 (record { commits = refl; place = refl; pending = refl; cut = h.1 (seen_value memory q loc.0) }))
+    inr (subst (λ z. StepsAlike d memory c p (Reads loc next) (Reads z more) q) h.0 (record {
+      commits = refl;
+      place = refl;
+      pending = refl;
+      cut = h.1 (seen_value memory q loc.0);
+    }))
 steps-alike d memory c p (Reads loc next) Cut q h = absurd h
 steps-alike d memory c p (Reads loc next) (Done u) q h = absurd h
 steps-alike d memory c p (Reads loc next) (Stores at other more) q h = absurd h
 steps-alike d memory c p (Reads loc next) (Fences more) q h = absurd h
 steps-alike d memory c p (Reads loc next) (Locks at other more) q h = absurd h
 steps-alike d memory c p (Stores loc value next) (Stores at other more) q h =
-    inr (subst (λ z. StepsAlike d memory c p (Stores loc value next) (Stores z other more) q) h.0 (subst (λ z. StepsAlike d memory c p (Stores loc value next) (Stores loc z more) q) h.1 (go (nat_lt (length q) d) refl)))
+    inr (subst (λ z. StepsAlike d memory c p (Stores loc value next) (Stores z other more) q) h.0
+    (subst (λ z. StepsAlike d memory c p (Stores loc value next) (Stores loc z more) q) h.1 (go (nat_lt (length q) d) refl)))
   where
     go : (t : Bool) → nat_lt (length q) d ≡ t → StepsAlike d memory c p (Stores loc value next) (Stores loc value more) q
     go true e = record { commits = rw e refl; place = rw e refl; pending = rw e refl; cut = rw e h.2 }
@@ -51,7 +61,8 @@ steps-alike d memory c p (Fences next) (Reads at more) q h = absurd h
 steps-alike d memory c p (Fences next) (Stores at other more) q h = absurd h
 steps-alike d memory c p (Fences next) (Locks at other more) q h = absurd h
 steps-alike d memory c p (Locks loc change next) (Locks at other more) [] h =
-    inr (subst (λ z. StepsAlike d memory c p (Locks loc change next) (Locks z other more) []) h.0 (subst (λ z. StepsAlike d memory c p (Locks loc change next) (Locks loc z more) []) h.1
+    inr (subst (λ z. StepsAlike d memory c p (Locks loc change next) (Locks z other more) []) h.0
+    (subst (λ z. StepsAlike d memory c p (Locks loc change next) (Locks loc z more) []) h.1
     (record { commits = refl; place = refl; pending = refl; cut = h.2 (slice_index memory loc.0) })))
 steps-alike d memory c p (Locks loc change next) (Locks at other more) (x ∷ q) h = inr (record { commits = refl; place = refl; pending = refl; cut = h })
 steps-alike d memory c p (Locks loc change next) Cut q h = absurd h
@@ -84,7 +95,9 @@ next-alike n c U S g h l a e k =
       cores = λ j m. elim (decide j c) [
         | inl q ↦ subst (λ z. AlikeCores (tree_core (tree_applied U c g) z) (tree_core (tree_applied S c h) z)) (sym q)
             (subst (λ z. AlikeCores z (tree_core (tree_applied S c h) c)) (sym v.own) (subst (λ z. AlikeCores g.after z) (sym w.own) k))
-        | inr q ↦ subst (λ z. AlikeCores z (tree_core (tree_applied S c h) j)) (sym (v.others j q)) (subst (λ z. AlikeCores (tree_core U j) z) (sym (w.others j q)) (a.cores j m))
+        | inr q ↦
+            subst (λ z. AlikeCores z (tree_core (tree_applied S c h) j)) (sym (v.others j q))
+            (subst (λ z. AlikeCores (tree_core U j) z) (sym (w.others j q)) (a.cores j m))
       ];
     }
 
@@ -133,5 +146,7 @@ follow-or-stop d n U S (Drain j ∷ cs) l a = more (follow-or-stop d n (tree_cho
   where
     more : FollowsOrStops d n (tree_choice d U (Drain j)) (tree_choice d S (Drain j)) cs → FollowsOrStops d n U S (Drain j ∷ cs)
     more (follows q b) =
-        follows (ap (λ z. take 1 z ++ tree_commits d (tree_choice d U (Drain j)) cs) (a.cores j.0 l.0).pending ∙ ap (λ z. take 1 (tree_core S j.0).pending ++ z) q) b
+        follows (ap (λ z. take 1 z ++ tree_commits d (tree_choice d U (Drain j)) cs) (a.cores j.0 l.0).pending
+        ∙ ap (λ z. take 1 (tree_core S j.0).pending ++ z) q)
+        b
     more (stops some k x m q) = stops (Drain j ∷ some) k (l.0, x) m q

@@ -1,5 +1,6 @@
 -- How the two machines begin and end.
-use Rattle.std.proofs.Common.{◌≡◌, ℕ, ◌+◌, zero, suc, List, [], ◌∷◌, ◌++◌, Some, Bool, true, false, ◌<◌, ◌==◌, ◌&&◌, nat_lt, if◌then◌else◌, length, slice_index, slice_index_or, drop, arith, ap, sym, ◌∙◌, refl, subst, inl, inr}
+use Rattle.std.proofs.Common.{◌≡◌, ℕ, ◌+◌, zero, suc, List, [], ◌∷◌, ◌++◌, Some, Bool, true, false, ◌<◌, ◌==◌, ◌&&◌, nat_lt, if◌then◌else◌}
+use Rattle.std.proofs.Common.{length, slice_index, slice_index_or, drop, arith, ap, sym, ◌∙◌, refl, subst, inl, inr}
 use Rattle.basic_laws.proofs.Basics.{decide, test-true}
 use Rattle.basic_laws.proofs.Cores.{all-done}
 use Rattle.basic_laws.proofs.Lists.{Each, each-append}
@@ -13,7 +14,8 @@ use Rattle.tso_laws.specs.inner.Laws.{RunsStopWhereTheyEnd}
 use Rattle.basic_laws.specs.Types.{Entry, Instr, Choice, Step, Drain, W, LR, LW}
 use Rattle.branch_laws.specs.Trees.{Tree, Done, Cut, Reads, Stores, Fences, Locks, written, path, values_along, outputs_along}
 use Rattle.branch_laws.specs.Branching.{Branching, Give, values_from, paths, zero_registers, straight}
-use Rattle.branch_laws.specs.TreeMachine.{TreeCore, TreeState, TreeEffect, stays, act, no_core, tree_core, tree_effect, tree_choice, tree_applied, tree_after, tree_commits, planted, tree_start, IsDoneWith, IsTreeReached}
+use Rattle.branch_laws.specs.TreeMachine.{TreeCore, TreeState, TreeEffect, stays, act, no_core, tree_core, tree_effect, tree_choice}
+use Rattle.branch_laws.specs.TreeMachine.{tree_applied, tree_after, tree_commits, planted, tree_start, IsDoneWith, IsTreeReached}
 use Rattle.branch_laws.proofs.Splitting.{long-at}
 use Rattle.branch_laws.proofs.Values.{IsOwn, told, act-told, drain-told}
 use Rattle.branch_laws.proofs.Core.{Even, drop-all, act-core, take-core, drop-own, left-other}
@@ -27,12 +29,24 @@ act-own d memory c Cut s o = o
 act-own d memory c (Reads loc next) s o = o
 act-own d memory c (Stores loc value next) s o = go (nat_lt (length s.pending) d)
   where
-    go : (t : Bool) → Each (IsOwn c) (if t then record { after = record { place = s.place + 1; rest = next; pending = s.pending ++ entry c s.place W loc value ∷ [] }; commits = [] } else stays s).after.pending
+    go : (t : Bool)
+        → Each (IsOwn c) (if t
+        then record {
+          after = record { place = s.place + 1; rest = next; pending = s.pending ++ entry c s.place W loc value ∷ [] };
+          commits = [];
+        }
+        else stays s).after.pending
     go true = each-append (IsOwn c) s.pending (entry c s.place W loc value ∷ []) o (record { core = refl; kind = refl }, tt)
     go false = o
 act-own d memory c (Fences next) s o = go (is_none_pending s.pending)
   where
-    go : (t : Bool) → Each (IsOwn c) (if t then record { after = record { place = s.place + 1; rest = next; pending = s.pending }; commits = fence c s.place ∷ [] } else stays s).after.pending
+    go : (t : Bool)
+        → Each (IsOwn c) (if t
+        then record {
+          after = record { place = s.place + 1; rest = next; pending = s.pending };
+          commits = fence c s.place ∷ [];
+        }
+        else stays s).after.pending
     go true = o
     go false = o
 act-own d memory c (Locks loc change next) s o = go (is_none_pending s.pending)
@@ -129,13 +143,17 @@ started-length c (p ∷ ps) registers = ap suc (started-length (c + 1) ps regist
 pub started-at : (c : ℕ) (ps : List (List Instr)) (registers : List (List ℕ)) (k : ℕ) → k < length ps
     → slice_index_or (started c ps registers) k idle ≡ record { place = 0; registers = slice_index_or registers (c + k) []; pending = [] }
 started-at c [] registers k l = absurd (omega arith)
-started-at c (p ∷ ps) registers zero l = ap (λ z. let r : CoreState = record { place = 0; registers = slice_index_or registers z []; pending = [] } in r) (let z : c ≡ c + 0 = omega arith in z)
+started-at c (p ∷ ps) registers zero l =
+    ap (λ z. let r : CoreState = record { place = 0; registers = slice_index_or registers z []; pending = [] } in r)
+    (let z : c ≡ c + 0 = omega arith in z)
 started-at c (p ∷ ps) registers (suc k) l =
     started-at (c + 1) ps registers k (omega arith)
-    ∙ ap (λ z. let r : CoreState = record { place = 0; registers = slice_index_or registers z []; pending = [] } in r) (let z : (c + 1) + k ≡ c + suc k = omega arith in z)
+    ∙ ap (λ z. let r : CoreState = record { place = 0; registers = slice_index_or registers z []; pending = [] } in r)
+    (let z : (c + 1) + k ≡ c + suc k = omega arith in z)
 
 pub path-at : (c : ℕ) (trees : List Tree) (order : List Entry) (k : ℕ) → k < length trees
-    → slice_index_or (paths trees (values_from c trees order)) k [] ≡ path (slice_index_or trees k Cut) (values_along (c + k) 0 (slice_index_or trees k Cut) order)
+    → slice_index_or (paths trees (values_from c trees order)) k []
+    ≡ path (slice_index_or trees k Cut) (values_along (c + k) 0 (slice_index_or trees k Cut) order)
 path-at c [] order k l = absurd (omega arith)
 path-at c (tree ∷ trees) order zero l = ap (λ z. path tree (values_along z 0 tree order)) (let z : c ≡ c + 0 = omega arith in z)
 path-at c (tree ∷ trees) order (suc k) l =
@@ -153,7 +171,15 @@ start-even b order k l =
     let tree : Tree = slice_index_or b.trees k Cut in
     subst (λ z. Even k (program_of (own_test b order) k) order (core_of (start (own_test b order)) k) z) (sym (planted-at b.trees k)) (record {
       registers = slice_index_or (zero_registers b.trees) k [];
-      is = started-at 0 ps (zero_registers b.trees) k (omega arith) ∙ ap (λ z. let r : CoreState = record { place = 0; registers = slice_index_or (zero_registers b.trees) z []; pending = [] } in r) (let z : 0 + k ≡ k = omega arith in z);
+      is =
+          started-at 0 ps (zero_registers b.trees) k (omega arith)
+          ∙ ap (λ z. let r : CoreState = record {
+            place = 0;
+            registers = slice_index_or (zero_registers b.trees) z [];
+            pending = [];
+          } in
+          r)
+          (let z : 0 + k ≡ k = omega arith in z);
       long = long-at b.trees k l;
       within = omega arith;
       own = tt;
@@ -174,37 +200,53 @@ start-own b k l = subst (λ z. Each (IsOwn k) z.pending) (sym (planted-at b.tree
 -- what is told at the beginning is what the trees give
 
 pub give-told : (c : ℕ) (trees : List Tree) (outputs : List (List ℕ)) (order : List Entry) → length outputs ≡ length trees
-    → ((k : ℕ) → k < length trees → outputs_along (slice_index_or trees k Cut) (values_along (c + k) 0 (slice_index_or trees k Cut) order) ≡ Some (slice_index_or outputs k []))
+    → ((k : ℕ)
+    → k < length trees
+    → outputs_along (slice_index_or trees k Cut) (values_along (c + k) 0 (slice_index_or trees k Cut) order)
+    ≡ Some (slice_index_or outputs k []))
     → Give trees (values_from c trees order) outputs
 give-told c [] [] order n f = tt
 give-told c [] (o ∷ outputs) order n f = absurd (omega arith)
 give-told c (tree ∷ trees) [] order n f = absurd (omega arith)
 give-told c (tree ∷ trees) (o ∷ outputs) order n f = (
   subst (λ z. outputs_along tree (values_along z 0 tree order) ≡ Some o) (let z : c + 0 ≡ c = omega arith in z) (f 0 (omega arith)),
-  give-told (c + 1) trees outputs order (omega arith) (λ k l. subst (λ z. outputs_along (slice_index_or trees k Cut) (values_along z 0 (slice_index_or trees k Cut) order) ≡ Some (slice_index_or outputs k [])) (let z : c + suc k ≡ (c + 1) + k = omega arith in z) (f (suc k) (omega arith))),
+  give-told (c + 1) trees outputs order (omega arith)
+      (λ k l.
+      subst (λ z.
+      outputs_along (slice_index_or trees k Cut) (values_along z 0 (slice_index_or trees k Cut) order)
+      ≡ Some (slice_index_or outputs k []))
+      (let z : c + suc k ≡ (c + 1) + k = omega arith in z) (f (suc k) (omega arith))),
 )
 
 -- ends
 
-pub even-done : (c : ℕ) (program : List Instr) (f : CoreState) (s : TreeCore) (outputs : List ℕ) → Even c program [] f s → IsDoneWith s outputs → is_done program f ≡ true
+pub even-done : (c : ℕ) (program : List Instr) (f : CoreState) (s : TreeCore) (outputs : List ℕ)
+    → Even c program [] f s
+    → IsDoneWith s outputs
+    → is_done program f ≡ true
 even-done c program f s outputs e d =
     let none : drop s.place program ≡ [] = (e.left_over ∙ ap (λ z. path z (values_along c s.place z [])) d.rest) in
     let n : length program ≡ s.place = drop-all program s.place none e.within in
     subst (λ z. is_done program z ≡ true) (sym e.is)
-    (subst (λ z. ((length program == s.place) && is_none_pending z) ≡ true) (sym d.pending) (subst (λ z. (z && true) ≡ true) (sym (test-true (length program) s.place n)) refl))
+    (subst (λ z. ((length program == s.place) && is_none_pending z) ≡ true) (sym d.pending)
+    (subst (λ z. (z && true) ≡ true) (sym (test-true (length program) s.place n)) refl))
 
 pub tree-runs-are-runs : RunsStopWhereTheyEnd → (b : Branching) (m : ℕ) (order : List Entry) (outputs : List (List ℕ)) → IsTreeReached b (suc m) order outputs
     → IsReached (own_test b order) (suc m) order × Give b.trees (values_from 0 b.trees order) outputs
 tree-runs-are-runs stopping b m order outputs h =
     let t : Litmus = own_test b order in
     let n : ℕ = length b.trees in
-    let r : Rel (Level t) n (tree_commits (suc m) (tree_start b) h.choices) (start t) (tree_start b) = subst (λ z. Rel (Level t) n z (start t) (tree_start b)) (sym h.commits) (start-rel b order) in
+    let r : Rel (Level t) n (tree_commits (suc m) (tree_start b) h.choices) (start t) (tree_start b) =
+    subst (λ z. Rel (Level t) n z (start t) (tree_start b)) (sym h.commits) (start-rel b order) in
     let w = tree-follows t m n (start t) (tree_start b) h.choices h.exist r in
     let stops = stopping.stops t (suc m) w.choices in
     let ended : has_ended t (state_after t (suc m) (start t) w.choices) ≡ true = all-done t.programs (state_after t (suc m) (start t) w.choices).cores
-    (λ k l. even-done k (program_of t k) (core_of (state_after t (suc m) (start t) w.choices) k) (tree_core (tree_after (suc m) (tree_start b) h.choices) k) (slice_index_or outputs k [])
+    (λ k l.
+    even-done k (program_of t k) (core_of (state_after t (suc m) (start t) w.choices) k)
+    (tree_core (tree_after (suc m) (tree_start b) h.choices) k) (slice_index_or outputs k [])
     (w.rel.cores k (let z = w.rel.flat_size in omega arith)) (h.done k (let z = w.rel.flat_size in omega arith))) in
-    let heard : (k : ℕ) → k < n → told k (tree_core (tree_start b) k) order ≡ Some (slice_index_or outputs k []) = (λ k l. subst (λ z. told k (tree_core (tree_start b) k) z ≡ Some (slice_index_or outputs k [])) h.commits
+    let heard : (k : ℕ) → k < n → told k (tree_core (tree_start b) k) order ≡ Some (slice_index_or outputs k []) =
+    (λ k l. subst (λ z. told k (tree_core (tree_start b) k) z ≡ Some (slice_index_or outputs k [])) h.commits
     (run-told (suc m) n (tree_start b) h.choices (λ j. slice_index_or outputs j []) (length-planted b.trees) h.exist (start-own b) h.done k l)) in (
       record {
         choices = w.choices;
@@ -212,6 +254,11 @@ tree-runs-are-runs stopping b m order outputs h =
         ended = stops.ended ∙ ap (λ z. has_ended t z) stops.all_state ∙ ended;
         commits = stops.all_commits ∙ w.commits ∙ h.commits;
       },
-      give-told 0 b.trees outputs order h.count (λ k l. subst (λ z. outputs_along (slice_index_or b.trees k Cut) (values_along z 0 (slice_index_or b.trees k Cut) order) ≡ Some (slice_index_or outputs k [])) (let z : k ≡ 0 + k = omega arith in z)
+      give-told 0 b.trees outputs order h.count
+          (λ k l.
+          subst (λ z.
+          outputs_along (slice_index_or b.trees k Cut) (values_along z 0 (slice_index_or b.trees k Cut) order)
+          ≡ Some (slice_index_or outputs k []))
+          (let z : k ≡ 0 + k = omega arith in z)
           (subst (λ z. told k z order ≡ Some (slice_index_or outputs k [])) (planted-at b.trees k) (heard k l))),
     )

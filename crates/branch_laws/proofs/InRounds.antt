@@ -1,5 +1,6 @@
 -- Each read of an execution has a value of the round whose number is that of the writes before it, in memory order or in its program.
-use Rattle.std.proofs.Common.{◌≡◌, ℕ, ◌+◌, zero, suc, List, [], ◌∷◌, ◌++◌, Some, filter, Bool, true, false, ◌⊎◌, ◌<◌, ◌≤◌, ◌==◌, ◌&&◌, ◌||◌, nat_lt, length, slice_get, slice_index, slice_index_or, arith, ap, sym, ◌∙◌, refl, subst, inl, inr, ◌↔◌}
+use Rattle.std.proofs.Common.{◌≡◌, ℕ, ◌+◌, zero, suc, List, [], ◌∷◌, ◌++◌, Some, filter, Bool, true, false, ◌⊎◌, ◌<◌, ◌≤◌, ◌==◌, ◌&&◌, ◌||◌}
+use Rattle.std.proofs.Common.{nat_lt, length, slice_get, slice_index, slice_index_or, arith, ap, sym, ◌∙◌, refl, subst, inl, inr, ◌↔◌}
 use Rattle.std.proofs.lemmas.Bool.Decides.{nat_tests}
 use Rattle.basic_laws.proofs.Basics.{and-left, and-right, before, core-before}
 use Rattle.basic_laws.proofs.Ranks.{by-rank}
@@ -24,19 +25,24 @@ IsMadeBy b order k e =
     StandsAmong e (entries_along k 0 (slice_index_or b.trees k Cut) (values_along k 0 (slice_index_or b.trees k Cut) order))
 
 made-of : (c : ℕ) (trees : List Tree) (order : List Entry) (e : Entry) → StandsAmong e (made_along c trees order)
-    → (k : ℕ) × (k < length trees) × StandsAmong e (entries_along (c + k) 0 (slice_index_or trees k Cut) (values_along (c + k) 0 (slice_index_or trees k Cut) order))
+    → (k : ℕ)
+    × (k < length trees)
+    × StandsAmong e (entries_along (c + k) 0 (slice_index_or trees k Cut) (values_along (c + k) 0 (slice_index_or trees k Cut) order))
 made-of c [] order e h = absurd h
 made-of c (tree ∷ trees) order e h = elim (among-either e (entries_along c 0 tree (values_along c 0 tree order)) (made_along (c + 1) trees order) h) [
   | inl k ↦ (0, omega arith, subst (λ z. StandsAmong e (entries_along z 0 tree (values_along z 0 tree order))) (let z : c ≡ c + 0 = omega arith in z) k)
   | inr k ↦ (let r = made-of (c + 1) trees order e k in (
     suc r.0,
     (let z = r.1 in omega arith),
-    subst (λ z. StandsAmong e (entries_along z 0 (slice_index_or trees r.0 Cut) (values_along z 0 (slice_index_or trees r.0 Cut) order))) (let z : (c + 1) + r.0 ≡ c + suc r.0 = omega arith in z) r.2,
+    subst (λ z.
+        StandsAmong e (entries_along z 0 (slice_index_or trees r.0 Cut) (values_along z 0 (slice_index_or trees r.0 Cut) order)))
+        (let z : (c + 1) + r.0 ≡ c + suc r.0 = omega arith in z) r.2,
   ))
 ]
 
 of-made : (c : ℕ) (trees : List Tree) (order : List Entry) (e : Entry) (k : ℕ) → k < length trees
-    → StandsAmong e (entries_along (c + k) 0 (slice_index_or trees k Cut) (values_along (c + k) 0 (slice_index_or trees k Cut) order)) → StandsAmong e (made_along c trees order)
+    → StandsAmong e (entries_along (c + k) 0 (slice_index_or trees k Cut) (values_along (c + k) 0 (slice_index_or trees k Cut) order))
+    → StandsAmong e (made_along c trees order)
 of-made c [] order e k l h = absurd (omega arith)
 of-made c (tree ∷ trees) order e zero l h =
     among-left e (entries_along c 0 tree (values_along c 0 tree order)) (made_along (c + 1) trees order)
@@ -44,7 +50,9 @@ of-made c (tree ∷ trees) order e zero l h =
 of-made c (tree ∷ trees) order e (suc k) l h =
     among-right e (entries_along c 0 tree (values_along c 0 tree order)) (made_along (c + 1) trees order)
     (of-made (c + 1) trees order e k (omega arith)
-    (subst (λ z. StandsAmong e (entries_along z 0 (slice_index_or trees k Cut) (values_along z 0 (slice_index_or trees k Cut) order))) (let z : c + suc k ≡ (c + 1) + k = omega arith in z) h))
+    (subst (λ z.
+    StandsAmong e (entries_along z 0 (slice_index_or trees k Cut) (values_along z 0 (slice_index_or trees k Cut) order)))
+    (let z : c + suc k ≡ (c + 1) + k = omega arith in z) h))
 
 -- what is used of an execution here
 pub record Facts (b : Branching) (order : List Entry) : Type 0 where
@@ -57,12 +65,20 @@ pub record Facts (b : Branching) (order : List Entry) : Type 0 where
 pub facts-of : WholeOrdersHaveEachEntryOnce → (b : Branching) (order : List Entry) (outputs : List (List ℕ)) → IsBranchExecution b order outputs → Facts b order
 facts-of law b order outputs h = record {
   stands = λ k e l m. (let r = among-get e (made_along 0 b.trees order) (of-made 0 b.trees order e k l
-      (subst (λ z. StandsAmong e (entries_along z 0 (slice_index_or b.trees k Cut) (values_along z 0 (slice_index_or b.trees k Cut) order))) (let z : k ≡ 0 + k = omega arith in z) m)) in h.each r.0 e r.2);
+      (subst (λ z.
+      StandsAmong e (entries_along z 0 (slice_index_or b.trees k Cut) (values_along z 0 (slice_index_or b.trees k Cut) order)))
+      (let z : k ≡ 0 + k = omega arith in z) m)) in
+      h.each r.0 e r.2);
   made = λ i e g. (
       let s : StandsIn (made_along 0 b.trees order) e = subst (λ z. StandsIn z e) (makes-own b order)
       (law.made_by_the_programs (straight b (values_from 0 b.trees order)) order e (to-own b order outputs h).1.whole (i, g)) in
-      let r = made-of 0 b.trees order e (get-among e (made_along 0 b.trees order) s.0 s.1) in
-      (r.0, r.1, subst (λ z. StandsAmong e (entries_along z 0 (slice_index_or b.trees r.0 Cut) (values_along z 0 (slice_index_or b.trees r.0 Cut) order))) (let z : 0 + r.0 ≡ r.0 = omega arith in z) r.2)
+      let r = made-of 0 b.trees order e (get-among e (made_along 0 b.trees order) s.0 s.1) in (
+        r.0,
+        r.1,
+        subst (λ z.
+            StandsAmong e (entries_along z 0 (slice_index_or b.trees r.0 Cut) (values_along z 0 (slice_index_or b.trees r.0 Cut) order)))
+            (let z : 0 + r.0 ≡ r.0 = omega arith in z) r.2,
+      )
       );
   keeps = h.program_order;
   reads = h.read_values;
@@ -71,7 +87,10 @@ facts-of law b order outputs h = record {
 -- program order
 
 rank-before : (x y : Entry) → is_before x y ≡ true → rank x < rank y
-rank-before x y h = let t : nat_lt (rank x) (rank y) ≡ true = and-right (x.core.0 == y.core.0) (nat_lt (rank x) (rank y)) (sym (by-rank x y) ∙ h) in less (rank x) (rank y) t
+rank-before x y h =
+    let t : nat_lt (rank x) (rank y) ≡ true =
+    and-right (x.core.0 == y.core.0) (nat_lt (rank x) (rank y)) (sym (by-rank x y) ∙ h) in
+    less (rank x) (rank y) t
   where
     less : (m n : ℕ) → nat_lt m n ≡ true → m < n
     less m n t = grind (arith, nat_tests)
@@ -140,28 +159,43 @@ true-lt : (m n : ℕ) → nat_lt m n ≡ true → m < n
 true-lt m n h = grind (arith, nat_tests)
 
 -- a read r before a write w that x can see: r sees fewer
-fewer : (order : List Entry) (i j h : ℕ) (r w x : Entry) → KeepsProgramOrder order → slice_get order i ≡ Some r → slice_get order h ≡ Some w → slice_get order j ≡ Some x
+fewer : (order : List Entry) (i j h : ℕ) (r w x : Entry)
+    → KeepsProgramOrder order
+    → slice_get order i ≡ Some r
+    → slice_get order h ≡ Some w
+    → slice_get order j ≡ Some x
     → is_read r ≡ true → is_write w ≡ true → is_before r w ≡ true → i < j → i < h → (h < j) ⊎ (is_before w x ≡ true)
     → count (can_see i r) 0 order < count (can_see j x) 0 order
 fewer order i j h r w x keeps gr gw gx ir iw rw_before ij ih sees = count-less (can_see i r) (can_see j x) 0 order h w more gw
     (subst (λ z. (is_write w && (nat_lt z i || is_before w r)) ≡ false) (let z : h ≡ 0 + h = omega arith in z)
     (neither (is_write w) (nat_lt h i) (is_before w r) (lt-false h i (omega arith)) (not-back r w rw_before)))
     (subst (λ z. (is_write w && (nat_lt z j || is_before w x)) ≡ true) (let z : h ≡ 0 + h = omega arith in z)
-    (both (is_write w) (nat_lt h j || is_before w x) iw (elim sees [ inl l ↦ or-left (nat_lt h j) (is_before w x) (lt-true h j l) | inr l ↦ or-right (nat_lt h j) (is_before w x) l ])))
+    (both (is_write w) (nat_lt h j || is_before w x) iw (elim sees [
+      | inl l ↦ or-left (nat_lt h j) (is_before w x) (lt-true h j l)
+      | inr l ↦ or-right (nat_lt h j) (is_before w x) l
+    ])))
   where
-    seen_value : (k : ℕ) (e : Entry) → slice_get order k ≡ Some e → is_write e ≡ true → (nat_lt k i ≡ true) ⊎ (is_before e r ≡ true) → (nat_lt k j || is_before e x) ≡ true
+    seen_value : (k : ℕ) (e : Entry)
+        → slice_get order k ≡ Some e
+        → is_write e ≡ true
+        → (nat_lt k i ≡ true) ⊎ (is_before e r ≡ true)
+        → (nat_lt k j || is_before e x) ≡ true
     seen_value k e g wr (inl l) = or-left (nat_lt k j) (is_before e x) (lt-true k j (let z = true-lt k i l in omega arith))
     seen_value k e g wr (inr l) = elim sees [
-      | inl m ↦ or-left (nat_lt k j) (is_before e x) (lt-true k j (let z : k < h = keeps k h e w g gw (through e r w l rw_before) (passed-write e.kind w.kind iw) in omega arith))
+      | inl m ↦
+          or-left (nat_lt k j) (is_before e x)
+          (lt-true k j (let z : k < h = keeps k h e w g gw (through e r w l rw_before) (passed-write e.kind w.kind iw) in omega arith))
       | inr m ↦ or-right (nat_lt k j) (is_before e x) (through e w x (through e r w l rw_before) m)
     ]
 
     more : (k : ℕ) (e : Entry) → slice_get order k ≡ Some e → can_see i r (0 + k) e ≡ true → can_see j x (0 + k) e ≡ true
     more k e g t =
-        let s : (is_write e && (nat_lt k i || is_before e r)) ≡ true = subst (λ z. (is_write e && (nat_lt z i || is_before e r)) ≡ true) (let z : 0 + k ≡ k = omega arith in z) t in
+        let s : (is_write e && (nat_lt k i || is_before e r)) ≡ true =
+        subst (λ z. (is_write e && (nat_lt z i || is_before e r)) ≡ true) (let z : 0 + k ≡ k = omega arith in z) t in
         let wr = and-left (is_write e) (nat_lt k i || is_before e r) s in
         subst (λ z. (is_write e && (nat_lt z j || is_before e x)) ≡ true) (let z : k ≡ 0 + k = omega arith in z)
-        (both (is_write e) (nat_lt k j || is_before e x) wr (seen_value k e g wr (true-or (nat_lt k i) (is_before e r) (and-right (is_write e) (nat_lt k i || is_before e r) s))))
+        (both (is_write e) (nat_lt k j || is_before e x) wr
+        (seen_value k e g wr (true-or (nat_lt k i) (is_before e r) (and-right (is_write e) (nat_lt k i || is_before e r) s))))
 
 -- an order at one of its entries
 
@@ -212,7 +246,9 @@ source b order j x f g ir = go (last-of (counting x s.front s.back) (slice_index
     due : x.value ≡ last_value (counting x s.front s.back) (slice_index b.words x.loc.0)
     due = f.reads s.front x s.back s.is ir
 
-    place : (w : Entry) → StandsAmong w s.front ⊎ StandsAmong w (filter (λ e. is_before e x) s.back) → (h : ℕ) × (slice_get order h ≡ Some w) × ((h < j) ⊎ (is_before w x ≡ true))
+    place : (w : Entry)
+        → StandsAmong w s.front ⊎ StandsAmong w (filter (λ e. is_before e x) s.back)
+        → (h : ℕ) × (slice_get order h ≡ Some w) × ((h < j) ⊎ (is_before w x ≡ true))
     place w (inl m) =
         let r = in-front w s.front (x ∷ s.back) m in
         (r.0, subst (λ z. slice_get z r.0 ≡ Some w) (sym s.is) r.2, inl (let z = r.1 in let y = s.size in omega arith))
@@ -222,12 +258,16 @@ source b order j x f g ir = go (last-of (counting x s.front s.back) (slice_index
         (r.0, subst (λ z. slice_get z r.0 ≡ Some w) (sym s.is) r.1, inr k.1)
 
     go : (last_value (counting x s.front s.back) (slice_index b.words x.loc.0) ≡ slice_index b.words x.loc.0)
-        ⊎ ((w : Entry) × StandsAmong w (counting x s.front s.back) × (last_value (counting x s.front s.back) (slice_index b.words x.loc.0) ≡ w.value)) → Source b order j x
+        ⊎ ((w : Entry)
+        × StandsAmong w (counting x s.front s.back)
+        × (last_value (counting x s.front s.back) (slice_index b.words x.loc.0) ≡ w.value))
+        → Source b order j x
     go (inl q) = word (due ∙ q)
     go (inr r) =
         let k = among-filter (writes_to x.loc.0) r.0 (s.front ++ filter (λ e. is_before e x) s.back) r.1 in
         let p = place r.0 (among-either r.0 s.front (filter (λ e. is_before e x) s.back) k.0) in
-        from p.0 r.0 p.1 (and-left (is_write r.0) (r.0.loc.0 == x.loc.0) k.1) (same-number r.0.loc.0 x.loc.0 (and-right (is_write r.0) (r.0.loc.0 == x.loc.0) k.1)) (due ∙ r.2) p.2
+        from p.0 r.0 p.1 (and-left (is_write r.0) (r.0.loc.0 == x.loc.0) k.1)
+        (same-number r.0.loc.0 x.loc.0 (and-right (is_write r.0) (r.0.loc.0 == x.loc.0) k.1)) (due ∙ r.2) p.2
 
 pub tree-among : (trees : List Tree) (k : ℕ) → k < length trees → StandsAmong (slice_index_or trees k Cut) trees
 tree-among [] k l = absurd (omega arith)
@@ -283,7 +323,13 @@ by-source b order j x f g ir earlier (from h w gw iw at q sees) = go (count (can
         (subst (λ z. StandsAmong w.value (round b (suc m) z)) at
         (among-right w.value (round b m w.loc.0) (all_may_write (round b m) w.loc.0 b.trees) (wrote m e)))
 
-of-round : (b : Branching) (order : List Entry) → Facts b order → (n j : ℕ) (x : Entry) → j < n → slice_get order j ≡ Some x → is_read x ≡ true → IsOfRound b order j x
+of-round : (b : Branching) (order : List Entry)
+    → Facts b order
+    → (n j : ℕ) (x : Entry)
+    → j < n
+    → slice_get order j ≡ Some x
+    → is_read x ≡ true
+    → IsOfRound b order j x
 of-round b order f zero j x l g ir = absurd (omega arith)
 of-round b order f (suc n) j x l g ir =
     by-source b order j x f g ir (λ i r m h k. of-round b order f n i r (omega arith) h k) (source b order j x f g ir)
@@ -308,11 +354,14 @@ pub own-values : (b : Branching) (order : List Entry) (k : ℕ) → k < length b
 own-values b order k l =
     values-at 0 b.trees order k l ∙ ap (λ z. values_along z 0 (slice_index_or b.trees k Cut) order) (let z : 0 + k ≡ k = omega arith in z)
 
-pub gives-at : (c : ℕ) (trees : List Tree) (outputs : List (List ℕ)) (order : List Entry) (k : ℕ) → Give trees (values_from c trees order) outputs → k < length trees
+pub gives-at : (c : ℕ) (trees : List Tree) (outputs : List (List ℕ)) (order : List Entry) (k : ℕ)
+    → Give trees (values_from c trees order) outputs
+    → k < length trees
     → outputs_along (slice_index_or trees k Cut) (values_along (c + k) 0 (slice_index_or trees k Cut) order) ≡ Some (slice_index_or outputs k [])
 gives-at c [] outputs order k g l = absurd (omega arith)
 gives-at c (tree ∷ trees) [] order k g l = absurd g
-gives-at c (tree ∷ trees) (o ∷ outputs) order zero g l = subst (λ z. outputs_along tree (values_along z 0 tree order) ≡ Some o) (let z : c ≡ c + 0 = omega arith in z) g.0
+gives-at c (tree ∷ trees) (o ∷ outputs) order zero g l =
+    subst (λ z. outputs_along tree (values_along z 0 tree order) ≡ Some o) (let z : c ≡ c + 0 = omega arith in z) g.0
 gives-at c (tree ∷ trees) (o ∷ outputs) order (suc k) g l =
     subst (λ z. outputs_along (slice_index_or trees k Cut) (values_along z 0 (slice_index_or trees k Cut) order) ≡ Some (slice_index_or outputs k []))
     (let z : (c + 1) + k ≡ c + suc k = omega arith in z) (gives-at (c + 1) trees outputs order k g.1 (omega arith))

@@ -1,5 +1,7 @@
 -- What one core may do alone; two memories that agree on the first locations, and pending stores that are the same there.
-use Rattle.std.proofs.Common.{◌≡◌, ◌≢◌, ℕ, List, [], ◌∷◌, ◌++◌, filter, Bool, true, false, ◌<◌, ◌≤◌, ◌==◌, ◌&&◌, ◌||◌, if◌then◌else◌, length, slice_index, slice_set, arith, ap, sym, ◌∙◌, refl, subst, inl, inr, get_or-set_same, get_or-set_other, length-set}
+use Rattle.std.proofs.Common.{◌≡◌, ◌≢◌, ℕ, List, [], ◌∷◌, ◌++◌, filter, Bool, true, false, ◌<◌, ◌≤◌, ◌==◌, ◌&&◌, ◌||◌, if◌then◌else◌}
+use Rattle.std.proofs.Common.{length, slice_index, slice_set, arith, ap, sym, ◌∙◌, refl, subst, inl, inr, get_or-set_same, get_or-set_other}
+use Rattle.std.proofs.Common.{length-set}
 use Rattle.basic_laws.proofs.Basics.{decide, test-false}
 use Rattle.tso_terms.specs.ProgramOrder.{same_kind, is_write, writes_to}
 use Rattle.tso_terms.specs.Axioms.{last_value}
@@ -14,15 +16,23 @@ at_tree p tree q = record { place = p; rest = tree; pending = q }
 -- what one core may do alone, from a memory and a state of it to others
 pub data Goes (d c : ℕ) : List ℕ → TreeCore → List ℕ → TreeCore → Type 0 where
   stop : (m : List ℕ) (s : TreeCore) → Goes d c m s m s
-  step : (m : List ℕ) (s : TreeCore) (n : List ℕ) (t : TreeCore) → Goes d c (memory_after (act d m c s.rest s).commits m) (act d m c s.rest s).after n t → Goes d c m s n t
+  step : (m : List ℕ) (s : TreeCore) (n : List ℕ) (t : TreeCore)
+      → Goes d c (memory_after (act d m c s.rest s).commits m) (act d m c s.rest s).after n t
+      → Goes d c m s n t
   drain : (m : List ℕ) (s : TreeCore) (n : List ℕ) (t : TreeCore) → Goes d c (memory_after (drain_tree s).commits m) (drain_tree s).after n t → Goes d c m s n t
 
-pub goes-on : (d c : ℕ) (m : List ℕ) (s : TreeCore) (n : List ℕ) (t : TreeCore) (k : List ℕ) (u : TreeCore) → Goes d c m s n t → Goes d c n t k u → Goes d c m s k u
+pub goes-on : (d c : ℕ) (m : List ℕ) (s : TreeCore) (n : List ℕ) (t : TreeCore) (k : List ℕ) (u : TreeCore)
+    → Goes d c m s n t
+    → Goes d c n t k u
+    → Goes d c m s k u
 goes-on d c m s n t k u (stop x y) h = h
 goes-on d c m s n t k u (step x y z w g) h = step x y k u (goes-on d c _ _ n t k u g h)
 goes-on d c m s n t k u (drain x y z w g) h = drain x y k u (goes-on d c _ _ n t k u g h)
 
-pub step-by : (d c : ℕ) (m : List ℕ) (s : TreeCore) (g : TreeEffect) (n : List ℕ) (t : TreeCore) → act d m c s.rest s ≡ g → Goes d c (memory_after g.commits m) g.after n t → Goes d c m s n t
+pub step-by : (d c : ℕ) (m : List ℕ) (s : TreeCore) (g : TreeEffect) (n : List ℕ) (t : TreeCore)
+    → act d m c s.rest s ≡ g
+    → Goes d c (memory_after g.commits m) g.after n t
+    → Goes d c m s n t
 step-by d c m s g n t q h = step m s n t (subst (λ z. Goes d c (memory_after z.commits m) z.after n t) (sym q) h)
 
 -- two memories over the first n locations
@@ -70,7 +80,14 @@ pub data Kept (n : ℕ) : List Entry → List Entry → Type 0 where
   first_alone : (e : Entry) (q r : List Entry) → n ≤ e.loc.0 → e.kind ≡ W → Kept n q r → Kept n (e ∷ q) r
   second_alone : (f : Entry) (q r : List Entry) → n ≤ f.loc.0 → f.kind ≡ W → Kept n q r → Kept n q (f ∷ r)
 
-pub append-both : (n : ℕ) (q r : List Entry) (e f : Entry) → e.loc.0 < n → f.loc.0 ≡ e.loc.0 → f.value ≡ e.value → e.kind ≡ W → f.kind ≡ W → Kept n q r → Kept n (q ++ e ∷ []) (r ++ f ∷ [])
+pub append-both : (n : ℕ) (q r : List Entry) (e f : Entry)
+    → e.loc.0 < n
+    → f.loc.0 ≡ e.loc.0
+    → f.value ≡ e.value
+    → e.kind ≡ W
+    → f.kind ≡ W
+    → Kept n q r
+    → Kept n (q ++ e ∷ []) (r ++ f ∷ [])
 append-both n q r e f l a b i j none = both e f [] [] l a b i j none
 append-both n q r e f l a b i j (both x y u v h c d k m t) = both x y (u ++ e ∷ []) (v ++ f ∷ []) h c d k m (append-both n u v e f l a b i j t)
 append-both n q r e f l a b i j (first_alone x u v h k t) = first_alone x (u ++ e ∷ []) (v ++ f ∷ []) h k (append-both n u v e f l a b i j t)
@@ -99,7 +116,11 @@ skips-one loc e es n = ap (λ z. if z then e ∷ filter (writes_to loc) es else 
 kind-writes : (e : Entry) (loc : ℕ) → e.kind ≡ W → writes_to loc e ≡ (e.loc.0 == loc)
 kind-writes e loc q = rw q refl
 
-pub same-load : (n loc : ℕ) (q r : List Entry) (v w : ℕ) → loc < n → v ≡ w → Kept n q r → last_value (filter (writes_to loc) q) v ≡ last_value (filter (writes_to loc) r) w
+pub same-load : (n loc : ℕ) (q r : List Entry) (v w : ℕ)
+    → loc < n
+    → v ≡ w
+    → Kept n q r
+    → last_value (filter (writes_to loc) q) v ≡ last_value (filter (writes_to loc) r) w
 same-load n loc q r v w l g none = g
 same-load n loc q r v w l g (both e f u t h a b i j k) = go (e.loc.0 == loc) refl
     (λ x y z. same-load n loc u t x y l z k)

@@ -1,5 +1,7 @@
 -- Values that runs over trees read are of rounds: each choice needs one round more at most.
-use Rattle.std.proofs.Common.{◌≡◌, ℕ, ◌+◌, zero, suc, List, [], ◌∷◌, ◌++◌, map, filter, Bool, true, false, ◌<◌, ◌≤◌, ◌==◌, nat_lt, if◌then◌else◌, length, slice_index, slice_index_or, slice_set, take, drop, arith, ap, sym, ◌∙◌, refl, subst, inl, inr}
+use Rattle.std.proofs.Common.{◌≡◌, ℕ, ◌+◌, zero, suc, List, [], ◌∷◌, ◌++◌, map, filter, Bool, true, false, ◌<◌, ◌≤◌, ◌==◌, nat_lt}
+use Rattle.std.proofs.Common.{if◌then◌else◌, length, slice_index, slice_index_or, slice_set, take, drop, arith, ap, sym, ◌∙◌, refl, subst}
+use Rattle.std.proofs.Common.{inl, inr}
 use Rattle.std.proofs.lemmas.Bool.Decides.{nat_tests}
 use Rattle.basic_laws.proofs.Basics.{decide, and-right}
 use Rattle.basic_laws.proofs.Lists.{Each, each-append, each-map}
@@ -11,7 +13,8 @@ use Rattle.tso_terms.specs.Runs.{CoresExist}
 use Rattle.basic_laws.specs.Types.{Entry, Choice, Step, Drain, W, LR, LW}
 use Rattle.branch_laws.specs.Trees.{Tree, Done, Cut, Reads, Stores, Fences, Locks, written, values_along}
 use Rattle.branch_laws.specs.Branching.{Branching, values_from}
-use Rattle.branch_laws.specs.TreeMachine.{TreeCore, TreeState, TreeEffect, stays, seen_value, act, drain_tree, tree_core, tree_effect, tree_choice, tree_applied, tree_after, tree_commits, tree_start, IsDoneWith, IsTreeReached}
+use Rattle.branch_laws.specs.TreeMachine.{TreeCore, TreeState, TreeEffect, stays, seen_value, act, drain_tree, tree_core, tree_effect}
+use Rattle.branch_laws.specs.TreeMachine.{tree_choice, tree_applied, tree_after, tree_commits, tree_start, IsDoneWith, IsTreeReached}
 use Rattle.branch_laws.specs.Rounds.{StandsAmong, seen_at, may_write, all_may_write, round, all_paths, ArePaths}
 use Rattle.branch_laws.proofs.Among.{among-left, among-right, among-map, among-for-each}
 use Rattle.branch_laws.proofs.Rounds.{next-round, later-round, write-among-all}
@@ -54,7 +57,8 @@ last-in domain loc (e ∷ es) word h k = go (writes_to loc e) refl (λ w z. last
   where
     go : (t : Bool) → writes_to loc e ≡ t → ((w : ℕ) → StandsAmong w (domain loc) → StandsAmong (last_value (filter (writes_to loc) es) w) (domain loc))
         → StandsAmong (last_value (filter (writes_to loc) (e ∷ es)) word) (domain loc)
-    go true q again = rw q (again e.value (subst (λ z. StandsAmong e.value (domain z)) (same-number e.loc.0 loc (and-right (is_write e) (e.loc.0 == loc) q)) k.0))
+    go true q again =
+        rw q (again e.value (subst (λ z. StandsAmong e.value (domain z)) (same-number e.loc.0 loc (and-right (is_write e) (e.loc.0 == loc) q)) k.0))
     go false q again = rw q (again word h)
 
 -- from this round on, what is left of a tree writes values of the next round
@@ -78,12 +82,18 @@ within-more b k s w = record { pending = pending-more b k s.pending w.pending; r
 record Acts (b : Branching) (k c : ℕ) (s : TreeCore) (g : TreeEffect) (xs : List Entry) : Type 0 where
   pub within : Within b (suc k) g.after
   pub writes : WritesOf (round b (suc k)) g.commits
-  pub paths : (n : ℕ) → suc k ≤ n → StandsAmong (left c g.after xs) (all_paths (round b n) g.after.rest) → StandsAmong (left c s (g.commits ++ xs)) (all_paths (round b n) s.rest)
+  pub paths : (n : ℕ)
+      → suc k ≤ n
+      → StandsAmong (left c g.after xs) (all_paths (round b n) g.after.rest)
+      → StandsAmong (left c s (g.commits ++ xs)) (all_paths (round b n) s.rest)
 
 still : (b : Branching) (k c : ℕ) (s : TreeCore) (xs : List Entry) → Within b k s → Acts b k c s (stays s) xs
 still b k c s xs w = record { within = within-more b k s w; writes = tt; paths = λ n l h. h }
 
-acts : (b : Branching) (k d : ℕ) (memory : List ℕ) (c p : ℕ) (tree : Tree) (q xs : List Entry) → MemoryOf (round b k) memory → Each (IsOf (round b k)) q → Leads b k tree
+acts : (b : Branching) (k d : ℕ) (memory : List ℕ) (c p : ℕ) (tree : Tree) (q xs : List Entry)
+    → MemoryOf (round b k) memory
+    → Each (IsOf (round b k)) q
+    → Leads b k tree
     → Acts b k c (record { place = p; rest = tree; pending = q }) (act d memory c tree (record { place = p; rest = tree; pending = q })) xs
 acts b k d memory c p (Done outputs) q xs m o f = still b k c (record { place = p; rest = Done outputs; pending = q }) xs (record { pending = o; rest = f })
 acts b k d memory c p Cut q xs m o f = still b k c (record { place = p; rest = Cut; pending = q }) xs (record { pending = o; rest = f })
@@ -93,11 +103,14 @@ acts b k d memory c p (Reads loc next) q xs m o f =
     record {
       within = record {
         pending = pending-more b k q o;
-        rest = λ n target x l h. f n target x (omega arith) (among-for-each x v (round b n loc.0) (λ v. may_write (round b n) target (next v)) (later-round b k n (omega arith) loc.0 v i) h);
+        rest = λ n target x l h.
+            f n target x (omega arith)
+            (among-for-each x v (round b n loc.0) (λ v. may_write (round b n) target (next v)) (later-round b k n (omega arith) loc.0 v i) h);
       };
       writes = ((λ z. absurd (let y : ⊥ = cc in y)), tt);
       paths = λ n l h. subst (λ z. StandsAmong z (all_paths (round b n) (Reads loc next))) (sym (reads-left c p loc next v xs))
-          (among-for-each (v ∷ values_along c (p + 1) (next v) xs) v (round b n loc.0) (λ w. map (λ y. w ∷ y) (all_paths (round b n) (next w))) (later-round b k n (omega arith) loc.0 v i)
+          (among-for-each (v ∷ values_along c (p + 1) (next v) xs) v (round b n loc.0)
+          (λ w. map (λ y. w ∷ y) (all_paths (round b n) (next w))) (later-round b k n (omega arith) loc.0 v i)
           (among-map (λ y. v ∷ y) (values_along c (p + 1) (next v) xs) (all_paths (round b n) (next v)) h));
     }
 acts b k d memory c p (Stores loc value next) q xs m o f = go (nat_lt (length q) d)
@@ -148,15 +161,20 @@ acts b k d memory c p (Locks loc change next) q xs m o f = go (is_none_pending q
       commits = entry c (p + 1) LR loc v ∷ (entry c (p + 1) LW loc (written change v) ∷ []);
     }
 
-    leads : (n target x : ℕ) → k ≤ n → StandsAmong x (seen_at target loc (written change v) ++ may_write (round b n) target (next v)) → StandsAmong x (round b (suc n) target)
-    leads n target x l h = f n target x l (among-for-each x v (round b n loc.0) (λ w. seen_at target loc (written change w) ++ may_write (round b n) target (next w))
+    leads : (n target x : ℕ)
+        → k ≤ n
+        → StandsAmong x (seen_at target loc (written change v) ++ may_write (round b n) target (next v))
+        → StandsAmong x (round b (suc n) target)
+    leads n target x l h =
+        f n target x l (among-for-each x v (round b n loc.0) (λ w. seen_at target loc (written change w) ++ may_write (round b n) target (next w))
         (later-round b k n l loc.0 v (m loc.0)) h)
 
     go : (t : Bool) → Acts b k c s (if t then g else stays s) xs
     go true = record {
       within = record {
         pending = pending-more b k q o;
-        rest = λ n target x l h. leads n target x (omega arith) (among-right x (seen_at target loc (written change v)) (may_write (round b n) target (next v)) h);
+        rest = λ n target x l h.
+            leads n target x (omega arith) (among-right x (seen_at target loc (written change v)) (may_write (round b n) target (next v)) h);
       };
       writes = (
         (λ z. absurd (let y : ⊥ = cc in y)),
@@ -167,7 +185,8 @@ acts b k d memory c p (Locks loc change next) q xs m o f = go (is_none_pending q
         ),
       );
       paths = λ n l h. subst (λ z. StandsAmong z (all_paths (round b n) (Locks loc change next))) (sym (locks-left c p loc change next v (written change v) xs))
-          (among-for-each (v ∷ values_along c ((p + 1) + 1) (next v) xs) v (round b n loc.0) (λ w. map (λ y. w ∷ y) (all_paths (round b n) (next w))) (later-round b k n (omega arith) loc.0 v (m loc.0))
+          (among-for-each (v ∷ values_along c ((p + 1) + 1) (next v) xs) v (round b n loc.0)
+          (λ w. map (λ y. w ∷ y) (all_paths (round b n) (next w))) (later-round b k n (omega arith) loc.0 v (m loc.0))
           (among-map (λ y. v ∷ y) (values_along c ((p + 1) + 1) (next v) xs) (all_paths (round b n) (next v)) h));
     }
     go false = still b k c s xs (record { pending = o; rest = f })
@@ -218,7 +237,8 @@ next-by b k n S c g xs f l own of_core a =
       };
       paths = λ m j lm lj h. elim (decide j c) [
         | inl q ↦ subst (λ z. StandsAmong (left z (tree_core S z) (g.commits ++ xs)) (all_paths (round b m) (tree_core S z).rest)) (sym q)
-            (a.paths m lm (subst (λ z. StandsAmong (left c z xs) (all_paths (round b m) z.rest)) w.own (subst (λ z. StandsAmong (left z (tree_core T z) xs) (all_paths (round b m) (tree_core T z).rest)) q h)))
+            (a.paths m lm (subst (λ z. StandsAmong (left c z xs) (all_paths (round b m) z.rest)) w.own
+            (subst (λ z. StandsAmong (left z (tree_core T z) xs) (all_paths (round b m) (tree_core T z).rest)) q h)))
         | inr q ↦ subst (λ z. StandsAmong z (all_paths (round b m) (tree_core S j).rest)) (sym (left-other c j (tree_core S j) g.commits xs q of_core))
             (subst (λ z. StandsAmong (left j z xs) (all_paths (round b m) z.rest)) (w.others j q) h)
       ];

@@ -26,10 +26,12 @@ locking-any d memory c (Adds n) loc reg f = refl
 -- the same, where its register holds the number of the change
 pub locking-step : (d : ℕ) (memory : List ℕ) (c : ℕ) (change : Change) (loc : Loc) (reg : Reg) (f : CoreState)
     → value_in f.registers reg ≡ operand change (slice_index memory loc.0)
-    → effect_by d memory c (action_of (locking change loc reg)) f ≡ locked c f loc (Some reg) (slice_index memory loc.0) (written change (slice_index memory loc.0))
+    → effect_by d memory c (action_of (locking change loc reg)) f
+    ≡ locked c f loc (Some reg) (slice_index memory loc.0) (written change (slice_index memory loc.0))
 locking-step d memory c change loc reg f h =
     locking-any d memory c change loc reg f
-    ∙ ap (λ z. locked c f loc (Some reg) (slice_index memory loc.0) z) (ap (λ z. left_by change (slice_index memory loc.0) z) h ∙ left-by-operand change (slice_index memory loc.0))
+    ∙ ap (λ z. locked c f loc (Some reg) (slice_index memory loc.0) z)
+    (ap (λ z. left_by change (slice_index memory loc.0) z) h ∙ left-by-operand change (slice_index memory loc.0))
 
 -- the entries of both
 pub locking-entries : (c k : ℕ) (change : Change) (loc : Loc) (reg : Reg) (rest : List Instr) (regs rv : List ℕ) (number : ℕ)

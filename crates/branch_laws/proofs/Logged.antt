@@ -1,15 +1,19 @@
 -- The same tree with what it read as its outputs: so what holds of outcomes holds of paths.
-use Rattle.std.proofs.Common.{◌≡◌, ℕ, ◌+◌, zero, suc, List, [], ◌∷◌, ◌++◌, Some, None, map, ◌<◌, ◌≤◌, length, slice_index, slice_index_or, slice_get, drop, arith, ap, sym, ◌∙◌, refl, subst, inl, inr, append_assoc}
+use Rattle.std.proofs.Common.{◌≡◌, ℕ, ◌+◌, zero, suc, List, [], ◌∷◌, ◌++◌, Some, None, map, ◌<◌, ◌≤◌, length, slice_index, slice_index_or}
+use Rattle.std.proofs.Common.{slice_get, drop, arith, ap, sym, ◌∙◌, refl, subst, inl, inr, append_assoc}
 use Rattle.basic_laws.proofs.Lists.{append-nil}
 use Rattle.tso_terms.specs.Litmus.{IsTest}
 use Rattle.tso_terms.specs.Thread.{entry, fence}
 use Rattle.tso_terms.specs.ProgramEntries.{read_value}
 use Rattle.basic_laws.specs.Types.{Entry, Instr, R, W, LR, LW, Eax, Ebx, Load, StoreImm, SetImm, Fence}
 use Rattle.branch_laws.specs.Trees.{Tree, Done, Cut, Reads, Stores, Fences, Locks, written, operand, locking, path, entries_along, values_along, outputs_along}
-use Rattle.branch_laws.specs.Branching.{Branching, Give, paths, zero_registers, straight, values_from, made_along, IsBranchExecution, IsPathExecution, IsBranchOutcome, IsPathOutcome}
+use Rattle.branch_laws.specs.Branching.{Branching, Give, paths, zero_registers, straight, values_from, made_along, IsBranchExecution}
+use Rattle.branch_laws.specs.Branching.{IsPathExecution, IsBranchOutcome, IsPathOutcome}
 use Rattle.branch_laws.specs.Rounds.{StandsAmong, seen_at, may_write, all_may_write, round, all_paths, EachPathIsTest}
-use Rattle.branch_laws.specs.SamePaths.{IsSamePath, both_end, both_read, both_store, both_fence, both_lock, stores_alone, other_stores, HasTheSamePaths, SamePathsLeaveTheSame}
-use Rattle.branch_laws.specs.Shown.{Keeping, InRegister, InLocation, Nowhere, first_keeping, note, tree_with_notes, all_noted, with_notes, note_at, UsesFirst, AreOwn}
+use Rattle.branch_laws.specs.SamePaths.{IsSamePath, both_end, both_read, both_store, both_fence, both_lock, stores_alone, other_stores}
+use Rattle.branch_laws.specs.SamePaths.{HasTheSamePaths, SamePathsLeaveTheSame}
+use Rattle.branch_laws.specs.Shown.{Keeping, InRegister, InLocation, Nowhere, first_keeping, note, tree_with_notes, all_noted, with_notes}
+use Rattle.branch_laws.specs.Shown.{note_at, UsesFirst, AreOwn}
 use Rattle.branch_laws.proofs.Among.{among-left, among-right, among-either, among-map, map-among, among-for-each, for-each-among}
 use Rattle.branch_laws.proofs.Rounds.{all-more-writes, more-paths}
 use Rattle.branch_laws.proofs.Splitting.{own-all, to-path, from-some}
@@ -51,7 +55,9 @@ log-values c p (Fences next) seen order = log-values c (p + 1) next seen order
 log-values c p (Locks loc change next) seen order =
     let v : ℕ = read_value c (p + 1) LR order in ap (λ z. v ∷ z) (log-values c ((p + 1) + 1) (next v) (seen ++ v ∷ []) order)
 
-log-outputs : (tree : Tree) (seen values outputs : List ℕ) → outputs_along tree values ≡ Some outputs → outputs_along (logged tree seen) values ≡ Some (seen ++ values)
+log-outputs : (tree : Tree) (seen values outputs : List ℕ)
+    → outputs_along tree values ≡ Some outputs
+    → outputs_along (logged tree seen) values ≡ Some (seen ++ values)
 log-outputs (Done o) seen [] outputs e = ap Some (sym (append-nil seen))
 log-outputs (Done o) seen (v ∷ values) outputs e = absurd (let z : ⊥ = cc in z)
 log-outputs Cut seen values outputs e = absurd (let z : ⊥ = cc in z)
@@ -60,7 +66,8 @@ log-outputs (Reads loc next) seen (v ∷ values) outputs e = log-outputs (next v
 log-outputs (Stores loc value next) seen values outputs e = log-outputs next seen values outputs e
 log-outputs (Fences next) seen values outputs e = log-outputs next seen values outputs e
 log-outputs (Locks loc change next) seen [] outputs e = absurd (let z : ⊥ = cc in z)
-log-outputs (Locks loc change next) seen (v ∷ values) outputs e = log-outputs (next v) (seen ++ v ∷ []) values outputs e ∙ ap Some (append_assoc seen (v ∷ []) values)
+log-outputs (Locks loc change next) seen (v ∷ values) outputs e =
+    log-outputs (next v) (seen ++ v ∷ []) values outputs e ∙ ap Some (append_assoc seen (v ∷ []) values)
 
 outputs-log : (tree : Tree) (seen values found : List ℕ) → outputs_along (logged tree seen) values ≡ Some found → seen ++ values ≡ found
 outputs-log (Done o) seen [] found e = append-nil seen ∙ (let z : seen ≡ found = cc in z)
@@ -83,7 +90,9 @@ log-path (Locks loc change next) seen values =
     let v : ℕ = slice_index values 0 in
     ap (λ z. SetImm Ebx (operand change v) ∷ (locking change loc Ebx ∷ z)) (log-path (next v) (seen ++ v ∷ []) (drop 1 values))
 
-log-writes : (domain : ℕ → List ℕ) (target x : ℕ) (tree : Tree) (seen : List ℕ) → StandsAmong x (may_write domain target (logged tree seen)) → StandsAmong x (may_write domain target tree)
+log-writes : (domain : ℕ → List ℕ) (target x : ℕ) (tree : Tree) (seen : List ℕ)
+    → StandsAmong x (may_write domain target (logged tree seen))
+    → StandsAmong x (may_write domain target tree)
 log-writes domain target x (Done o) seen h = h
 log-writes domain target x Cut seen h = h
 log-writes domain target x (Reads loc next) seen h =
@@ -99,17 +108,24 @@ log-writes domain target x (Locks loc change next) seen h =
     among-for-each x r.0 (domain loc.0) (λ v. seen_at target loc (written change v) ++ may_write domain target (next v)) r.1
     (elim (among-either x (seen_at target loc (written change r.0)) (may_write domain target (logged (next r.0) (seen ++ r.0 ∷ []))) r.2) [
       | inl k ↦ among-left x (seen_at target loc (written change r.0)) (may_write domain target (next r.0)) k
-      | inr k ↦ among-right x (seen_at target loc (written change r.0)) (may_write domain target (next r.0)) (log-writes domain target x (next r.0) (seen ++ r.0 ∷ []) k)
+      | inr k ↦
+          among-right x (seen_at target loc (written change r.0)) (may_write domain target (next r.0))
+          (log-writes domain target x (next r.0) (seen ++ r.0 ∷ []) k)
     ])
 
-log-all-writes : (domain : ℕ → List ℕ) (target x : ℕ) (trees : List Tree) → StandsAmong x (all_may_write domain target (all_logged trees)) → StandsAmong x (all_may_write domain target trees)
+log-all-writes : (domain : ℕ → List ℕ) (target x : ℕ) (trees : List Tree)
+    → StandsAmong x (all_may_write domain target (all_logged trees))
+    → StandsAmong x (all_may_write domain target trees)
 log-all-writes domain target x [] h = h
-log-all-writes domain target x (tree ∷ trees) h = elim (among-either x (may_write domain target (logged tree [])) (all_may_write domain target (all_logged trees)) h) [
-  | inl k ↦ among-left x (may_write domain target tree) (all_may_write domain target trees) (log-writes domain target x tree [] k)
-  | inr k ↦ among-right x (may_write domain target tree) (all_may_write domain target trees) (log-all-writes domain target x trees k)
-]
+log-all-writes domain target x (tree ∷ trees) h =
+    elim (among-either x (may_write domain target (logged tree [])) (all_may_write domain target (all_logged trees)) h) [
+      | inl k ↦ among-left x (may_write domain target tree) (all_may_write domain target trees) (log-writes domain target x tree [] k)
+      | inr k ↦ among-right x (may_write domain target tree) (all_may_write domain target trees) (log-all-writes domain target x trees k)
+    ]
 
-log-paths : (domain : ℕ → List ℕ) (values : List ℕ) (tree : Tree) (seen : List ℕ) → StandsAmong values (all_paths domain (logged tree seen)) → StandsAmong values (all_paths domain tree)
+log-paths : (domain : ℕ → List ℕ) (values : List ℕ) (tree : Tree) (seen : List ℕ)
+    → StandsAmong values (all_paths domain (logged tree seen))
+    → StandsAmong values (all_paths domain tree)
 log-paths domain values (Done o) seen h = h
 log-paths domain values Cut seen h = h
 log-paths domain values (Reads loc next) seen h =
@@ -158,11 +174,22 @@ log-tests : (b : Branching) → EachPathIsTest b → EachPathIsTest (log b)
 log-tests b test n values are =
     let one : IsTest (straight b values) = test n values (λ k l. log-paths (round b n) (slice_index_or values k []) (slice_index_or b.trees k Cut) []
     (more-paths (round (log b) n) (round b n) (slice_index_or values k []) (logged (slice_index_or b.trees k Cut) []) (log-round b n)
-    (subst (λ z. StandsAmong (slice_index_or values k []) (all_paths (round (log b) n) z)) (log-at b.trees k) (are k (let z = length-log b.trees in omega arith))))) in
+    (subst (λ z. StandsAmong (slice_index_or values k []) (all_paths (round (log b) n) z)) (log-at b.trees k)
+    (are k (let z = length-log b.trees in omega arith))))) in
     with-programs (zero_registers b.trees) (zero_registers (all_logged b.trees)) (paths b.trees values) (paths (all_logged b.trees) values)
     (sym (log-zeros b.trees)) (sym (log-programs b.trees values)) one
   where
-    with-programs : (r s : List (List ℕ)) (p q : List (List Instr)) → r ≡ s → p ≡ q → IsTest (record { name = b.name; locations = b.locations; words = b.words; registers = r; programs = p; condition = None })
+    with-programs : (r s : List (List ℕ)) (p q : List (List Instr))
+        → r ≡ s
+        → p ≡ q
+        → IsTest (record {
+          name = b.name;
+          locations = b.locations;
+          words = b.words;
+          registers = r;
+          programs = p;
+          condition = None;
+        })
         → IsTest (record { name = b.name; locations = b.locations; words = b.words; registers = s; programs = q; condition = None })
     with-programs r s p q e f h =
         subst (λ z. IsTest (record { name = b.name; locations = b.locations; words = b.words; registers = s; programs = z; condition = None })) f
@@ -217,7 +244,10 @@ to-log b values outputs memory h =
       memory_is = h.memory_is;
     }
 
-from-log : (b : Branching) (values outputs : List (List ℕ)) (memory : List ℕ) → Give b.trees values outputs → IsBranchOutcome (log b) values memory → IsPathOutcome b values outputs memory
+from-log : (b : Branching) (values outputs : List (List ℕ)) (memory : List ℕ)
+    → Give b.trees values outputs
+    → IsBranchOutcome (log b) values memory
+    → IsPathOutcome b values outputs memory
 from-log b values outputs memory g h =
     let order : List Entry = h.order in
     let e = h.execution in
@@ -251,15 +281,20 @@ log-drop n (InRegister reg) v tree other seen values f h = h
 log-drop n (InLocation reg own) v tree other seen values f h = stores_alone own v (logged tree seen) values other (f own.0 (inl refl)) h
 log-drop n (Nowhere reg) v tree other seen values f h = h
 
-log-gets : (n : ℕ) (tree : Tree) (seen values found : List ℕ) (keeps : List Keeping) → UsesFirst n tree → Beyond n keeps → outputs_along (logged tree seen) values ≡ Some found
+log-gets : (n : ℕ) (tree : Tree) (seen values found : List ℕ) (keeps : List Keeping)
+    → UsesFirst n tree
+    → Beyond n keeps
+    → outputs_along (logged tree seen) values ≡ Some found
     → IsSamePath n (logged tree seen) values (logged (tree_with_notes tree keeps) seen)
 log-gets n (Done o) seen [] found keeps u f e = both_end seen
 log-gets n (Done o) seen (v ∷ values) found keeps u f e = absurd (let z : ⊥ = cc in z)
 log-gets n Cut seen values found keeps u f e = absurd (let z : ⊥ = cc in z)
 log-gets n (Reads loc next) seen [] found keeps u f e = absurd (let z : ⊥ = cc in z)
 log-gets n (Reads loc next) seen (v ∷ values) found keeps u f e =
-    both_read loc (λ w. logged (next w) (seen ++ w ∷ [])) (λ w. logged (note (first_keeping keeps) w (tree_with_notes (next w) (drop 1 keeps))) (seen ++ w ∷ [])) v values u.0
-    (log-add n (first_keeping keeps) v (logged (next v) (seen ++ v ∷ [])) (tree_with_notes (next v) (drop 1 keeps)) (seen ++ v ∷ []) values (first-beyond n keeps f)
+    both_read loc (λ w. logged (next w) (seen ++ w ∷ []))
+    (λ w. logged (note (first_keeping keeps) w (tree_with_notes (next w) (drop 1 keeps))) (seen ++ w ∷ [])) v values u.0
+    (log-add n (first_keeping keeps) v (logged (next v) (seen ++ v ∷ [])) (tree_with_notes (next v) (drop 1 keeps))
+    (seen ++ v ∷ []) values (first-beyond n keeps f)
     (log-gets n (next v) (seen ++ v ∷ []) values found (drop 1 keeps) (u.1 v) (rest-beyond n keeps f) e))
 log-gets n (Stores loc value next) seen values found keeps u f e =
     both_store loc value (logged next seen) (logged (tree_with_notes next keeps) seen) values u.0 (log-gets n next seen values found keeps u.1 f e)
@@ -267,25 +302,34 @@ log-gets n (Fences next) seen values found keeps u f e =
     both_fence (logged next seen) (logged (tree_with_notes next keeps) seen) values (log-gets n next seen values found keeps u f e)
 log-gets n (Locks loc change next) seen [] found keeps u f e = absurd (let z : ⊥ = cc in z)
 log-gets n (Locks loc change next) seen (v ∷ values) found keeps u f e =
-    both_lock loc change (λ w. logged (next w) (seen ++ w ∷ [])) (λ w. logged (note (first_keeping keeps) w (tree_with_notes (next w) (drop 1 keeps))) (seen ++ w ∷ [])) v values u.0
-    (log-add n (first_keeping keeps) v (logged (next v) (seen ++ v ∷ [])) (tree_with_notes (next v) (drop 1 keeps)) (seen ++ v ∷ []) values (first-beyond n keeps f)
+    both_lock loc change (λ w. logged (next w) (seen ++ w ∷ []))
+    (λ w. logged (note (first_keeping keeps) w (tree_with_notes (next w) (drop 1 keeps))) (seen ++ w ∷ [])) v values u.0
+    (log-add n (first_keeping keeps) v (logged (next v) (seen ++ v ∷ [])) (tree_with_notes (next v) (drop 1 keeps))
+    (seen ++ v ∷ []) values (first-beyond n keeps f)
     (log-gets n (next v) (seen ++ v ∷ []) values found (drop 1 keeps) (u.1 v) (rest-beyond n keeps f) e))
 
 -- a note has no outputs of its own
-log-note : (k : Keeping) (v : ℕ) (tree : Tree) (seen values : List ℕ) → outputs_along (logged (note k v tree) seen) values ≡ outputs_along (logged tree seen) values
+log-note : (k : Keeping) (v : ℕ) (tree : Tree) (seen values : List ℕ)
+    → outputs_along (logged (note k v tree) seen) values ≡ outputs_along (logged tree seen) values
 log-note (InRegister reg) v tree seen values = refl
 log-note (InLocation reg own) v tree seen values = refl
 log-note (Nowhere reg) v tree seen values = refl
 
-log-loses : (n : ℕ) (tree : Tree) (seen values found : List ℕ) (keeps : List Keeping) → UsesFirst n tree → Beyond n keeps → outputs_along (logged (tree_with_notes tree keeps) seen) values ≡ Some found
+log-loses : (n : ℕ) (tree : Tree) (seen values found : List ℕ) (keeps : List Keeping)
+    → UsesFirst n tree
+    → Beyond n keeps
+    → outputs_along (logged (tree_with_notes tree keeps) seen) values ≡ Some found
     → IsSamePath n (logged (tree_with_notes tree keeps) seen) values (logged tree seen)
 log-loses n (Done o) seen [] found keeps u f e = both_end seen
 log-loses n (Done o) seen (v ∷ values) found keeps u f e = absurd (let z : ⊥ = cc in z)
 log-loses n Cut seen values found keeps u f e = absurd (let z : ⊥ = cc in z)
 log-loses n (Reads loc next) seen [] found keeps u f e = absurd (let z : ⊥ = cc in z)
 log-loses n (Reads loc next) seen (v ∷ values) found keeps u f e =
-    both_read loc (λ w. logged (note (first_keeping keeps) w (tree_with_notes (next w) (drop 1 keeps))) (seen ++ w ∷ [])) (λ w. logged (next w) (seen ++ w ∷ [])) v values u.0
-    (log-drop n (first_keeping keeps) v (tree_with_notes (next v) (drop 1 keeps)) (logged (next v) (seen ++ v ∷ [])) (seen ++ v ∷ []) values (first-beyond n keeps f)
+    both_read loc
+    (λ w. logged (note (first_keeping keeps) w (tree_with_notes (next w) (drop 1 keeps))) (seen ++ w ∷ []))
+    (λ w. logged (next w) (seen ++ w ∷ [])) v values u.0
+    (log-drop n (first_keeping keeps) v (tree_with_notes (next v) (drop 1 keeps)) (logged (next v) (seen ++ v ∷ []))
+    (seen ++ v ∷ []) values (first-beyond n keeps f)
     (log-loses n (next v) (seen ++ v ∷ []) values found (drop 1 keeps) (u.1 v) (rest-beyond n keeps f)
     (sym (log-note (first_keeping keeps) v (tree_with_notes (next v) (drop 1 keeps)) (seen ++ v ∷ []) values) ∙ e)))
 log-loses n (Stores loc value next) seen values found keeps u f e =
@@ -294,8 +338,11 @@ log-loses n (Fences next) seen values found keeps u f e =
     both_fence (logged (tree_with_notes next keeps) seen) (logged next seen) values (log-loses n next seen values found keeps u f e)
 log-loses n (Locks loc change next) seen [] found keeps u f e = absurd (let z : ⊥ = cc in z)
 log-loses n (Locks loc change next) seen (v ∷ values) found keeps u f e =
-    both_lock loc change (λ w. logged (note (first_keeping keeps) w (tree_with_notes (next w) (drop 1 keeps))) (seen ++ w ∷ [])) (λ w. logged (next w) (seen ++ w ∷ [])) v values u.0
-    (log-drop n (first_keeping keeps) v (tree_with_notes (next v) (drop 1 keeps)) (logged (next v) (seen ++ v ∷ [])) (seen ++ v ∷ []) values (first-beyond n keeps f)
+    both_lock loc change
+    (λ w. logged (note (first_keeping keeps) w (tree_with_notes (next w) (drop 1 keeps))) (seen ++ w ∷ []))
+    (λ w. logged (next w) (seen ++ w ∷ [])) v values u.0
+    (log-drop n (first_keeping keeps) v (tree_with_notes (next v) (drop 1 keeps)) (logged (next v) (seen ++ v ∷ []))
+    (seen ++ v ∷ []) values (first-beyond n keeps f)
     (log-loses n (next v) (seen ++ v ∷ []) values found (drop 1 keeps) (u.1 v) (rest-beyond n keeps f)
     (sym (log-note (first_keeping keeps) v (tree_with_notes (next v) (drop 1 keeps)) (seen ++ v ∷ []) values) ∙ e)))
 
@@ -303,7 +350,9 @@ both-at : (b : Branching) (keeps : List (List Keeping)) (k : ℕ)
     → slice_index_or (all_logged (all_noted b.trees keeps)) k Cut ≡ logged (tree_with_notes (slice_index_or b.trees k Cut) (slice_index_or keeps k [])) []
 both-at b keeps k = log-at (all_noted b.trees keeps) k ∙ ap (λ z. logged z []) (noted-at b.trees keeps k)
 
-log-with : (b : Branching) (names : List (List ℕ)) (keeps : List (List Keeping)) → AreOwn b names keeps → HasTheSamePaths (length b.words) (log b) (log (with_notes b names keeps))
+log-with : (b : Branching) (names : List (List ℕ)) (keeps : List (List Keeping))
+    → AreOwn b names keeps
+    → HasTheSamePaths (length b.words) (log b) (log (with_notes b names keeps))
 log-with b names keeps own =
     let s = same-with b names keeps own in
     record {
@@ -312,12 +361,17 @@ log-with b names keeps own =
       other_locations = s.other_locations;
       words = s.words;
       paths = λ k values outputs l e. subst (λ z. IsSamePath (length b.words) (slice_index_or (all_logged b.trees) k Cut) values z) (sym (both-at b keeps k))
-          (subst (λ z. IsSamePath (length b.words) z values (logged (tree_with_notes (slice_index_or b.trees k Cut) (slice_index_or keeps k [])) [])) (sym (log-at b.trees k))
-          (log-gets (length b.words) (slice_index_or b.trees k Cut) [] values outputs (slice_index_or keeps k []) (own.trees k (let z = length-log b.trees in omega arith)) (notes-are-beyond b names keeps own k)
+          (subst (λ z.
+          IsSamePath (length b.words) z values (logged (tree_with_notes (slice_index_or b.trees k Cut) (slice_index_or keeps k [])) []))
+          (sym (log-at b.trees k))
+          (log-gets (length b.words) (slice_index_or b.trees k Cut) [] values outputs (slice_index_or keeps k [])
+          (own.trees k (let z = length-log b.trees in omega arith)) (notes-are-beyond b names keeps own k)
           (subst (λ z. outputs_along z values ≡ Some outputs) (log-at b.trees k) e)));
     }
 
-log-without : (b : Branching) (names : List (List ℕ)) (keeps : List (List Keeping)) → AreOwn b names keeps → HasTheSamePaths (length b.words) (log (with_notes b names keeps)) (log b)
+log-without : (b : Branching) (names : List (List ℕ)) (keeps : List (List Keeping))
+    → AreOwn b names keeps
+    → HasTheSamePaths (length b.words) (log (with_notes b names keeps)) (log b)
 log-without b names keeps own =
     let s = same-without b names keeps own in
     record {
@@ -326,31 +380,42 @@ log-without b names keeps own =
       other_locations = s.other_locations;
       words = s.words;
       paths = λ k values outputs l e. subst (λ z. IsSamePath (length b.words) z values (slice_index_or (all_logged b.trees) k Cut)) (sym (both-at b keeps k))
-          (subst (λ z. IsSamePath (length b.words) (logged (tree_with_notes (slice_index_or b.trees k Cut) (slice_index_or keeps k [])) []) values z) (sym (log-at b.trees k))
-          (log-loses (length b.words) (slice_index_or b.trees k Cut) [] values outputs (slice_index_or keeps k []) (own.trees k (let z = length-log (all_noted b.trees keeps) in let y = length-noted b.trees keeps in omega arith))
+          (subst (λ z.
+          IsSamePath (length b.words) (logged (tree_with_notes (slice_index_or b.trees k Cut) (slice_index_or keeps k [])) []) values z)
+          (sym (log-at b.trees k))
+          (log-loses (length b.words) (slice_index_or b.trees k Cut) [] values outputs (slice_index_or keeps k [])
+          (own.trees k (let z = length-log (all_noted b.trees keeps) in let y = length-noted b.trees keeps in omega arith))
           (notes-are-beyond b names keeps own k)
           (subst (λ z. outputs_along z values ≡ Some outputs) (both-at b keeps k) e)));
     }
 
-give-noted : (trees : List Tree) (values outputs : List (List ℕ)) (keeps : List (List Keeping)) → Give trees values outputs → Give (all_noted trees keeps) values outputs
+give-noted : (trees : List Tree) (values outputs : List (List ℕ)) (keeps : List (List Keeping))
+    → Give trees values outputs
+    → Give (all_noted trees keeps) values outputs
 give-noted [] [] [] keeps g = tt
 give-noted [] [] (o ∷ outputs) keeps g = absurd g
 give-noted [] (v ∷ values) outputs keeps g = absurd g
 give-noted (tree ∷ trees) [] outputs keeps g = absurd g
 give-noted (tree ∷ trees) (v ∷ values) [] keeps g = absurd g
-give-noted (tree ∷ trees) (v ∷ values) (o ∷ outputs) keeps g = (noted-outputs tree v (slice_index_or keeps 0 []) ∙ g.0, give-noted trees values outputs (drop 1 keeps) g.1)
+give-noted (tree ∷ trees) (v ∷ values) (o ∷ outputs) keeps g =
+    (noted-outputs tree v (slice_index_or keeps 0 []) ∙ g.0, give-noted trees values outputs (drop 1 keeps) g.1)
 
-noted-give : (trees : List Tree) (values outputs : List (List ℕ)) (keeps : List (List Keeping)) → Give (all_noted trees keeps) values outputs → Give trees values outputs
+noted-give : (trees : List Tree) (values outputs : List (List ℕ)) (keeps : List (List Keeping))
+    → Give (all_noted trees keeps) values outputs
+    → Give trees values outputs
 noted-give [] [] [] keeps g = tt
 noted-give [] [] (o ∷ outputs) keeps g = absurd g
 noted-give [] (v ∷ values) outputs keeps g = absurd g
 noted-give (tree ∷ trees) [] outputs keeps g = absurd g
 noted-give (tree ∷ trees) (v ∷ values) [] keeps g = absurd g
-noted-give (tree ∷ trees) (v ∷ values) (o ∷ outputs) keeps g = (sym (noted-outputs tree v (slice_index_or keeps 0 [])) ∙ g.0, noted-give trees values outputs (drop 1 keeps) g.1)
+noted-give (tree ∷ trees) (v ∷ values) (o ∷ outputs) keeps g =
+    (sym (noted-outputs tree v (slice_index_or keeps 0 [])) ∙ g.0, noted-give trees values outputs (drop 1 keeps) g.1)
 
 pub path-with : SamePathsLeaveTheSame → (b : Branching) (names values outputs : List (List ℕ)) (keeps : List (List Keeping)) (memory : List ℕ)
     → AreOwn b names keeps → EachPathIsTest b → EachPathIsTest (with_notes b names keeps) → IsPathOutcome b values outputs memory
-    → (more : List ℕ) × IsPathOutcome (with_notes b names keeps) values outputs more × ((loc : ℕ) → loc < length b.words → slice_index more loc ≡ slice_index memory loc)
+    → (more : List ℕ)
+    × IsPathOutcome (with_notes b names keeps) values outputs more
+    × ((loc : ℕ) → loc < length b.words → slice_index more loc ≡ slice_index memory loc)
 path-with law b names values outputs keeps memory own tests noted_tests h =
     let r = law (length b.words) (log b) (log (with_notes b names keeps)) values memory (log-tests b tests) (log-tests (with_notes b names keeps) noted_tests)
     (log-with b names keeps own) (to-log b values outputs memory h) in

@@ -1,5 +1,6 @@
 -- The marked test goes along with the bounded one, and each of its cores can go on to its end.
-use Rattle.std.proofs.Common.{◌≡◌, ◌≢◌, ℕ, ◌+◌, zero, suc, List, [], ◌∷◌, ◌++◌, Some, Bool, true, false, ◌⊎◌, ◌<◌, ◌≤◌, nat_lt, if◌then◌else◌, length, slice_index, slice_index_or, arith, ap, sym, ◌∙◌, refl, subst, inl, inr}
+use Rattle.std.proofs.Common.{◌≡◌, ◌≢◌, ℕ, ◌+◌, zero, suc, List, [], ◌∷◌, ◌++◌, Some, Bool, true, false, ◌⊎◌, ◌<◌, ◌≤◌, nat_lt}
+use Rattle.std.proofs.Common.{if◌then◌else◌, length, slice_index, slice_index_or, arith, ap, sym, ◌∙◌, refl, subst, inl, inr}
 use Rattle.basic_laws.proofs.Basics.{decide}
 use Rattle.tso_terms.specs.Thread.{entry}
 use Rattle.tso_terms.specs.FlatMachine.{memory_after}
@@ -9,7 +10,8 @@ use Rattle.tso_laws.specs.inner.Laws.{RunsStopWhereTheyEnd, WholeOrdersHaveEachE
 use Rattle.basic_laws.specs.Types.{Entry, Choice, Step, Drain, Loc, W, LR, LW}
 use Rattle.branch_laws.specs.Trees.{Tree, Done, Cut, Reads, Stores, Fences, Locks, written, values_along, outputs_along}
 use Rattle.branch_laws.specs.Branching.{Branching, Give, values_from}
-use Rattle.branch_laws.specs.TreeMachine.{TreeCore, TreeState, TreeEffect, stays, seen_value, act, drain_tree, tree_core, tree_effect, tree_choice, tree_applied, tree_after, tree_start, IsDoneWith, IsTreeReached, IsTreeEnd}
+use Rattle.branch_laws.specs.TreeMachine.{TreeCore, TreeState, TreeEffect, stays, seen_value, act, drain_tree, tree_core, tree_effect}
+use Rattle.branch_laws.specs.TreeMachine.{tree_choice, tree_applied, tree_after, tree_start, IsDoneWith, IsTreeReached, IsTreeEnd}
 use Rattle.branch_laws.specs.Rounds.{EachPathIsTest, writes_in}
 use Rattle.branch_laws.specs.Laws.{TreeEndsAreTheOutcomes}
 use Rattle.branch_laws.specs.Bounds.{IsCutFrom, AreCutFrom, IsBounded, NoneIsCutOff, marked, all_marked, with_marks, NoOutcomeIsCutOff}
@@ -41,8 +43,16 @@ marked-act d m c p Cut q = refl
 marked-act d m c p (Reads loc next) q = refl
 marked-act d m c p (Stores loc value next) q = go (nat_lt (length q) d)
   where
-    go : (t : Bool) → (let g : TreeEffect = if t then record { after = at_tree (p + 1) (marked next) (q ++ entry c p W loc value ∷ []); commits = [] } else stays (at_tree p (marked (Stores loc value next)) q) in g)
-        ≡ (let h : TreeEffect = (if t then record { after = at_tree (p + 1) next (q ++ entry c p W loc value ∷ []); commits = [] } else stays (at_tree p (Stores loc value next) q)) in
+    go : (t : Bool)
+        → (let g : TreeEffect =
+        if t
+        then record { after = at_tree (p + 1) (marked next) (q ++ entry c p W loc value ∷ []); commits = [] }
+        else stays (at_tree p (marked (Stores loc value next)) q) in
+        g)
+        ≡ (let h : TreeEffect =
+        (if t
+        then record { after = at_tree (p + 1) next (q ++ entry c p W loc value ∷ []); commits = [] }
+        else stays (at_tree p (Stores loc value next) q)) in
         record { after = mark h.after; commits = h.commits })
     go true = refl
     go false = refl
@@ -61,7 +71,9 @@ next-marked n c U T g h l a e =
       first = v.size ∙ a.first;
       second = w.size ∙ a.second;
       cores = λ j m. elim (decide j c) [
-        | inl q ↦ subst (λ z. tree_core (tree_applied T c h) z ≡ mark (tree_core (tree_applied U c g) z)) (sym q) (w.own ∙ ap (λ z. z.after) e ∙ sym (ap (λ z. mark z) v.own))
+        | inl q ↦
+            subst (λ z. tree_core (tree_applied T c h) z ≡ mark (tree_core (tree_applied U c g) z)) (sym q)
+            (w.own ∙ ap (λ z. z.after) e ∙ sym (ap (λ z. mark z) v.own))
         | inr q ↦ w.others j q ∙ a.cores j m ∙ sym (ap (λ z. mark z) (v.others j q))
       ];
     }
@@ -73,7 +85,8 @@ marked-after d n U T (Step j ∷ cs) l a =
     let e : tree_effect d T (Step j) ≡ record { after = mark (tree_effect d U (Step j)).after; commits = (tree_effect d U (Step j)).commits } =
     ap (λ z. act d z j.0 (tree_core T j.0).rest (tree_core T j.0)) a.memory ∙ ap (λ z. act d U.memory j.0 z.rest z) (a.cores j.0 l.0)
     ∙ marked-act d U.memory j.0 s.place s.rest s.pending in
-    marked-after d n (tree_choice d U (Step j)) (tree_choice d T (Step j)) cs l.1 (next-marked n j.0 U T (tree_effect d U (Step j)) (tree_effect d T (Step j)) l.0 a e)
+    marked-after d n (tree_choice d U (Step j)) (tree_choice d T (Step j)) cs l.1
+    (next-marked n j.0 U T (tree_effect d U (Step j)) (tree_effect d T (Step j)) l.0 a e)
 marked-after d n U T (Drain j ∷ cs) l a =
     marked-after d n (tree_choice d U (Drain j)) (tree_choice d T (Drain j)) cs l.1
     (next-marked n j.0 U T (drain_tree (tree_core U j.0)) (drain_tree (tree_core T j.0)) l.0 a (ap (λ z. drain_tree z) (a.cores j.0 l.0)))
@@ -96,7 +109,9 @@ drains-all d c m p tree (e ∷ q) =
     let r = drains-all d c (memory_after (e ∷ []) m) p tree q in
     record { memory = r.memory; goes = drain m (at_tree p tree (e ∷ q)) r.memory (at_tree p tree []) r.goes }
 
-first-drains : (d c : ℕ) (m : List ℕ) (p : ℕ) (tree : Tree) (q : List Entry) → ((k : List ℕ) → GoesToEnd d c k (at_tree p tree [])) → GoesToEnd d c m (at_tree p tree q)
+first-drains : (d c : ℕ) (m : List ℕ) (p : ℕ) (tree : Tree) (q : List Entry)
+    → ((k : List ℕ) → GoesToEnd d c k (at_tree p tree []))
+    → GoesToEnd d c m (at_tree p tree q)
 first-drains d c m p tree q f =
     let r = drains-all d c m p tree q in
     let e = f r.memory in
@@ -108,7 +123,12 @@ first-drains d c m p tree q f =
     }
 
 steps-first : (d c : ℕ) (m : List ℕ) (s : TreeCore) → GoesToEnd d c (memory_after (act d m c s.rest s).commits m) (act d m c s.rest s).after → GoesToEnd d c m s
-steps-first d c m s e = record { memory = e.memory; place = e.place; outputs = e.outputs; goes = step m s e.memory (at_tree e.place (Done e.outputs) []) e.goes }
+steps-first d c m s e = record {
+  memory = e.memory;
+  place = e.place;
+  outputs = e.outputs;
+  goes = step m s e.memory (at_tree e.place (Done e.outputs) []) e.goes;
+}
 
 stores-first : (d c : ℕ) (k : List ℕ) (p : ℕ) (loc : Loc) (value : ℕ) (next : Tree) → GoesToEnd (suc d) c k (at_tree (p + 1) next (entry c p W loc value ∷ []))
     → GoesToEnd (suc d) c k (at_tree p (Stores loc value next) [])
@@ -138,7 +158,9 @@ goes-to-end d c (Fences next) m p q =
 goes-to-end d c (Locks loc change next) m p q =
     first-drains (suc d) c m p (marked (Locks loc change next)) q
     (λ k. steps-first (suc d) c k (at_tree p (marked (Locks loc change next)) [])
-    (goes-to-end d c (next (slice_index k loc.0)) (memory_after (entry c (p + 1) LR loc (slice_index k loc.0) ∷ (entry c (p + 1) LW loc (written change (slice_index k loc.0)) ∷ [])) k) ((p + 1) + 1) []))
+    (goes-to-end d c (next (slice_index k loc.0))
+    (memory_after (entry c (p + 1) LR loc (slice_index k loc.0) ∷ (entry c (p + 1) LW loc (written change (slice_index k loc.0)) ∷ [])) k)
+    ((p + 1) + 1) []))
 
 cut-outputs : (d c : ℕ) (tree : Tree) (m : List ℕ) (p : ℕ) (q : List Entry) → tree ≡ Cut → (goes-to-end d c tree m p q).outputs ≡ 1 ∷ []
 unfolding goes-to-end
@@ -165,7 +187,9 @@ ends-all d n c U T a cut (suc j) l =
     let V : TreeState = tree_after (suc d) T r.choices in
     let s : TreeCore = tree_core U j in
     let e = goes-to-end d j s.rest V.memory s.place s.pending in
-    let w = lift (suc d) n j V.memory (mark s) e.memory (at_tree e.place (Done e.outputs) []) e.goes V refl (r.others j (omega arith) ∙ a.cores j (omega arith)) (let z = r.size in omega arith) (omega arith) in
+    let w =
+    lift (suc d) n j V.memory (mark s) e.memory (at_tree e.place (Done e.outputs) []) e.goes V refl
+    (r.others j (omega arith) ∙ a.cores j (omega arith)) (let z = r.size in omega arith) (omega arith) in
     let last : TreeState = tree_after (suc d) V w.choices in
     let is : tree_after (suc d) T (r.choices ++ w.choices) ≡ last = after-both (suc d) T r.choices w.choices in
     record {
@@ -175,7 +199,8 @@ ends-all d n c U T a cut (suc j) l =
       done = λ k m. subst (λ z. (o : List ℕ) × IsDoneWith (tree_core z k) o × (k ≡ c → o ≡ 1 ∷ [])) (sym is) (elim (decide k j) [
         | inl q ↦ (
           e.outputs,
-          subst (λ z. IsDoneWith (tree_core last z) e.outputs) (sym q) (subst (λ z. IsDoneWith z e.outputs) (sym w.own) (record { rest = refl; pending = refl })),
+          subst (λ z. IsDoneWith (tree_core last z) e.outputs) (sym q)
+              (subst (λ z. IsDoneWith z e.outputs) (sym w.own) (record { rest = refl; pending = refl })),
           λ i. cut-outputs d j s.rest V.memory s.place s.pending (ap (λ z. (tree_core U z).rest) (sym q ∙ i) ∙ cut),
         )
         | inr q ↦ (let b = r.done k (omega arith) in (b.0, subst (λ z. IsDoneWith z b.0) (sym (w.others k q)) b.1, b.2))
@@ -230,7 +255,8 @@ start-alike b whole w = record {
   first = length-planted b.trees ∙ cut-length b.trees whole.trees w.trees;
   second = length-planted whole.trees;
   cores = λ k l. subst (λ z. AlikeCores z (tree_core (tree_start whole) k)) (sym (planted-at b.trees k))
-      (subst (λ z. AlikeCores (at_tree 0 (slice_index_or b.trees k Cut) []) z) (sym (planted-at whole.trees k)) (record { place = refl; pending = refl; cut = cut-at b.trees whole.trees k w.trees }));
+      (subst (λ z. AlikeCores (at_tree 0 (slice_index_or b.trees k Cut) []) z) (sym (planted-at whole.trees k))
+      (record { place = refl; pending = refl; cut = cut-at b.trees whole.trees k w.trees }));
 }
 
 start-marked : (b : Branching) → MarkedStates (length b.trees) (tree_start b) (tree_start (with_marks b))
@@ -250,7 +276,9 @@ cut-shows law b cs c test clear l m cut =
     let T : TreeState = tree_after 32 (tree_start (with_marks b)) cs in
     let a : MarkedStates n U T = marked-after 32 n (tree_start b) (tree_start (with_marks b)) cs l (start-marked b) in
     let r = ends-all 31 n c U T a cut n (omega arith) in
-    let o = collect n (λ k o. IsDoneWith (tree_core (tree_after 32 T r.choices) k) o × (k ≡ c → o ≡ 1 ∷ [])) (λ k i. (let x = r.done k i in (x.0, (x.1, x.2)))) in
+    let o =
+    collect n (λ k o. IsDoneWith (tree_core (tree_after 32 T r.choices) k) o × (k ≡ c → o ≡ 1 ∷ []))
+    (λ k i. (let x = r.done k i in (x.0, (x.1, x.2)))) in
     let is : tree_after 32 (tree_start (with_marks b)) (cs ++ r.choices) ≡ tree_after 32 T r.choices = after-both 32 (tree_start (with_marks b)) cs r.choices in
     let end : IsTreeEnd (with_marks b) 32 o.all (tree_after 32 (tree_start (with_marks b)) (cs ++ r.choices)).memory = record {
       choices = cs ++ r.choices;
@@ -259,7 +287,9 @@ cut-shows law b cs c test clear l m cut =
       done = λ k i. subst (λ z. IsDoneWith (tree_core z k) (slice_index_or o.all k [])) (sym is) (o.each k (let z = length-marked b.trees in omega arith)).0;
       memory_is = refl;
     } in
-    clear o.all (tree_after 32 (tree_start (with_marks b)) (cs ++ r.choices)).memory c ((law (with_marks b) o.all (tree_after 32 (tree_start (with_marks b)) (cs ++ r.choices)).memory test).0 end) ((o.each c m).1 refl)
+    clear o.all (tree_after 32 (tree_start (with_marks b)) (cs ++ r.choices)).memory c
+    ((law (with_marks b) o.all (tree_after 32 (tree_start (with_marks b)) (cs ++ r.choices)).memory test).0 end)
+    ((o.each c m).1 refl)
 
 -- a tree that is done in the whole is done or cut off in the bounded one
 done-or-cut : (tree whole : Tree) (outputs : List ℕ) → IsCutFrom tree whole → whole ≡ Done outputs → (tree ≡ Cut) ⊎ (tree ≡ Done outputs)
@@ -271,9 +301,11 @@ done-or-cut (Done o) (Stores at other more) outputs h e = absurd h
 done-or-cut (Done o) (Fences more) outputs h e = absurd h
 done-or-cut (Done o) (Locks at other more) outputs h e = absurd h
 done-or-cut (Reads loc next) whole outputs h e = absurd (let z : IsCutFrom (Reads loc next) (Done outputs) = subst (λ y. IsCutFrom (Reads loc next) y) e h in z)
-done-or-cut (Stores loc value next) whole outputs h e = absurd (let z : IsCutFrom (Stores loc value next) (Done outputs) = subst (λ y. IsCutFrom (Stores loc value next) y) e h in z)
+done-or-cut (Stores loc value next) whole outputs h e =
+    absurd (let z : IsCutFrom (Stores loc value next) (Done outputs) = subst (λ y. IsCutFrom (Stores loc value next) y) e h in z)
 done-or-cut (Fences next) whole outputs h e = absurd (let z : IsCutFrom (Fences next) (Done outputs) = subst (λ y. IsCutFrom (Fences next) y) e h in z)
-done-or-cut (Locks loc change next) whole outputs h e = absurd (let z : IsCutFrom (Locks loc change next) (Done outputs) = subst (λ y. IsCutFrom (Locks loc change next) y) e h in z)
+done-or-cut (Locks loc change next) whole outputs h e =
+    absurd (let z : IsCutFrom (Locks loc change next) (Done outputs) = subst (λ y. IsCutFrom (Locks loc change next) y) e h in z)
 
 pub none-cut-off : RunsStopWhereTheyEnd → WholeOrdersHaveEachEntryOnce → RunsReachExactlyTheExecutions → Greatest → TreeEndsAreTheOutcomes
     → (b whole : Branching) → IsBounded b whole → EachPathIsTest whole → EachPathIsTest (with_marks b) → NoOutcomeIsCutOff b → NoneIsCutOff b whole
@@ -301,16 +333,22 @@ none-cut-off stopping law runs greatest tree_ends b whole w whole_test test clea
         let i = a.cores k (within k m) in
         let e = r.done k (within k m) in
         record {
-          rest = elim (done-or-cut (tree_core U k).rest (tree_core (tree_after 32 (tree_start whole) r.choices) k).rest (slice_index_or outputs k []) i.cut e.rest) [
-            | inl c ↦ absurd (cut-shows tree_ends b r.choices k test clear l m c)
-            | inr c ↦ c
-          ];
+          rest =
+              elim (done-or-cut (tree_core U k).rest
+              (tree_core (tree_after 32 (tree_start whole) r.choices) k).rest (slice_index_or outputs k []) i.cut
+              e.rest) [
+                | inl c ↦ absurd (cut-shows tree_ends b r.choices k test clear l m c)
+                | inr c ↦ c
+              ];
           pending = i.pending ∙ e.pending;
         }
         )) in (
           outputs,
           give-told 0 b.trees outputs order (r.count ∙ sym size) (λ k m.
-              subst (λ z. outputs_along (slice_index_or b.trees k Cut) (values_along z 0 (slice_index_or b.trees k Cut) order) ≡ Some (slice_index_or outputs k [])) (let z : k ≡ 0 + k = omega arith in z)
+              subst (λ z.
+              outputs_along (slice_index_or b.trees k Cut) (values_along z 0 (slice_index_or b.trees k Cut) order)
+              ≡ Some (slice_index_or outputs k []))
+              (let z : k ≡ 0 + k = omega arith in z)
               (subst (λ z. told k z order ≡ Some (slice_index_or outputs k [])) (planted-at b.trees k)
               (subst (λ z. told k (tree_core (tree_start b) k) z ≡ Some (slice_index_or outputs k [])) (q ∙ r.commits)
               (run-told 32 (length b.trees) (tree_start b) r.choices (λ j. slice_index_or outputs j []) (length-planted b.trees) l (start-own b) done k m)))),

@@ -1,5 +1,6 @@
 -- One core of the machine over trees by itself: what it does at a step of another tree that has the same path.
-use Rattle.std.proofs.Common.{◌≡◌, ℕ, ◌+◌, suc, List, [], ◌∷◌, ◌++◌, Bool, true, false, ◌<◌, ◌≤◌, nat_lt, if◌then◌else◌, length, slice_index, slice_set, take, drop, arith, ap, sym, ◌∙◌, refl, subst}
+use Rattle.std.proofs.Common.{◌≡◌, ℕ, ◌+◌, suc, List, [], ◌∷◌, ◌++◌, Bool, true, false, ◌<◌, ◌≤◌, nat_lt, if◌then◌else◌, length}
+use Rattle.std.proofs.Common.{slice_index, slice_set, take, drop, arith, ap, sym, ◌∙◌, refl, subst}
 use Rattle.std.proofs.lemmas.Bool.Decides.{nat_tests}
 use Rattle.basic_laws.proofs.Lists.{Each, each-append}
 use Rattle.tso_terms.specs.Thread.{entry, fence}
@@ -9,25 +10,45 @@ use Rattle.branch_laws.specs.Trees.{Change, Tree, Done, Reads, Stores, Fences, L
 use Rattle.branch_laws.specs.TreeMachine.{TreeCore, TreeEffect, stays, seen_value, act}
 use Rattle.branch_laws.specs.SamePaths.{IsSamePath, both_end, both_read, both_store, both_fence, both_lock, reads_alone, stores_alone, other_stores}
 use Rattle.branch_laws.proofs.Values.{reads-left, fences-left, locks-left, left, IsOwn}
-use Rattle.branch_laws.proofs.KeptStores.{at_tree, Goes, stop, step, drain, goes-on, step-by, Agree, set-both, set-first, set-second, stored-word, Kept, none, both, first_alone, second_alone, append-both, append-first, append-second, same-load}
+use Rattle.branch_laws.proofs.KeptStores.{at_tree, Goes, stop, step, drain, goes-on, step-by, Agree, set-both, set-first, set-second}
+use Rattle.branch_laws.proofs.KeptStores.{stored-word, Kept, none, both, first_alone, second_alone, append-both, append-first}
+use Rattle.branch_laws.proofs.KeptStores.{append-second, same-load}
 
 -- the same path, with the number of stores that the second tree still makes
 pub data Runs (n : ℕ) : ℕ → Tree → List ℕ → Tree → Type 0 where
   to_end : (outputs : List ℕ) → Runs n 0 (Done outputs) [] (Done outputs)
-  by_read : (k : ℕ) (loc : Loc) (next more : ℕ → Tree) (v : ℕ) (values : List ℕ) → loc.0 < n → Runs n k (next v) values (more v) → Runs n k (Reads loc next) (v ∷ values) (Reads loc more)
-  by_store : (k : ℕ) (loc : Loc) (value : ℕ) (next more : Tree) (values : List ℕ) → loc.0 < n → Runs n k next values more → Runs n (suc k) (Stores loc value next) values (Stores loc value more)
+  by_read : (k : ℕ) (loc : Loc) (next more : ℕ → Tree) (v : ℕ) (values : List ℕ)
+      → loc.0 < n
+      → Runs n k (next v) values (more v)
+      → Runs n k (Reads loc next) (v ∷ values) (Reads loc more)
+  by_store : (k : ℕ) (loc : Loc) (value : ℕ) (next more : Tree) (values : List ℕ)
+      → loc.0 < n
+      → Runs n k next values more
+      → Runs n (suc k) (Stores loc value next) values (Stores loc value more)
   by_fence : (k : ℕ) (next more : Tree) (values : List ℕ) → Runs n k next values more → Runs n k (Fences next) values (Fences more)
-  by_lock : (k : ℕ) (loc : Loc) (change : Change) (next more : ℕ → Tree) (v : ℕ) (values : List ℕ) → loc.0 < n → Runs n k (next v) values (more v) → Runs n k (Locks loc change next) (v ∷ values) (Locks loc change more)
-  read_alone : (k : ℕ) (loc : Loc) (next : ℕ → Tree) (v : ℕ) (values : List ℕ) (other : Tree) → Runs n k (next v) values other → Runs n k (Reads loc next) (v ∷ values) other
-  store_alone : (k : ℕ) (loc : Loc) (value : ℕ) (next : Tree) (values : List ℕ) (other : Tree) → n ≤ loc.0 → Runs n k next values other → Runs n k (Stores loc value next) values other
-  other_store : (k : ℕ) (loc : Loc) (value : ℕ) (tree : Tree) (values : List ℕ) (other : Tree) → n ≤ loc.0 → Runs n k tree values other → Runs n (suc k) tree values (Stores loc value other)
+  by_lock : (k : ℕ) (loc : Loc) (change : Change) (next more : ℕ → Tree) (v : ℕ) (values : List ℕ)
+      → loc.0 < n
+      → Runs n k (next v) values (more v)
+      → Runs n k (Locks loc change next) (v ∷ values) (Locks loc change more)
+  read_alone : (k : ℕ) (loc : Loc) (next : ℕ → Tree) (v : ℕ) (values : List ℕ) (other : Tree)
+      → Runs n k (next v) values other
+      → Runs n k (Reads loc next) (v ∷ values) other
+  store_alone : (k : ℕ) (loc : Loc) (value : ℕ) (next : Tree) (values : List ℕ) (other : Tree)
+      → n ≤ loc.0
+      → Runs n k next values other
+      → Runs n k (Stores loc value next) values other
+  other_store : (k : ℕ) (loc : Loc) (value : ℕ) (tree : Tree) (values : List ℕ) (other : Tree)
+      → n ≤ loc.0
+      → Runs n k tree values other
+      → Runs n (suc k) tree values (Stores loc value other)
 
 pub counted : (n : ℕ) (tree : Tree) (values : List ℕ) (other : Tree) → IsSamePath n tree values other → (k : ℕ) × Runs n k tree values other
 counted n tree values other (both_end outputs) = (0, to_end outputs)
 counted n tree values other (both_read loc next more v vs l h) = let r = counted n (next v) vs (more v) h in (r.0, by_read r.0 loc next more v vs l r.1)
 counted n tree values other (both_store loc value next more vs l h) = let r = counted n next vs more h in (suc r.0, by_store r.0 loc value next more vs l r.1)
 counted n tree values other (both_fence next more vs h) = let r = counted n next vs more h in (r.0, by_fence r.0 next more vs r.1)
-counted n tree values other (both_lock loc change next more v vs l h) = let r = counted n (next v) vs (more v) h in (r.0, by_lock r.0 loc change next more v vs l r.1)
+counted n tree values other (both_lock loc change next more v vs l h) =
+    let r = counted n (next v) vs (more v) h in (r.0, by_lock r.0 loc change next more v vs l r.1)
 counted n tree values other (reads_alone loc next v vs o h) = let r = counted n (next v) vs o h in (r.0, read_alone r.0 loc next v vs o r.1)
 counted n tree values other (stores_alone loc value next vs o l h) = let r = counted n next vs o h in (r.0, store_alone r.0 loc value next vs o l r.1)
 counted n tree values other (other_stores loc value t vs o l h) = let r = counted n t vs o h in (suc r.0, other_store r.0 loc value t vs o l r.1)
@@ -50,7 +71,13 @@ pub record Answer (n d c : ℕ) (xs : List Entry) (m : List ℕ) (s : TreeCore) 
 
 before-that : (n d c : ℕ) (xs : List Entry) (m : List ℕ) (s : TreeCore) (k : List ℕ) (t : TreeCore) (k2 : List ℕ) (t2 : TreeCore)
     → Goes d c k t k2 t2 → Answer n d c xs m s k2 t2 → Answer n d c xs m s k t
-before-that n d c xs m s k t k2 t2 g a = record { memory = a.memory; after = a.after; goes = goes-on d c k t k2 t2 a.memory a.after g a.goes; agree = a.agree; tie = a.tie }
+before-that n d c xs m s k t k2 t2 g a = record {
+  memory = a.memory;
+  after = a.after;
+  goes = goes-on d c k t k2 t2 a.memory a.after g a.goes;
+  agree = a.agree;
+  tie = a.tie;
+}
 
 -- with nothing pending at the first, the second drains what it has
 record Drained (n d c : ℕ) (m : List ℕ) (k : List ℕ) (p : ℕ) (other : Tree) (r : List Entry) : Type 0 where
@@ -104,7 +131,8 @@ first-of v w xs ys e = cc
 rest-of : (v w : ℕ) (xs ys : List ℕ) → v ∷ xs ≡ w ∷ ys → xs ≡ ys
 rest-of v w xs ys e = cc
 
-pub at-step : (n d d2 c stores : ℕ) (xs : List Entry) (m k : List ℕ) (p : ℕ) (tree : Tree) (q : List Entry) (p2 : ℕ) (other : Tree) (r : List Entry) (values : List ℕ)
+pub at-step : (n d d2 c stores : ℕ) (xs : List Entry) (m k : List ℕ) (p : ℕ) (tree : Tree) (q : List Entry) (p2 : ℕ)
+    (other : Tree) (r : List Entry) (values : List ℕ)
     → Agree n m k → Kept n q r → length r + stores < d2 → Each (IsOwn c) q → Runs n stores tree values other
     → values ≡ values_along c p tree ((act d m c tree (at_tree p tree q)).commits ++ xs)
     → Answer n d2 c xs (memory_after (act d m c tree (at_tree p tree q)).commits m) (act d m c tree (at_tree p tree q)).after k (at_tree p2 other r)
@@ -278,10 +306,22 @@ pub record Finished (n d c : ℕ) (m k : List ℕ) (t : TreeCore) (outputs : Lis
   pub agree : Agree n m memory
 
 pub finish : (n d c stores : ℕ) (m k : List ℕ) (tree : Tree) (q : List Entry) (p2 : ℕ) (other : Tree) (r : List Entry) (values outputs : List ℕ)
-    → Agree n m k → Kept n q r → length r + stores < d → q ≡ [] → tree ≡ Done outputs → Runs n stores tree values other → Finished n d c m k (at_tree p2 other r) outputs
+    → Agree n m k
+    → Kept n q r
+    → length r + stores < d
+    → q ≡ []
+    → tree ≡ Done outputs
+    → Runs n stores tree values other
+    → Finished n d c m k (at_tree p2 other r) outputs
 finish n d c stores m k tree q p2 other r values outputs a t l none_left e (to_end o) =
     let z = drain-all n d c m k p2 (Done o) q r none_left a t in
-    record { memory = z.memory; place = p2; goes = subst (λ y. Goes d c k (at_tree p2 (Done o) r) z.memory (at_tree p2 (Done y) [])) (let y : o ≡ outputs = cc in y) z.goes; agree = z.agree }
+    record {
+      memory = z.memory;
+      place = p2;
+      goes =
+          subst (λ y. Goes d c k (at_tree p2 (Done o) r) z.memory (at_tree p2 (Done y) [])) (let y : o ≡ outputs = cc in y) z.goes;
+      agree = z.agree;
+    }
 finish n d c stores m k tree q p2 other r values outputs a t l none_left e (by_read w loc next more v vs i h) = absurd (let z : ⊥ = cc in z)
 finish n d c stores m k tree q p2 other r values outputs a t l none_left e (by_store w loc value next more vs i h) = absurd (let z : ⊥ = cc in z)
 finish n d c stores m k tree q p2 other r values outputs a t l none_left e (by_fence w next more vs h) = absurd (let z : ⊥ = cc in z)
@@ -290,7 +330,9 @@ finish n d c stores m k tree q p2 other r values outputs a t l none_left e (read
 finish n d c stores m k tree q p2 other r values outputs a t l none_left e (store_alone w loc value next vs there i h) = absurd (let z : ⊥ = cc in z)
 finish n d c stores m k tree q p2 other r values outputs a t l none_left e (other_store w loc value sub vs there i h) =
     let y : Entry = entry c p2 W loc value in
-    let z = finish n d c w m k sub q (p2 + 1) there (r ++ y ∷ []) vs outputs a (append-second n q r y i refl t) (let x = longer r y in omega arith) none_left e h in
+    let z =
+    finish n d c w m k sub q (p2 + 1) there (r ++ y ∷ []) vs outputs a (append-second n q r y i refl t)
+    (let x = longer r y in omega arith) none_left e h in
     record {
       memory = z.memory;
       place = z.place;

@@ -1,11 +1,13 @@
 -- A run of the straight-line test of an order's own paths is followed by a run over the trees.
-use Rattle.std.proofs.Common.{◌≡◌, ℕ, ◌+◌, zero, suc, List, [], ◌∷◌, ◌++◌, Some, true, ◌<◌, ◌≤◌, ◌==◌, length, slice_index_or, slice_get, arith, ap, sym, ◌∙◌, refl, subst, ◌↔◌}
+use Rattle.std.proofs.Common.{◌≡◌, ℕ, ◌+◌, zero, suc, List, [], ◌∷◌, ◌++◌, Some, true, ◌<◌, ◌≤◌, ◌==◌, length, slice_index_or, slice_get}
+use Rattle.std.proofs.Common.{arith, ap, sym, ◌∙◌, refl, subst, ◌↔◌}
 use Rattle.std.proofs.lemmas.Bool.Decides.{nat_tests}
 use Rattle.basic_laws.proofs.Basics.{and-left, and-right}
 use Rattle.basic_laws.proofs.Cores.{done-at}
 use Rattle.basic_laws.proofs.Lists.{Each, drop-end}
 use Rattle.tso_terms.specs.Litmus.{Litmus, IsTest}
-use Rattle.tso_terms.specs.FlatMachine.{CoreState, State, Effect, program_of, core_of, is_none_pending, effect_of, step_of, drain_of, applied, after_choice, start}
+use Rattle.tso_terms.specs.FlatMachine.{CoreState, State, Effect, program_of, core_of, is_none_pending, effect_of, step_of, drain_of}
+use Rattle.tso_terms.specs.FlatMachine.{applied, after_choice, start}
 use Rattle.tso_terms.specs.Runs.{CoresExist, is_done, has_ended}
 use Rattle.tso_laws.specs.Choices.{state_after, commits_of}
 use Rattle.tso_laws.specs.Depth.{needed}
@@ -15,7 +17,8 @@ use Rattle.tso_laws.specs.inner.Laws.{RunsStopWhereTheyEnd}
 use Rattle.basic_laws.specs.Types.{Entry, Instr, Choice, Step, Drain}
 use Rattle.branch_laws.specs.Trees.{Tree, Done, Cut, Reads, Stores, Fences, Locks, path, values_along, outputs_along}
 use Rattle.branch_laws.specs.Branching.{Branching, Give, values_from, straight, IsBranchExecution}
-use Rattle.branch_laws.specs.TreeMachine.{TreeCore, TreeState, TreeEffect, stays, act, drain_tree, tree_core, tree_effect, tree_choice, tree_applied, tree_after, tree_commits, tree_start, IsDoneWith, IsTreeReached}
+use Rattle.branch_laws.specs.TreeMachine.{TreeCore, TreeState, TreeEffect, stays, act, drain_tree, tree_core, tree_effect, tree_choice}
+use Rattle.branch_laws.specs.TreeMachine.{tree_applied, tree_after, tree_commits, tree_start, IsDoneWith, IsTreeReached}
 use Rattle.branch_laws.proofs.Splitting.{own-path}
 use Rattle.branch_laws.proofs.Values.{told}
 use Rattle.branch_laws.proofs.Core.{act-core, take-core}
@@ -34,7 +37,10 @@ data Answers (t : Litmus) (d n : ℕ) (xs : List Entry) (es : List Entry) (G : S
   nothing : es ≡ [] → Rel (TiedIn t) n xs G S → Answers t d n xs es G S x
   same : (tree_effect d S x).commits ≡ es → Rel (TiedIn t) n xs G (tree_choice d S x) → Answers t d n xs es G S x
 
-still : (t : Litmus) (n : ℕ) (xs : List Entry) (F : State) (S : TreeState) (c : ℕ) (φ : Effect) → c < n → φ.commits ≡ [] → Rel (TiedIn t) n (φ.commits ++ xs) F S
+still : (t : Litmus) (n : ℕ) (xs : List Entry) (F : State) (S : TreeState) (c : ℕ) (φ : Effect)
+    → c < n
+    → φ.commits ≡ []
+    → Rel (TiedIn t) n (φ.commits ++ xs) F S
     → Tied c (program_of t c) xs φ.after (tree_core S c) → Rel (TiedIn t) n xs (applied F c φ) S
 still t n xs F S c φ l q r h =
     subst (λ z. Rel (TiedIn t) n xs (applied F c φ) z) (tree-same S c)
@@ -90,7 +96,9 @@ returns-all t m n F S (x ∷ cs) l r = go (λ z h. returns-all t m n (after_choi
     fs : List Entry
     fs = commits_of t (suc m) G cs
 
-    go : ((z : TreeState) → Rel (TiedIn t) n fs G z → Returns t (suc m) n z (state_after t (suc m) G cs) fs) → Answers t (suc m) n fs es G S x → Returns t (suc m) n S (state_after t (suc m) G cs) (es ++ fs)
+    go : ((z : TreeState) → Rel (TiedIn t) n fs G z → Returns t (suc m) n z (state_after t (suc m) G cs) fs)
+        → Answers t (suc m) n fs es G S x
+        → Returns t (suc m) n S (state_after t (suc m) G cs) (es ++ fs)
     go again (nothing q h) =
         let w = again S h in
         record { choices = w.choices; exist = w.exist; commits = w.commits ∙ ap (λ z. z ++ fs) (sym q); rel = w.rel }
@@ -105,7 +113,10 @@ returns-all t m n F S (x ∷ cs) l r = go (λ z h. returns-all t m n (after_choi
 
 -- the end of a program is the end of its tree
 
-tree-at-end : (c p : ℕ) (tree : Tree) (outputs : List ℕ) → [] ≡ path tree (values_along c p tree []) → outputs_along tree (values_along c p tree []) ≡ Some outputs → tree ≡ Done outputs
+tree-at-end : (c p : ℕ) (tree : Tree) (outputs : List ℕ)
+    → [] ≡ path tree (values_along c p tree [])
+    → outputs_along tree (values_along c p tree []) ≡ Some outputs
+    → tree ≡ Done outputs
 tree-at-end c p (Done o) outputs e h = ap Done (let z : o ≡ outputs = cc in z)
 tree-at-end c p Cut outputs e h = absurd (let z : ⊥ = cc in z)
 tree-at-end c p (Reads loc next) outputs e h = absurd (let z : ⊥ = cc in z)
@@ -123,23 +134,32 @@ same-number a b h = grind (arith, nat_tests)
 tied-done : (c : ℕ) (program : List Instr) (f : CoreState) (s : TreeCore) (outputs : List ℕ) → Tied c program [] f s → is_done program f ≡ true
     → told c s [] ≡ Some outputs → IsDoneWith s outputs
 tied-done c program f s outputs (level e) d h =
-    let n : length program ≡ s.place = same-number (length program) f.place (and-left (length program == f.place) (is_none_pending f.pending) d) ∙ ap (λ z. z.place) e.is in
+    let n : length program ≡ s.place =
+    same-number (length program) f.place (and-left (length program == f.place) (is_none_pending f.pending) d)
+    ∙ ap (λ z. z.place) e.is in
     let q : f.pending ≡ [] = none-pending f.pending (and-right (length program == f.place) (is_none_pending f.pending) d) in
     record {
       rest = tree-at-end c s.place s.rest outputs (sym (drop-end program s.place n) ∙ e.left_over) h;
       pending = sym (ap (λ z. z.pending) e.is) ∙ q;
     }
 tied-done c program f s outputs (between e) d h =
-    let n : length program ≡ e.place + 1 = same-number (length program) f.place (and-left (length program == f.place) (is_none_pending f.pending) d) ∙ ap (λ z. z.place) e.is in
+    let n : length program ≡ e.place + 1 =
+    same-number (length program) f.place (and-left (length program == f.place) (is_none_pending f.pending) d)
+    ∙ ap (λ z. z.place) e.is in
     let a = sym (drop-end program (e.place + 1) n) ∙ e.left_over in
     absurd (let z : ⊥ = cc in z)
 
 -- what the trees give is told at the beginning
 record Heard (c : ℕ) (trees : List Tree) (outputs : List (List ℕ)) (order : List Entry) : Type 0 where
   pub count : length outputs ≡ length trees
-  pub each : (k : ℕ) → k < length trees → outputs_along (slice_index_or trees k Cut) (values_along (c + k) 0 (slice_index_or trees k Cut) order) ≡ Some (slice_index_or outputs k [])
+  pub each : (k : ℕ)
+      → k < length trees
+      → outputs_along (slice_index_or trees k Cut) (values_along (c + k) 0 (slice_index_or trees k Cut) order)
+      ≡ Some (slice_index_or outputs k [])
 
-given : (c : ℕ) (trees : List Tree) (outputs : List (List ℕ)) (order : List Entry) → Give trees (values_from c trees order) outputs → Heard c trees outputs order
+given : (c : ℕ) (trees : List Tree) (outputs : List (List ℕ)) (order : List Entry)
+    → Give trees (values_from c trees order) outputs
+    → Heard c trees outputs order
 given c [] [] order g = record { count = refl; each = λ k l. absurd (omega arith) }
 given c [] (o ∷ outputs) order g = absurd g
 given c (tree ∷ trees) [] order g = absurd g
@@ -148,12 +168,18 @@ given c (tree ∷ trees) (o ∷ outputs) order g =
     record { count = ap suc h.count; each = λ k l. at k l h }
   where
     at : (k : ℕ) → k < length (tree ∷ trees) → Heard (c + 1) trees outputs order
-        → outputs_along (slice_index_or (tree ∷ trees) k Cut) (values_along (c + k) 0 (slice_index_or (tree ∷ trees) k Cut) order) ≡ Some (slice_index_or (o ∷ outputs) k [])
+        → outputs_along (slice_index_or (tree ∷ trees) k Cut) (values_along (c + k) 0 (slice_index_or (tree ∷ trees) k Cut) order)
+        ≡ Some (slice_index_or (o ∷ outputs) k [])
     at zero l h = subst (λ z. outputs_along tree (values_along z 0 tree order) ≡ Some o) (let z : c ≡ c + 0 = omega arith in z) g.0
-    at (suc k) l h = subst (λ z. outputs_along (slice_index_or trees k Cut) (values_along z 0 (slice_index_or trees k Cut) order) ≡ Some (slice_index_or outputs k []))
+    at (suc k) l h =
+        subst (λ z.
+        outputs_along (slice_index_or trees k Cut) (values_along z 0 (slice_index_or trees k Cut) order)
+        ≡ Some (slice_index_or outputs k []))
         (let z : (c + 1) + k ≡ c + suc k = omega arith in z) (h.each k (omega arith))
 
-pub runs-are-tree-runs : RunsStopWhereTheyEnd → (b : Branching) (m : ℕ) (order : List Entry) (outputs : List (List ℕ)) → IsReached (own_test b order) (suc m) order
+pub runs-are-tree-runs : RunsStopWhereTheyEnd
+    → (b : Branching) (m : ℕ) (order : List Entry) (outputs : List (List ℕ))
+    → IsReached (own_test b order) (suc m) order
     → Give b.trees (values_from 0 b.trees order) outputs → IsTreeReached b (suc m) order outputs
 runs-are-tree-runs stopping b m order outputs h g =
     let t : Litmus = own_test b order in
@@ -163,8 +189,15 @@ runs-are-tree-runs stopping b m order outputs h g =
     let G : State = state_after t (suc m) (start t) h.choices in
     let ended : has_ended t G ≡ true = ap (λ z. has_ended t z) (sym stops.all_state) ∙ sym stops.ended ∙ h.ended in
     let e = start-rel b order in
-    let r : Rel (TiedIn t) n order (start t) (tree_start b) = record { memory = e.memory; flat_size = e.flat_size; tree_size = e.tree_size; cores = λ k l. level (e.cores k l) } in
-    let w = returns-all t m n (start t) (tree_start b) h.choices (subst (λ z. CoresExist z h.choices) (length-paths b.trees (values_from 0 b.trees order)) h.cores)
+    let r : Rel (TiedIn t) n order (start t) (tree_start b) = record {
+      memory = e.memory;
+      flat_size = e.flat_size;
+      tree_size = e.tree_size;
+      cores = λ k l. level (e.cores k l);
+    } in
+    let w =
+    returns-all t m n (start t) (tree_start b) h.choices
+    (subst (λ z. CoresExist z h.choices) (length-paths b.trees (values_from 0 b.trees order)) h.cores)
     (subst (λ z. Rel (TiedIn t) n z (start t) (tree_start b)) (sym commits) r) in
     let x = given 0 b.trees outputs order g in
     let S : TreeState = tree_start b in
@@ -172,7 +205,9 @@ runs-are-tree-runs stopping b m order outputs h g =
     let at_end : (k : ℕ) → k < n → told k (tree_core (tree_after (suc m) S w.choices) k) [] ≡ Some (slice_index_or outputs k [])
     = (λ k l. sym (run-same (suc m) n S w.choices (length-planted b.trees) w.exist (start-own b) k l)
     ∙ ap (λ z. told k (tree_core S k) z) made ∙ ap (λ z. told k z order) (planted-at b.trees k)
-    ∙ ap (λ z. outputs_along (slice_index_or b.trees k Cut) (values_along z 0 (slice_index_or b.trees k Cut) order)) (let z : k ≡ 0 + k = omega arith in z) ∙ x.each k l) in
+    ∙ ap (λ z. outputs_along (slice_index_or b.trees k Cut) (values_along z 0 (slice_index_or b.trees k Cut) order))
+    (let z : k ≡ 0 + k = omega arith in z)
+    ∙ x.each k l) in
     record {
       choices = w.choices;
       exist = w.exist;

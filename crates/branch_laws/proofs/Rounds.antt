@@ -9,7 +9,10 @@ use Rattle.branch_laws.proofs.Among.{among-left, among-right, among-either, amon
 abbrev pub HasAllOf : (ℕ → List ℕ) → (ℕ → List ℕ) → Type 0
 HasAllOf more domain = (loc v : ℕ) → StandsAmong v (domain loc) → StandsAmong v (more loc)
 
-pub more-writes : (domain more : ℕ → List ℕ) (target x : ℕ) (tree : Tree) → HasAllOf more domain → StandsAmong x (may_write domain target tree) → StandsAmong x (may_write more target tree)
+pub more-writes : (domain more : ℕ → List ℕ) (target x : ℕ) (tree : Tree)
+    → HasAllOf more domain
+    → StandsAmong x (may_write domain target tree)
+    → StandsAmong x (may_write more target tree)
 more-writes domain more target x (Done outputs) f h = h
 more-writes domain more target x Cut f h = h
 more-writes domain more target x (Reads loc next) f h =
@@ -28,14 +31,20 @@ more-writes domain more target x (Locks loc change next) f h =
       | inr k ↦ among-right x (seen_at target loc (written change r.0)) (may_write more target (next r.0)) (more-writes domain more target x (next r.0) f k)
     ])
 
-pub all-more-writes : (domain more : ℕ → List ℕ) (target x : ℕ) (trees : List Tree) → HasAllOf more domain → StandsAmong x (all_may_write domain target trees) → StandsAmong x (all_may_write more target trees)
+pub all-more-writes : (domain more : ℕ → List ℕ) (target x : ℕ) (trees : List Tree)
+    → HasAllOf more domain
+    → StandsAmong x (all_may_write domain target trees)
+    → StandsAmong x (all_may_write more target trees)
 all-more-writes domain more target x [] f h = h
 all-more-writes domain more target x (tree ∷ trees) f h = elim (among-either x (may_write domain target tree) (all_may_write domain target trees) h) [
   | inl k ↦ among-left x (may_write more target tree) (all_may_write more target trees) (more-writes domain more target x tree f k)
   | inr k ↦ among-right x (may_write more target tree) (all_may_write more target trees) (all-more-writes domain more target x trees f k)
 ]
 
-pub more-paths : (domain more : ℕ → List ℕ) (values : List ℕ) (tree : Tree) → HasAllOf more domain → StandsAmong values (all_paths domain tree) → StandsAmong values (all_paths more tree)
+pub more-paths : (domain more : ℕ → List ℕ) (values : List ℕ) (tree : Tree)
+    → HasAllOf more domain
+    → StandsAmong values (all_paths domain tree)
+    → StandsAmong values (all_paths more tree)
 more-paths domain more values (Done outputs) f h = h
 more-paths domain more values Cut f h = h
 more-paths domain more values (Reads loc next) f h =
@@ -53,7 +62,10 @@ more-paths domain more values (Locks loc change next) f h =
     (subst (λ z. StandsAmong z (map (λ y. r.0 ∷ y) (all_paths more (next r.0)))) (sym m.2)
     (among-map (λ z. r.0 ∷ z) m.0 (all_paths more (next r.0)) (more-paths domain more m.0 (next r.0) f m.1)))
 
-pub write-among-all : (domain : ℕ → List ℕ) (target x : ℕ) (trees : List Tree) (tree : Tree) → StandsAmong tree trees → StandsAmong x (may_write domain target tree) → StandsAmong x (all_may_write domain target trees)
+pub write-among-all : (domain : ℕ → List ℕ) (target x : ℕ) (trees : List Tree) (tree : Tree)
+    → StandsAmong tree trees
+    → StandsAmong x (may_write domain target tree)
+    → StandsAmong x (all_may_write domain target trees)
 write-among-all domain target x [] tree m h = absurd m
 write-among-all domain target x (t ∷ trees) tree (inl q) h =
     among-left x (may_write domain target t) (all_may_write domain target trees) (subst (λ z. StandsAmong x (may_write domain target z)) q h)

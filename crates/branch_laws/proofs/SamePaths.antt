@@ -1,5 +1,6 @@
 -- A run over the one test's trees is followed by a run over the other's, which has the same paths.
-use Rattle.std.proofs.Common.{◌≡◌, ◌≢◌, ℕ, ◌+◌, zero, suc, List, [], ◌∷◌, ◌++◌, Some, ◌<◌, ◌≤◌, max, length, slice_index, slice_index_or, arith, ap, sym, ◌∙◌, refl, subst, inl, inr}
+use Rattle.std.proofs.Common.{◌≡◌, ◌≢◌, ℕ, ◌+◌, zero, suc, List, [], ◌∷◌, ◌++◌, Some, ◌<◌, ◌≤◌, max, length, slice_index, slice_index_or}
+use Rattle.std.proofs.Common.{arith, ap, sym, ◌∙◌, refl, subst, inl, inr}
 use Rattle.basic_laws.proofs.Basics.{decide, max-left, max-right}
 use Rattle.basic_laws.proofs.Lists.{Each}
 use Rattle.tso_terms.specs.FinalState.{words_from}
@@ -11,7 +12,8 @@ use Rattle.tso_laws.specs.inner.Laws.{RunsStopWhereTheyEnd, WholeOrdersHaveEachE
 use Rattle.basic_laws.specs.Types.{Entry, Choice, Step, Drain}
 use Rattle.branch_laws.specs.Trees.{Tree, Done, Cut, values_along, outputs_along}
 use Rattle.branch_laws.specs.Branching.{Branching, values_from, IsBranchExecution, IsBranchOutcome}
-use Rattle.branch_laws.specs.TreeMachine.{TreeCore, TreeState, TreeEffect, act, drain_tree, tree_core, tree_effect, tree_choice, tree_applied, tree_after, tree_commits, tree_start, IsDoneWith, IsTreeReached}
+use Rattle.branch_laws.specs.TreeMachine.{TreeCore, TreeState, TreeEffect, act, drain_tree, tree_core, tree_effect, tree_choice}
+use Rattle.branch_laws.specs.TreeMachine.{tree_applied, tree_after, tree_commits, tree_start, IsDoneWith, IsTreeReached}
 use Rattle.branch_laws.specs.Rounds.{EachPathIsTest, writes_in}
 use Rattle.branch_laws.specs.SamePaths.{HasTheSamePaths}
 use Rattle.branch_laws.proofs.Values.{left, drain-told}
@@ -42,7 +44,9 @@ lift d n c m s k t (step x y z w g) S e f l b =
     let same : h ≡ act d m c s.rest s = ap (λ z. act d z c (tree_core S c).rest (tree_core S c)) e ∙ ap (λ z. act d m c z.rest z) f in
     let T : TreeState = tree_applied S c h in
     let v = tree-changed S c h l in
-    let r = lift d n c _ _ k t g T (ap (λ z. memory_after h.commits z) e ∙ ap (λ z. memory_after z.commits m) same) (v.own ∙ ap (λ z. z.after) same) (let z = v.size in omega arith) b in
+    let r =
+    lift d n c _ _ k t g T (ap (λ z. memory_after h.commits z) e ∙ ap (λ z. memory_after z.commits m) same)
+    (v.own ∙ ap (λ z. z.after) same) (let z = v.size in omega arith) b in
     record {
       choices = flat.step c ∷ r.choices;
       exist = (b, r.exist);
@@ -56,7 +60,9 @@ lift d n c m s k t (drain x y z w g) S e f l b =
     let same : h ≡ drain_tree s = ap (λ z. drain_tree z) f in
     let T : TreeState = tree_applied S c h in
     let v = tree-changed S c h l in
-    let r = lift d n c _ _ k t g T (ap (λ z. memory_after h.commits z) e ∙ ap (λ z. memory_after z.commits m) same) (v.own ∙ ap (λ z. z.after) same) (let z = v.size in omega arith) b in
+    let r =
+    lift d n c _ _ k t g T (ap (λ z. memory_after h.commits z) e ∙ ap (λ z. memory_after z.commits m) same)
+    (v.own ∙ ap (λ z. z.after) same) (let z = v.size in omega arith) b in
     record {
       choices = flat.drain c ∷ r.choices;
       exist = (b, r.exist);
@@ -87,7 +93,10 @@ record Followed (n d2 cores : ℕ) (xs : List Entry) (S T : TreeState) : Type 0 
   pub exist : CoresExist cores choices
   pub both : Both n d2 cores xs S (tree_after d2 T choices)
 
-by-answer : (n d2 cores c : ℕ) (xs : List Entry) (S T : TreeState) (g : TreeEffect) → c < cores → Each (λ e. e.core.0 ≡ c) g.commits → Both n d2 cores (g.commits ++ xs) S T
+by-answer : (n d2 cores c : ℕ) (xs : List Entry) (S T : TreeState) (g : TreeEffect)
+    → c < cores
+    → Each (λ e. e.core.0 ≡ c) g.commits
+    → Both n d2 cores (g.commits ++ xs) S T
     → Answer n d2 c xs (memory_after g.commits S.memory) g.after T.memory (tree_core T c) → Followed n d2 cores xs (tree_applied S c g) T
 by-answer n d2 cores c xs S T g l of_core b a =
     let v = tree-changed S c g (let z = b.first in omega arith) in
@@ -104,12 +113,15 @@ by-answer n d2 cores c xs S T g l of_core b a =
           | inl q ↦ subst (λ z. Tie n d2 z xs (tree_core (tree_applied S c g) z) (tree_core U z)) (sym q)
               (subst (λ z. Tie n d2 c xs z (tree_core U c)) (sym v.own) (subst (λ z. Tie n d2 c xs g.after z) (sym w.own) a.tie))
           | inr q ↦ subst (λ z. Tie n d2 k xs z (tree_core U k)) (sym (v.others k q))
-              (subst (λ z. Tie n d2 k xs (tree_core S k) z) (sym (w.others k q)) (tie-other n d2 c k g.commits xs (tree_core S k) (tree_core T k) q of_core (b.ties k m)))
+              (subst (λ z. Tie n d2 k xs (tree_core S k) z) (sym (w.others k q))
+              (tie-other n d2 c k g.commits xs (tree_core S k) (tree_core T k) q of_core (b.ties k m)))
         ];
       };
     }
 
-follow-one : (n d d2 cores : ℕ) (xs : List Entry) (S T : TreeState) (x : Choice) → CoresExist cores (x ∷ []) → Both n d2 cores ((tree_effect d S x).commits ++ xs) S T
+follow-one : (n d d2 cores : ℕ) (xs : List Entry) (S T : TreeState) (x : Choice)
+    → CoresExist cores (x ∷ [])
+    → Both n d2 cores ((tree_effect d S x).commits ++ xs) S T
     → Followed n d2 cores xs (tree_choice d S x) T
 follow-one n d d2 cores xs S T (Step j) l b =
     let c : ℕ = j.0 in let s : TreeCore = tree_core S c in let t : TreeCore = tree_core T c in let i = b.ties c l.0 in
@@ -162,8 +174,12 @@ end-all n d2 cores outputs S T b done (suc j) l =
     let i = b.ties j (omega arith) in
     let e = done j (omega arith) in
     let t : TreeCore = tree_core T j in
-    let f = finish n d2 j i.stores S.memory U.memory s.rest s.pending t.place t.rest t.pending (left j s []) (outputs j) r.agree i.kept i.room e.pending e.rest i.path in
-    let w = lift d2 cores j U.memory t f.memory (at_tree f.place (Done (outputs j)) []) f.goes U refl (r.others j (omega arith)) (let z = r.second in omega arith) (omega arith) in
+    let f =
+    finish n d2 j i.stores S.memory U.memory s.rest s.pending t.place t.rest t.pending (left j s []) (outputs j)
+    r.agree i.kept i.room e.pending e.rest i.path in
+    let w =
+    lift d2 cores j U.memory t f.memory (at_tree f.place (Done (outputs j)) []) f.goes U refl
+    (r.others j (omega arith)) (let z = r.second in omega arith) (omega arith) in
     let end : TreeState = tree_after d2 U w.choices in
     let is : tree_after d2 T (r.choices ++ w.choices) ≡ end = after-both d2 T r.choices w.choices in
     record {
@@ -172,7 +188,9 @@ end-all n d2 cores outputs S T b done (suc j) l =
       second = ap (λ z. length z.cores) is ∙ w.size ∙ r.second;
       agree = subst (λ z. Agree n S.memory z) (sym (ap (λ z. z.memory) is ∙ w.memory)) f.agree;
       done = λ k m. subst (λ z. IsDoneWith (tree_core z k) (outputs k)) (sym is) (elim (decide k j) [
-        | inl q ↦ subst (λ z. IsDoneWith (tree_core end z) (outputs z)) (sym q) (subst (λ z. IsDoneWith z (outputs j)) (sym w.own) (record { rest = refl; pending = refl }))
+        | inl q ↦
+            subst (λ z. IsDoneWith (tree_core end z) (outputs z)) (sym q)
+            (subst (λ z. IsDoneWith z (outputs j)) (sym w.own) (record { rest = refl; pending = refl }))
         | inr q ↦ subst (λ z. IsDoneWith z (outputs k)) (sym (w.others k q)) (r.done k (omega arith))
       ]);
       others = λ k m. ap (λ z. tree_core z k) is ∙ w.others k (let z : k ≢ j = (λ q. let y : ⊥ = omega arith in y) in z) ∙ r.others k (omega arith);
@@ -191,16 +209,24 @@ enough (suc cores) P f =
       ],
     )
 
-own-path-of : (n : ℕ) (b other : Branching) (order : List Entry) (outputs : List (List ℕ)) → HasTheSamePaths n b other → IsBranchExecution b order outputs → (k : ℕ) → k < length b.trees
+own-path-of : (n : ℕ) (b other : Branching) (order : List Entry) (outputs : List (List ℕ))
+    → HasTheSamePaths n b other
+    → IsBranchExecution b order outputs
+    → (k : ℕ) → k < length b.trees
     → (w : ℕ) × Runs n w (slice_index_or b.trees k Cut) (values_along k 0 (slice_index_or b.trees k Cut) order) (slice_index_or other.trees k Cut)
 own-path-of n b other order outputs same h k l =
     let tree : Tree = slice_index_or b.trees k Cut in
     let e = subst (λ z. outputs_along tree (values_along z 0 tree order) ≡ Some (slice_index_or outputs k [])) (let z : 0 + k ≡ k = omega arith in z)
     (gives-at 0 b.trees outputs order k h.done l) in
-    counted n tree (values_along k 0 tree order) (slice_index_or other.trees k Cut) (same.paths k (values_along k 0 tree order) (slice_index_or outputs k []) l e)
+    counted n tree (values_along k 0 tree order) (slice_index_or other.trees k Cut)
+    (same.paths k (values_along k 0 tree order) (slice_index_or outputs k []) l e)
 
 start-both : (n d : ℕ) (b other : Branching) (order : List Entry) → HasTheSamePaths n b other
-    → ((k : ℕ) → k < length b.trees → (w : ℕ) × Runs n w (slice_index_or b.trees k Cut) (values_along k 0 (slice_index_or b.trees k Cut) order) (slice_index_or other.trees k Cut) × (w < suc d))
+    → ((k : ℕ)
+    → k < length b.trees
+    → (w : ℕ)
+    × Runs n w (slice_index_or b.trees k Cut) (values_along k 0 (slice_index_or b.trees k Cut) order) (slice_index_or other.trees k Cut)
+    × (w < suc d))
     → Both n (suc d) (length b.trees) order (tree_start b) (tree_start other)
 start-both n d b other order same f = record {
   first = length-planted b.trees;
@@ -223,13 +249,17 @@ leave-the-same stopping whole law ended greatest n b other outputs memory test o
     let cores : ℕ = length b.trees in
     let own = test (writes_in order) (values_from 0 b.trees order) (paths-of-rounds whole b order outputs h.execution) in
     let r = reach stopping law greatest b order outputs own h.execution in
-    let i = enough cores (λ k w. Runs n w (slice_index_or b.trees k Cut) (values_along k 0 (slice_index_or b.trees k Cut) order) (slice_index_or other.trees k Cut))
+    let i =
+    enough cores (λ k w.
+    Runs n w (slice_index_or b.trees k Cut) (values_along k 0 (slice_index_or b.trees k Cut) order) (slice_index_or other.trees k Cut))
     (own-path-of n b other order outputs same h.execution) in
     let d : ℕ = i.0 in
     let S : TreeState = tree_start b in let T : TreeState = tree_start other in
     let f = follow-all n 32 (suc d) cores S T r.choices r.exist
     (subst (λ z. Both n (suc d) cores z S T) (sym r.commits) (start-both n d b other order same i.1)) in
-    let e = end-all n (suc d) cores (λ k. slice_index_or outputs k []) (tree_after 32 S r.choices) (tree_after (suc d) T f.choices) f.both r.done cores (omega arith) in
+    let e =
+    end-all n (suc d) cores (λ k. slice_index_or outputs k []) (tree_after 32 S r.choices)
+    (tree_after (suc d) T f.choices) f.both r.done cores (omega arith) in
     let cs : List Choice = f.choices ++ e.choices in
     let is : tree_after (suc d) T cs ≡ tree_after (suc d) (tree_after (suc d) T f.choices) e.choices = after-both (suc d) T f.choices e.choices in
     let made : List Entry = tree_commits (suc d) T cs in

@@ -1,11 +1,14 @@
 -- The program of a path with keepings makes the entries of the tree with notes, and its final states show what it read.
-use Rattle.std.proofs.Common.{◌≡◌, ◌≢◌, ℕ, ◌+◌, zero, suc, List, [], ◌∷◌, ◌++◌, ◌<◌, length, slice_index, drop, arith, ap, sym, ◌∙◌, refl, subst, get_or-set_same, get_or-set_other, length-set}
+use Rattle.std.proofs.Common.{◌≡◌, ◌≢◌, ℕ, ◌+◌, zero, suc, List, [], ◌∷◌, ◌++◌, ◌<◌, length, slice_index, drop, arith, ap, sym, ◌∙◌, refl}
+use Rattle.std.proofs.Common.{subst, get_or-set_same, get_or-set_other, length-set}
 use Rattle.tso_terms.specs.Registers.{index_of}
 use Rattle.tso_terms.specs.Thread.{entry, fence, entries_of, registers_after, with_value, value_in}
 use Rattle.tso_terms.specs.ProgramEntries.{read_value, read_values}
 use Rattle.basic_laws.specs.Types.{Entry, Instr, Loc, Reg, R, W, LR, LW, Eax, Ebx, Ecx, Edx, Esi, Edi, Load, StoreImm, SetImm, Fence}
 use Rattle.branch_laws.specs.Trees.{Change, Tree, Done, Cut, Reads, Stores, Fences, Locks, written, operand, locking, path, entries_along, outputs_along}
-use Rattle.branch_laws.specs.Shown.{Keeping, InRegister, InLocation, Nowhere, register_for, note_of, first_keeping, shown_path, note, tree_with_notes, DecidesNothing, TakesOneNumber, NoneInto, StaysToTheEnd, CanShow, IsSameIfFound, AreSameIfFound}
+use Rattle.branch_laws.specs.Shown.{Keeping, InRegister, InLocation, Nowhere, register_for, note_of, first_keeping, shown_path, note}
+use Rattle.branch_laws.specs.Shown.{tree_with_notes, DecidesNothing, TakesOneNumber, NoneInto, StaysToTheEnd, CanShow, IsSameIfFound}
+use Rattle.branch_laws.specs.Shown.{AreSameIfFound}
 use Rattle.branch_laws.proofs.Locking.{left-by-operand, locking-entries, locking-reads, locking-registers}
 
 index-small : (r : Reg) → index_of r < 6
@@ -56,21 +59,26 @@ same-reads c p (Done o) values keeps order = refl
 same-reads c p Cut values keeps order = refl
 same-reads c p (Reads loc next) values keeps order =
     let v : ℕ = slice_index values 0 in
-    ap (λ z. read_value c p R order ∷ z) (note-reads c (p + 1) (first_keeping keeps) v (shown_path (next v) (drop 1 values) (drop 1 keeps)) (tree_with_notes (next v) (drop 1 keeps)) (drop 1 values) order
+    ap (λ z. read_value c p R order ∷ z)
+    (note-reads c (p + 1) (first_keeping keeps) v (shown_path (next v) (drop 1 values) (drop 1 keeps))
+    (tree_with_notes (next v) (drop 1 keeps)) (drop 1 values) order
     (λ q. same-reads c q (next v) (drop 1 values) (drop 1 keeps) order))
 same-reads c p (Stores loc value next) values keeps order = same-reads c (p + 1) next values keeps order
 same-reads c p (Fences next) values keeps order = same-reads c (p + 1) next values keeps order
 same-reads c p (Locks loc change next) values keeps order =
     let v : ℕ = slice_index values 0 in let k : Keeping = first_keeping keeps in let u : ℕ = operand change v in
     locking-reads c p change loc (register_for k) (note_of k ++ shown_path (next v) (drop 1 values) (drop 1 keeps)) u order
-    ∙ ap (λ z. read_value c (p + 1) LR order ∷ z) (note-reads c ((p + 1) + 1) k v (shown_path (next v) (drop 1 values) (drop 1 keeps)) (tree_with_notes (next v) (drop 1 keeps)) (drop 1 values) order
+    ∙ ap (λ z. read_value c (p + 1) LR order ∷ z)
+    (note-reads c ((p + 1) + 1) k v (shown_path (next v) (drop 1 values) (drop 1 keeps))
+    (tree_with_notes (next v) (drop 1 keeps)) (drop 1 values) order
     (λ q. same-reads c q (next v) (drop 1 values) (drop 1 keeps) order))
     ∙ sym (locking-reads c p change loc Ebx (path (note k v (tree_with_notes (next v) (drop 1 keeps))) (drop 1 values)) u order)
 
 -- what they make
 
 note-entries : (c p : ℕ) (k : Keeping) (v : ℕ) (program : List Instr) (sub : Tree) (regs rv : List ℕ) → value_in regs (register_for k) ≡ v
-    → ((q : ℕ) → entries_of c q program regs rv ≡ entries_along c q sub rv) → entries_of c p (note_of k ++ program) regs rv ≡ entries_along c p (note k v sub) rv
+    → ((q : ℕ) → entries_of c q program regs rv ≡ entries_along c q sub rv)
+    → entries_of c p (note_of k ++ program) regs rv ≡ entries_along c p (note k v sub) rv
 note-entries c p (InRegister reg) v program sub regs rv h f = f p
 note-entries c p (InLocation reg own) v program sub regs rv h f =
     ap (λ z. entry c p W own z ∷ entries_of c (p + 1) program regs rv) h ∙ ap (λ z. entry c p W own v ∷ z) (f (p + 1))
@@ -82,7 +90,9 @@ same-entries c p (Done o) rv keeps regs l = refl
 same-entries c p Cut rv keeps regs l = refl
 same-entries c p (Reads loc next) rv keeps regs l =
     let v : ℕ = slice_index rv 0 in let k : Keeping = first_keeping keeps in let now : List ℕ = with_value regs (register_for k) v in
-    ap (λ z. entry c p R loc v ∷ z) (note-entries c (p + 1) k v (shown_path (next v) (drop 1 rv) (drop 1 keeps)) (tree_with_notes (next v) (drop 1 keeps)) now (drop 1 rv) (held regs (register_for k) v l)
+    ap (λ z. entry c p R loc v ∷ z)
+    (note-entries c (p + 1) k v (shown_path (next v) (drop 1 rv) (drop 1 keeps))
+    (tree_with_notes (next v) (drop 1 keeps)) now (drop 1 rv) (held regs (register_for k) v l)
     (λ q. same-entries c q (next v) (drop 1 rv) (drop 1 keeps) now (six regs (register_for k) v l)))
 same-entries c p (Stores loc value next) rv keeps regs l = ap (λ z. entry c p W loc value ∷ z) (same-entries c (p + 1) next rv keeps regs l)
 same-entries c p (Fences next) rv keeps regs l = ap (λ z. fence c p ∷ z) (same-entries c (p + 1) next rv keeps regs l)
@@ -91,7 +101,10 @@ same-entries c p (Locks loc change next) rv keeps regs l =
     let first : List ℕ = with_value regs r u in let now : List ℕ = with_value first r v in
     let program : List Instr = shown_path (next v) (drop 1 rv) (drop 1 keeps) in
     locking-entries c p change loc r (note_of k ++ program) regs rv u (held regs r u l)
-    ∙ ap (λ z. entry c (p + 1) LR loc v ∷ (entry c (p + 1) LW loc z ∷ entries_of c ((p + 1) + 1) (note_of k ++ program) now (drop 1 rv))) (left-by-operand change v)
+    ∙ ap (λ z.
+    entry c (p + 1) LR loc v
+    ∷ (entry c (p + 1) LW loc z ∷ entries_of c ((p + 1) + 1) (note_of k ++ program) now (drop 1 rv)))
+    (left-by-operand change v)
     ∙ ap (λ z. entry c (p + 1) LR loc v ∷ (entry c (p + 1) LW loc (written change v) ∷ z))
     (note-entries c ((p + 1) + 1) k v program (tree_with_notes (next v) (drop 1 keeps)) now (drop 1 rv) (held first r v (six regs r u l))
     (λ q. same-entries c q (next v) (drop 1 rv) (drop 1 keeps) now (six first r v (six regs r u l))))
@@ -113,7 +126,10 @@ pub record Same (tree : Tree) (values rv : List ℕ) (keeps : List Keeping) : Ty
   pub shows : CanShow tree rv keeps
   pub outputs : outputs_along tree values ≡ outputs_along tree rv
 
-pub same-if-found : (tree : Tree) (values rv : List ℕ) (keeps : List Keeping) → CanShow tree values keeps → AreSameIfFound keeps values rv → Same tree values rv keeps
+pub same-if-found : (tree : Tree) (values rv : List ℕ) (keeps : List Keeping)
+    → CanShow tree values keeps
+    → AreSameIfFound keeps values rv
+    → Same tree values rv keeps
 same-if-found (Done o) [] [] [] s f = record { program = refl; shows = tt; outputs = refl }
 same-if-found (Done o) [] (w ∷ rv) [] s f = absurd f
 same-if-found (Done o) [] rv (k ∷ keeps) s f = absurd s
@@ -144,8 +160,14 @@ same-if-found (Locks loc change next) (v ∷ values) (w ∷ rv) (k ∷ keeps) s 
     let r = same-if-found (next v) values rv keeps s.3 f.1 in
     let e : next v ≡ next w = next-same k next v w s.0 f.0 in
     record {
-      program = ap (λ z. SetImm (register_for k) z ∷ (locking change loc (register_for k) ∷ (note_of k ++ shown_path (next v) values keeps))) (number-same k change v w s.1 f.0)
-          ∙ ap (λ z. SetImm (register_for k) (operand change w) ∷ (locking change loc (register_for k) ∷ (note_of k ++ z))) (r.program ∙ ap (λ z. shown_path z rv keeps) e);
+      program =
+          ap (λ z.
+          SetImm (register_for k) z
+          ∷ (locking change loc (register_for k) ∷ (note_of k ++ shown_path (next v) values keeps)))
+          (number-same k change v w s.1 f.0)
+          ∙ ap (λ z.
+          SetImm (register_for k) (operand change w) ∷ (locking change loc (register_for k) ∷ (note_of k ++ z)))
+          (r.program ∙ ap (λ z. shown_path z rv keeps) e);
       shows = (s.0, s.1, s.2, subst (λ z. CanShow z rv keeps) e r.shows);
       outputs = r.outputs ∙ ap (λ z. outputs_along z rv) e;
     }
@@ -226,7 +248,9 @@ are-held (Locks loc change next) (v ∷ values) [] regs rv c l = absurd c
 are-held (Locks loc change next) (v ∷ values) (k ∷ keeps) regs rv c l =
     let w : ℕ = slice_index rv 0 in let r : Reg = register_for k in let u : ℕ = operand change v in
     let first : List ℕ = with_value regs r u in let now : List ℕ = with_value first r w in
-    let e = locking-registers change loc r (note_of k ++ shown_path (next v) values keeps) regs rv u ∙ note-registers k (shown_path (next v) values keeps) now (drop 1 rv) in
+    let e =
+    locking-registers change loc r (note_of k ++ shown_path (next v) values keeps) regs rv u
+    ∙ note-registers k (shown_path (next v) values keeps) now (drop 1 rv) in
     subst (λ z. IsHeld k w z × AreHeld keeps (drop 1 rv) z) (sym e) (
       held-first k w _ (λ i. stays-held (next v) values keeps now (drop 1 rv) r c.3 (left-kept k keeps i c.2) ∙ held first r w (six regs r u l)),
       are-held (next v) values keeps now (drop 1 rv) c.3 (six first r w (six regs r u l)),

@@ -1,5 +1,6 @@
 -- Final states of the shown test are those of the paths with the same found values.
-use Rattle.std.proofs.Common.{◌≡◌, ℕ, ◌+◌, zero, suc, List, [], ◌∷◌, ◌++◌, Some, map, Bool, true, false, if◌then◌else◌, filter, ◌<◌, ◌≤◌, length, slice_index, slice_index_or, slice_get, drop, arith, ap, sym, ◌∙◌, refl, subst, inl, inr, ◌↔◌}
+use Rattle.std.proofs.Common.{◌≡◌, ℕ, ◌+◌, zero, suc, List, [], ◌∷◌, ◌++◌, Some, map, Bool, true, false, if◌then◌else◌, filter, ◌<◌, ◌≤◌}
+use Rattle.std.proofs.Common.{length, slice_index, slice_index_or, slice_get, drop, arith, ap, sym, ◌∙◌, refl, subst, inl, inr, ◌↔◌}
 use Rattle.tso_terms.specs.Litmus.{Litmus}
 use Rattle.tso_terms.specs.Thread.{entries_of, registers_after}
 use Rattle.tso_terms.specs.ProgramOrder.{writes_to}
@@ -12,13 +13,16 @@ use Rattle.basic_laws.specs.Types.{Entry, Instr}
 use Rattle.branch_laws.specs.Trees.{Tree, Done, Cut, Reads, Stores, Fences, Locks, operand, path}
 use Rattle.branch_laws.specs.Branching.{Branching, Give, paths, zero_registers, straight, all_read_values, IsPathOutcome}
 use Rattle.branch_laws.specs.Rounds.{StandsAmong}
-use Rattle.branch_laws.specs.Shown.{Keeping, InRegister, InLocation, Nowhere, register_for, note_of, shown_path, shown_paths, shown, tree_with_notes, all_noted, with_notes, CanShow, AllCanShow, notes_at, all_notes_at, AreApart, UsesFirst, AreOwn, AreFound, Shows, AreSameIfFound, AllSameIfFound}
+use Rattle.branch_laws.specs.Shown.{Keeping, InRegister, InLocation, Nowhere, register_for, note_of, shown_path, shown_paths, shown}
+use Rattle.branch_laws.specs.Shown.{tree_with_notes, all_noted, with_notes, CanShow, AllCanShow, notes_at, all_notes_at, AreApart}
+use Rattle.branch_laws.specs.Shown.{UsesFirst, AreOwn, AreFound, Shows, AreSameIfFound, AllSameIfFound}
 use Rattle.branch_laws.proofs.Among.{among-left, among-right, among-filter, among-get, get-among}
 use Rattle.branch_laws.proofs.Locking.{locking-reads}
 use Rattle.branch_laws.proofs.Splitting.{path-makes}
 use Rattle.branch_laws.proofs.Notes.{noted-outputs}
 use Rattle.branch_laws.proofs.Shown.{same-reads, same-entries, Same, same-if-found, AreHeld, are-held}
-use Rattle.branch_laws.proofs.ShownNotes.{WritesNone, HasNote, AreNoted, none-noted, none-both, noted-before, note-behind, each-note, are-noted, apart-left, apart-right, apart-from}
+use Rattle.branch_laws.proofs.ShownNotes.{WritesNone, HasNote, AreNoted, none-noted, none-both, noted-before, note-behind, each-note}
+use Rattle.branch_laws.proofs.ShownNotes.{are-noted, apart-left, apart-right, apart-from}
 
 -- all registers are six
 abbrev Six : List (List ℕ) → ℕ → ℕ → Type 0
@@ -54,7 +58,8 @@ AllNoted [] [] es = Unit {0}
 AllNoted (keeps ∷ rest) (rv ∷ more) es = AreNoted keeps rv es × AllNoted rest more es
 AllNoted _ _ es = ⊥
 
-each-of-all : (keeps : List (List Keeping)) (rv : List (List ℕ)) (es fs : List Entry) → ((own v : ℕ) → StandsAmong own (all_notes_at keeps) → HasNote own v es → HasNote own v fs)
+each-of-all : (keeps : List (List Keeping)) (rv : List (List ℕ)) (es fs : List Entry)
+    → ((own v : ℕ) → StandsAmong own (all_notes_at keeps) → HasNote own v es → HasNote own v fs)
     → AllNoted keeps rv es → AllNoted keeps rv fs
 each-of-all [] [] es fs f h = tt
 each-of-all [] (r ∷ rv) es fs f h = absurd h
@@ -65,7 +70,11 @@ each-of-all (k ∷ keeps) (r ∷ rv) es fs f h = (
 )
 
 all-noted : (n c : ℕ) (trees : List Tree) (values : List (List ℕ)) (keeps : List (List Keeping)) (registers : List (List ℕ)) (order : List Entry)
-    → AllUse n trees → AllCanShow trees values keeps → Six registers c (length trees) → ((own : ℕ) → StandsAmong own (all_notes_at keeps) → n ≤ own) → AreApart (all_notes_at keeps)
+    → AllUse n trees
+    → AllCanShow trees values keeps
+    → Six registers c (length trees)
+    → ((own : ℕ) → StandsAmong own (all_notes_at keeps) → n ≤ own)
+    → AreApart (all_notes_at keeps)
     → AllNoted keeps (all_read_values c (shown_paths trees values keeps) order) (made_from c (shown_paths trees values keeps) registers order)
 all-noted n c [] [] [] registers order u s z b a = tt
 all-noted n c [] [] (k ∷ keeps) registers order u s z b a = absurd s
@@ -79,9 +88,13 @@ all-noted n c (tree ∷ trees) (v ∷ values) (k ∷ keeps) registers order u s 
     let there : List Entry = made_from (c + 1) (shown_paths trees values keeps) registers order in
     let later : Six registers (c + 1) (length trees) = (λ j m. z j (omega arith)) in (
       noted-before k rv here there
-          (λ own m. none-in-all own n (c + 1) trees values keeps registers order (b own (among-left own (notes_at k) (all_notes_at keeps) m)) (use-rest n tree trees u) s.1 later
+          (λ own m.
+          none-in-all own n (c + 1) trees values keeps registers order
+          (b own (among-left own (notes_at k) (all_notes_at keeps) m)) (use-rest n tree trees u) s.1 later
           (λ y. apart-from (notes_at k) (all_notes_at keeps) own a m y))
-          (are-noted n c 0 tree v k regs rv (u 0 (omega arith)) s.0 (z c (omega arith)) (λ own m. b own (among-left own (notes_at k) (all_notes_at keeps) m)) (apart-left (notes_at k) (all_notes_at keeps) a)),
+          (are-noted n c 0 tree v k regs rv (u 0 (omega arith)) s.0 (z c (omega arith))
+          (λ own m. b own (among-left own (notes_at k) (all_notes_at keeps) m))
+          (apart-left (notes_at k) (all_notes_at keeps) a)),
       each-of-all keeps (all_read_values (c + 1) (shown_paths trees values keeps) order) there (here ++ there)
           (λ own w m h. note-behind own w here there
           (none-noted own n c 0 tree v k regs rv (b own (among-right own (notes_at k) (all_notes_at keeps) m)) (u 0 (omega arith)) s.0 (z c (omega arith))
@@ -100,7 +113,11 @@ pass : (own : ℕ) (e : Entry) (es : List Entry) → StandsAmong e es → writes
 pass own e [] m h = absurd m
 pass own e (x ∷ es) m h = go (writes_to own x) refl m (λ k. pass own e es k h)
   where
-    go : (t : Bool) → writes_to own x ≡ t → StandsAmong e (x ∷ es) → (StandsAmong e es → StandsAmong e (filter (writes_to own) es)) → StandsAmong e (if t then x ∷ filter (writes_to own) es else filter (writes_to own) es)
+    go : (t : Bool)
+        → writes_to own x ≡ t
+        → StandsAmong e (x ∷ es)
+        → (StandsAmong e es → StandsAmong e (filter (writes_to own) es))
+        → StandsAmong e (if t then x ∷ filter (writes_to own) es else filter (writes_to own) es)
     go true q (inl k) again = inl k
     go true q (inr k) again = inr (again k)
     go false q (inl k) again = absurd (let z : false ≡ true = sym q ∙ ap (λ y. writes_to own y) (sym k) ∙ h in let y : ⊥ = cc in y)
@@ -112,26 +129,38 @@ word-is own v order word h =
     (λ e m. (let r = among-filter (writes_to own) e order m in h.only e r.0 r.1))
     (h.some.0, pass own h.some.0 order h.some.1 h.some.2)
 
-word-at : (c : ℕ) (words : List ℕ) (order : List Entry) (j : ℕ) → j < length words → slice_index (words_from c words order) j ≡ word_after (c + j) order (slice_index words j)
+word-at : (c : ℕ) (words : List ℕ) (order : List Entry) (j : ℕ)
+    → j < length words
+    → slice_index (words_from c words order) j ≡ word_after (c + j) order (slice_index words j)
 word-at c [] order j l = absurd (omega arith)
 word-at c (w ∷ words) order zero l = ap (λ z. word_after z order w) (let z : c ≡ c + 0 = omega arith in z)
-word-at c (w ∷ words) order (suc j) l = word-at (c + 1) words order j (omega arith) ∙ ap (λ z. word_after z order (slice_index words j)) (let z : (c + 1) + j ≡ c + suc j = omega arith in z)
+word-at c (w ∷ words) order (suc j) l =
+    word-at (c + 1) words order j (omega arith)
+    ∙ ap (λ z. word_after z order (slice_index words j)) (let z : (c + 1) + j ≡ c + suc j = omega arith in z)
 
 -- what is found of the values that an order itself has
-find-own : (keeps : List Keeping) (rv registers : List ℕ) (order : List Entry) (words : List ℕ) → length rv ≡ length keeps → AreHeld keeps rv registers → AreNoted keeps rv order
+find-own : (keeps : List Keeping) (rv registers : List ℕ) (order : List Entry) (words : List ℕ)
+    → length rv ≡ length keeps
+    → AreHeld keeps rv registers
+    → AreNoted keeps rv order
     → ((own : ℕ) → StandsAmong own (notes_at keeps) → own < length words) → AreFound keeps rv registers (words_from 0 words order)
 find-own [] [] registers order words n h m f = tt
 find-own [] (v ∷ rv) registers order words n h m f = absurd (omega arith)
 find-own (k ∷ keeps) [] registers order words n h m f = absurd (omega arith)
 find-own (InRegister reg ∷ keeps) (v ∷ rv) registers order words n h m f = (h.0, find-own keeps rv registers order words (omega arith) h.1 m.1 f)
 find-own (InLocation reg own ∷ keeps) (v ∷ rv) registers order words n h m f = (
-  word-at 0 words order own.0 (f own.0 (inl refl)) ∙ ap (λ z. word_after z order (slice_index words own.0)) (let z : 0 + own.0 ≡ own.0 = omega arith in z) ∙ word-is own.0 v order (slice_index words own.0) m.0,
+  word-at 0 words order own.0 (f own.0 (inl refl))
+      ∙ ap (λ z. word_after z order (slice_index words own.0)) (let z : 0 + own.0 ≡ own.0 = omega arith in z)
+      ∙ word-is own.0 v order (slice_index words own.0) m.0,
   find-own keeps rv registers order words (omega arith) h.1 m.1 (λ o y. f o (inr y)),
 )
 find-own (Nowhere reg ∷ keeps) (v ∷ rv) registers order words n h m f = (tt, find-own keeps rv registers order words (omega arith) h.1 m.1 f)
 
 -- two lists of values of which the same is found
-same-of-found : (keeps : List Keeping) (values rv registers memory : List ℕ) → AreFound keeps values registers memory → AreFound keeps rv registers memory → AreSameIfFound keeps values rv
+same-of-found : (keeps : List Keeping) (values rv registers memory : List ℕ)
+    → AreFound keeps values registers memory
+    → AreFound keeps rv registers memory
+    → AreSameIfFound keeps values rv
 same-of-found [] [] [] registers memory a b = tt
 same-of-found [] [] (w ∷ rv) registers memory a b = absurd b
 same-of-found [] (v ∷ values) rv registers memory a b = absurd a
@@ -141,7 +170,10 @@ same-of-found (InRegister reg ∷ keeps) (v ∷ values) (w ∷ rv) registers mem
 same-of-found (InLocation reg own ∷ keeps) (v ∷ values) (w ∷ rv) registers memory a b = (sym b.0 ∙ a.0, same-of-found keeps values rv registers memory a.1 b.1)
 same-of-found (Nowhere reg ∷ keeps) (v ∷ values) (w ∷ rv) registers memory a b = (tt, same-of-found keeps values rv registers memory a.1 b.1)
 
-found-of-same : (keeps : List Keeping) (values rv registers memory : List ℕ) → AreSameIfFound keeps values rv → AreFound keeps rv registers memory → AreFound keeps values registers memory
+found-of-same : (keeps : List Keeping) (values rv registers memory : List ℕ)
+    → AreSameIfFound keeps values rv
+    → AreFound keeps rv registers memory
+    → AreFound keeps values registers memory
 found-of-same [] [] [] registers memory a b = tt
 found-of-same [] [] (w ∷ rv) registers memory a b = absurd a
 found-of-same [] (v ∷ values) rv registers memory a b = absurd a
@@ -151,7 +183,10 @@ found-of-same (InRegister reg ∷ keeps) (v ∷ values) (w ∷ rv) registers mem
 found-of-same (InLocation reg own ∷ keeps) (v ∷ values) (w ∷ rv) registers memory a b = (b.0 ∙ a.0, found-of-same keeps values rv registers memory a.1 b.1)
 found-of-same (Nowhere reg ∷ keeps) (v ∷ values) (w ∷ rv) registers memory a b = (tt, found-of-same keeps values rv registers memory a.1 b.1)
 
-all-same : (keeps : List (List Keeping)) (values own registers : List (List ℕ)) (memory : List ℕ) → Shows keeps values registers memory → Shows keeps own registers memory → AllSameIfFound keeps values own
+all-same : (keeps : List (List Keeping)) (values own registers : List (List ℕ)) (memory : List ℕ)
+    → Shows keeps values registers memory
+    → Shows keeps own registers memory
+    → AllSameIfFound keeps values own
 all-same [] [] [] [] memory a b = tt
 all-same [] [] (o ∷ own) registers memory a b = absurd b
 all-same [] [] [] (r ∷ registers) memory a b = absurd a
@@ -159,9 +194,13 @@ all-same [] (v ∷ values) own registers memory a b = absurd a
 all-same (k ∷ keeps) [] own registers memory a b = absurd a
 all-same (k ∷ keeps) (v ∷ values) [] registers memory a b = absurd b
 all-same (k ∷ keeps) (v ∷ values) (o ∷ own) [] memory a b = absurd a
-all-same (k ∷ keeps) (v ∷ values) (o ∷ own) (r ∷ registers) memory a b = (same-of-found k v o r memory a.0 b.0, all-same keeps values own registers memory a.1 b.1)
+all-same (k ∷ keeps) (v ∷ values) (o ∷ own) (r ∷ registers) memory a b =
+    (same-of-found k v o r memory a.0 b.0, all-same keeps values own registers memory a.1 b.1)
 
-all-found : (keeps : List (List Keeping)) (values own registers : List (List ℕ)) (memory : List ℕ) → AllSameIfFound keeps values own → Shows keeps own registers memory → Shows keeps values registers memory
+all-found : (keeps : List (List Keeping)) (values own registers : List (List ℕ)) (memory : List ℕ)
+    → AllSameIfFound keeps values own
+    → Shows keeps own registers memory
+    → Shows keeps values registers memory
 all-found [] [] [] [] memory a b = tt
 all-found [] [] (o ∷ own) registers memory a b = absurd a
 all-found [] [] [] (r ∷ registers) memory a b = absurd b
@@ -169,15 +208,20 @@ all-found [] (v ∷ values) own registers memory a b = absurd a
 all-found (k ∷ keeps) [] own registers memory a b = absurd a
 all-found (k ∷ keeps) (v ∷ values) [] registers memory a b = absurd a
 all-found (k ∷ keeps) (v ∷ values) (o ∷ own) [] memory a b = absurd b
-all-found (k ∷ keeps) (v ∷ values) (o ∷ own) (r ∷ registers) memory a b = (found-of-same k v o r memory a.0 b.0, all-found keeps values own registers memory a.1 b.1)
+all-found (k ∷ keeps) (v ∷ values) (o ∷ own) (r ∷ registers) memory a b =
+    (found-of-same k v o r memory a.0 b.0, all-found keeps values own registers memory a.1 b.1)
 
 -- as many reads as keepings
-note-count : (c p : ℕ) (k : Keeping) (program : List Instr) (order : List Entry) (n : ℕ) → ((q : ℕ) → length (read_values c q program order) ≡ n) → length (read_values c p (note_of k ++ program) order) ≡ n
+note-count : (c p : ℕ) (k : Keeping) (program : List Instr) (order : List Entry) (n : ℕ)
+    → ((q : ℕ) → length (read_values c q program order) ≡ n)
+    → length (read_values c p (note_of k ++ program) order) ≡ n
 note-count c p (InRegister reg) program order n f = f p
 note-count c p (InLocation reg own) program order n f = f (p + 1)
 note-count c p (Nowhere reg) program order n f = f p
 
-reads-count : (c p : ℕ) (tree : Tree) (values : List ℕ) (keeps : List Keeping) (order : List Entry) → CanShow tree values keeps → length (read_values c p (shown_path tree values keeps) order) ≡ length keeps
+reads-count : (c p : ℕ) (tree : Tree) (values : List ℕ) (keeps : List Keeping) (order : List Entry)
+    → CanShow tree values keeps
+    → length (read_values c p (shown_path tree values keeps) order) ≡ length keeps
 reads-count c p (Done o) [] [] order s = refl
 reads-count c p (Done o) [] (k ∷ keeps) order s = absurd s
 reads-count c p (Done o) (v ∷ values) keeps order s = absurd s
@@ -198,7 +242,8 @@ reads-count c p (Locks loc change next) (v ∷ values) (k ∷ keeps) order s =
 own-found : (c : ℕ) (trees : List Tree) (values : List (List ℕ)) (keeps : List (List Keeping)) (registers : List (List ℕ)) (order : List Entry) (words : List ℕ)
     → AllCanShow trees values keeps → Six registers c (length trees) → AllNoted keeps (all_read_values c (shown_paths trees values keeps) order) order
     → ((own : ℕ) → StandsAmong own (all_notes_at keeps) → own < length words)
-    → Shows keeps (all_read_values c (shown_paths trees values keeps) order) (registers_from c (shown_paths trees values keeps) registers order) (words_from 0 words order)
+    → Shows keeps (all_read_values c (shown_paths trees values keeps) order)
+    (registers_from c (shown_paths trees values keeps) registers order) (words_from 0 words order)
 own-found c [] [] [] registers order words s z n f = tt
 own-found c [] [] (k ∷ keeps) registers order words s z n f = absurd s
 own-found c [] (v ∷ values) keeps registers order words s z n f = absurd s
@@ -207,9 +252,11 @@ own-found c (tree ∷ trees) (v ∷ values) [] registers order words s z n f = a
 own-found c (tree ∷ trees) (v ∷ values) (k ∷ keeps) registers order words s z n f =
     let regs : List ℕ = slice_index_or registers c [] in
     let rv : List ℕ = read_values c 0 (shown_path tree v k) order in (
-      find-own k rv (registers_after (shown_path tree v k) regs rv) order words (reads-count c 0 tree v k order s.0) (are-held tree v k regs rv s.0 (z c (omega arith))) n.0
+      find-own k rv (registers_after (shown_path tree v k) regs rv) order words (reads-count c 0 tree v k order s.0)
+          (are-held tree v k regs rv s.0 (z c (omega arith))) n.0
           (λ own m. f own (among-left own (notes_at k) (all_notes_at keeps) m)),
-      own-found (c + 1) trees values keeps registers order words s.1 (λ j m. z j (omega arith)) n.1 (λ own m. f own (among-right own (notes_at k) (all_notes_at keeps) m)),
+      own-found (c + 1) trees values keeps registers order words s.1 (λ j m. z j (omega arith)) n.1
+          (λ own m. f own (among-right own (notes_at k) (all_notes_at keeps) m)),
     )
 
 -- the programs of values that are found the same
@@ -217,7 +264,10 @@ record AllSame (trees : List Tree) (values own : List (List ℕ)) (keeps : List 
   pub programs : shown_paths trees values keeps ≡ shown_paths trees own keeps
   pub gives : (outputs : List (List ℕ)) → Give trees values outputs → Give (all_noted trees keeps) own outputs
 
-programs-same : (trees : List Tree) (values own : List (List ℕ)) (keeps : List (List Keeping)) → AllCanShow trees values keeps → AllSameIfFound keeps values own → AllSame trees values own keeps
+programs-same : (trees : List Tree) (values own : List (List ℕ)) (keeps : List (List Keeping))
+    → AllCanShow trees values keeps
+    → AllSameIfFound keeps values own
+    → AllSame trees values own keeps
 programs-same [] [] [] [] s f = record { programs = refl; gives = λ outputs g. g }
 programs-same [] [] (o ∷ own) [] s f = absurd f
 programs-same [] [] own (k ∷ keeps) s f = absurd s
@@ -233,7 +283,11 @@ programs-same (tree ∷ trees) (v ∷ values) (o ∷ own) (k ∷ keeps) s f =
       gives = λ outputs g. pick outputs g a r;
     }
   where
-    pick : (outputs : List (List ℕ)) → Give (tree ∷ trees) (v ∷ values) outputs → Same tree v o k → AllSame trees values own keeps → Give (all_noted (tree ∷ trees) (k ∷ keeps)) (o ∷ own) outputs
+    pick : (outputs : List (List ℕ))
+        → Give (tree ∷ trees) (v ∷ values) outputs
+        → Same tree v o k
+        → AllSame trees values own keeps
+        → Give (all_noted (tree ∷ trees) (k ∷ keeps)) (o ∷ own) outputs
     pick [] g a r = absurd g
     pick (u ∷ outputs) g a r = (noted-outputs tree o k ∙ sym a.outputs ∙ g.0, r.gives outputs g.1)
 
@@ -241,8 +295,11 @@ all-reads : (c : ℕ) (trees : List Tree) (own : List (List ℕ)) (keeps : List 
     → all_read_values c (shown_paths trees own keeps) order ≡ all_read_values c (paths (all_noted trees keeps) own) order
 all-reads c [] own keeps order = refl
 all-reads c (tree ∷ trees) own keeps order =
-    ap (λ z. z ∷ all_read_values (c + 1) (shown_paths trees (drop 1 own) (drop 1 keeps)) order) (same-reads c 0 tree (slice_index_or own 0 []) (slice_index_or keeps 0 []) order)
-    ∙ ap (λ z. read_values c 0 (path (tree_with_notes tree (slice_index_or keeps 0 [])) (slice_index_or own 0 [])) order ∷ z) (all-reads (c + 1) trees (drop 1 own) (drop 1 keeps) order)
+    ap (λ z. z ∷ all_read_values (c + 1) (shown_paths trees (drop 1 own) (drop 1 keeps)) order)
+    (same-reads c 0 tree (slice_index_or own 0 []) (slice_index_or keeps 0 []) order)
+    ∙ ap (λ z.
+    read_values c 0 (path (tree_with_notes tree (slice_index_or keeps 0 [])) (slice_index_or own 0 [])) order ∷ z)
+    (all-reads (c + 1) trees (drop 1 own) (drop 1 keeps) order)
 
 first-list : (v w : List ℕ) (xs ys : List (List ℕ)) → v ∷ xs ≡ w ∷ ys → v ≡ w
 first-list v w xs ys e = cc
@@ -251,7 +308,9 @@ rest-list : (v w : List ℕ) (xs ys : List (List ℕ)) → v ∷ xs ≡ w ∷ ys
 rest-list v w xs ys e = cc
 
 -- where the reads return these values, both tests make the same entries
-all-made : (c : ℕ) (trees : List Tree) (own : List (List ℕ)) (keeps : List (List Keeping)) (registers : List (List ℕ)) (order : List Entry) → Six registers c (length trees)
+all-made : (c : ℕ) (trees : List Tree) (own : List (List ℕ)) (keeps : List (List Keeping)) (registers : List (List ℕ))
+    (order : List Entry)
+    → Six registers c (length trees)
     → all_read_values c (shown_paths trees own keeps) order ≡ own
     → made_from c (shown_paths trees own keeps) registers order ≡ made_from c (paths (all_noted trees keeps) own) registers order
 all-made c [] own keeps registers order z q = refl
@@ -267,7 +326,8 @@ all-made c (tree ∷ trees) (o ∷ own) keeps registers order z q =
     ∙ sym (path-makes c 0 (tree_with_notes tree k) o regs (omega arith))
     ∙ ap (λ y. entries_of c 0 (path (tree_with_notes tree k) o) regs y) (sym (sym (same-reads c 0 tree o k order) ∙ rv)) in
     ap (λ y. y ++ made_from (c + 1) (shown_paths trees own (drop 1 keeps)) registers order) one
-    ∙ ap (λ y. made_by c (path (tree_with_notes tree k) o) regs order ++ y) (all-made (c + 1) trees own (drop 1 keeps) registers order (λ j m. z j (omega arith)) (rest-list _ o _ own q))
+    ∙ ap (λ y. made_by c (path (tree_with_notes tree k) o) regs order ++ y)
+    (all-made (c + 1) trees own (drop 1 keeps) registers order (λ j m. z j (omega arith)) (rest-list _ o _ own q))
 
 same-cleared : (trees : List Tree) (keeps : List (List Keeping)) → zero_registers (all_noted trees keeps) ≡ zero_registers trees
 same-cleared [] keeps = refl
@@ -285,7 +345,11 @@ with-made s t order q w h = record {
   read_values = λ front x back e i. h.read_values front x back e i ∙ ap (λ z. last_value (counting x front back) (slice_index z x.loc.0)) w;
 }
 
-notes-in-order : WholeOrdersHaveEachEntryOnce → (t : Litmus) (order : List Entry) → IsTsoExecution t order → (own v : ℕ) → HasNote own v (made t order) → HasNote own v order
+notes-in-order : WholeOrdersHaveEachEntryOnce
+    → (t : Litmus) (order : List Entry)
+    → IsTsoExecution t order
+    → (own v : ℕ) → HasNote own v (made t order)
+    → HasNote own v order
 notes-in-order law t order h own v n =
     let a = among-get n.some.0 (made t order) n.some.1 in
     let b = h.whole.each a.0 n.some.0 a.2 in
@@ -301,12 +365,15 @@ notes-in-order law t order h own v n =
 words-size : (words : List ℕ) (names : List (List ℕ)) → length (words ++ map (λ name. 0) names) ≡ length words + length names
 words-size [] [] = refl
 words-size [] (n ∷ names) = ap suc (words-size [] names) ∙ (let z : suc (0 + length names) ≡ 0 + suc (length names) = omega arith in z)
-words-size (w ∷ words) names = ap suc (words-size words names) ∙ (let z : suc (length words + length names) ≡ suc (length words) + length names = omega arith in z)
+words-size (w ∷ words) names =
+    ap suc (words-size words names)
+    ∙ (let z : suc (length words + length names) ≡ suc (length words) + length names = omega arith in z)
 
 -- in an execution of the shown test the order's own values are found
 found-in : WholeOrdersHaveEachEntryOnce → (b : Branching) (names values : List (List ℕ)) (keeps : List (List Keeping)) (order : List Entry)
     → AllCanShow b.trees values keeps → AreOwn b names keeps → IsTsoExecution (shown b names values keeps) order
-    → Shows keeps (all_read_values 0 (shown_paths b.trees values keeps) order) (registers_from 0 (shown_paths b.trees values keeps) (zero_registers b.trees) order)
+    → Shows keeps (all_read_values 0 (shown_paths b.trees values keeps) order)
+    (registers_from 0 (shown_paths b.trees values keeps) (zero_registers b.trees) order)
     (words_from 0 (b.words ++ map (λ name. 0) names) order)
 found-in law b names values keeps order s own h =
     let six : Six (zero_registers b.trees) 0 (length b.trees) = (λ k l. six-cleared b.trees k (omega arith)) in
@@ -316,15 +383,21 @@ found-in law b names values keeps order s own h =
     (all-noted (length b.words) 0 b.trees values keeps (zero_registers b.trees) order own.trees s six (λ o m. (own.further o m).0) own.apart))
     (λ o m. (let z = words-size b.words names in let y = (own.further o m).1 in omega arith))
 
-to-noted : WholeOrdersHaveEachEntryOnce → (b : Branching) (names values outputs : List (List ℕ)) (keeps : List (List Keeping)) (registers : List (List ℕ)) (memory : List ℕ)
-    → AllCanShow b.trees values keeps → Give b.trees values outputs → AreOwn b names keeps → Shows keeps values registers memory → IsAllowedByTso (shown b names values keeps) registers memory
+to-noted : WholeOrdersHaveEachEntryOnce
+    → (b : Branching) (names values outputs : List (List ℕ)) (keeps : List (List Keeping)) (registers : List (List ℕ)) (memory : List ℕ)
+    → AllCanShow b.trees values keeps
+    → Give b.trees values outputs
+    → AreOwn b names keeps
+    → Shows keeps values registers memory
+    → IsAllowedByTso (shown b names values keeps) registers memory
     → (own : List (List ℕ)) × AllSameIfFound keeps values own × IsPathOutcome (with_notes b names keeps) own outputs memory
 to-noted law b names values outputs keeps registers memory s g o shows h =
     let order : List Entry = h.order in
     let ps : List (List Instr) = shown_paths b.trees values keeps in
     let own : List (List ℕ) = all_read_values 0 ps order in
     let here : Shows keeps values (registers_from 0 ps (zero_registers b.trees) order) (words_from 0 (b.words ++ map (λ name. 0) names) order) =
-    subst (λ z. Shows keeps values z (words_from 0 (b.words ++ map (λ name. 0) names) order)) (sym h.registers_are) (subst (λ z. Shows keeps values registers z) (sym h.memory_is) shows) in
+    subst (λ z. Shows keeps values z (words_from 0 (b.words ++ map (λ name. 0) names) order)) (sym h.registers_are)
+    (subst (λ z. Shows keeps values registers z) (sym h.memory_is) shows) in
     let same = all-same keeps values own _ _ here (found-in law b names values keeps order s o h.execution) in
     let p = programs-same b.trees values own keeps s same in
     let reads : all_read_values 0 (shown_paths b.trees own keeps) order ≡ own = ap (λ z. all_read_values 0 z order) (sym p.programs) in
@@ -345,7 +418,8 @@ to-noted law b names values outputs keeps registers memory s g o shows h =
       },
     )
 
-from-noted : WholeOrdersHaveEachEntryOnce → (b : Branching) (names values outputs : List (List ℕ)) (keeps : List (List Keeping)) (memory : List ℕ) (own : List (List ℕ))
+from-noted : WholeOrdersHaveEachEntryOnce
+    → (b : Branching) (names values outputs : List (List ℕ)) (keeps : List (List Keeping)) (memory : List ℕ) (own : List (List ℕ))
     → AllCanShow b.trees values keeps → AreOwn b names keeps → AllSameIfFound keeps values own → IsPathOutcome (with_notes b names keeps) own outputs memory
     → (registers : List (List ℕ)) × Shows keeps values registers memory × IsAllowedByTso (shown b names values keeps) registers memory
 from-noted law b names values outputs keeps memory own s o same h =
@@ -357,7 +431,8 @@ from-noted law b names values outputs keeps memory own s o same h =
     let q : made (straight (with_notes b names keeps) own) order ≡ made (shown b names values keeps) order =
     ap (λ z. made_from 0 (paths (all_noted b.trees keeps) own) z order) (same-cleared b.trees keeps)
     ∙ sym (all-made 0 b.trees own keeps (zero_registers b.trees) order six reads) ∙ ap (λ z. made_from 0 z (zero_registers b.trees) order) (sym p.programs) in
-    let execution : IsTsoExecution (shown b names values keeps) order = with-made (straight (with_notes b names keeps) own) (shown b names values keeps) order q refl h.execution.execution in
+    let execution : IsTsoExecution (shown b names values keeps) order =
+    with-made (straight (with_notes b names keeps) own) (shown b names values keeps) order q refl h.execution.execution in
     let found = found-in law b names values keeps order s o execution in
     let is_own : all_read_values 0 ps order ≡ own = ap (λ z. all_read_values 0 z order) p.programs ∙ reads in
     let registers : List (List ℕ) = registers_from 0 ps (zero_registers b.trees) order in (

@@ -1,5 +1,6 @@
 -- The straight-line programs of a path make what the tree makes.
-use Rattle.std.proofs.Common.{◌≡◌, ℕ, ◌+◌, zero, suc, List, [], ◌∷◌, ◌++◌, Some, length, slice_index, slice_index_or, slice_set, drop, ◌<◌, ◌↔◌, arith, ap, sym, ◌∙◌, refl, subst, get_or-set_same, slice_get}
+use Rattle.std.proofs.Common.{◌≡◌, ℕ, ◌+◌, zero, suc, List, [], ◌∷◌, ◌++◌, Some, length, slice_index, slice_index_or, slice_set, drop, ◌<◌}
+use Rattle.std.proofs.Common.{◌↔◌, arith, ap, sym, ◌∙◌, refl, subst, get_or-set_same, slice_get}
 use Rattle.std.proofs.Math.ListN.{length-set}
 use Rattle.tso_terms.specs.Thread.{entry, fence, entries_of, with_value, value_in}
 use Rattle.tso_terms.specs.ProgramEntries.{read_value, read_values, made_from, made_by}
@@ -7,7 +8,8 @@ use Rattle.tso_terms.specs.Axioms.{IsTsoExecution}
 use Rattle.basic_laws.specs.Types.{Entry, R, W, LR, LW, Eax, Ebx}
 use Rattle.branch_laws.specs.Trees.{Tree, Done, Cut, Reads, Stores, Fences, Locks, written, operand, entries_along, values_along, outputs_along, path}
 use Rattle.branch_laws.proofs.Locking.{left-by-operand, locking-entries, locking-reads}
-use Rattle.branch_laws.specs.Branching.{Branching, Give, values_from, made_along, paths, zero_registers, straight, all_read_values, IsBranchExecution, IsPathExecution, IsBranchOutcome, IsPathOutcome}
+use Rattle.branch_laws.specs.Branching.{Branching, Give, values_from, made_along, paths, zero_registers, straight, all_read_values}
+use Rattle.branch_laws.specs.Branching.{IsBranchExecution, IsPathExecution, IsBranchOutcome, IsPathOutcome}
 
 pub still-long : (regs : List ℕ) (k v : ℕ) → 1 < length regs → 1 < length (slice_set regs k v)
 still-long regs k v l = let e = length-set regs k v in omega arith
@@ -73,7 +75,8 @@ given-are-own core place (Locks loc change next) (v ∷ values) outputs order e 
     let q1 : w ∷ read_values core ((place + 1) + 1) (path (next v) values) order ≡ v ∷ values
     = sym (locking-reads core place change loc Ebx (path (next v) values) (operand change v) order) ∙ q in
     let first : w ≡ v = first-of w v _ _ q1 in
-    let rest : values_along core ((place + 1) + 1) (next v) order ≡ values = given-are-own core ((place + 1) + 1) (next v) values outputs order e (rest-of w v _ _ q1) in
+    let rest : values_along core ((place + 1) + 1) (next v) order ≡ values =
+    given-are-own core ((place + 1) + 1) (next v) values outputs order e (rest-of w v _ _ q1) in
     rw first (ap (λ z. v ∷ z) rest)
 
 -- all cores

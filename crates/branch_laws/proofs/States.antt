@@ -1,15 +1,18 @@
 -- States of the flat machine and of the machine over trees, core by core.
-use Rattle.std.proofs.Common.{◌≡◌, ◌≢◌, ℕ, suc, List, [], ◌∷◌, ◌++◌, Some, ◌<◌, length, slice_get, take, arith, ap, sym, ◌∙◌, refl, subst, inl, inr, get_or-set_same, get_or-set_other, length-set, append_assoc}
+use Rattle.std.proofs.Common.{◌≡◌, ◌≢◌, ℕ, suc, List, [], ◌∷◌, ◌++◌, Some, ◌<◌, length, slice_get, take, arith, ap, sym, ◌∙◌, refl, subst}
+use Rattle.std.proofs.Common.{inl, inr, get_or-set_same, get_or-set_other, length-set, append_assoc}
 use Rattle.std.proofs.lemmas.List.{set-get_or}
 use Rattle.basic_laws.proofs.Basics.{decide}
 use Rattle.basic_laws.proofs.Lists.{Each, append-nil}
 use Rattle.tso_terms.specs.Litmus.{Litmus}
 use Rattle.tso_terms.specs.Actions.{action_of}
-use Rattle.tso_terms.specs.FlatMachine.{CoreState, State, Effect, idle, program_of, core_of, effect_by, effect_of, after_choice, step_of, drain_of, applied, memory_after, step, drain}
+use Rattle.tso_terms.specs.FlatMachine.{CoreState, State, Effect, idle, program_of, core_of, effect_by, effect_of, after_choice, step_of}
+use Rattle.tso_terms.specs.FlatMachine.{drain_of, applied, memory_after, step, drain}
 use Rattle.tso_terms.specs.Runs.{CoresExist}
 use Rattle.tso_laws.specs.Choices.{state_after, commits_of}
 use Rattle.basic_laws.specs.Types.{Entry, Instr, Choice, Step, Drain}
-use Rattle.branch_laws.specs.TreeMachine.{TreeCore, TreeState, TreeEffect, stays, act, drain_tree, no_core, tree_core, tree_effect, tree_applied, tree_choice, tree_after, tree_commits}
+use Rattle.branch_laws.specs.TreeMachine.{TreeCore, TreeState, TreeEffect, stays, act, drain_tree, no_core, tree_core, tree_effect}
+use Rattle.branch_laws.specs.TreeMachine.{tree_applied, tree_choice, tree_after, tree_commits}
 use Rattle.branch_laws.proofs.Core.{flat, Even, even-other, OneCore, none, one, two, one-core, act-core, take-core, even-drain, drains}
 
 -- a flat state after one core has changed
@@ -97,9 +100,12 @@ exist-append : (n : ℕ) (xs ys : List Choice) → CoresExist n xs → CoresExis
 exist-append n [] ys a b = b
 exist-append n (x ∷ xs) ys a b = (a.0, exist-append n xs ys a.1 b)
 
-commits-append : (t : Litmus) (d : ℕ) (F : State) (xs ys : List Choice) → commits_of t d F (xs ++ ys) ≡ commits_of t d F xs ++ commits_of t d (state_after t d F xs) ys
+commits-append : (t : Litmus) (d : ℕ) (F : State) (xs ys : List Choice)
+    → commits_of t d F (xs ++ ys) ≡ commits_of t d F xs ++ commits_of t d (state_after t d F xs) ys
 commits-append t d F [] ys = refl
-commits-append t d F (x ∷ xs) ys = ap (λ z. (effect_of t d F x).commits ++ z) (commits-append t d (after_choice t d F x) xs ys) ∙ sym (append_assoc (effect_of t d F x).commits _ _)
+commits-append t d F (x ∷ xs) ys =
+    ap (λ z. (effect_of t d F x).commits ++ z) (commits-append t d (after_choice t d F x) xs ys)
+    ∙ sym (append_assoc (effect_of t d F x).commits _ _)
 
 after-append : (t : Litmus) (d : ℕ) (F : State) (xs ys : List Choice) → state_after t d F (xs ++ ys) ≡ state_after t d (state_after t d F xs) ys
 after-append t d F [] ys = refl
@@ -110,7 +116,10 @@ pub follows-more : (P : ℕ → List Entry → CoreState → TreeCore → Type 0
 follows-more P t d n F S1 S2 es fs xs ys a b = record {
   choices = a.choices ++ b.choices;
   exist = exist-append n a.choices b.choices a.exist b.exist;
-  commits = commits-append t d F a.choices b.choices ∙ ap (λ z. z ++ commits_of t d (state_after t d F a.choices) b.choices) a.commits ∙ ap (λ z. es ++ z) b.commits;
+  commits =
+      commits-append t d F a.choices b.choices
+      ∙ ap (λ z. z ++ commits_of t d (state_after t d F a.choices) b.choices) a.commits
+      ∙ ap (λ z. es ++ z) b.commits;
   rel = subst (λ z. Rel P n xs z S2) (sym (after-append t d F a.choices b.choices)) b.rel;
 }
 
@@ -123,7 +132,9 @@ level-keeps t c k es xs f s n h e = even-other c k (program_of t k) es xs f s n 
 
 step-follows : (t : Litmus) (m n : ℕ) (xs : List Entry) (F : State) (S : TreeState) (c : ℕ) → c < n
     → Rel (Level t) n ((act (suc m) S.memory c (tree_core S c).rest (tree_core S c)).commits ++ xs) F S
-    → Follows (Level t) t (suc m) n F (tree_applied S c (act (suc m) S.memory c (tree_core S c).rest (tree_core S c))) (act (suc m) S.memory c (tree_core S c).rest (tree_core S c)).commits xs
+    → Follows (Level t) t (suc m) n F
+    (tree_applied S c (act (suc m) S.memory c (tree_core S c).rest (tree_core S c)))
+    (act (suc m) S.memory c (tree_core S c).rest (tree_core S c)).commits xs
 step-follows t m n xs F S c l r =
     let h = r.cores c l in
     go h (one-core m S.memory c (program_of t c) xs h.registers s.place s.rest s.pending h.long h.within h.own h.left_over)
@@ -161,7 +172,8 @@ step-follows t m n xs F S c l r =
         let G : State = applied F c first in
         let w : Changed F c [] first.after G = changed F c first [] in_flat none_yet in
         let e2 : effect_of t (suc m) G (step c) ≡ second = flat-step t (suc m) G c S.memory first.after j (w.memory ∙ r.memory) w.own at2 ∙ is2 in
-        let x : Changed G c g.commits second.after (applied G c second) = changed G c second g.commits (let z = w.size in let y = in_flat in omega arith) commits in
+        let x : Changed G c g.commits second.after (applied G c second) =
+        changed G c second g.commits (let z = w.size in let y = in_flat in omega arith) commits in
         record {
           choices = step c ∷ (step c ∷ []);
           exist = (l, (l, tt));

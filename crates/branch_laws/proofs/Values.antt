@@ -1,5 +1,6 @@
 -- What is left for a tree to read, in the entries that are still to come.
-use Rattle.std.proofs.Common.{◌≡◌, ◌≢◌, ℕ, ◌+◌, List, [], ◌∷◌, ◌++◌, Option, Bool, true, false, ◌==◌, ◌&&◌, ◌<◌, ◌≤◌, nat_lt, if◌then◌else◌, length, slice_index, take, arith, ap, sym, ◌∙◌, refl, subst}
+use Rattle.std.proofs.Common.{◌≡◌, ◌≢◌, ℕ, ◌+◌, List, [], ◌∷◌, ◌++◌, Option, Bool, true, false, ◌==◌, ◌&&◌, ◌<◌, ◌≤◌, nat_lt, if◌then◌else◌}
+use Rattle.std.proofs.Common.{length, slice_index, take, arith, ap, sym, ◌∙◌, refl, subst}
 use Rattle.basic_laws.proofs.Basics.{test-false, test-true}
 use Rattle.basic_laws.proofs.Lists.{Each}
 use Rattle.tso_terms.specs.Thread.{entry, fence}
@@ -34,8 +35,10 @@ unseen-write c p e q k l = (
 
 pub unseen-before : (c p : ℕ) (e : Entry) → e.place < p → Unseen c p e
 unseen-before c p e l k m = (
-  subst (λ z. ((e.core.0 == c) && z && same_kind e.kind R) ≡ false) (sym (test-false e.place k (omega arith))) (second-false (e.core.0 == c) (same_kind e.kind R)),
-  subst (λ z. ((e.core.0 == c) && z && same_kind e.kind LR) ≡ false) (sym (test-false e.place k (omega arith))) (second-false (e.core.0 == c) (same_kind e.kind LR)),
+  subst (λ z. ((e.core.0 == c) && z && same_kind e.kind R) ≡ false) (sym (test-false e.place k (omega arith)))
+      (second-false (e.core.0 == c) (same_kind e.kind R)),
+  subst (λ z. ((e.core.0 == c) && z && same_kind e.kind LR) ≡ false) (sym (test-false e.place k (omega arith)))
+      (second-false (e.core.0 == c) (same_kind e.kind LR)),
 )
 
 chosen-false : (t : Bool) (v w : ℕ) → t ≡ false → (if t then v else w) ≡ w
@@ -81,7 +84,8 @@ locks-left c p loc change next v u xs =
     let e : Entry = entry c (p + 1) LR loc v in let f : Entry = entry c (p + 1) LW loc u in
     let q : read_value c (p + 1) LR (e ∷ (f ∷ xs)) ≡ v = chosen-true (is_at c (p + 1) LR e) v (read_value c (p + 1) LR (f ∷ xs)) (here c (p + 1)) in
     ap (λ z. z ∷ values_along c ((p + 1) + 1) (next z) (e ∷ (f ∷ xs))) q
-    ∙ ap (λ z. v ∷ z) (skip-one c ((p + 1) + 1) (next v) e (f ∷ xs) (unseen-before c ((p + 1) + 1) e (omega arith)) ∙ skip-one c ((p + 1) + 1) (next v) f xs (unseen-before c ((p + 1) + 1) f (omega arith)))
+    ∙ ap (λ z. v ∷ z) (skip-one c ((p + 1) + 1) (next v) e (f ∷ xs) (unseen-before c ((p + 1) + 1) e (omega arith))
+    ∙ skip-one c ((p + 1) + 1) (next v) f xs (unseen-before c ((p + 1) + 1) f (omega arith)))
 
 -- what a core has still to read, and the outputs that this leads to
 abbrev pub left : ℕ → TreeCore → List Entry → List ℕ

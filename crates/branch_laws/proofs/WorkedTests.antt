@@ -1,5 +1,6 @@
 -- The worked tests: what they reach, and that they meet the premises of the laws.
-use Rattle.std.proofs.Common.{◌≡◌, ℕ, ◌+◌, ◌==◌, ◌^◌, zero, suc, List, [], ◌∷◌, ◌++◌, Some, None, map, filter, Bool, true, false, if◌then◌else◌, ◌<◌, ◌≤◌, length, slice_index, slice_index_or, drop, arith, sym, refl, subst, inl, inr, rules}
+use Rattle.std.proofs.Common.{◌≡◌, ℕ, ◌+◌, ◌==◌, ◌^◌, zero, suc, List, [], ◌∷◌, ◌++◌, Some, None, map, filter, Bool, true, false}
+use Rattle.std.proofs.Common.{if◌then◌else◌, ◌<◌, ◌≤◌, length, slice_index, slice_index_or, drop, arith, sym, refl, subst, inl, inr, rules}
 use Rattle.std.specs.Prelude.{codes}
 use Rattle.tso_terms.specs.Litmus.{Litmus, IsTest}
 use Rattle.tso_terms.specs.ProgramOrder.{is_write}
@@ -64,7 +65,9 @@ try-lock-tests n values are =
     let xs : List ℕ = slice_index_or values 0 [] in let ys : List ℕ = slice_index_or (drop 1 values) 0 [] in
     either (slice_index xs 0 == 0) (slice_index ys 0 == 0) (slice_index xs 0) (slice_index ys 0) (drop 1 xs) (drop 1 ys)
 
-two-done : (b : Branching) (cs : List Choice) (o u : List ℕ) → IsDoneWith (tree_core (tree_after 32 (tree_start b) cs) 0) o → IsDoneWith (tree_core (tree_after 32 (tree_start b) cs) 1) u
+two-done : (b : Branching) (cs : List Choice) (o u : List ℕ)
+    → IsDoneWith (tree_core (tree_after 32 (tree_start b) cs) 0) o
+    → IsDoneWith (tree_core (tree_after 32 (tree_start b) cs) 1) u
     → (k : ℕ) → k < 2 → IsDoneWith (tree_core (tree_after 32 (tree_start b) cs) k) (slice_index_or (o ∷ (u ∷ [])) k [])
 two-done b cs o u f g zero l = f
 two-done b cs o u f g (suc zero) l = g

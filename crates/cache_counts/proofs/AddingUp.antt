@@ -1,12 +1,14 @@
 -- Each miss and each upgrade of a run that ended is one request, and the line of each miss is supplied once. A request whose access isn't
 -- made yet is its core's who holds the bus; where the test has ended nobody holds it.
-use Rattle.std.proofs.Common.{◌≡◌, ◌≢◌, ◌+◌, ◌/◌, ◌==◌, ℕ, Bool, true, false, if◌then◌else◌, List, [], ◌∷◌, length, Option, None, Some, refl, sym, ap, subst, ◌∙◌, arith}
+use Rattle.std.proofs.Common.{◌≡◌, ◌≢◌, ◌+◌, ◌/◌, ◌==◌, ℕ, Bool, true, false, if◌then◌else◌, List, [], ◌∷◌, length, Option, None, Some}
+use Rattle.std.proofs.Common.{refl, sym, ap, subst, ◌∙◌, arith}
 use Rattle.std.specs.Option.{option_map}
 use Rattle.tso_terms.specs.Litmus.{Litmus}
 use Rattle.tso_terms.specs.FlatMachine.{State, Effect, chosen, core_of, effect_of}
 use Rattle.tso_terms.specs.Runs.{Run, has_ended}
 use Rattle.tso_terms.specs.MemoryAccess.{MemoryAccess, NoAccess, Reads, Writes, Locks, access_of}
-use Rattle.tso_terms.specs.SplitMachine.{Holder, Free, HeldBy, HeldBetween, Attempt, BusEffect, acts, asks, begins, completes, load_part, needs_bus, writes_last}
+use Rattle.tso_terms.specs.SplitMachine.{Holder, Free, HeldBy, HeldBetween, Attempt, BusEffect, acts, asks, begins, completes, load_part}
+use Rattle.tso_terms.specs.SplitMachine.{needs_bus, writes_last}
 use Rattle.tso_terms.specs.EitherBus.{HitsFit, effect_on, resting_on, run_on_from, then_on}
 use Rattle.tso_terms.specs.declared.execution.Entry.{Entry}
 use Rattle.tso_terms.specs.declared.choice.Bus.{Bus}
@@ -26,7 +28,8 @@ use Rattle.protocol_tables.specs.declared.requests.Transient.{Transient}
 use Rattle.protocol_tables.specs.declared.requests.Transient.TheVariants.{ImD, IsD, SmD}
 use Rattle.protocol_tables.specs.declared.state.State as protocol
 use Rattle.cache_set.specs.CacheTags.{TagSets}
-use Rattle.snoop_bus.specs.Asks.{Awaited, asked_for, asking, awaited_as, awaiting, completed, completed_in, moved_in, request_for, requesting, whole_access, whole_in}
+use Rattle.snoop_bus.specs.Asks.{Awaited, asked_for, asking, awaited_as, awaiting, completed, completed_in, moved_in, request_for}
+use Rattle.snoop_bus.specs.Asks.{requesting, whole_access, whole_in}
 use Rattle.snoop_bus.specs.Rows.{table_of_rows}
 use Rattle.snoop_bus.specs.declared.access.AccessKind.{AccessKind}
 use Rattle.snoop_bus.specs.declared.access.AccessKind.TheVariants.{Hit, Miss, Upgrade}
@@ -125,7 +128,9 @@ record InStep (waits : Option Awaited → ℕ) (ask count : CacheUse → ℕ) : 
   whole : (t : Table) (write : Bool) (core line : ℕ) (caches : List TagSets)
       → ask (Through (whole_access t write core line caches).report) ≡ count (Through (whole_access t write core line caches).report)
   asks_so : (t : Table) (request : Request) (core line : ℕ) (caches : List TagSets)
-      → ask (asking_use (asking t request core line caches).request) ≡ count (asking_use (asking t request core line caches).request) + waits (asking t request core line caches).awaited
+      → ask (asking_use (asking t request core line caches).request)
+      ≡ count (asking_use (asking t request core line caches).request)
+      + waits (asking t request core line caches).awaited
   completes_so : (t : Table) (core line : ℕ) (o : Option Awaited) (caches : List TagSets)
       → waits o + ask (Through (completed t core line o caches).report) ≡ count (Through (completed t core line o caches).report)
 
@@ -250,7 +255,8 @@ if-sum : (b : Bool) (x y z : ℕ) → x ≡ y + z → (if b then x else 0) ≡ (
 if-sum true x y z h = h
 if-sum false x y z h = refl
 
-used-both : (b : Bool) (c : Caches) (core : ℕ) (what : MemoryAccess) (pending commits : List Entry) → used_between b b c core what pending commits ≡ use_of c pending commits
+used-both : (b : Bool) (c : Caches) (core : ℕ) (what : MemoryAccess) (pending commits : List Entry)
+    → used_between b b c core what pending commits ≡ use_of c pending commits
 used-both true c core what pending commits = refl
 used-both false c core what pending commits = refl
 
@@ -261,10 +267,15 @@ zero-gone : (a b : ℕ) → a ≡ 0 + b → a ≡ b
 zero-gone a b h = omega (arith, h)
 
 no-access : (what : MemoryAccess) (hits : Bool) → needs_bus what hits ≡ true → what ≢ NoAccess
-no-access what hits needs none = let no : needs_bus NoAccess hits ≡ true = subst (λ (w : MemoryAccess). needs_bus w hits ≡ true) none needs in let z : ⊥ = cc in z
+no-access what hits needs none =
+    let no : needs_bus NoAccess hits ≡ true = subst (λ (w : MemoryAccess). needs_bus w hits ≡ true) none needs in
+    let z : ⊥ = cc in
+    z
 
 module _ (waits : Option Awaited → ℕ) (ask count : CacheUse → ℕ) (h : InStep waits ask count) (k : ℕ) where
-  whole-use : (c : Caches) (pending commits : List Entry) → (ask (use_of c pending commits).how ≡ count (use_of c pending commits).how) × ((use_of c pending commits).caches.awaited ≡ c.awaited)
+  whole-use : (c : Caches) (pending commits : List Entry)
+      → (ask (use_of c pending commits).how ≡ count (use_of c pending commits).how)
+      × ((use_of c pending commits).caches.awaited ≡ c.awaited)
   whole-use c pending commits =
       each-whole (λ u. (ask u.how ≡ count u.how) × (u.caches.awaited ≡ c.awaited)) c (h.unused, refl) (h.forwarded, refl)
       (λ core loc write. (h.whole (table_of_rows c.rows) write core (loc / c.shape.words) c.contents, refl)) pending commits
@@ -275,7 +286,8 @@ module _ (waits : Option Awaited → ℕ) (ask count : CacheUse → ℕ) (h : In
   stays core holder c what pending commits quiet =
       let same = whole-use c pending commits in
       subst (λ u. Balanced waits ask count k core holder c.awaited holder u) (sym (used-both (is_awaited holder) c core what pending commits)) (
-        ap (λ (n : ℕ). owed waits k holder c.awaited + at core k n) same.0 ∙ swap (owed waits k holder c.awaited) (at core k (count (use_of c pending commits).how))
+        ap (λ (n : ℕ). owed waits k holder c.awaited + at core k n) same.0
+            ∙ swap (owed waits k holder c.awaited) (at core k (count (use_of c pending commits).how))
             ∙ ap (λ (o : Option Awaited). at core k (count (use_of c pending commits).how) + owed waits k holder o) (sym same.1),
         (λ free. same.1 ∙ quiet free),
       )
@@ -291,12 +303,21 @@ module _ (waits : Option Awaited → ℕ) (ask count : CacheUse → ℕ) (h : In
   begins-to-wait : (choice : Choice) (c : Caches) (what : MemoryAccess) → what ≢ NoAccess
       → Balanced waits ask count k (chosen choice) Free c.awaited (HeldBy choice) (asking_by c (chosen choice) what)
   begins-to-wait choice c NoAccess some = absurd (some refl)
-  begins-to-wait choice c (Reads loc) some =
-      (zero-first _ _ (if-sum (chosen choice == k) _ _ _ (h.asks_so (table_of_rows c.rows) (request_for false) (chosen choice) (loc.0 / c.shape.words) c.contents)), (λ free. absurd (let z : ⊥ = cc in z)))
-  begins-to-wait choice c (Writes loc) some =
-      (zero-first _ _ (if-sum (chosen choice == k) _ _ _ (h.asks_so (table_of_rows c.rows) (request_for true) (chosen choice) (loc.0 / c.shape.words) c.contents)), (λ free. absurd (let z : ⊥ = cc in z)))
-  begins-to-wait choice c (Locks loc) some =
-      (zero-first _ _ (if-sum (chosen choice == k) _ _ _ (h.asks_so (table_of_rows c.rows) (request_for true) (chosen choice) (loc.0 / c.shape.words) c.contents)), (λ free. absurd (let z : ⊥ = cc in z)))
+  begins-to-wait choice c (Reads loc) some = (
+    zero-first _ _ (if-sum (chosen choice == k) _ _ _
+        (h.asks_so (table_of_rows c.rows) (request_for false) (chosen choice) (loc.0 / c.shape.words) c.contents)),
+    (λ free. absurd (let z : ⊥ = cc in z)),
+  )
+  begins-to-wait choice c (Writes loc) some = (
+    zero-first _ _ (if-sum (chosen choice == k) _ _ _
+        (h.asks_so (table_of_rows c.rows) (request_for true) (chosen choice) (loc.0 / c.shape.words) c.contents)),
+    (λ free. absurd (let z : ⊥ = cc in z)),
+  )
+  begins-to-wait choice c (Locks loc) some = (
+    zero-first _ _ (if-sum (chosen choice == k) _ _ _
+        (h.asks_so (table_of_rows c.rows) (request_for true) (chosen choice) (loc.0 / c.shape.words) c.contents)),
+    (λ free. absurd (let z : ⊥ = cc in z)),
+  )
 
   -- and is made
   come-due : (b : Bool) (w a n : ℕ) → w + a ≡ n → (if b then w else 0) + (if b then a else 0) ≡ (if b then n else 0) + 0
@@ -326,23 +347,30 @@ module _ (waits : Option Awaited → ℕ) (ask count : CacheUse → ℕ) (h : In
   abbrev Goes : Litmus → ℕ → State → Caches → Holder → Choice → BusEffect → Type 0
   Goes t depth flat c holder choice f =
       Balanced waits ask count k (chosen choice) holder c.awaited f.holder
-      (used_between (is_awaited holder) (is_awaited f.holder) c (chosen choice) (access_of t depth flat choice) (core_of flat (chosen choice)).pending f.effect.commits)
+      (used_between (is_awaited holder) (is_awaited f.holder) c (chosen choice) (access_of t depth flat choice)
+      (core_of flat (chosen choice)).pending f.effect.commits)
 
   goes-acts : (t : Litmus) (depth : ℕ) (flat : State) (c : Caches) (holder : Holder) (choice : Choice) (f : Effect) → Quiet holder c
       → Goes t depth flat c holder choice (acts f holder)
-  goes-acts t depth flat c holder choice f quiet = stays (chosen choice) holder c (access_of t depth flat choice) (core_of flat (chosen choice)).pending f.commits quiet
+  goes-acts t depth flat c holder choice f quiet =
+      stays (chosen choice) holder c (access_of t depth flat choice) (core_of flat (chosen choice)).pending f.commits quiet
 
-  goes-asks : (t : Litmus) (depth : ℕ) (flat : State) (c : Caches) (holder : Holder) (choice : Choice) → access_of t depth flat choice ≢ NoAccess → Quiet holder c
+  goes-asks : (t : Litmus) (depth : ℕ) (flat : State) (c : Caches) (holder : Holder) (choice : Choice)
+      → access_of t depth flat choice ≢ NoAccess
+      → Quiet holder c
       → Goes t depth flat c holder choice (asks (core_of flat (chosen choice)) choice holder)
   goes-asks t depth flat c Free choice some quiet = begins-to-wait choice c (access_of t depth flat choice) some
-  goes-asks t depth flat c (HeldBy other) choice some quiet = stays (chosen choice) (HeldBy other) c (access_of t depth flat choice) (core_of flat (chosen choice)).pending [] quiet
-  goes-asks t depth flat c (HeldBetween e) choice some quiet = stays (chosen choice) (HeldBetween e) c (access_of t depth flat choice) (core_of flat (chosen choice)).pending [] quiet
+  goes-asks t depth flat c (HeldBy other) choice some quiet =
+      stays (chosen choice) (HeldBy other) c (access_of t depth flat choice) (core_of flat (chosen choice)).pending [] quiet
+  goes-asks t depth flat c (HeldBetween e) choice some quiet =
+      stays (chosen choice) (HeldBetween e) c (access_of t depth flat choice) (core_of flat (chosen choice)).pending [] quiet
 
   goes-begins : (t : Litmus) (depth : ℕ) (flat : State) (c : Caches) (holder : Holder) (a : Attempt) → Quiet holder c
       → Goes t depth flat c holder a.choice (begins t depth flat a holder)
   goes-begins t depth flat c holder a quiet =
       begins-by (Goes t depth flat c holder a.choice) t depth flat a holder
-      (λ needs. goes-asks t depth flat c holder a.choice (no-access _ _ needs) quiet) (λ free. goes-acts t depth flat c holder a.choice (effect_of t depth flat a.choice) quiet)
+      (λ needs. goes-asks t depth flat c holder a.choice (no-access _ _ needs) quiet)
+      (λ free. goes-acts t depth flat c holder a.choice (effect_of t depth flat a.choice) quiet)
 
   goes-completes : (t : Litmus) (depth : ℕ) (flat : State) (c : Caches) (choice : Choice) → access_of t depth flat choice ≢ NoAccess
       → Goes t depth flat c (HeldBy choice) choice (completes t depth flat choice (access_of t depth flat choice))
@@ -351,14 +379,17 @@ module _ (waits : Option Awaited → ℕ) (ask count : CacheUse → ℕ) (h : In
       (λ whole some. comes choice c (access_of t depth flat choice) Free some (λ o. refl))
       (λ core loc reads some. comes (Step core) c (access_of t depth flat (Step core)) (HeldBetween (load_part flat core.0 loc)) some (λ o. refl)) some
 
-  goes-on : (bus : Bus) (t : Litmus) (depth : ℕ) (flat : State) (holder : Holder) (c : Caches) (a : Attempt) → HolderFits bus t depth flat holder → Quiet holder c
+  goes-on : (bus : Bus) (t : Litmus) (depth : ℕ) (flat : State) (holder : Holder) (c : Caches) (a : Attempt)
+      → HolderFits bus t depth flat holder
+      → Quiet holder c
       → Goes t depth flat c holder a.choice (effect_on bus t depth (record { flat = flat; holder = holder }) a)
   goes-on Atomic t depth flat holder c a fits quiet = goes-acts t depth flat c holder a.choice (effect_of t depth flat a.choice) quiet
   goes-on Split t depth flat holder c a fits quiet =
       split-by (λ held x f. HolderFits Split t depth flat held → Quiet held c → Goes t depth flat c held x f) t depth flat a holder
       (λ held other fits quiet. goes-begins t depth flat c held a quiet)
       (λ asked fits quiet. goes-completes t depth flat c asked fits)
-      (λ e fits quiet. frees e.core.0 e c (access_of t depth flat (Step e.core)) (core_of flat e.core.0).pending (writes_last t depth flat e).effect.commits quiet)
+      (λ e fits quiet.
+      frees e.core.0 e c (access_of t depth flat (Step e.core)) (core_of flat e.core.0).pending (writes_last t depth flat e).effect.commits quiet)
       fits quiet
 
 -- ---- all choices
@@ -371,11 +402,14 @@ EndsFrom m choices =
 abbrev FitsFrom : Running → List Choice → Type 0
 FitsFrom m choices = HitsFit m.bus m.test m.depth m.state (answered_from m.bus m.test m.depth m.state m.statistics.caches choices)
 
-all-steps : (rest owed_next ask_rest owed_now ask_one count_one ask_here count_here : ℕ) → rest ≡ owed_next + ask_rest → owed_now + ask_one ≡ count_one + owed_next
+all-steps : (rest owed_next ask_rest owed_now ask_one count_one ask_here count_here : ℕ)
+    → rest ≡ owed_next + ask_rest
+    → owed_now + ask_one ≡ count_one + owed_next
     → ask_here ≡ ask_one → count_here ≡ count_one → count_here + rest ≡ owed_now + (ask_here + ask_rest)
 all-steps a b c d e f g i p q r s = omega (arith, p, q, r, s)
 
-module _ (waits : Option Awaited → ℕ) (ask count : CacheUse → ℕ) (h : InStep waits ask count) (laws : AttemptsLeadFromStateToState) (so_far : WhatHoldsSoFarOnEitherBus) (k : ℕ) where
+module _ (waits : Option Awaited → ℕ) (ask count : CacheUse → ℕ) (h : InStep waits ask count)
+    (laws : AttemptsLeadFromStateToState) (so_far : WhatHoldsSoFarOnEitherBus) (k : ℕ) where
   abbrev Total : Running → List Choice → Type 0
   Total m choices =
       sum_of_uses count k (uses_from m choices) ≡ owed waits k m.state.holder m.statistics.caches.awaited + sum_of_uses ask k (uses_from m choices)
@@ -385,13 +419,20 @@ module _ (waits : Option Awaited → ℕ) (ask count : CacheUse → ℕ) (h : In
   over m possible ended =
       ap (λ (x : Holder). owed waits k x m.statistics.caches.awaited + 0) (sym (so_far.free m.bus m.test m.depth m.commits m.state possible ended))
 
-  along : (m : Running) (choices : List Choice) → IsPossibleOn m.bus m.test m.depth m.commits m.state → FitsFrom m choices → Quiet m.state.holder m.statistics.caches → EndsFrom m choices → Total m choices
+  along : (m : Running) (choices : List Choice)
+      → IsPossibleOn m.bus m.test m.depth m.commits m.state
+      → FitsFrom m choices
+      → Quiet m.state.holder m.statistics.caches
+      → EndsFrom m choices
+      → Total m choices
   along m [] possible fit quiet ends = over m possible ends
-  along m (c ∷ cs) possible fit quiet ends = by_end (has_ended m.test m.state.flat) refl ends (λ possible fit quiet ends. along (machine_after m c) cs possible fit quiet ends)
+  along m (c ∷ cs) possible fit quiet ends =
+      by_end (has_ended m.test m.state.flat) refl ends (λ possible fit quiet ends. along (machine_after m c) cs possible fit quiet ends)
     where
       by_end : (b : Bool) → has_ended m.test m.state.flat ≡ b
           → (if b
-          then resting_on true m.state (length (attempt_on m c ∷ answered_from m.bus m.test m.depth (machine_after m c).state (machine_after m c).statistics.caches cs))
+          then resting_on true m.state
+          (length (attempt_on m c ∷ answered_from m.bus m.test m.depth (machine_after m c).state (machine_after m c).statistics.caches cs))
           else then_on (effect_on m.bus m.test m.depth m.state (attempt_on m c)) (run_on_from m.bus m.test m.depth (machine_after m c).state
           (answered_from m.bus m.test m.depth (machine_after m c).state (machine_after m c).statistics.caches cs))).run.ended ≡ true
           → (IsPossibleOn m.bus m.test m.depth (machine_after m c).commits (machine_after m c).state → FitsFrom (machine_after m c) cs
@@ -400,14 +441,20 @@ module _ (waits : Option Awaited → ℕ) (ask count : CacheUse → ℕ) (h : In
           ≡ owed waits k m.state.holder m.statistics.caches.awaited + sum_of_uses ask k (if b then [] else core_use_at m c ∷ uses_from (machine_after m c) cs)
       by_end true ended stops further = over m possible ended
       by_end false ended goes further =
-          let step = goes-on waits ask count h k m.bus m.test m.depth m.state.flat m.state.holder m.statistics.caches (attempt_on m c) (so_far.so_far m.bus m.test m.depth m.commits m.state possible).holder quiet in
+          let step =
+          goes-on waits ask count h k m.bus m.test m.depth m.state.flat m.state.holder m.statistics.caches
+          (attempt_on m c)
+          (so_far.so_far m.bus m.test m.depth m.commits m.state possible).holder quiet in
           let rest = further (laws.next m.bus m.test m.depth m.commits m.state (attempt_on m c) possible fit.0) fit.1 step.1 goes in
           all-steps _ _ _ _ _ _ _ _ rest step.0
           (ap (λ (i : ℕ). if i == k then ask (machine_use m c).how else 0) (core-is c))
           (ap (λ (i : ℕ). if i == k then count (machine_use m c).how else 0) (core-is c))
 
   -- of a whole run
-  whole-run : AtomicRunsAreFlatRuns → (t : Litmus) (kind : ProtocolKind) (c : Configuration) (choices : List Choice) → AnswersFit t kind c choices → (run_under t kind c choices).ended ≡ true
+  whole-run : AtomicRunsAreFlatRuns
+      → (t : Litmus) (kind : ProtocolKind) (c : Configuration) (choices : List Choice)
+      → AnswersFit t kind c choices
+      → (run_under t kind c choices).ended ≡ true
       → sum_of_uses count k (uses_of (table_of kind) c t choices) ≡ sum_of_uses ask k (uses_of (table_of kind) c t choices)
   whole-run flat t kind c choices fit ended =
       zero-gone _ _ (along (new_machine (table_of kind) c t) choices (laws.first c.bus t c.depth) fit (λ free. refl)
@@ -426,7 +473,9 @@ all-accesses = record {
 }
   where
     by_report : (b : Bool) (kind : AccessKind) (c : Counts)
-        → (with_write_back b (with_access kind c)).hits + (with_write_back b (with_access kind c)).misses + (with_write_back b (with_access kind c)).upgrades ≡ c.hits + c.misses + c.upgrades + 1
+        → (with_write_back b (with_access kind c)).hits + (with_write_back b (with_access kind c)).misses
+        + (with_write_back b (with_access kind c)).upgrades
+        ≡ c.hits + c.misses + c.upgrades + 1
     by_report true Hit c = omega arith
     by_report true Miss c = omega arith
     by_report true Upgrade c = omega arith
@@ -491,7 +540,9 @@ all-supplies table core Forwarded x = omega arith
 all-supplies table core (Asked q) x = omega arith
 all-supplies table core (Through r) x = by_request r.request
   where
-    by_request : (o : Option BusRequest) → (with_requested table core o x).from_caches + (with_requested table core o x).from_memory ≡ x.from_caches + x.from_memory + supplies_of o
+    by_request : (o : Option BusRequest)
+        → (with_requested table core o x).from_caches + (with_requested table core o x).from_memory
+        ≡ x.from_caches + x.from_memory + supplies_of o
     by_request None = omega arith
     by_request (Some q) = omega arith
 
@@ -501,8 +552,12 @@ counts-add-up laws so_far flat t kind c choices k fit ended l =
     let uses = uses_of table c t choices in
     record {
       made = counted-by-uses _ _ all-accesses table c t choices k l;
-      requested = counted-by-uses _ _ all-needing table c t choices k l ∙ whole-run awaits requests_in needing_in requests-in-step laws so_far k flat t kind c choices fit ended
+      requested =
+          counted-by-uses _ _ all-needing table c t choices k l
+          ∙ whole-run awaits requests_in needing_in requests-in-step laws so_far k flat t kind c choices fit ended
           ∙ sym (moved-in-all table k _ _ (all-requests table k) refl uses);
-      supplied = counted-by-uses _ _ all-missing table c t choices k l ∙ whole-run awaits_line supplies_in missing_in supplies-in-step laws so_far k flat t kind c choices fit ended
+      supplied =
+          counted-by-uses _ _ all-missing table c t choices k l
+          ∙ whole-run awaits_line supplies_in missing_in supplies-in-step laws so_far k flat t kind c choices fit ended
           ∙ sym (moved-in-all table k _ _ (all-supplies table k) refl uses);
     }

@@ -16,7 +16,9 @@ uses-end : (m : Running) (cs : List Choice) → has_ended m.test m.state.flat �
 uses-end m [] h = refl
 uses-end m (c ∷ cs) h = ap (λ b. if b then [] else core_use_at m c ∷ uses_from (machine_after m c) cs) h
 
-uses-next : (m : Running) (c : Choice) (cs : List Choice) → has_ended m.test m.state.flat ≡ false → uses_from m (c ∷ cs) ≡ core_use_at m c ∷ uses_from (machine_after m c) cs
+uses-next : (m : Running) (c : Choice) (cs : List Choice)
+    → has_ended m.test m.state.flat ≡ false
+    → uses_from m (c ∷ cs) ≡ core_use_at m c ∷ uses_from (machine_after m c) cs
 uses-next m c cs h = ap (λ b. if b then [] else core_use_at m c ∷ uses_from (machine_after m c) cs) h
 
 noted-along : (o last : Noter) (m left : Running) (number : ℕ) (choices : List Choice) → Watched Notes o m number choices last left

@@ -1,5 +1,6 @@
 -- What adds up in each run adds up over the runs of a plan.
-use Rattle.std.proofs.Common.{◌≡◌, ◌+◌, ◌*◌, ◌<◌, ℕ, zero, suc, Bool, true, false, if◌then◌else◌, List, [], ◌∷◌, ◌++◌, length, slice_get, slice_index_or, Option, None, Some, refl, sym, ap, subst, ◌∙◌, arith}
+use Rattle.std.proofs.Common.{◌≡◌, ◌+◌, ◌*◌, ◌<◌, ℕ, zero, suc, Bool, true, false, if◌then◌else◌, List, [], ◌∷◌, ◌++◌, length, slice_get}
+use Rattle.std.proofs.Common.{slice_index_or, Option, None, Some, refl, sym, ap, subst, ◌∙◌, arith}
 use Rattle.tso_terms.specs.Litmus.{Litmus}
 use Rattle.tso_terms.specs.declared.choice.Choice.{Choice}
 use Rattle.protocol_tables.specs.Tables.{Table, table_of}
@@ -10,7 +11,8 @@ use Rattle.multiprocessor.specs.declared.counts.Counts.{Counts}
 use Rattle.machine_runs.specs.Runs.{AnswersFit, counts_under, run_under}
 use Rattle.machine_runs.proofs.CountLemmas.{counts-each}
 use Rattle.cache_counts.specs.AddingUp.{CountsAddUp, SumsAddUp, SumsOfPlansAddUp, printed_sum, sum_in}
-use Rattle.cache_counts.specs.Counted.{Counted, choices_of, core_numbers, counted_of, numbers_from, numbers_under, seeded_numbers, spreads_with, with_counted_run}
+use Rattle.cache_counts.specs.Counted.{Counted, choices_of, core_numbers, counted_of, numbers_from, numbers_under, seeded_numbers}
+use Rattle.cache_counts.specs.Counted.{spreads_with, with_counted_run}
 use Rattle.cache_counts.specs.Laws.{or_zero}
 use Rattle.cache_counts.specs.Traffic.{traffic_of}
 use Rattle.cache_counts.specs.Uses.{uses_of}
@@ -37,7 +39,9 @@ no-sum zero = refl
 no-sum (suc place) = refl
 
 -- a number that is laid in raises the sum at its place
-sum-with : (ss : List Spread) (ns : List ℕ) (place : ℕ) → place < length ns → sum_in (slice_get (spreads_with ss ns) place) ≡ sum_in (slice_get ss place) + or_zero (slice_get ns place)
+sum-with : (ss : List Spread) (ns : List ℕ) (place : ℕ)
+    → place < length ns
+    → sum_in (slice_get (spreads_with ss ns) place) ≡ sum_in (slice_get ss place) + or_zero (slice_get ns place)
 sum-with ss [] place l = absurd (omega arith)
 sum-with [] (n ∷ ns) zero l = omega arith
 sum-with [] (n ∷ ns) (suc place) l =
@@ -50,7 +54,8 @@ sum-with (s ∷ ss) (n ∷ ns) (suc place) l = sum-with ss ns place (omega arith
 -- ---- the numbers of a core
 
 core-first : (table : Table) (uses : List CoreUse) (start i place : ℕ) (cs : List Counts) → i < length cs → place < 12
-    → slice_get (numbers_from table uses start cs) (12 * i + place) ≡ slice_get (core_numbers (slice_index_or cs i no_counts) (traffic_of table (start + i) uses)) place
+    → slice_get (numbers_from table uses start cs) (12 * i + place)
+    ≡ slice_get (core_numbers (slice_index_or cs i no_counts) (traffic_of table (start + i) uses)) place
 core-first table uses start i place [] l p = absurd (omega arith)
 core-first table uses start zero place (c ∷ cs) l p =
     let x : Traffic = traffic_of table start uses in
@@ -64,7 +69,9 @@ core-first table uses start (suc i) place (c ∷ cs) l p =
     let rest : List ℕ = numbers_from table uses (start + 1) cs in
     let here : 12 * suc i + place ≡ 12 + (12 * i + place) = omega arith in
     let same : start + 1 + i ≡ start + suc i = omega arith in
-    ap (slice_get (core_numbers c x ++ rest)) here ∙ get-right (core_numbers c x) rest (12 * i + place) ∙ core-first table uses (start + 1) i place cs (omega arith) p
+    ap (slice_get (core_numbers c x ++ rest)) here
+    ∙ get-right (core_numbers c x) rest (12 * i + place)
+    ∙ core-first table uses (start + 1) i place cs (omega arith) p
     ∙ ap (λ (n : ℕ). slice_get (core_numbers (slice_index_or cs i no_counts) (traffic_of table n uses)) place) same
 
 size-of : (table : Table) (uses : List CoreUse) (start : ℕ) (cs : List Counts) → length (numbers_from table uses start cs) ≡ 12 * length cs
@@ -99,7 +106,12 @@ more a b c d e f g i h k = omega (arith, h, k)
 one-more : (a c d e g i : ℕ) → a ≡ c + d → e ≡ g + i → a + e ≡ c + g + (d + i)
 one-more a c d e g i h k = omega (arith, h, k)
 
-with-one : (cores core : ℕ) → core < cores → (o : Option (List ℕ)) (k : Counted) → AllAdd cores core o → SumsAddUp k.spreads core → SumsAddUp (with_counted_run o k).spreads core
+with-one : (cores core : ℕ)
+    → core < cores
+    → (o : Option (List ℕ)) (k : Counted)
+    → AllAdd cores core o
+    → SumsAddUp k.spreads core
+    → SumsAddUp (with_counted_run o k).spreads core
 unfolding AllAdd
 with-one cores core l None k add sums = sums
 with-one cores core l (Some ns) k add sums =
@@ -109,7 +121,9 @@ with-one cores core l (Some ns) k add sums =
     record {
       requests = four-sums _ _ _ _ _ _ _ _ (raised 1 (omega arith)) (raised 2 (omega arith)) (raised 6 (omega arith)) (raised 7 (omega arith))
           (more _ _ _ _ _ _ _ _ sums.requests add.requests);
-      supplies = three-sums _ _ _ _ _ _ (raised 1 (omega arith)) (raised 9 (omega arith)) (raised 10 (omega arith)) (one-more _ _ _ _ _ _ sums.supplies add.supplies);
+      supplies =
+          three-sums _ _ _ _ _ _ (raised 1 (omega arith)) (raised 9 (omega arith)) (raised 10 (omega arith))
+          (one-more _ _ _ _ _ _ sums.supplies add.supplies);
     }
 
 none-yet : (core : ℕ) → SumsAddUp no-spreads core
@@ -120,29 +134,44 @@ none-yet core =
       supplies = three-sums _ _ _ 0 0 0 (at 1) (at 9) (at 10) refl;
     }
 
-all-runs : (runs : ℕ → Option (List ℕ)) (cores core n : ℕ) → core < cores → ((i : ℕ) → i < n → AllAdd cores core (runs i)) → SumsAddUp (counted_of runs n).spreads core
+all-runs : (runs : ℕ → Option (List ℕ)) (cores core n : ℕ)
+    → core < cores
+    → ((i : ℕ) → i < n → AllAdd cores core (runs i))
+    → SumsAddUp (counted_of runs n).spreads core
 all-runs runs cores core zero l add = none-yet core
 all-runs runs cores core (suc n) l add =
     with-one cores core l (runs n) (counted_of runs n) (add n (omega arith)) (all-runs runs cores core n l (λ i less. add i (omega (arith, less))))
 
 -- the numbers of the run under choices
-run-adds : CountsAddUp → (t : Litmus) (kind : ProtocolKind) (c : Configuration) (choices : List Choice) (core : ℕ) → core < length t.programs → AnswersFit t kind c choices
+run-adds : CountsAddUp
+    → (t : Litmus) (kind : ProtocolKind) (c : Configuration) (choices : List Choice) (core : ℕ)
+    → core < length t.programs
+    → AnswersFit t kind c choices
     → AllAdd (length t.programs) core (numbers_under t kind c choices)
 unfolding AllAdd
 run-adds law t kind c choices core l fit = by_end (run_under t kind c choices).ended refl
   where
     by_end : (b : Bool) → (run_under t kind c choices).ended ≡ b
-        → AllAdd (length t.programs) core (if b then Some (numbers_from (table_of kind) (uses_of (table_of kind) c t choices) 0 (counts_under t kind c choices)) else None)
+        → AllAdd (length t.programs) core
+        (if b
+        then Some (numbers_from (table_of kind) (uses_of (table_of kind) c t choices) 0 (counts_under t kind c choices))
+        else None)
     by_end false ended = tt
     by_end true ended =
         let table : Table = table_of kind in
         let uses : List CoreUse = uses_of table c t choices in
         let cs : List Counts = counts_under t kind c choices in
         let cores : length cs ≡ length t.programs = counts-each c.bus table c.shape t c.depth choices in
-        let at : (place : ℕ) → place < 12 → number_at (numbers_from table uses 0 cs) core place ≡ or_zero (slice_get (core_numbers (slice_index_or cs core no_counts) (traffic_of table (0 + core) uses)) place) =
+        let at : (place : ℕ)
+        → place < 12
+        → number_at (numbers_from table uses 0 cs) core place
+        ≡ or_zero (slice_get (core_numbers (slice_index_or cs core no_counts) (traffic_of table (0 + core) uses)) place) =
         λ place p. ap or_zero (core-first table uses 0 core place cs (subst (λ (n : ℕ). core < n) (sym cores) l) p) in
         let same : 0 + core ≡ core = omega arith in
-        let here : (place : ℕ) → place < 12 → number_at (numbers_from table uses 0 cs) core place ≡ or_zero (slice_get (core_numbers (slice_index_or cs core no_counts) (traffic_of table core uses)) place) =
+        let here : (place : ℕ)
+        → place < 12
+        → number_at (numbers_from table uses 0 cs) core place
+        ≡ or_zero (slice_get (core_numbers (slice_index_or cs core no_counts) (traffic_of table core uses)) place) =
         λ place p. at place p ∙ ap (λ (n : ℕ). or_zero (slice_get (core_numbers (slice_index_or cs core no_counts) (traffic_of table n uses)) place)) same in
         let adds = law t kind c choices core fit ended l in
         let h1 = here 1 (omega arith) in

@@ -1,5 +1,6 @@
 -- What is counted of several runs tells each of them.
-use Rattle.std.proofs.Common.{◌≡◌, ◌<◌, ◌≤◌, ◌+◌, ◌*◌, ◌⊎◌, inl, inr, ℕ, zero, suc, min, max, Bool, true, false, if◌then◌else◌, List, [], ◌∷◌, length, slice_get, Option, Some, None, IfSome, refl, sym, ap, subst, ◌∙◌, arith}
+use Rattle.std.proofs.Common.{◌≡◌, ◌<◌, ◌≤◌, ◌+◌, ◌*◌, ◌⊎◌, inl, inr, ℕ, zero, suc, min, max, Bool, true, false, if◌then◌else◌, List, []}
+use Rattle.std.proofs.Common.{◌∷◌, length, slice_get, Option, Some, None, IfSome, refl, sym, ap, subst, ◌∙◌, arith}
 use Rattle.basic_laws.proofs.Basics.{lt-or}
 use Rattle.std.proofs.lemmas.List.{length-append}
 use Rattle.tso_terms.specs.Litmus.{Litmus}
@@ -10,7 +11,8 @@ use Rattle.multiprocessor.specs.Configuration.{Configuration}
 use Rattle.multiprocessor.specs.declared.counts.Counts.{Counts}
 use Rattle.machine_runs.specs.Runs.{run_under, counts_under}
 use Rattle.machine_runs.proofs.CountLemmas.{counts-each}
-use Rattle.cache_counts.specs.Counted.{Counted, counted_of, core_numbers, numbers_from, numbers_under, seeded_numbers, spread_with, spreads_with, with_counted_run}
+use Rattle.cache_counts.specs.Counted.{Counted, counted_of, core_numbers, numbers_from, numbers_under, seeded_numbers, spread_with}
+use Rattle.cache_counts.specs.Counted.{spreads_with, with_counted_run}
 use Rattle.cache_counts.specs.Laws.{number_of_run, or_zero, sum_over, ends, ended_among, TellsNumbers, TellsRuns, CountsTellTheirRuns}
 use Rattle.cache_counts.specs.Traffic.{traffic_of}
 use Rattle.cache_counts.specs.Uses.{uses_of}
@@ -34,7 +36,9 @@ skip-number number n s none tells =
     let less : n < suc n = omega arith in
     record {
       sum = tells.sum ∙ (let z : sum_over number n ≡ sum_over number n + 0 = omega arith in z) ∙ ap (λ o. sum_over number n + or_zero o) (sym none);
-      within = last-or (λ i. IfSome (number i) (λ x. (s.least ≤ x) × (x ≤ s.greatest))) n (subst (λ o. IfSome o (λ x. (s.least ≤ x) × (x ≤ s.greatest))) (sym none) tt) tells.within;
+      within =
+          last-or (λ i. IfSome (number i) (λ x. (s.least ≤ x) × (x ≤ s.greatest))) n
+          (subst (λ o. IfSome o (λ x. (s.least ≤ x) × (x ≤ s.greatest))) (sym none) tt) tells.within;
       least = (let m = tells.least in (m.0, (let z : m.0 < suc n = omega (arith, m.1) in z), m.2));
       greatest = (let m = tells.greatest in (m.0, (let z : m.0 < suc n = omega (arith, m.1) in z), m.2));
     }
@@ -142,7 +146,8 @@ one-more runs size n k (Some ns) is sized c = record {
     all = (let all = c.tells.all in let z : k.ended + 1 + k.unfinished ≡ suc n = omega arith in z);
     size = λ some. length-with k.spreads ns ∙ sized;
     numbers = λ place s at. let got = get-with k.spreads ns place s at in
-        subst (λ t. TellsNumbers (λ i. number_of_run place (runs i)) (suc n) t) (sym got.2) (by_place place got.0 (ap (number_of_run place) is ∙ got.1) (slice_get k.spreads place) refl);
+        subst (λ t. TellsNumbers (λ i. number_of_run place (runs i)) (suc n) t) (sym got.2)
+        (by_place place got.0 (ap (number_of_run place) is ∙ got.1) (slice_get k.spreads place) refl);
   };
   none = λ e. absurd (omega (arith, e));
 }
@@ -182,7 +187,8 @@ twelve-each table uses core (c ∷ cs) =
     length-append (core_numbers c (traffic_of table core uses)) (numbers_from table uses (core + 1) cs)
     ∙ (let z : 12 + length (numbers_from table uses (core + 1) cs) ≡ 12 * suc (length cs) = omega arith in z)
 
-twelve : (t : Litmus) (kind : ProtocolKind) (c : Configuration) (choices : List Choice) → IfSome (numbers_under t kind c choices) (λ ns. length ns ≡ 12 * length t.programs)
+twelve : (t : Litmus) (kind : ProtocolKind) (c : Configuration) (choices : List Choice)
+    → IfSome (numbers_under t kind c choices) (λ ns. length ns ≡ 12 * length t.programs)
 twelve t kind c choices = by_end (run_under t kind c choices).ended
   where
     ns : List ℕ

@@ -1,5 +1,6 @@
 -- A count of a core, and what was moved for it, is the sum of what each of its choices adds.
-use Rattle.std.proofs.Common.{◌≡◌, ◌≢◌, ◌<◌, ◌+◌, ◌==◌, inl, inr, ℕ, Bool, true, false, if◌then◌else◌, List, [], ◌∷◌, length, replicate, slice_index_or, Option, None, Some, refl, sym, ap, subst, ◌∙◌, arith, get_or-set_same, get_or-set_other}
+use Rattle.std.proofs.Common.{◌≡◌, ◌≢◌, ◌<◌, ◌+◌, ◌==◌, inl, inr, ℕ, Bool, true, false, if◌then◌else◌, List, [], ◌∷◌, length, replicate}
+use Rattle.std.proofs.Common.{slice_index_or, Option, None, Some, refl, sym, ap, subst, ◌∙◌, arith, get_or-set_same, get_or-set_other}
 use Rattle.basic_laws.proofs.Basics.{decide, test-true, test-false}
 use Rattle.std.proofs.lemmas.List.{get_or-replicate, length-replicate, length-set}
 use Rattle.tso_terms.specs.Litmus.{Litmus}
@@ -13,7 +14,8 @@ use Rattle.snoop_bus.specs.declared.access.AccessReport.{AccessReport}
 use Rattle.snoop_bus.specs.declared.access.BusRequest.{BusRequest}
 use Rattle.multiprocessor.specs.Configuration.{Configuration}
 use Rattle.multiprocessor.specs.Keeping.{core_in}
-use Rattle.multiprocessor.specs.Statistics.{counts_at_core, counts_of, flush_counted, no_counts, statistics_from, with_access, with_flush, with_forward, with_use_counted, with_write_back}
+use Rattle.multiprocessor.specs.Statistics.{counts_at_core, counts_of, flush_counted, no_counts, statistics_from, with_access, with_flush}
+use Rattle.multiprocessor.specs.Statistics.{with_forward, with_use_counted, with_write_back}
 use Rattle.multiprocessor.specs.declared.accesses.CacheUse.{CacheUse}
 use Rattle.multiprocessor.specs.declared.accesses.CacheUse.TheVariants.{Asked, Forwarded, Through, Unused}
 use Rattle.multiprocessor.specs.declared.counts.Counts.{Counts}
@@ -68,7 +70,10 @@ module _ (number : Counts → ℕ) (of_use : CacheUse → ℕ) (h : CountsEach n
       with-flush r.access.flushed (counts_at_core k change cs) k (subst (λ (n : ℕ). k < n) (sym size) l)
       ∙ ap number (at-own k change cs l) ∙ h.through r (count_at cs k)
 
-  other : (k core : ℕ) (how : CacheUse) (cs : List Counts) → k < length cs → k ≢ core → number (count_at (with_use_counted core how cs) k) ≡ number (count_at cs k)
+  other : (k core : ℕ) (how : CacheUse) (cs : List Counts)
+      → k < length cs
+      → k ≢ core
+      → number (count_at (with_use_counted core how cs) k) ≡ number (count_at cs k)
   other k core Unused cs l n = refl
   other k core Forwarded cs l n = ap number (at-other k core with_forward cs n)
   other k core (Asked q) cs l n = refl
@@ -80,9 +85,15 @@ module _ (number : Counts → ℕ) (of_use : CacheUse → ℕ) (h : CountsEach n
   one-use : (k core : ℕ) (how : CacheUse) (cs : List Counts) → k < length cs
       → number (count_at (with_use_counted core how cs) k) ≡ number (count_at cs k) + (if core == k then of_use how else 0)
   one-use k core how cs l = elim (decide core k) [
-    | inl is ↦ subst (λ (b : Bool). number (count_at (with_use_counted core how cs) k) ≡ number (count_at cs k) + (if b then of_use how else 0)) (sym (test-true core k is))
+    | inl is ↦
+        subst (λ (b : Bool).
+        number (count_at (with_use_counted core how cs) k) ≡ number (count_at cs k) + (if b then of_use how else 0))
+        (sym (test-true core k is))
         (subst (λ (i : ℕ). number (count_at (with_use_counted i how cs) k) ≡ number (count_at cs k) + of_use how) (sym is) (own k how cs l))
-    | inr n ↦ subst (λ (b : Bool). number (count_at (with_use_counted core how cs) k) ≡ number (count_at cs k) + (if b then of_use how else 0)) (sym (test-false core k n))
+    | inr n ↦
+        subst (λ (b : Bool).
+        number (count_at (with_use_counted core how cs) k) ≡ number (count_at cs k) + (if b then of_use how else 0))
+        (sym (test-false core k n))
         (no-more _ _ _ (other k core how cs l (λ e. n (sym e))) refl)
   ]
 
@@ -97,16 +108,26 @@ step-more : (a b c d e f : ℕ) → a ≡ b + d → b ≡ c + e → f ≡ e → 
 step-more a b c d e f p q r = omega (arith, p, q, r)
 
 -- from a machine on
-counted-along : (number : Counts → ℕ) (of_use : CacheUse → ℕ) → CountsEach number of_use → (k : ℕ) (m : Running) (choices : List Choice) → k < length m.statistics.counts
-    → number (count_at (statistics_from m.bus m.test m.depth m.state choices m.statistics).counts k) ≡ number (count_at m.statistics.counts k) + sum_of_uses of_use k (uses_from m choices)
+counted-along : (number : Counts → ℕ) (of_use : CacheUse → ℕ)
+    → CountsEach number of_use
+    → (k : ℕ) (m : Running) (choices : List Choice)
+    → k < length m.statistics.counts
+    → number (count_at (statistics_from m.bus m.test m.depth m.state choices m.statistics).counts k)
+    ≡ number (count_at m.statistics.counts k) + sum_of_uses of_use k (uses_from m choices)
 counted-along number of_use h k m [] l = no-more _ _ _ refl refl
 counted-along number of_use h k m (c ∷ cs) l =
     by_end (has_ended m.test m.state.flat)
-    (counted-along number of_use h k (machine_after m c) cs (subst (λ (n : ℕ). k < n) (sym (length-counted (chosen c) (machine_use m c).how m.statistics.counts)) l))
+    (counted-along number of_use h k (machine_after m c) cs
+    (subst (λ (n : ℕ). k < n) (sym (length-counted (chosen c) (machine_use m c).how m.statistics.counts)) l))
   where
     by_end : (b : Bool)
-        → number (count_at (statistics_from m.bus m.test m.depth (machine_after m c).state cs (machine_after m c).statistics).counts k) ≡ number (count_at (machine_after m c).statistics.counts k) + sum_of_uses of_use k (uses_from (machine_after m c) cs)
-        → number (count_at (if b then m.statistics else statistics_from m.bus m.test m.depth (machine_after m c).state cs (machine_after m c).statistics).counts k)
+        → number (count_at (statistics_from m.bus m.test m.depth (machine_after m c).state cs (machine_after m c).statistics).counts k)
+        ≡ number (count_at (machine_after m c).statistics.counts k)
+        + sum_of_uses of_use k (uses_from (machine_after m c) cs)
+        → number (count_at (if b
+        then m.statistics
+        else statistics_from m.bus m.test m.depth (machine_after m c).state cs (machine_after m c).statistics).counts
+        k)
         ≡ number (count_at m.statistics.counts k) + sum_of_uses of_use k (if b then [] else core_use_at m c ∷ uses_from (machine_after m c) cs)
     by_end true rest = no-more _ _ _ refl refl
     by_end false rest =
@@ -114,12 +135,17 @@ counted-along number of_use h k m (c ∷ cs) l =
         (ap (λ (i : ℕ). if i == k then of_use (machine_use m c).how else 0) (core-is c))
 
 -- of a whole run
-pub counted-by-uses : (number : Counts → ℕ) (of_use : CacheUse → ℕ) → CountsEach number of_use → (table : Table) (c : Configuration) (t : Litmus) (choices : List Choice) (k : ℕ) → k < length t.programs
+pub counted-by-uses : (number : Counts → ℕ) (of_use : CacheUse → ℕ)
+    → CountsEach number of_use
+    → (table : Table) (c : Configuration) (t : Litmus) (choices : List Choice) (k : ℕ)
+    → k < length t.programs
     → number (count_at (counts_of c.bus table c.shape t c.depth choices) k) ≡ sum_of_uses of_use k (uses_of table c t choices)
 counted-by-uses number of_use h table c t choices k l =
     let m : Running = new_machine table c t in
     let first : count_at (replicate (length t.programs) no_counts) k ≡ no_counts = get_or-replicate (length t.programs) k no_counts no_counts l in
-    from-none _ _ _ (counted-along number of_use h k m choices (subst (λ (n : ℕ). k < n) (sym (length-replicate (length t.programs) no_counts)) l)) (ap number first ∙ h.none)
+    from-none _ _ _
+    (counted-along number of_use h k m choices (subst (λ (n : ℕ). k < n) (sym (length-replicate (length t.programs) no_counts)) l))
+    (ap number first ∙ h.none)
 
 -- ---- what was moved
 
@@ -135,12 +161,17 @@ moved-one table core number of_use each u x =
       | false ↦ no-more _ _ _ refl refl
     ]
 
-moved-by-uses : (table : Table) (core : ℕ) (number : Traffic → ℕ) (of_use : CacheUse → ℕ) → MovesEach table core number of_use → (us : List CoreUse) (x : Traffic)
+moved-by-uses : (table : Table) (core : ℕ) (number : Traffic → ℕ) (of_use : CacheUse → ℕ)
+    → MovesEach table core number of_use
+    → (us : List CoreUse) (x : Traffic)
     → number (traffic_from table core us x) ≡ number x + sum_of_uses of_use core us
 moved-by-uses table core number of_use each [] x = no-more _ _ _ refl refl
 moved-by-uses table core number of_use each (u ∷ us) x =
     step-more _ _ _ _ _ _ (moved-by-uses table core number of_use each us (with_use_of table core u x)) (moved-one table core number of_use each u x) refl
 
-pub moved-in-all : (table : Table) (core : ℕ) (number : Traffic → ℕ) (of_use : CacheUse → ℕ) → MovesEach table core number of_use → number no_traffic ≡ 0 → (us : List CoreUse)
+pub moved-in-all : (table : Table) (core : ℕ) (number : Traffic → ℕ) (of_use : CacheUse → ℕ)
+    → MovesEach table core number of_use
+    → number no_traffic ≡ 0
+    → (us : List CoreUse)
     → number (traffic_of table core us) ≡ sum_of_uses of_use core us
 moved-in-all table core number of_use each none us = from-none _ _ _ (moved-by-uses table core number of_use each us no_traffic) none

@@ -30,7 +30,10 @@ pub fn count_run(
 ) -> Result<Option<Vec<u32>>, NoMemory>
     requires cores { CoresExist (length setup.now.test.now.programs) choices.now }
     requires few { length choices.now ≤ most_choices }
-    ensures numbers { IfOk result (λ found. option_map (λ v. v.items) found ≡ numbers_under setup.now.test.now setup.now.protocol setup.now.config choices.now) }
+    ensures numbers { IfOk result
+        (λ found.
+        option_map (λ v. v.items) found
+        ≡ numbers_under setup.now.test.now setup.now.protocol setup.now.config choices.now) }
     ensures answers { OnOk result (AnswersFit setup.now.test.now setup.now.protocol setup.now.config choices.now) }
 {
     setup.test.know_limits();

@@ -7,7 +7,9 @@ ghost use Rattle.scheduler.specs.Limits.{most_choices};
 ghost use Rattle.protocol_tables.specs.Tables.{table_of};
 ghost use Rattle.tso_terms.specs.Limits.{most_cores};
 ghost use Rattle.cache_set.specs.Requests.{snoop_column};
-ghost use Rattle.cache_counts.specs.Traffic.{traffic_of, with_use_of, with_use, with_traffic_of_access, with_requested, with_traffic_of_request, requests_to_read, requests_to_write, from_cache, from_memory, lines_written_back};
+ghost use Rattle.cache_counts.specs.Traffic.{traffic_of, with_use_of, with_use, with_traffic_of_access, with_requested};
+ghost use Rattle.cache_counts.specs.Traffic.{with_traffic_of_request, requests_to_read, requests_to_write, from_cache, from_memory};
+ghost use Rattle.cache_counts.specs.Traffic.{lines_written_back};
 ghost use Rattle.cache_counts.specs.Traffic.{copies_given_up, given_up};
 ghost use Rattle.cache_counts.specs.inner.Bounds.{IsTrafficAtMost};
 

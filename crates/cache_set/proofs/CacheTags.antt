@@ -1,5 +1,8 @@
 -- The sets of a core, and of all cores, without their words.
-use Rattle.cache_set.proofs.Vocabulary.{arith, ◌≡◌, ℕ, List, [], length, map, Bool, Option, Some, option_map, if◌then◌else◌, refl, ap, ◌∙◌, ◌<◌, ◌+◌, add-one, slice_set, ◌%◌, drop, length-map, map-set, Contents, contents, Sets, in_set, set_at, tags_in, copy_in, copy_at, cache_of, tags_of, get_or-map, drop-cons, State, tag_of, TagSet, TagSets, tags_at, at_line, sets_of, first_from}
+use Rattle.cache_set.proofs.Vocabulary.{arith, ◌≡◌, ℕ, List, [], length, map, Bool, Option, Some, option_map, if◌then◌else◌, refl, ap, ◌∙◌}
+use Rattle.cache_set.proofs.Vocabulary.{◌<◌, ◌+◌, add-one, slice_set, ◌%◌, drop, length-map, map-set, Contents, contents, Sets, in_set}
+use Rattle.cache_set.proofs.Vocabulary.{set_at, tags_in, copy_in, copy_at, cache_of, tags_of, get_or-map, drop-cons, State, tag_of, TagSet}
+use Rattle.cache_set.proofs.Vocabulary.{TagSets, tags_at, at_line, sets_of, first_from}
 use Rattle.cache_set.proofs.TagLemmas.{tag_of-tags}
 
 -- The sets of one core.
@@ -29,7 +32,9 @@ tags-set_cache caches core sets = map-set (map tags_in) caches core sets
 
 pub first-at : (is : Option State → Bool) (line core : ℕ) (caches : List Sets) → core < length caches →
     first_from core is line (drop core (tags_of caches))
-    ≡ (if is (option_map (λ copy. copy.state) (copy_at caches core line)) then Some (record { 0 = core }) else first_from (core + 1) is line (drop (core + 1) (tags_of caches)))
+    ≡ (if is (option_map (λ copy. copy.state) (copy_at caches core line))
+    then Some (record { 0 = core })
+    else first_from (core + 1) is line (drop (core + 1) (tags_of caches)))
 first-at is line core caches b =
     let size : length (tags_of caches) ≡ length caches = length-map caches (map tags_in) in
     let within : core < length (tags_of caches) = omega arith in

@@ -1,5 +1,7 @@
 -- Lists of pairs (line, copy): what is found in them, and what stays true of them, after each edit.
-use Rattle.cache_set.proofs.Vocabulary.{arith, ◌≡◌, ◌≢◌, ◌≤◌, ℕ, zero, suc, Bool, true, false, List, [], ◌∷◌, length, take, map, slice_get, Option, Some, None, option_map, nat_eq, if◌then◌else◌, inl, inr, refl, sym, ap, ◌∙◌, eqb_tells, eq-eqb, lookup, remove_entry, set_value, I, Line, NoLineTwice, NoneInvalid, changed_at}
+use Rattle.cache_set.proofs.Vocabulary.{arith, ◌≡◌, ◌≢◌, ◌≤◌, ℕ, zero, suc, Bool, true, false, List, [], ◌∷◌, length, take, map, slice_get}
+use Rattle.cache_set.proofs.Vocabulary.{Option, Some, None, option_map, nat_eq, if◌then◌else◌, inl, inr, refl, sym, ap, ◌∙◌, eqb_tells}
+use Rattle.cache_set.proofs.Vocabulary.{eq-eqb, lookup, remove_entry, set_value, I, Line, NoLineTwice, NoneInvalid, changed_at}
 
 abbrev none : Option Line
 none = None
@@ -19,7 +21,9 @@ valid-found line copy (e ∷ es) v h = elim (eqb_tells line e.0) [
 
 -- A line is taken out.
 
-pub lookup-remove : (line k : ℕ) (es : List (ℕ × Line)) → NoLineTwice es → lookup (nat_eq k) (remove_entry (nat_eq line) es) ≡ (if nat_eq k line then None else lookup (nat_eq k) es)
+pub lookup-remove : (line k : ℕ) (es : List (ℕ × Line))
+    → NoLineTwice es
+    → lookup (nat_eq k) (remove_entry (nat_eq line) es) ≡ (if nat_eq k line then None else lookup (nat_eq k) es)
 lookup-remove line k [] d = sym (either_none (nat_eq k line))
 lookup-remove line k (e ∷ es) d = elim (eqb_tells line e.0) [
   | inl p ↦ elim (eqb_tells k line) [
@@ -65,7 +69,9 @@ length-remove line (e ∷ es) = elim (eqb_tells line e.0) [
   | inr p ↦ let shorter = length-remove line es in rw p.0 (omega arith)
 ]
 
-pub length-remove-found : (line : ℕ) (copy : Line) (es : List (ℕ × Line)) → lookup (nat_eq line) es ≡ Some copy → suc (length (remove_entry (nat_eq line) es)) ≤ length es
+pub length-remove-found : (line : ℕ) (copy : Line) (es : List (ℕ × Line))
+    → lookup (nat_eq line) es ≡ Some copy
+    → suc (length (remove_entry (nat_eq line) es)) ≤ length es
 length-remove-found line copy [] h = cc
 length-remove-found line copy (e ∷ es) h = elim (eqb_tells line e.0) [
   | inl p ↦ rw p.0 (omega arith)
@@ -112,7 +118,12 @@ lookup-at (suc n) x (e ∷ es) d h =
 pub lookup-cut : (n k : ℕ) (x : ℕ × Line) (es : List (ℕ × Line)) → NoLineTwice es → length es ≤ suc n → slice_get es n ≡ Some x →
     lookup (nat_eq k) (take n es) ≡ (if nat_eq k x.0 then None else lookup (nat_eq k) es)
 lookup-cut n k x [] d l h = cc
-lookup-cut zero k x (e ∷ []) d l h = let same : e ≡ x = cc in rw (← same) (elim (nat_eq k e.0) as (λ b. none ≡ (if b then none else (if b then Some e.1 else none))) [ true ↦ refl | false ↦ refl ])
+lookup-cut zero k x (e ∷ []) d l h =
+    let same : e ≡ x = cc in
+    rw (← same) (elim (nat_eq k e.0) as (λ b. none ≡ (if b then none else (if b then Some e.1 else none))) [
+      | true ↦ refl
+      | false ↦ refl
+    ])
 lookup-cut zero k x (e ∷ f ∷ es) d l h = absurd (omega arith)
 lookup-cut (suc n) k x (e ∷ es) d l h = elim (eqb_tells k e.0) [
   | inl p ↦ elim (eqb_tells k x.0) [
@@ -135,7 +146,9 @@ take-short (suc n) (e ∷ es) h = ap (λ l. e ∷ l) (take-short n es h)
 -- A copy is changed in its place.
 
 module _ (change : Line → Line) (line : ℕ) where
-  pub lookup-changed : (k : ℕ) (es : List (ℕ × Line)) → lookup (nat_eq k) (map (changed_at change line) es) ≡ (if nat_eq k line then option_map change (lookup (nat_eq k) es) else lookup (nat_eq k) es)
+  pub lookup-changed : (k : ℕ) (es : List (ℕ × Line))
+      → lookup (nat_eq k) (map (changed_at change line) es)
+      ≡ (if nat_eq k line then option_map change (lookup (nat_eq k) es) else lookup (nat_eq k) es)
   lookup-changed k [] = sym (either_none (nat_eq k line))
   lookup-changed k (e ∷ es) = elim (eqb_tells line e.0) [
     | inl p ↦ rw p.0 (elim (eqb_tells k e.0) [
@@ -164,7 +177,9 @@ module _ (change : Line → Line) (line : ℕ) where
     | inr p ↦ rw p.0 (absent-changed e.0 es d.0, once-changed es d.1)
   ]
 
-  pub valid-changed : ((copy : Line) → copy.state ≢ I → (change copy).state ≢ I) → (es : List (ℕ × Line)) → NoneInvalid es → NoneInvalid (map (changed_at change line) es)
+  pub valid-changed : ((copy : Line) → copy.state ≢ I → (change copy).state ≢ I)
+      → (es : List (ℕ × Line)) → NoneInvalid es
+      → NoneInvalid (map (changed_at change line) es)
   valid-changed keeps [] v = tt
   valid-changed keeps (e ∷ es) v = elim (eqb_tells line e.0) [
     | inl p ↦ rw p.0 (keeps e.1 v.0, valid-changed keeps es v.1)
@@ -179,7 +194,10 @@ module _ (change : Line → Line) (line : ℕ) where
   ]
 
   -- a write to the copy that is found
-  pub set_value-changed : (copy : Line) (es : List (ℕ × Line)) → NoLineTwice es → lookup (nat_eq line) es ≡ Some copy → set_value (nat_eq line) es (change copy) ≡ map (changed_at change line) es
+  pub set_value-changed : (copy : Line) (es : List (ℕ × Line))
+      → NoLineTwice es
+      → lookup (nat_eq line) es ≡ Some copy
+      → set_value (nat_eq line) es (change copy) ≡ map (changed_at change line) es
   set_value-changed copy [] d h = cc
   set_value-changed copy (e ∷ es) d h = elim (eqb_tells line e.0) [
     | inl p ↦

@@ -1,5 +1,11 @@
 -- One more cache is looked at for a line that a core asks for.
-use Rattle.cache_set.proofs.Vocabulary.{arith, ◌≡◌, ◌≢◌, ◌≤◌, ℕ, zero, suc, Bool, true, false, List, [], length, map, Option, Some, None, option_map, nat_eq, if◌then◌else◌, inl, inr, refl, sym, ap, ◌∙◌, ◌<◌, IsSome, ◌⊎◌, ◌+◌, add-one, slice_set, slice_index_or, replicate, drop, nat_lt, ◌||◌, is_some, unwrap_or, eqb_tells, nat_tests, Line, length-map, get_or-set_same, get_or-set_other, length-set, get_or_past, option_or, Sets, tags_in, copy_in, copy_at, tags_of, drop-cons, drop-length, list_any, Words, State, Snoop, first_from, flusher_from, first_supplier, sends_in, supplies_in, states_by_core, ◌∷◌, tag_in, supplied_of, Supplied, Core, most_cores}
+use Rattle.cache_set.proofs.Vocabulary.{arith, ◌≡◌, ◌≢◌, ◌≤◌, ℕ, zero, suc, Bool, true, false, List, [], length, map, Option, Some, None}
+use Rattle.cache_set.proofs.Vocabulary.{option_map, nat_eq, if◌then◌else◌, inl, inr, refl, sym, ap, ◌∙◌, ◌<◌, IsSome, ◌⊎◌, ◌+◌, add-one}
+use Rattle.cache_set.proofs.Vocabulary.{slice_set, slice_index_or, replicate, drop, nat_lt, ◌||◌, is_some, unwrap_or, eqb_tells, nat_tests}
+use Rattle.cache_set.proofs.Vocabulary.{Line, length-map, get_or-set_same, get_or-set_other, length-set, get_or_past, option_or, Sets}
+use Rattle.cache_set.proofs.Vocabulary.{tags_in, copy_in, copy_at, tags_of, drop-cons, drop-length, list_any, Words, State, Snoop}
+use Rattle.cache_set.proofs.Vocabulary.{first_from, flusher_from, first_supplier, sends_in, supplies_in, states_by_core, ◌∷◌, tag_in}
+use Rattle.cache_set.proofs.Vocabulary.{supplied_of, Supplied, Core, most_cores}
 use Rattle.cache_set.specs.declared.finding.Found.{Found}
 use Rattle.cache_set.specs.inner.Finding.{nothing_found, noting}
 use Rattle.cache_set.proofs.CacheTags.{first-at, tag_at-tags}
@@ -76,15 +82,23 @@ pub noted : (on : State → Snoop) (line n : ℕ) (caches : List Sets) (found : 
 noted on line n caches found copy b few some h = record {
   words = elim h.words [ inl p ↦ first p.0 p.1 (on copy.state).supplies refl | inr p ↦ inr (p.0, already found.words refl p.0 p.1.0 p.1.1) ];
   shared = h.shared ∙ ap (λ (t : Bool). found.shared || t) here ∙ any found.shared;
-  supplier = h.supplier ∙ ap (option_or found.supplier) (rw some at (first-at (supplies_in on) line n caches b)) ∙ next (supplies_in on) found.supplier (on copy.state).supplies;
-  flushed = h.flushed ∙ ap (option_or found.flushed) (rw some at (first-at (sends_in on) line n caches b)) ∙ next (sends_in on) found.flushed (on copy.state).to_memory;
+  supplier =
+      h.supplier
+      ∙ ap (option_or found.supplier) (rw some at (first-at (supplies_in on) line n caches b))
+      ∙ next (supplies_in on) found.supplier (on copy.state).supplies;
+  flushed =
+      h.flushed
+      ∙ ap (option_or found.flushed) (rw some at (first-at (sends_in on) line n caches b))
+      ∙ next (sends_in on) found.flushed (on copy.state).to_memory;
   states = λ i. by_number i (eqb_tells i n);
   room = length-set found.states n (Some copy.state) ∙ h.room;
 }
   where
     first : found.words ≡ None → ((i : ℕ) → i < n → supplied_of on (copy_at caches i line) ≡ None) → (t : Bool) → (on copy.state).supplies ≡ t →
         (((noting n copy (on copy.state) found).words ≡ None) × ((i : ℕ) → i < n + 1 → supplied_of on (copy_at caches i line) ≡ None))
-        ⊎ ((i : ℕ) × (IsSome (noting n copy (on copy.state) found).words × (supplied_of on (copy_at caches i line) ≡ (noting n copy (on copy.state) found).words)))
+        ⊎ ((i : ℕ)
+        × (IsSome (noting n copy (on copy.state) found).words
+        × (supplied_of on (copy_at caches i line) ≡ (noting n copy (on copy.state) found).words)))
     first none f true e = inr (n, (rw (none, e) refl, rw (some, none, e) refl))
     first none f false e = inl (
       rw (none, e) refl,
@@ -106,7 +120,8 @@ noted on line n caches found copy b few some h = record {
     any true = refl
     any false = refl
 
-    next : (is : Option State → Bool) (o : Option Core) (t : Bool) → option_or o (if t then Some (record { 0 = n }) else first_from (n + 1) is line (drop (n + 1) (tags_of caches)))
+    next : (is : Option State → Bool) (o : Option Core) (t : Bool)
+        → option_or o (if t then Some (record { 0 = n }) else first_from (n + 1) is line (drop (n + 1) (tags_of caches)))
         ≡ option_or (option_or o (if t then Some (record { 0 = n }) else None)) (first_from (n + 1) is line (drop (n + 1) (tags_of caches)))
     next is (Some c) t = refl
     next is None true = refl
@@ -163,11 +178,16 @@ module _ (on : State → Snoop) (line : ℕ) (caches : List Sets) (found : Found
   pub told-found : found.states ≡ states_by_core most_cores line (tags_of caches)
   told-found = listed most_cores found.states caches h.room states-found
     where
-      listed : (n : ℕ) (states : List (Option State)) (cs : List Sets) → length states ≡ n → ((i : ℕ) → slice_index_or states i None ≡ state_in (copy_at cs i line))
+      listed : (n : ℕ) (states : List (Option State)) (cs : List Sets)
+          → length states ≡ n
+          → ((i : ℕ) → slice_index_or states i None ≡ state_in (copy_at cs i line))
           → states ≡ states_by_core n line (tags_of cs)
       listed zero [] cs size each = refl
       listed zero (s ∷ ss) cs size each = absurd (omega (arith, size))
       listed (suc n) [] cs size each = absurd (omega (arith, size))
-      listed (suc n) (s ∷ ss) [] size each = ap (λ (o : Option State). o ∷ ss) (each 0) ∙ ap (λ (os : List (Option State)). None ∷ os) (listed n ss [] (omega (arith, size)) (λ i. each (suc i)))
+      listed (suc n) (s ∷ ss) [] size each =
+          ap (λ (o : Option State). o ∷ ss) (each 0)
+          ∙ ap (λ (os : List (Option State)). None ∷ os) (listed n ss [] (omega (arith, size)) (λ i. each (suc i)))
       listed (suc n) (s ∷ ss) (c ∷ cs) size each =
-          ap (λ (o : Option State). o ∷ ss) (each 0 ∙ sym (tag_at-tags c line)) ∙ ap (λ (os : List (Option State)). tag_in (map tags_in c) line ∷ os) (listed n ss cs (omega (arith, size)) (λ i. each (suc i)))
+          ap (λ (o : Option State). o ∷ ss) (each 0 ∙ sym (tag_at-tags c line))
+          ∙ ap (λ (os : List (Option State)). tag_in (map tags_in c) line ∷ os) (listed n ss cs (omega (arith, size)) (λ i. each (suc i)))

@@ -1,5 +1,6 @@
 -- Lines of words that come in the place of others, one after the other.
-use Rattle.cache_set.proofs.Vocabulary.{arith, ◌≡◌, ℕ, List, [], ◌∷◌, length, map, sym, ap, ◌∙◌, ◌<◌, ◌+◌, slice_set, slice_index_or, drop, ◌++◌, append_assoc, drop_more, range_with_len, length-map-range_with_len, map-range_with_len_more}
+use Rattle.cache_set.proofs.Vocabulary.{arith, ◌≡◌, ℕ, List, [], ◌∷◌, length, map, sym, ap, ◌∙◌, ◌<◌, ◌+◌, slice_set, slice_index_or, drop}
+use Rattle.cache_set.proofs.Vocabulary.{◌++◌, append_assoc, drop_more, range_with_len, length-map-range_with_len, map-range_with_len_more}
 use Rattle.std.proofs.lemmas.List.{set_at}
 
 -- one line more comes in the place of the one that was there

@@ -1,13 +1,20 @@
 -- The contents of a set after each call: what holds of them, and what is found in them.
-use Rattle.cache_set.proofs.Vocabulary.{arith, ◌≡◌, ◌≢◌, ◌-◌, ℕ, zero, suc, List, ◌∷◌, take, slice_get, Option, Some, None, IfSome, option_map, nat_eq, if◌then◌else◌, inl, inr, refl, sym, eqb_tells, length-map, option_map_or, lookup, remove_entry, I, Line, Victim, Contents, contents, copy_of, as_victim, victim_of, IsCacheSet, to_front, with_new, changed_at, with_changed, without, after_fill}
-use Rattle.cache_set.proofs.Entries.{valid-found, lookup-remove, absent-remove, once-remove, valid-remove, length-remove, length-remove-found, once-take, valid-take, length-cut, lookup-at, lookup-cut, take-short, lookup-changed, once-changed, valid-changed}
+use Rattle.cache_set.proofs.Vocabulary.{arith, ◌≡◌, ◌≢◌, ◌-◌, ℕ, zero, suc, List, ◌∷◌, take, slice_get, Option, Some, None, IfSome}
+use Rattle.cache_set.proofs.Vocabulary.{option_map, nat_eq, if◌then◌else◌, inl, inr, refl, sym, eqb_tells, length-map, option_map_or}
+use Rattle.cache_set.proofs.Vocabulary.{lookup, remove_entry, I, Line, Victim, Contents, contents, copy_of, as_victim, victim_of}
+use Rattle.cache_set.proofs.Vocabulary.{IsCacheSet, to_front, with_new, changed_at, with_changed, without, after_fill}
+use Rattle.cache_set.proofs.Entries.{valid-found, lookup-remove, absent-remove, once-remove, valid-remove, length-remove}
+use Rattle.cache_set.proofs.Entries.{length-remove-found, once-take, valid-take, length-cut, lookup-at, lookup-cut, take-short}
+use Rattle.cache_set.proofs.Entries.{lookup-changed, once-changed, valid-changed}
 
 -- A line goes to the front.
 
 pub IsCacheSet-to_front : (line : ℕ) (s : Contents) → IsCacheSet s → IsCacheSet (to_front line s)
 IsCacheSet-to_front line s h = found (copy_of s line) refl
   where
-    found : (o : Option Line) → copy_of s line ≡ o → IsCacheSet (contents (option_map_or (λ copy. (line, copy) ∷ remove_entry (nat_eq line) s.copies) o s.copies) s.ways)
+    found : (o : Option Line)
+        → copy_of s line ≡ o
+        → IsCacheSet (contents (option_map_or (λ copy. (line, copy) ∷ remove_entry (nat_eq line) s.copies) o s.copies) s.ways)
     found None e = h
     found (Some copy) e =
         let shorter = length-remove-found line copy s.copies e in
@@ -22,7 +29,10 @@ IsCacheSet-to_front line s h = found (copy_of s line) refl
 pub copy_of-to_front : (line k : ℕ) (s new : Contents) → IsCacheSet s → new ≡ to_front line s → copy_of new k ≡ copy_of s k
 copy_of-to_front line k s new h is = rw is (found (copy_of s line) refl)
   where
-    found : (o : Option Line) → copy_of s line ≡ o → lookup (nat_eq k) (option_map_or (λ copy. (line, copy) ∷ remove_entry (nat_eq line) s.copies) o s.copies) ≡ copy_of s k
+    found : (o : Option Line)
+        → copy_of s line ≡ o
+        → lookup (nat_eq k) (option_map_or (λ copy. (line, copy) ∷ remove_entry (nat_eq line) s.copies) o s.copies)
+        ≡ copy_of s k
     found None e = refl
     found (Some copy) e = elim (eqb_tells k line) [
       | inl p ↦ rw (p.0, p.1, e) refl
@@ -62,7 +72,10 @@ victim_of-was_here v s h left = rw left (last (slice_get s.copies (s.ways - 1)) 
 
 -- A copy is changed.
 
-pub IsCacheSet-with_changed : (change : Line → Line) (line : ℕ) (s : Contents) → ((copy : Line) → copy.state ≢ I → (change copy).state ≢ I) → IsCacheSet s → IsCacheSet (with_changed change line s)
+pub IsCacheSet-with_changed : (change : Line → Line) (line : ℕ) (s : Contents)
+    → ((copy : Line) → copy.state ≢ I → (change copy).state ≢ I)
+    → IsCacheSet s
+    → IsCacheSet (with_changed change line s)
 IsCacheSet-with_changed change line s keeps h = record {
   room = h.room;
   within = rw (length-map s.copies (changed_at change line)) h.within;

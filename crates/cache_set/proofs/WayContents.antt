@@ -1,8 +1,15 @@
 -- What each call of `lru` makes of a set's ways, and that it makes of the copies in them what the set's contents are to be.
-use Rattle.cache_set.proofs.Vocabulary.{arith, ◌≡◌, ◌<◌, ◌-◌, ℕ, zero, suc, true, false, List, [], ◌∷◌, ap, length, take, slice_get, Option, Some, None, IsSome, option_map, nat_eq, inl, inr, refl, sym, ◌∙◌, eq-eqb, take_all, lookup, remove_entry, set_value, I, Line, Victim, Way, Contents, contents, victim_of, IsCacheSet, to_front, with_new, with_changed, without, is_invalid, is_empty, copies_in, way_of, first_empty, IsForNew, copy_left, NumbersBelow, AreWays}
+use Rattle.cache_set.proofs.Vocabulary.{arith, ◌≡◌, ◌<◌, ◌-◌, ℕ, zero, suc, true, false, List, [], ◌∷◌, ap, length, take, slice_get, Option}
+use Rattle.cache_set.proofs.Vocabulary.{Some, None, IsSome, option_map, nat_eq, inl, inr, refl, sym, ◌∙◌, eq-eqb, take_all, lookup}
+use Rattle.cache_set.proofs.Vocabulary.{remove_entry, set_value, I, Line, Victim, Way, Contents, contents, victim_of, IsCacheSet, to_front}
+use Rattle.cache_set.proofs.Vocabulary.{with_new, with_changed, without, is_invalid, is_empty, copies_in, way_of, first_empty, IsForNew}
+use Rattle.cache_set.proofs.Vocabulary.{copy_left, NumbersBelow, AreWays}
 use Rattle.lru.specs.LruCache.{lru_cache, promoted, put_entries}
 use Rattle.cache_set.proofs.Entries.{set_value-changed}
-use Rattle.cache_set.proofs.WayLists.{NoNumberTwice, way_of-found, lookup-way, copies-remove, copies-set, copies-emptied, lookup_entry-way, length-set, below-set, numbered-front, below-found, below-remove, below-more, length-remove-way, absent-below, length-some-empty, empty-way, copies-take, copies-at, full-at, lookup-way-at, remove-last, past-end}
+use Rattle.cache_set.proofs.WayLists.{NoNumberTwice, way_of-found, lookup-way, copies-remove, copies-set, copies-emptied, lookup_entry-way}
+use Rattle.cache_set.proofs.WayLists.{length-set, below-set, numbered-front, below-found, below-remove, below-more, length-remove-way}
+use Rattle.cache_set.proofs.WayLists.{absent-below, length-some-empty, empty-way, copies-take, copies-at, full-at, lookup-way-at}
+use Rattle.cache_set.proofs.WayLists.{remove-last, past-end}
 
 -- a way with this line and this copy
 abbrev pub way_with : ℕ → Line → Way
@@ -27,7 +34,9 @@ AreWays-promoted line w room es h ways =
     rw (promoted-is w there.0 es there.1) (record {
       few = ways.few;
       all = size ∙ ways.all;
-      numbered = numbered-front (length es) w there.0 (remove_entry (nat_eq w) es) size (below-found (length es) w there.0 es ways.numbered there.1) (below-remove (length es) w es ways.numbered);
+      numbered =
+          numbered-front (length es) w there.0 (remove_entry (nat_eq w) es) size
+          (below-found (length es) w there.0 es ways.numbered there.1) (below-remove (length es) w es ways.numbered);
     })
 
 -- A copy is changed, or leaves its way empty.
@@ -37,7 +46,11 @@ pub contents-changed : (change : Line → Line) (line w room : ℕ) (way : Way) 
     → contents (copies_in (set_value (nat_eq w) es (record way { copy = change way.copy }))) room ≡ with_changed change line (contents (copies_in es) room)
 contents-changed change line w room way es valid once h found full =
     let is = lookup-way line w way es once h found in
-    rw (copies-set line w (record way { copy = change way.copy }) es once h is.0 full, set_value-changed change line way.copy (copies_in es) valid.once is.1.1) refl
+    rw (
+      copies-set line w (record way { copy = change way.copy }) es once h is.0 full,
+      set_value-changed change line way.copy (copies_in es) valid.once is.1.1,
+    )
+    refl
 
 abbrev pub emptied : Way → Way
 emptied way = record way { copy = record way.copy { state = I } }
@@ -97,15 +110,25 @@ module _ (line n : ℕ) (copy : Line) (es : List (ℕ × Way)) (valid : is_inval
       | inr f ↦ at-last (slice_get es (length es - 1)) f.0 refl f.1
     ]
       where
-        at-last : (o : Option (ℕ × Way)) → first_empty es ≡ None → slice_get es (length es - 1) ≡ o → option_map (λ e. e.0) o ≡ Some w → IsFilled over (copy_left way)
+        at-last : (o : Option (ℕ × Way))
+            → first_empty es ≡ None
+            → slice_get es (length es - 1) ≡ o
+            → option_map (λ e. e.0) o ≡ Some w
+            → IsFilled over (copy_left way)
         at-last None none last h = cc
         at-last (Some x) none last h = over-last x none (rw (full, one) at last) cc
 
 -- what the ways hold once a line came in, which copy leaves, and that they are ways still
 abbrev pub Fills : ℕ → Line → List (ℕ × Way) → ℕ → List (ℕ × Way) → Option Victim → Type 0
-Fills line copy es room new left = (contents (copies_in new) room ≡ with_new line copy (contents (copies_in es) room)) × ((left ≡ victim_of (contents (copies_in es) room)) × AreWays new room)
+Fills line copy es room new left =
+    (contents (copies_in new) room ≡ with_new line copy (contents (copies_in es) room))
+    × ((left ≡ victim_of (contents (copies_in es) room)) × AreWays new room)
 
-pub taken-over-fills : (line w room : ℕ) (copy : Line) (way : Way) (es : List (ℕ × Way)) → 0 < room → is_invalid copy.state ≡ false → NoNumberTwice es → AreWays es room
+pub taken-over-fills : (line w room : ℕ) (copy : Line) (way : Way) (es : List (ℕ × Way))
+    → 0 < room
+    → is_invalid copy.state ≡ false
+    → NoNumberTwice es
+    → AreWays es room
     → lookup (nat_eq w) es ≡ Some way → IsForNew es w → Fills line copy es room ((w, way_with line copy) ∷ remove_entry (nat_eq w) es) (copy_left way)
 taken-over-fills line w zero copy way es some valid once ways found h = absurd (omega arith)
 taken-over-fills line w (suc n) copy way es some valid once ways found h =
@@ -117,14 +140,18 @@ taken-over-fills line w (suc n) copy way es some valid once ways found h =
         record {
           few = ways.few;
           all = size ∙ ways.all;
-          numbered = numbered-front (length es) w (way_with line copy) (remove_entry (nat_eq w) es) size (below-found (length es) w way es ways.numbered found) (below-remove (length es) w es ways.numbered);
+          numbered =
+              numbered-front (length es) w (way_with line copy) (remove_entry (nat_eq w) es) size
+              (below-found (length es) w way es ways.numbered found) (below-remove (length es) w es ways.numbered);
         },
       ),
     )
 
 -- one more of the ways that are there from the beginning
 pub put-unused : (n room : ℕ) (way : Way) (es : List (ℕ × Way)) → n < room → length es ≡ n → NumbersBelow n es → copies_in es ≡ [] → is_empty way ≡ true
-    → (length (put_entries nat_eq (lru_cache es room) n way) ≡ suc n) × (NumbersBelow (suc n) (put_entries nat_eq (lru_cache es room) n way) × (copies_in (put_entries nat_eq (lru_cache es room) n way) ≡ []))
+    → (length (put_entries nat_eq (lru_cache es room) n way) ≡ suc n)
+    × (NumbersBelow (suc n) (put_entries nat_eq (lru_cache es room) n way)
+    × (copies_in (put_entries nat_eq (lru_cache es room) n way) ≡ []))
 put-unused n room way es less size numbered nothing empty =
     let absent : lookup (nat_eq n) es ≡ None = absent-below n n es numbered (omega arith) in
     let all : take (room - 1) es ≡ es = take_all (room - 1) es (omega arith) in
@@ -132,7 +159,9 @@ put-unused n room way es less size numbered nothing empty =
     rw is (ap suc size, ((omega arith, below-more n es numbered), rw empty nothing))
 
 -- a way that is there is written at the front
-pub set-promoted : (w : ℕ) (way new : Way) (es : List (ℕ × Way)) → lookup (nat_eq w) es ≡ Some way → set_value (nat_eq w) (promoted (nat_eq w) es) new ≡ (w, new) ∷ remove_entry (nat_eq w) es
+pub set-promoted : (w : ℕ) (way new : Way) (es : List (ℕ × Way))
+    → lookup (nat_eq w) es ≡ Some way
+    → set_value (nat_eq w) (promoted (nat_eq w) es) new ≡ (w, new) ∷ remove_entry (nat_eq w) es
 set-promoted w way new es found = rw (promoted-is w way es found, eq-eqb w w refl) refl
 
 -- the way that a new line takes over is there

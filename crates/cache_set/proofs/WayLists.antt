@@ -1,6 +1,9 @@
 -- The ways of a set: what is found in them by a line is found in the copies that they hold, and what a call makes of one way
 -- is what the set's contents are to become.
-use Rattle.cache_set.proofs.Vocabulary.{arith, ◌≡◌, ◌≢◌, ◌<◌, ◌≤◌, ◌⊎◌, ℕ, zero, suc, Bool, true, false, List, [], ◌∷◌, length, take, slice_get, Option, Some, None, IsSome, option_map, nat_eq, inl, inr, refl, sym, ap, subst, ◌∙◌, eqb_tells, eq-eqb, option_copied_mut, keys_of, lookup, lookup_entry, remove_entry, set_value, I, Line, Way, is_invalid, is_empty, has_line, copies_in, way_of, first_empty, first_full, NumbersBelow}
+use Rattle.cache_set.proofs.Vocabulary.{arith, ◌≡◌, ◌≢◌, ◌<◌, ◌≤◌, ◌⊎◌, ℕ, zero, suc, Bool, true, false, List, [], ◌∷◌, length, take}
+use Rattle.cache_set.proofs.Vocabulary.{slice_get, Option, Some, None, IsSome, option_map, nat_eq, inl, inr, refl, sym, ap, subst, ◌∙◌}
+use Rattle.cache_set.proofs.Vocabulary.{eqb_tells, eq-eqb, option_copied_mut, keys_of, lookup, lookup_entry, remove_entry, set_value, I}
+use Rattle.cache_set.proofs.Vocabulary.{Line, Way, is_invalid, is_empty, has_line, copies_in, way_of, first_empty, first_full, NumbersBelow}
 use Rattle.std.specs.Prelude.{⊤}
 use Rattle.std.specs.Borrow.{MutBor}
 use Rattle.std.specs.List.{IsDistinct, AllByRecursion}
@@ -130,7 +133,10 @@ pub copies-set : (line w : ℕ) (new : Way) (es : List (ℕ × Way)) → NoNumbe
     → copies_in (set_value (nat_eq w) es new) ≡ set_value (nat_eq line) (copies_in es) new.copy
 copies-set line w new [] d h same full = cc
 copies-set line w new (e ∷ es) d h same full = elim (first-or-later line w e es d h) [
-  | inl p ↦ let is = has-line line e.1 p.0 in let here : new.line ≡ e.1.line = same ∙ is.1 in rw (eq-eqb w e.0 p.1, is.0, eq-eqb line e.1.line is.1, full, here) refl
+  | inl p ↦
+      let is = has-line line e.1 p.0 in
+      let here : new.line ≡ e.1.line = same ∙ is.1 in
+      rw (eq-eqb w e.0 p.1, is.0, eq-eqb line e.1.line is.1, full, here) refl
   | inr p ↦ elim (other-line line e.1 p.0) [
     | inl q ↦ rw (p.1.1, q) (copies-set line w new es d.1 p.1.0 same full)
     | inr q ↦ rw (p.1.1, q.0, q.1) (ap (λ l. (e.1.line, e.1.copy) ∷ l) (copies-set line w new es d.1 p.1.0 same full))
@@ -187,7 +193,11 @@ below-remove n w (e ∷ es) b = elim (tells (nat_eq w e.0)) [
 ]
 
 -- a way that comes to the front of the others
-pub numbered-front : (n w : ℕ) (way : Way) (es : List (ℕ × Way)) → suc (length es) ≡ n → w < n → NumbersBelow n es → NumbersBelow (length ((w, way) ∷ es)) ((w, way) ∷ es)
+pub numbered-front : (n w : ℕ) (way : Way) (es : List (ℕ × Way))
+    → suc (length es) ≡ n
+    → w < n
+    → NumbersBelow n es
+    → NumbersBelow (length ((w, way) ∷ es)) ((w, way) ∷ es)
 numbered-front n w way es size less b = subst (λ k. NumbersBelow k ((w, way) ∷ es)) (sym size) (less, b)
 
 pub below-more : (n : ℕ) (es : List (ℕ × Way)) → NumbersBelow n es → NumbersBelow (suc n) es
@@ -301,7 +311,11 @@ lookup-way-at (suc n) x (e ∷ es) d h =
     ]
 
 -- the last way of all is taken out by its number
-pub remove-last : (n : ℕ) (x : ℕ × Way) (es : List (ℕ × Way)) → NoNumberTwice es → length es ≡ suc n → slice_get es n ≡ Some x → remove_entry (nat_eq x.0) es ≡ take n es
+pub remove-last : (n : ℕ) (x : ℕ × Way) (es : List (ℕ × Way))
+    → NoNumberTwice es
+    → length es ≡ suc n
+    → slice_get es n ≡ Some x
+    → remove_entry (nat_eq x.0) es ≡ take n es
 remove-last n x [] d l h = cc
 remove-last zero x (e ∷ []) d l h = let same : e ≡ x = cc in rw (← same, eq-eqb e.0 e.0 refl) refl
 remove-last zero x (e ∷ f ∷ es) d l h = absurd (omega arith)

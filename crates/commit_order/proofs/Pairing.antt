@@ -1,5 +1,7 @@
 -- Where each load part is put directly before its store part, the pairs are kept.
-use Rattle.commit_order.proofs.Vocabulary.{◌≡◌, ◌≢◌, zero, suc, ◌==◌, ◌&&◌, Bool, true, false, if◌then◌else◌, List, [], ◌∷◌, Some, slice_get, refl, sym, ap, ◌∙◌, subst, same_kind, is_at, IsAdjacent, IsStorePart, put_before, put_together, Entry, Kind, LR, LW, IsPaired, has_its_store_part, are_answered}
+use Rattle.commit_order.proofs.Vocabulary.{◌≡◌, ◌≢◌, zero, suc, ◌==◌, ◌&&◌, Bool, true, false, if◌then◌else◌, List, [], ◌∷◌, Some}
+use Rattle.commit_order.proofs.Vocabulary.{slice_get, refl, sym, ap, ◌∙◌, subst, same_kind, is_at, IsAdjacent, IsStorePart, put_before}
+use Rattle.commit_order.proofs.Vocabulary.{put_together, Entry, Kind, LR, LW, IsPaired, has_its_store_part, are_answered}
 use Rattle.commit_order.proofs.Together.{and_first, and_second, is_core, isn't_core, load_kind, same-core, skipped, answers, no_load_part, elsewhere}
 
 store_kind : (k : Kind) → same_kind k LW ≡ true → k ≡ LW
@@ -42,7 +44,10 @@ answered-together x (e ∷ es) h = by_core (e.core.0 == x.core.0) refl (answered
     own_kind true q c part = absurd (let z : true ≡ false = sym part ∙ no_load_part x e (load_kind e.kind q) in let w : ⊥ = cc in w)
     own_kind false q c part = own x e (put_together es) c ∙ part
 
-    by_core : (b : Bool) → (e.core.0 == x.core.0) ≡ b → (has_its_store_part x es ≡ true → has_its_store_part x (put_together es) ≡ true) → Goal (same_kind e.kind LR)
+    by_core : (b : Bool)
+        → (e.core.0 == x.core.0) ≡ b
+        → (has_its_store_part x es ≡ true → has_its_store_part x (put_together es) ≡ true)
+        → Goal (same_kind e.kind LR)
     by_core true q rest = own_kind (same_kind e.kind LR) refl (is_core e.core.0 x.core.0 q) (answers x e es (is_core e.core.0 x.core.0 q) h)
     by_core false q rest =
         let c = isn't_core e.core.0 x.core.0 q in
@@ -85,14 +90,21 @@ IsAdjacent-put x (y ∷ ys) k a keeps = by_part (is_at x.core.0 x.place LW y) re
 
 IsAdjacent-after : (e : Entry) (es : List Entry) → same_kind e.kind LR ≡ false → IsAdjacent es → IsAdjacent (e ∷ es)
 IsAdjacent-after e es q keeps zero x g k =
-    absurd (let s : e ≡ x = cc in let z : false ≡ true = sym q ∙ (ap (λ (u : Entry). same_kind u.kind LR) s ∙ ap (λ u. same_kind u LR) k) in let w : ⊥ = cc in w)
+    absurd (let s : e ≡ x =
+    cc in
+    let z : false ≡ true = sym q ∙ (ap (λ (u : Entry). same_kind u.kind LR) s ∙ ap (λ u. same_kind u LR) k) in
+    let w : ⊥ = cc in
+    w)
 IsAdjacent-after e es q keeps (suc i) x g k = keeps i x g k
 
 IsAdjacent-together : (es : List Entry) → are_answered es ≡ true → IsAdjacent (put_together es)
 IsAdjacent-together [] h = λ i x g k. absurd (let z : ⊥ = cc in z)
 IsAdjacent-together (e ∷ es) h = by_kind (same_kind e.kind LR) refl h (IsAdjacent-together es)
   where
-    by_kind : (b : Bool) → same_kind e.kind LR ≡ b → ((if b then has_its_store_part e es else true) && are_answered es) ≡ true → (are_answered es ≡ true → IsAdjacent (put_together es))
+    by_kind : (b : Bool)
+        → same_kind e.kind LR ≡ b
+        → ((if b then has_its_store_part e es else true) && are_answered es) ≡ true
+        → (are_answered es ≡ true → IsAdjacent (put_together es))
         → IsAdjacent (if b then put_before e (put_together es) else e ∷ put_together es)
     by_kind true q a rest =
         IsAdjacent-put e (put_together es) (load_kind e.kind q) (answered-together e es (and_first (has_its_store_part e es) (are_answered es) a))

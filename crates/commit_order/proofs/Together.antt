@@ -1,5 +1,9 @@
 -- The loop that puts each load part directly before its store part.
-use Rattle.commit_order.proofs.Vocabulary.{◌≡◌, ◌≢◌, ◌<◌, ◌+◌, ℕ, zero, suc, ◌==◌, ◌&&◌, Bool, true, false, if◌then◌else◌, List, [], ◌∷◌, ◌++◌, length, take, drop, drop-cons, add-one, slice_index_or, None, Some, refl, sym, ap, ◌∙◌, arith, subst, nat_tests, same_kind, is_at, put_before, put_together, Entry, Kind, LR, LW, has_its_store_part, are_answered, all_put, first_of_core, others_of, IsNoneOf, AreWaiting, IsBuiltSoFar}
+use Rattle.commit_order.proofs.Vocabulary.{◌≡◌, ◌≢◌, ◌<◌, ◌+◌, ℕ, zero, suc, ◌==◌, ◌&&◌, Bool, true, false, if◌then◌else◌, List, [], ◌∷◌}
+use Rattle.commit_order.proofs.Vocabulary.{◌++◌, length, take, drop, drop-cons, add-one, slice_index_or, None, Some, refl, sym, ap, ◌∙◌}
+use Rattle.commit_order.proofs.Vocabulary.{arith, subst, nat_tests, same_kind, is_at, put_before, put_together, Entry, Kind, LR, LW}
+use Rattle.commit_order.proofs.Vocabulary.{has_its_store_part, are_answered, all_put, first_of_core, others_of, IsNoneOf, AreWaiting}
+use Rattle.commit_order.proofs.Vocabulary.{IsBuiltSoFar}
 use Rattle.std.proofs.Common.{append_assoc, append-nil}
 
 pub same-core : (m n : ℕ) → m ≡ n → (m == n) ≡ true
@@ -80,14 +84,20 @@ first-kind core (v ∷ vs) es z w h =
     [ true ↦ (λ g. (let s : v ≡ z = cc in ap (λ (u : Entry). u.kind) (sym s) ∙ w.0)) | false ↦ (λ g. first-kind core vs es z w.3 g) ] h
 
 -- the store part of one that waits
-pub store-put : (e x : Entry) (xs es ys : List Entry) → AreWaiting xs (e ∷ es) → first_of_core e.core.0 xs ≡ Some x → all_put xs (e ∷ ys) ≡ x ∷ (e ∷ all_put (others_of e.core.0 xs) ys)
+pub store-put : (e x : Entry) (xs es ys : List Entry)
+    → AreWaiting xs (e ∷ es)
+    → first_of_core e.core.0 xs ≡ Some x
+    → all_put xs (e ∷ ys) ≡ x ∷ (e ∷ all_put (others_of e.core.0 xs) ys)
 store-put e x [] es ys w h = absurd (let z : ⊥ = cc in z)
 store-put e x (y ∷ xs) es ys w h = by_core (y.core.0 == e.core.0) refl (store-put e x xs es ys w.3)
   where
     Goal : Type 0
     Goal = all_put (y ∷ xs) (e ∷ ys) ≡ x ∷ (e ∷ all_put (others_of e.core.0 (y ∷ xs)) ys)
 
-    by_core : (b : Bool) → (y.core.0 == e.core.0) ≡ b → (first_of_core e.core.0 xs ≡ Some x → all_put xs (e ∷ ys) ≡ x ∷ (e ∷ all_put (others_of e.core.0 xs) ys)) → Goal
+    by_core : (b : Bool)
+        → (y.core.0 == e.core.0) ≡ b
+        → (first_of_core e.core.0 xs ≡ Some x → all_put xs (e ∷ ys) ≡ x ∷ (e ∷ all_put (others_of e.core.0 xs) ys))
+        → Goal
     by_core true q go =
         let found : first_of_core e.core.0 (y ∷ xs) ≡ Some y = rw q refl in
         let same : y ≡ x = (let z : Some y ≡ Some x = sym found ∙ h in let s : y ≡ x = cc in s) in
@@ -126,7 +136,11 @@ waiting-plain e xs es w h = go xs w (none-found e.core.0 xs h)
 
 none-left : (core other : ℕ) (xs : List Entry) → IsNoneOf core xs → IsNoneOf core (others_of other xs)
 none-left core other [] n = tt
-none-left core other (x ∷ xs) n = elim (x.core.0 == other) as (λ b. IsNoneOf core (if b then xs else x ∷ others_of other xs)) [ true ↦ n.1 | false ↦ (n.0, none-left core other xs n.1) ]
+none-left core other (x ∷ xs) n =
+    elim (x.core.0 == other) as (λ b. IsNoneOf core (if b then xs else x ∷ others_of other xs)) [
+      | true ↦ n.1
+      | false ↦ (n.0, none-left core other xs n.1)
+    ]
 
 pub waiting-store : (e x : Entry) (xs es : List Entry) → AreWaiting xs (e ∷ es) → first_of_core e.core.0 xs ≡ Some x → AreWaiting (others_of e.core.0 xs) es
 waiting-store e x [] es w h = tt
@@ -136,7 +150,10 @@ waiting-store e x (y ∷ xs) es w h = by_core (y.core.0 == e.core.0) refl (waiti
     go [] w n = tt
     go (v ∷ zs) w n = (w.0, sym (skipped v e es (λ s. n.0 (sym s))) ∙ w.1, w.2, go zs w.3 n.1)
 
-    by_core : (b : Bool) → (y.core.0 == e.core.0) ≡ b → (first_of_core e.core.0 xs ≡ Some x → AreWaiting (others_of e.core.0 xs) es) → AreWaiting (others_of e.core.0 (y ∷ xs)) es
+    by_core : (b : Bool)
+        → (y.core.0 == e.core.0) ≡ b
+        → (first_of_core e.core.0 xs ≡ Some x → AreWaiting (others_of e.core.0 xs) es)
+        → AreWaiting (others_of e.core.0 (y ∷ xs)) es
     by_core true q rest =
         let others : others_of e.core.0 (y ∷ xs) ≡ xs = rw q refl in
         subst (λ zs. AreWaiting zs es) (sym others) (go xs w.3 (subst (λ c. IsNoneOf c xs) (is_core y.core.0 e.core.0 q) w.2))
@@ -167,10 +184,18 @@ none-wait (x ∷ xs) w = absurd (let z : false ≡ true = w.1 in let c : ⊥ = c
 pub drop-got : (xs : List Entry) (i : ℕ) (x : Entry) → i < length xs → x ≡ slice_index_or xs i x → drop i xs ≡ x ∷ drop (i + 1) xs
 drop-got xs i x h q = rw add-one (drop-cons xs i x h ∙ ap (λ y. y ∷ drop (suc i) xs) (sym q))
 
-pub first-found : (core : ℕ) (xs : List Entry) (i : ℕ) (x : Entry) → i < length xs → x ≡ slice_index_or xs i x → (x.core.0 == core) ≡ true → first_of_core core (drop i xs) ≡ Some x
+pub first-found : (core : ℕ) (xs : List Entry) (i : ℕ) (x : Entry)
+    → i < length xs
+    → x ≡ slice_index_or xs i x
+    → (x.core.0 == core) ≡ true
+    → first_of_core core (drop i xs) ≡ Some x
 first-found core xs i x h q e = ap (first_of_core core) (drop-got xs i x h q) ∙ rw e refl
 
-pub others-found : (core : ℕ) (xs : List Entry) (i : ℕ) (x : Entry) → i < length xs → x ≡ slice_index_or xs i x → (x.core.0 == core) ≡ true → others_of core (drop i xs) ≡ drop (i + 1) xs
+pub others-found : (core : ℕ) (xs : List Entry) (i : ℕ) (x : Entry)
+    → i < length xs
+    → x ≡ slice_index_or xs i x
+    → (x.core.0 == core) ≡ true
+    → others_of core (drop i xs) ≡ drop (i + 1) xs
 others-found core xs i x h q e = ap (others_of core) (drop-got xs i x h q) ∙ rw e refl
 
 drop-all : (xs : List Entry) → drop (length xs) xs ≡ []
@@ -197,30 +222,48 @@ pub load-step : (e : Entry) (order order' waiting waiting' left whole : List Ent
     → IsBuiltSoFar order waiting (e ∷ left) whole → IsBuiltSoFar order' waiting' left whole
 load-step e order order' waiting waiting' left whole k o w built =
     let together : put_together (e ∷ left) ≡ put_before e (put_together left) = rw k refl in
-    let answered : (has_its_store_part e left && are_answered left) ≡ true = (let z : are_answered (e ∷ left) ≡ (has_its_store_part e left && are_answered left) = rw k refl in sym z ∙ built.answered) in
+    let answered : (has_its_store_part e left && are_answered left) ≡ true =
+    (let z : are_answered (e ∷ left) ≡ (has_its_store_part e left && are_answered left) =
+    rw k refl in sym z ∙ built.answered) in
     record {
       put = rw (o, w) (ap (λ es. order ++ es) (load-put e waiting (put_together left) ∙ ap (all_put waiting) (sym together)) ∙ built.put);
-      waits = subst (λ ws. AreWaiting ws left) (sym w) (waiting-load e waiting left (load_kind e.kind k) (and_first (has_its_store_part e left) (are_answered left) answered) built.waits);
+      waits =
+          subst (λ ws. AreWaiting ws left) (sym w)
+          (waiting-load e waiting left (load_kind e.kind k) (and_first (has_its_store_part e left) (are_answered left) answered) built.waits);
       answered = and_second (has_its_store_part e left) (are_answered left) answered;
     }
 
 not-load : (e : Entry) (left : List Entry) → same_kind e.kind LR ≡ false → are_answered (e ∷ left) ≡ true → are_answered left ≡ true
 not-load e left k a = (let z : are_answered (e ∷ left) ≡ are_answered left = rw k refl in sym z ∙ a)
 
-pub plain-step : (e : Entry) (order between order' waiting waiting' left whole : List Entry) → same_kind e.kind LR ≡ false → first_of_core e.core.0 waiting ≡ None
-    → between ≡ order → order' ≡ between ++ e ∷ [] → waiting' ≡ others_of e.core.0 waiting → IsBuiltSoFar order waiting (e ∷ left) whole → IsBuiltSoFar order' waiting' left whole
+pub plain-step : (e : Entry) (order between order' waiting waiting' left whole : List Entry)
+    → same_kind e.kind LR ≡ false
+    → first_of_core e.core.0 waiting ≡ None
+    → between ≡ order
+    → order' ≡ between ++ e ∷ []
+    → waiting' ≡ others_of e.core.0 waiting
+    → IsBuiltSoFar order waiting (e ∷ left) whole
+    → IsBuiltSoFar order' waiting' left whole
 plain-step e order between order' waiting waiting' left whole k f b o w built =
     let together : put_together (e ∷ left) ≡ e ∷ put_together left = rw k refl in
     let same : others_of e.core.0 waiting ≡ waiting = all-others e.core.0 waiting f in
     record {
       put = rw (o, b, w, same)
-          (append_assoc order (e ∷ []) (all_put waiting (put_together left)) ∙ ap (λ es. order ++ es) (sym (plain-put e waiting (put_together left) f) ∙ ap (all_put waiting) (sym together)) ∙ built.put);
+          (append_assoc order (e ∷ []) (all_put waiting (put_together left))
+          ∙ ap (λ es. order ++ es) (sym (plain-put e waiting (put_together left) f) ∙ ap (all_put waiting) (sym together))
+          ∙ built.put);
       waits = subst (λ ws. AreWaiting ws left) (sym (w ∙ same)) (waiting-plain e waiting left built.waits f);
       answered = not-load e left k built.answered;
     }
 
-pub store-step : (e x : Entry) (order between order' waiting waiting' left whole : List Entry) → same_kind e.kind LR ≡ false → first_of_core e.core.0 waiting ≡ Some x
-    → between ≡ order ++ x ∷ [] → order' ≡ between ++ e ∷ [] → waiting' ≡ others_of e.core.0 waiting → IsBuiltSoFar order waiting (e ∷ left) whole → IsBuiltSoFar order' waiting' left whole
+pub store-step : (e x : Entry) (order between order' waiting waiting' left whole : List Entry)
+    → same_kind e.kind LR ≡ false
+    → first_of_core e.core.0 waiting ≡ Some x
+    → between ≡ order ++ x ∷ []
+    → order' ≡ between ++ e ∷ []
+    → waiting' ≡ others_of e.core.0 waiting
+    → IsBuiltSoFar order waiting (e ∷ left) whole
+    → IsBuiltSoFar order' waiting' left whole
 store-step e x order between order' waiting waiting' left whole k f b o w built =
     let together : put_together (e ∷ left) ≡ e ∷ put_together left = rw k refl in
     let others = others_of e.core.0 waiting in

@@ -1,5 +1,6 @@
 -- Two changes of known bytes, one after the other, and the input that was read.
-use Rattle.std.proofs.Common.{◌≡◌, ℕ, ◌<◌, ◌≤◌, ◌⊎◌, inl, inr, List, [], ◌∷◌, ◌++◌, length, take, Option, Some, None, IfSome, arith, ap, sym, ◌∙◌, append_assoc, refl, zero, suc, append-nil}
+use Rattle.std.proofs.Common.{◌≡◌, ℕ, ◌<◌, ◌≤◌, ◌⊎◌, inl, inr, List, [], ◌∷◌, ◌++◌, length, take, Option, Some, None, IfSome, arith, ap}
+use Rattle.std.proofs.Common.{sym, ◌∙◌, append_assoc, refl, zero, suc, append-nil}
 use Rattle.std.specs.Io.KnownBytes.{Consumes, IsAtEnd}
 
 pub consumes-more : (a b c : Option (List ℕ)) (xs ys : List ℕ) → Consumes a b xs → Consumes b c ys → Consumes a c (xs ++ ys)
@@ -8,7 +9,11 @@ consumes-more (Some a) None c xs ys p q = absurd p
 consumes-more (Some a) (Some b) None xs ys p q = absurd q
 consumes-more (Some a) (Some b) (Some c) xs ys p q = p ∙ ap (λ z. xs ++ z) q ∙ sym (append_assoc xs ys c)
 
-pub input-is : (most : ℕ) (old new : Option (List ℕ)) (items : List ℕ) → Consumes old new items → length items ≤ most → (length items < most → IsAtEnd new) → IfSome old (λ xs. items ≡ take most xs)
+pub input-is : (most : ℕ) (old new : Option (List ℕ)) (items : List ℕ)
+    → Consumes old new items
+    → length items ≤ most
+    → (length items < most → IsAtEnd new)
+    → IfSome old (λ xs. items ≡ take most xs)
 input-is most None new items c l e = tt
 input-is most (Some xs) None items c l e = absurd c
 input-is most (Some xs) (Some ys) items c l e = rw c (all_or_cut (le-cases (length items) most l))

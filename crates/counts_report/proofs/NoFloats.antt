@@ -1,5 +1,6 @@
 -- The values of what was counted have no float, so that their text is known.
-use Rattle.std.proofs.Common.{◌≡◌, ◌+◌, ◌*◌, ◌==◌, ℕ, zero, suc, Bool, true, false, if◌then◌else◌, List, [], ◌∷◌, Option, Some, None, length, slice_index_or, refl}
+use Rattle.std.proofs.Common.{◌≡◌, ◌+◌, ◌*◌, ◌==◌, ℕ, zero, suc, Bool, true, false, if◌then◌else◌, List, [], ◌∷◌, Option, Some, None}
+use Rattle.std.proofs.Common.{length, slice_index_or, refl}
 use Rattle.std.specs.Prelude.{codes}
 use Rattle.serde_json.specs.Data.{array, null, string, Members, member, no_members}
 use Rattle.serde_json.specs.View.{items_of}
@@ -24,7 +25,9 @@ spreads place (name ∷ names) ss =
 each-core : (core cores : ℕ) (ss : List Spread) → items_have_float (items_of (core_values core cores ss)) ≡ false
 each-core core zero ss = refl
 each-core core (suc cores) ss =
-    neither (has_float (core_value core ss)) (items_have_float (items_of (core_values (core + 1) cores ss))) (spreads (12 * core) count_names ss) (each-core (core + 1) cores ss)
+    neither (has_float (core_value core ss))
+    (items_have_float (items_of (core_values (core + 1) cores ss))) (spreads (12 * core) count_names ss)
+    (each-core (core + 1) cores ss)
 
 all-cores : (t : Litmus) (k : Counted) → has_float (counted_cores_value t k) ≡ false
 all-cores t k = by_end (k.ended == 0)

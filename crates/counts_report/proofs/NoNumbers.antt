@@ -16,12 +16,14 @@ use Rattle.counts_report.specs.Json.{json_counts, runs_value}
 abbrev none_ended : ℕ → List Spread → Counted
 none_ended unfinished spreads = record { ended = 0; unfinished = unfinished; spreads = spreads }
 
-same-runs : (plan : Option Plan) (unfinished : ℕ) (ss ts : List Spread) → runs_value plan (none_ended unfinished ss) ≡ runs_value plan (none_ended unfinished ts)
+same-runs : (plan : Option Plan) (unfinished : ℕ) (ss ts : List Spread)
+    → runs_value plan (none_ended unfinished ss) ≡ runs_value plan (none_ended unfinished ts)
 same-runs None unfinished ss ts = refl
 same-runs (Some p) unfinished ss ts = refl
 
 pub no-numbers : (t : Litmus) (kind : ProtocolKind) (c : Configuration) (plan : Option Plan) (unfinished : ℕ) (ss ts : List Spread)
-    → json_counts t kind c plan (record { ended = 0; unfinished = unfinished; spreads = ss }) ≡ json_counts t kind c plan (record { ended = 0; unfinished = unfinished; spreads = ts })
+    → json_counts t kind c plan (record { ended = 0; unfinished = unfinished; spreads = ss })
+    ≡ json_counts t kind c plan (record { ended = 0; unfinished = unfinished; spreads = ts })
 no-numbers t kind c plan unfinished ss ts =
     ap (λ (runs : Data). line (compact_text (object (member (codes "cores") null (member (codes "machine") (machine_value kind c)
     (member (codes "runs") runs (member (codes "test") (string t.name) no_members)))))))

@@ -34,7 +34,10 @@ keeps_all (e ∷ es) h (suc i) (suc j) x y p q b =
     let l : i < j = keeps_all es (not-both (is_preceded_by e es) (keeps es) h).1 i j x y p q b in omega arith
 
 -- an entry that passes a test
-any-step : (p : Entry → Bool) (x : Entry) (xs : List Entry) (b : Bool) → p x ≡ b → (b || list_any p xs) ≡ true → (list_any p xs ≡ true → (k : ℕ) × (y : Entry) × (slice_get xs k ≡ Some y) × (p y ≡ true))
+any-step : (p : Entry → Bool) (x : Entry) (xs : List Entry) (b : Bool)
+    → p x ≡ b
+    → (b || list_any p xs) ≡ true
+    → (list_any p xs ≡ true → (k : ℕ) × (y : Entry) × (slice_get xs k ≡ Some y) × (p y ≡ true))
     → (k : ℕ) × (y : Entry) × (slice_get (x ∷ xs) k ≡ Some y) × (p y ≡ true)
 any-step p x xs true e h rest = (0, x, refl, e)
 any-step p x xs false e h rest = let r = rest h in (suc r.0, r.1, r.2, r.3)

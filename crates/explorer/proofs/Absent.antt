@@ -1,5 +1,7 @@
 -- A core that isn't there has nothing to do.
-use Rattle.explorer.proofs.Vocabulary.{◌≡◌, ◌≤◌, ℕ, zero, suc, Bool, List, [], ◌∷◌, length, map, slice_get, slice_index_or, arith, ap, refl, Litmus, program_of, core_of, idle, Instr, Avoids, state_of_snapshot, core_of_processor, Processor, Snapshot}
+use Rattle.explorer.proofs.Vocabulary.{◌≡◌, ◌≤◌, ℕ, zero, suc, Bool, List, [], ◌∷◌, length, map, slice_get, slice_index_or, arith, ap, refl}
+use Rattle.explorer.proofs.Vocabulary.{Litmus, program_of, core_of, idle, Instr, Avoids, state_of_snapshot, core_of_processor, Processor}
+use Rattle.explorer.proofs.Vocabulary.{Snapshot}
 
 no-program : (ps : List (List Instr)) (k : ℕ) → length ps ≤ k → slice_index_or ps k [] ≡ []
 no-program [] k l = refl

@@ -1,10 +1,17 @@
 -- Of the states that a set keeps no two are the same, and as many can be reached.
-use Rattle.explorer.proofs.Vocabulary.{◌≡◌, ◌<◌, ℕ, zero, suc, Bool, false, List, [], ◌∷◌, Some, slice_get, length, arith, ap, sym, ◌∙◌, subst, refl, IsDistinct, AllByRecursion, IsDistinct-head, IsDistinct-tail, Litmus, State, forgotten, DeadRegistersChangeNothing, AlikeCoresAreExchangeable, state_of_packed, state_bytes, HaveCores, AreLinked, IsReachable, HasMoreStates, Packed, Link}
+use Rattle.explorer.proofs.Vocabulary.{◌≡◌, ◌<◌, ℕ, zero, suc, Bool, false, List, [], ◌∷◌, Some, slice_get, length, arith, ap, sym, ◌∙◌}
+use Rattle.explorer.proofs.Vocabulary.{subst, refl, IsDistinct, AllByRecursion, IsDistinct-head, IsDistinct-tail, Litmus, State, forgotten}
+use Rattle.explorer.proofs.Vocabulary.{DeadRegistersChangeNothing, AlikeCoresAreExchangeable, state_of_packed, state_bytes, HaveCores}
+use Rattle.explorer.proofs.Vocabulary.{AreLinked, IsReachable, HasMoreStates, Packed, Link}
 use Rattle.explorer.specs.contracts.packed.PackedPartialEq.TheImpl as packed_eq
 use Rattle.explorer.proofs.Same.{packed-equal}
 use Rattle.explorer.proofs.Linking.{kept-at, linked-leads, reachable}
 
-differs : (x : Packed) (xs : List Packed) (j : ℕ) (b : Packed) → AllByRecursion (λ y. (packed_eq.eq-value).it x y ≡ false) xs → slice_get xs j ≡ Some b → x.bytes.items ≡ b.bytes.items → ⊥
+differs : (x : Packed) (xs : List Packed) (j : ℕ) (b : Packed)
+    → AllByRecursion (λ y. (packed_eq.eq-value).it x y ≡ false) xs
+    → slice_get xs j ≡ Some b
+    → x.bytes.items ≡ b.bytes.items
+    → ⊥
 differs x [] j b h p q = let z : ⊥ = cc in z
 differs x (y ∷ xs) zero b h p q =
     let e : y ≡ b = cc in
@@ -24,7 +31,12 @@ apart (x ∷ xs) d (suc i) zero a b p q e =
 apart (x ∷ xs) d (suc i) (suc j) a b p q e = ap suc (apart xs (IsDistinct-tail (packed_eq.eq-value).it x xs d) i j a b p q e)
 
 -- and so does one state
-pub states-apart : (t : Litmus) (xs : List Packed) → IsDistinct (packed_eq.eq-value).it xs → HaveCores t xs → (i j : ℕ) (a b : Packed) → slice_get xs i ≡ Some a → slice_get xs j ≡ Some b
+pub states-apart : (t : Litmus) (xs : List Packed)
+    → IsDistinct (packed_eq.eq-value).it xs
+    → HaveCores t xs
+    → (i j : ℕ) (a b : Packed)
+    → slice_get xs i ≡ Some a
+    → slice_get xs j ≡ Some b
     → state_of_packed a ≡ state_of_packed b → i ≡ j
 states-apart t xs d h i j a b p q e = apart xs d i j a b p q ((kept-at t xs i a h p).packed ∙ ap state_bytes e ∙ sym (kept-at t xs j b h q).packed)
 
@@ -40,7 +52,12 @@ collect {A} {B} R (x ∷ xs) h =
     let rest = collect R xs (λ i x q. h (suc i) x q) in
     (one.0 ∷ rest.0, record { count = ap suc rest.1.count; each = each one.0 one.1 rest.0 rest.1 })
   where
-    each : (y : B) → R x y → (ys : List B) → AreFor R xs ys → (i : ℕ) (w : B) → slice_get (y ∷ ys) i ≡ Some w → (v : A) × (slice_get (x ∷ xs) i ≡ Some v) × R v w
+    each : (y : B)
+        → R x y
+        → (ys : List B) → AreFor R xs ys
+        → (i : ℕ) (w : B)
+        → slice_get (y ∷ ys) i ≡ Some w
+        → (v : A) × (slice_get (x ∷ xs) i ≡ Some v) × R v w
     each y r ys a zero w q = let e : y ≡ w = cc in (x, refl, subst (λ z. R x z) e r)
     each y r ys a (suc i) w q = a.each i w q
 
@@ -50,7 +67,10 @@ record StandsFor (t : Litmus) (d : ℕ) (hidden : List (List Bool)) (x : Packed)
   kept_is : forgotten t hidden s ≡ state_of_packed x
 
 -- as many states can be reached as are kept and linked
-pub more-states : DeadRegistersChangeNothing → AlikeCoresAreExchangeable → (d : ℕ) (t : Litmus) (hidden : List (List Bool)) (xs : List Packed) (links : List Link) (limit : ℕ) → IsDistinct (packed_eq.eq-value).it xs
+pub more-states : DeadRegistersChangeNothing
+    → AlikeCoresAreExchangeable
+    → (d : ℕ) (t : Litmus) (hidden : List (List Bool)) (xs : List Packed) (links : List Link) (limit : ℕ)
+    → IsDistinct (packed_eq.eq-value).it xs
     → HaveCores t xs → AreLinked d t hidden xs links → limit < length xs → HasMoreStates t d limit
 more-states law all_alike d t hidden xs links limit distinct cores h l =
     let all = collect (StandsFor t d hidden) xs (λ i x p.

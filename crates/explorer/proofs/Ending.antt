@@ -1,11 +1,20 @@
 -- States in which the test has ended, and choices that lead there.
-use Rattle.explorer.proofs.Vocabulary.{◌≡◌, ◌<◌, ℕ, ◌+◌, zero, suc, Bool, true, false, ◌==◌, List, [], ◌∷◌, length, map, drop, slice_index_or, if◌then◌else◌, arith, ap, sym, ◌∙◌, refl, length-set, nat_tests, slice_get-get_or, drop-at, and-left, and-right, Litmus, CoreState, State, idle, is_none_pending, program_of, core_of, step_of, drain_of, effect_of, chosen, after_choice, start, registers_in, is_done, all_done, has_ended, stall_count, resting, then_run, run_from, Instr, Entry, Choice, Step, Drain, LeadToEnd, core_of_processor, LeadsBy, Processor, beyond}
+use Rattle.explorer.proofs.Vocabulary.{◌≡◌, ◌<◌, ℕ, ◌+◌, zero, suc, Bool, true, false, ◌==◌, List, [], ◌∷◌, length, map, drop}
+use Rattle.explorer.proofs.Vocabulary.{slice_index_or, if◌then◌else◌, arith, ap, sym, ◌∙◌, refl, length-set, nat_tests, slice_get-get_or}
+use Rattle.explorer.proofs.Vocabulary.{drop-at, and-left, and-right, Litmus, CoreState, State, idle, is_none_pending, program_of, core_of}
+use Rattle.explorer.proofs.Vocabulary.{step_of, drain_of, effect_of, chosen, after_choice, start, registers_in, is_done, all_done}
+use Rattle.explorer.proofs.Vocabulary.{has_ended, stall_count, resting, then_run, run_from, Instr, Entry, Choice, Step, Drain, LeadToEnd}
+use Rattle.explorer.proofs.Vocabulary.{core_of_processor, LeadsBy, Processor, beyond}
 use Rattle.explorer.proofs.Exchanging.{start-cores}
 use Rattle.explorer.proofs.Linking.{leads-cores}
 
 -- ---- an ended state has no further choice
 
-done-at : (ps : List (List Instr)) (ss : List CoreState) (k : ℕ) → length ss ≡ length ps → k < length ps → all_done ps ss ≡ true → is_done (slice_index_or ps k []) (slice_index_or ss k idle) ≡ true
+done-at : (ps : List (List Instr)) (ss : List CoreState) (k : ℕ)
+    → length ss ≡ length ps
+    → k < length ps
+    → all_done ps ss ≡ true
+    → is_done (slice_index_or ps k []) (slice_index_or ss k idle) ≡ true
 done-at [] ss k n l h = absurd (let z : ⊥ = omega (arith, l) in z)
 done-at (p ∷ ps) [] k n l h = absurd (let z : ⊥ = omega (arith, n) in z)
 done-at (p ∷ ps) (s ∷ ss) zero n l h = and-left (is_done p s) (all_done ps ss) h
@@ -39,7 +48,11 @@ record Ends (d : ℕ) (t : Litmus) (s : State) (cs : List Choice) (last : State)
   stalled : (run_from t d s cs).stalled ≡ 0
   unused : (run_from t d s cs).unused ≡ 0
 
-leads-end : (d : ℕ) (t : Litmus) (s : State) (cs : List Choice) (last : State) → length s.cores ≡ length t.programs → LeadsBy d t s cs last → has_ended t last ≡ true → Ends d t s cs last
+leads-end : (d : ℕ) (t : Litmus) (s : State) (cs : List Choice) (last : State)
+    → length s.cores ≡ length t.programs
+    → LeadsBy d t s cs last
+    → has_ended t last ≡ true
+    → Ends d t s cs last
 leads-end d t s [] last n q h = record { ended = ap (has_ended t) q ∙ h; state = q; stalled = refl; unused = refl }
 leads-end d t s (c ∷ cs) last n l h =
     go (has_ended t s) refl (leads-end d t (after_choice t d s c) cs last (length-set s.cores (chosen c) (effect_of t d s c).after ∙ n) l.2 h)
@@ -56,7 +69,9 @@ leads-end d t s (c ∷ cs) last n l h =
           unused = ap (λ z. z.unused) r ∙ w.unused;
         }
 
-pub leads-to-end : (d : ℕ) (t : Litmus) (cs : List Choice) (s : State) (registers : List (List ℕ)) (memory : List ℕ) → LeadsBy d t (start t) cs s → has_ended t s ≡ true
+pub leads-to-end : (d : ℕ) (t : Litmus) (cs : List Choice) (s : State) (registers : List (List ℕ)) (memory : List ℕ)
+    → LeadsBy d t (start t) cs s
+    → has_ended t s ≡ true
     → registers_in s ≡ registers → s.memory ≡ memory → LeadToEnd t d cs registers memory
 leads-to-end d t cs s registers memory l h r m =
     let e = leads-end d t (start t) cs s (start-cores t) l h in
@@ -89,14 +104,20 @@ cores-same (p ∷ ps) (x ∷ xs) (y ∷ ys) n m a b q =
     ) refl
   where
     core-same : (x y : CoreState) → x.place ≡ y.place → x.registers ≡ y.registers → x.pending ≡ y.pending → x ≡ y
-    core-same x y p r q = ap (λ z. record { place = z; registers = x.registers; pending = x.pending }) p ∙ ap (λ z. record { place = y.place; registers = z; pending = x.pending }) r
+    core-same x y p r q =
+        ap (λ z. record { place = z; registers = x.registers; pending = x.pending }) p
+        ∙ ap (λ z. record { place = y.place; registers = z; pending = x.pending }) r
         ∙ ap (λ z. record { place = y.place; registers = y.registers; pending = z }) q
 
 pub length-map : (xs : List Processor) → length (map core_of_processor xs) ≡ length xs
 length-map [] = refl
 length-map (x ∷ xs) = ap suc (length-map xs)
 
-pub ended-same : (t : Litmus) (a b : State) → length a.cores ≡ length t.programs → length b.cores ≡ length t.programs → has_ended t a ≡ true → has_ended t b ≡ true
+pub ended-same : (t : Litmus) (a b : State)
+    → length a.cores ≡ length t.programs
+    → length b.cores ≡ length t.programs
+    → has_ended t a ≡ true
+    → has_ended t b ≡ true
     → registers_in a ≡ registers_in b → a.memory ≡ b.memory → a ≡ b
 ended-same t a b n m p q r w =
     let c = cores-same t.programs a.cores b.cores n m p q r in

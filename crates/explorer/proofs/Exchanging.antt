@@ -1,5 +1,10 @@
 -- Exchanges of cores that are alike, in choices that lead from the first state to another one.
-use Rattle.explorer.proofs.Vocabulary.{◌≡◌, ◌<◌, ℕ, ◌+◌, zero, suc, Bool, true, false, List, [], ◌∷◌, ◌++◌, length, map, Some, slice_get, if◌then◌else◌, ◌==◌, ap, sym, ◌∙◌, subst, refl, append_assoc, length-set, length-map, length-swap, Litmus, State, started, start, effect_of, after_choice, chosen, stall_count, Instr, Choice, Step, Drain, forgotten, exchanged_core, exchanged_choice, renamed, exchanged, exchanged_by, AreOf, CoresAreAlike, AreAllAlike, IsExchangeable, AlikeCoresAreExchangeable, LeadsBy, LeadsToForgotten, played, Made, Exchanged, append-nil}
+use Rattle.explorer.proofs.Vocabulary.{◌≡◌, ◌<◌, ℕ, ◌+◌, zero, suc, Bool, true, false, List, [], ◌∷◌, ◌++◌, length, map, Some, slice_get}
+use Rattle.explorer.proofs.Vocabulary.{if◌then◌else◌, ◌==◌, ap, sym, ◌∙◌, subst, refl, append_assoc, length-set, length-map, length-swap}
+use Rattle.explorer.proofs.Vocabulary.{Litmus, State, started, start, effect_of, after_choice, chosen, stall_count, Instr, Choice, Step}
+use Rattle.explorer.proofs.Vocabulary.{Drain, forgotten, exchanged_core, exchanged_choice, renamed, exchanged, exchanged_by, AreOf}
+use Rattle.explorer.proofs.Vocabulary.{CoresAreAlike, AreAllAlike, IsExchangeable, AlikeCoresAreExchangeable, LeadsBy, LeadsToForgotten}
+use Rattle.explorer.proofs.Vocabulary.{played, Made, Exchanged, append-nil}
 
 -- ---- pairs
 
@@ -67,7 +72,12 @@ played-is [] es cs = played-exchanges es cs ∙ ap (exchanged_choices es) (sym (
 played-is (d ∷ ds) es cs = played-is ds es (cs ++ d ∷ []) ∙ ap (exchanged_choices es) (append_assoc cs (d ∷ []) ds)
 
 module _ (d : ℕ) (t : Litmus) (hidden : List (List Bool)) where
-  leads-one : (pair : ℕ × ℕ) → CoresAreAlike t hidden pair → IsExchangeable t hidden pair → (s : State) (cs : List Choice) (r : State) → length s.cores ≡ length t.programs → LeadsBy d t s cs r
+  leads-one : (pair : ℕ × ℕ)
+      → CoresAreAlike t hidden pair
+      → IsExchangeable t hidden pair
+      → (s : State) (cs : List Choice) (r : State)
+      → length s.cores ≡ length t.programs
+      → LeadsBy d t s cs r
       → LeadsBy d t (exchanged pair s) (map (exchanged_choice pair) cs) (exchanged pair r)
   leads-one pair h law s [] r n q = ap (exchanged pair) q
   leads-one pair h law s (c ∷ cs) r n l = (
@@ -78,21 +88,30 @@ module _ (d : ℕ) (t : Litmus) (hidden : List (List Bool)) where
   )
 
   module _ (law : AlikeCoresAreExchangeable) where
-    leads-by : (es : List (ℕ × ℕ)) → AreAllAlike t hidden es → (s : State) (cs : List Choice) (r : State) → length s.cores ≡ length t.programs → LeadsBy d t s cs r
+    leads-by : (es : List (ℕ × ℕ))
+        → AreAllAlike t hidden es
+        → (s : State) (cs : List Choice) (r : State)
+        → length s.cores ≡ length t.programs
+        → LeadsBy d t s cs r
         → LeadsBy d t (exchanged_by es s) (exchanged_choices es cs) (exchanged_by es r)
     leads-by [] h s cs r n l = l
     leads-by (e ∷ es) h s cs r n l =
         let a = first-alike t hidden e es h in
-        leads-by es (rest-alike t hidden e es h) (exchanged e s) (map (exchanged_choice e) cs) (exchanged e r) (length-exchanged e s ∙ n) (leads-one e a (law t hidden e a) s cs r n l)
+        leads-by es (rest-alike t hidden e es h) (exchanged e s) (map (exchanged_choice e) cs) (exchanged e r)
+        (length-exchanged e s ∙ n) (leads-one e a (law t hidden e a) s cs r n l)
 
     start-by : (es : List (ℕ × ℕ)) → AreAllAlike t hidden es → exchanged_by es (start t) ≡ start t
     start-by [] h = refl
     start-by (e ∷ es) h = ap (exchanged_by es) (law t hidden e (first-alike t hidden e es h)).first ∙ start-by es (rest-alike t hidden e es h)
 
-    forgotten-by : (es : List (ℕ × ℕ)) → AreAllAlike t hidden es → (s : State) → length s.cores ≡ length t.programs → forgotten t hidden (exchanged_by es s) ≡ exchanged_by es (forgotten t hidden s)
+    forgotten-by : (es : List (ℕ × ℕ))
+        → AreAllAlike t hidden es
+        → (s : State) → length s.cores ≡ length t.programs
+        → forgotten t hidden (exchanged_by es s) ≡ exchanged_by es (forgotten t hidden s)
     forgotten-by [] h s n = refl
     forgotten-by (e ∷ es) h s n =
-        forgotten-by es (rest-alike t hidden e es h) (exchanged e s) (length-exchanged e s ∙ n) ∙ ap (exchanged_by es) ((law t hidden e (first-alike t hidden e es h)).dead s n)
+        forgotten-by es (rest-alike t hidden e es h) (exchanged e s) (length-exchanged e s ∙ n)
+        ∙ ap (exchanged_by es) ((law t hidden e (first-alike t hidden e es h)).dead s n)
 
     -- what choices lead to from the first state, those with cores exchanged lead to with these exchanged
     pub leads-exchanged : (cs : List Choice) (es : List (ℕ × ℕ)) (r : State) → AreAllAlike t hidden es → LeadsBy d t (start t) cs r

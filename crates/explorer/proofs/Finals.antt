@@ -1,5 +1,10 @@
 -- The final states among the kept ones, one more at a time.
-use Rattle.explorer.proofs.Vocabulary.{◌≡◌, ◌<◌, ℕ, ◌+◌, Bool, true, false, List, [], ◌∷◌, ◌++◌, length, map, Some, slice_get, inl, inr, arith, ap, sym, ◌∙◌, subst, refl, IsDistinct, lt-or, Litmus, IsTest, State, registers_in, run, has_ended, RunsStopWhereTheyEnd, PartlyClosedStatesMissNone, forgotten, AreAlike, seen, DeadRegistersChangeNothing, AreAllAlike, AlikeCoresAreExchangeable, state_of_packed, HaveCores, AreReached, Have, HaveEveryEnd, AreDistinct, IsFinalOf, IsMadeOf, AreFinalsOf, MissesNoEnd, Packed, FinalState}
+use Rattle.explorer.proofs.Vocabulary.{◌≡◌, ◌<◌, ℕ, ◌+◌, Bool, true, false, List, [], ◌∷◌, ◌++◌, length, map, Some, slice_get, inl, inr}
+use Rattle.explorer.proofs.Vocabulary.{arith, ap, sym, ◌∙◌, subst, refl, IsDistinct, lt-or, Litmus, IsTest, State, registers_in, run}
+use Rattle.explorer.proofs.Vocabulary.{has_ended, RunsStopWhereTheyEnd, PartlyClosedStatesMissNone, forgotten, AreAlike, seen}
+use Rattle.explorer.proofs.Vocabulary.{DeadRegistersChangeNothing, AreAllAlike, AlikeCoresAreExchangeable, state_of_packed, HaveCores}
+use Rattle.explorer.proofs.Vocabulary.{AreReached, Have, HaveEveryEnd, AreDistinct, IsFinalOf, IsMadeOf, AreFinalsOf, MissesNoEnd, Packed}
+use Rattle.explorer.proofs.Vocabulary.{FinalState}
 use Rattle.explorer.specs.contracts.packed.PackedPartialEq.TheImpl as packed_eq
 use Rattle.explorer.proofs.Counting.{states-apart}
 use Rattle.explorer.proofs.Ending.{ended-same, leads-to-end}
@@ -7,15 +12,23 @@ use Rattle.explorer.proofs.Linking.{get-left, get-back, get-last, get-one, kept-
 use Rattle.explorer.proofs.Completing.{found-back, end-cores}
 use Rattle.explorer.proofs.Searching.{from-list, in-grown}
 
-pub cores-at : (t : Litmus) (xs : List Packed) (i : ℕ) (s : Packed) → HaveCores t xs → slice_get xs i ≡ Some s → length (state_of_packed s).cores ≡ length t.programs
+pub cores-at : (t : Litmus) (xs : List Packed) (i : ℕ) (s : Packed)
+    → HaveCores t xs
+    → slice_get xs i ≡ Some s
+    → length (state_of_packed s).cores ≡ length t.programs
 cores-at t xs i s h q = (kept-at t xs i s h q).cores
 
 -- ---- what is seen of a state that has ended
 
-seen-same : DeadRegistersChangeNothing → (t : Litmus) (hidden : List (List Bool)) (s r : State) → AreAlike t hidden s r → has_ended t s ≡ true → seen hidden (registers_in s) ≡ seen hidden (registers_in r)
+seen-same : DeadRegistersChangeNothing
+    → (t : Litmus) (hidden : List (List Bool)) (s r : State)
+    → AreAlike t hidden s r
+    → has_ended t s ≡ true
+    → seen hidden (registers_in s) ≡ seen hidden (registers_in r)
 seen-same law t hidden s r a e = sym (law.at_the_end t hidden s e) ∙ ap registers_in a ∙ law.at_the_end t hidden r (sym (law.ended t hidden s r a) ∙ e)
 
-module _ (law : DeadRegistersChangeNothing) (d : ℕ) (t : Litmus) (hidden : List (List Bool)) (x : Packed) (f : FinalState) (h : IsFinalOf d t hidden (state_of_packed x) f) (ended : has_ended t (state_of_packed x) ≡ true) where
+module _ (law : DeadRegistersChangeNothing) (d : ℕ) (t : Litmus) (hidden : List (List Bool)) (x : Packed)
+    (f : FinalState) (h : IsFinalOf d t hidden (state_of_packed x) f) (ended : has_ended t (state_of_packed x) ≡ true) where
   kept-alike : AreAlike t hidden (state_of_packed x) h.last
   kept-alike = ap (forgotten t hidden) (sym h.kept_is) ∙ law.twice t hidden h.last
 
@@ -33,7 +46,9 @@ module _ (law : DeadRegistersChangeNothing) (d : ℕ) (t : Litmus) (hidden : Lis
 
 -- ---- one more at a time
 
-made-later : (d : ℕ) (t : Litmus) (hidden : List (List Bool)) (xs : List Packed) (n : ℕ) (f : FinalState) → IsMadeOf d t hidden xs n f → IsMadeOf d t hidden xs (n + 1) f
+made-later : (d : ℕ) (t : Litmus) (hidden : List (List Bool)) (xs : List Packed) (n : ℕ) (f : FinalState)
+    → IsMadeOf d t hidden xs n f
+    → IsMadeOf d t hidden xs (n + 1) f
 made-later d t hidden xs n f h = record {
   at = h.at;
   kept = h.kept;
@@ -51,7 +66,9 @@ finals-none d t hidden xs = record {
 }
 
 -- the next state hasn't ended
-pub finals-skip : (d : ℕ) (t : Litmus) (hidden : List (List Bool)) (xs : List Packed) (n : ℕ) (fs : List FinalState) (x : Packed) → AreFinalsOf d t hidden xs n fs
+pub finals-skip : (d : ℕ) (t : Litmus) (hidden : List (List Bool)) (xs : List Packed) (n : ℕ) (fs : List FinalState)
+    (x : Packed)
+    → AreFinalsOf d t hidden xs n fs
     → slice_get xs n ≡ Some x → has_ended t (state_of_packed x) ≡ false → AreFinalsOf d t hidden xs (n + 1) fs
 finals-skip d t hidden xs n fs x h at e = record {
   each = λ i f q. made-later d t hidden xs n f (h.each i f q);
@@ -67,12 +84,15 @@ finals-skip d t hidden xs n fs x h at e = record {
 
 -- the next state has ended
 module _ (law : DeadRegistersChangeNothing) (d : ℕ) (t : Litmus) (hidden : List (List Bool)) (xs : List Packed) (n : ℕ) (fs : List FinalState) (f : FinalState)
-    (distinct : IsDistinct (packed_eq.eq-value).it xs) (cores : HaveCores t xs) (h : AreFinalsOf d t hidden xs n fs) (made : IsMadeOf d t hidden xs (n + 1) f) (at : made.at ≡ n) where
+    (distinct : IsDistinct (packed_eq.eq-value).it xs) (cores : HaveCores t xs) (h : AreFinalsOf d t hidden xs n fs)
+    (made : IsMadeOf d t hidden xs (n + 1) f) (at : made.at ≡ n) where
   -- no earlier one has the same memory and the same registers
   new : (i : ℕ) (g : FinalState) → slice_get fs i ≡ Some g → seen hidden g.registers.items ≡ seen hidden f.registers.items → g.memory.items ≡ f.memory.items → ⊥
   new i g q r m =
       let w = h.each i g q in
-      let same = ended-same t (state_of_packed w.kept) (state_of_packed made.kept) (cores-at t xs w.at w.kept cores w.stands) (cores-at t xs made.at made.kept cores made.stands) w.ended made.ended
+      let same =
+      ended-same t (state_of_packed w.kept) (state_of_packed made.kept) (cores-at t xs w.at w.kept cores w.stands)
+      (cores-at t xs made.at made.kept cores made.stands) w.ended made.ended
       (kept-registers law d t hidden w.kept g w.made w.ended ∙ r ∙ sym (kept-registers law d t hidden made.kept f made.made made.ended))
       (kept-memory law d t hidden w.kept g w.made w.ended ∙ m ∙ sym (kept-memory law d t hidden made.kept f made.made made.ended)) in
       let e = states-apart t xs distinct cores w.at made.at w.kept made.kept w.stands made.stands same in
@@ -85,13 +105,23 @@ module _ (law : DeadRegistersChangeNothing) (d : ℕ) (t : Litmus) (hidden : Lis
   ]
 
   have-more : (r : List (List ℕ)) (m : List ℕ) → Have hidden fs r m → Have hidden (fs ++ f ∷ []) r m
-  have-more r m w = record { at = w.at; final = w.final; stands = get-left fs (f ∷ []) w.at w.final w.stands; registers_are = w.registers_are; memory_is = w.memory_is }
+  have-more r m w = record {
+    at = w.at;
+    final = w.final;
+    stands = get-left fs (f ∷ []) w.at w.final w.stands;
+    registers_are = w.registers_are;
+    memory_is = w.memory_is;
+  }
 
   last-stands : (gs : List FinalState) → slice_get (gs ++ f ∷ []) (length gs) ≡ Some f
   last-stands [] = refl
   last-stands (g ∷ gs) = last-stands gs
 
-  all : (i : ℕ) (s : Packed) → i < n + 1 → slice_get xs i ≡ Some s → has_ended t (state_of_packed s) ≡ true → Have hidden (fs ++ f ∷ []) (registers_in (state_of_packed s)) (state_of_packed s).memory
+  all : (i : ℕ) (s : Packed)
+      → i < n + 1
+      → slice_get xs i ≡ Some s
+      → has_ended t (state_of_packed s) ≡ true
+      → Have hidden (fs ++ f ∷ []) (registers_in (state_of_packed s)) (state_of_packed s).memory
   all i s l q w = elim (lt-or n i) [
     | inl m ↦ have-more (registers_in (state_of_packed s)) (state_of_packed s).memory (h.all i s m q w)
     | inr m ↦
@@ -125,10 +155,14 @@ module _ (law : DeadRegistersChangeNothing) (d : ℕ) (t : Litmus) (hidden : Lis
 
 -- ---- what a search answers
 
-pub finals-reached : DeadRegistersChangeNothing → (d : ℕ) (t : Litmus) (hidden : List (List Bool)) (xs : List Packed) (n : ℕ) (fs : List FinalState) → AreFinalsOf d t hidden xs n fs → AreReached t d fs
+pub finals-reached : DeadRegistersChangeNothing
+    → (d : ℕ) (t : Litmus) (hidden : List (List Bool)) (xs : List Packed) (n : ℕ) (fs : List FinalState)
+    → AreFinalsOf d t hidden xs n fs
+    → AreReached t d fs
 finals-reached law d t hidden xs n fs h i f q =
     let m = h.each i f q in
-    leads-to-end d t f.choices.items m.made.last f.registers.items f.memory.items m.made.leads (last-ended law d t hidden m.kept f m.made m.ended) m.made.registers_are m.made.memory_is
+    leads-to-end d t f.choices.items m.made.last f.registers.items f.memory.items m.made.leads
+    (last-ended law d t hidden m.kept f m.made m.ended) m.made.registers_are m.made.memory_is
 
 -- the states of a search that came to its end
 pub record AreAll (d : ℕ) (t : Litmus) (hidden : List (List Bool)) (pairs : List (ℕ × ℕ)) (xs : List Packed) : Type 0 where
@@ -136,13 +170,20 @@ pub record AreAll (d : ℕ) (t : Litmus) (hidden : List (List Bool)) (pairs : Li
   pub cores : HaveCores t xs
   pub whole : MissesNoEnd d t hidden pairs xs
 
-pub finals-complete : DeadRegistersChangeNothing → AlikeCoresAreExchangeable → PartlyClosedStatesMissNone → RunsStopWhereTheyEnd → (d : ℕ) (t : Litmus) (hidden : List (List Bool)) (pairs : List (ℕ × ℕ))
+pub finals-complete : DeadRegistersChangeNothing
+    → AlikeCoresAreExchangeable
+    → PartlyClosedStatesMissNone
+    → RunsStopWhereTheyEnd
+    → (d : ℕ) (t : Litmus) (hidden : List (List Bool)) (pairs : List (ℕ × ℕ))
     (xs : List Packed) (fs : List FinalState) → IsTest t → AreAll d t hidden pairs xs → AreFinalsOf d t hidden xs (length xs) fs → HaveEveryEnd t d hidden fs
 finals-complete law all closed stop d t hidden pairs xs fs test w h registers memory e =
     let m = closed d t hidden pairs (map state_of_packed w.whole.earlier) e.choices test w.alike w.whole.closed e.ended in
     let last : State = (run t d e.choices).state in
     let ended : has_ended t last ≡ true = sym (stop.stops t d e.choices).ended ∙ e.ended in
-    let k = found-back law all t hidden pairs xs w.alike w.cores w.whole.exchanged m.exchanges m.of_pairs last (end-cores stop d t e.choices) ended m.kept (in-grown w.whole.earlier xs m.kept w.whole.grows m.among) m.alike in
+    let k =
+    found-back law all t hidden pairs xs w.alike w.cores w.whole.exchanged m.exchanges m.of_pairs last
+    (end-cores stop d t e.choices) ended m.kept (in-grown w.whole.earlier xs m.kept w.whole.grows m.among)
+    m.alike in
     let r = from-list xs k.among.0 k.state k.among.1 in
     let kept_ended : has_ended t k.state ≡ true = law.ended t hidden k.state last k.alike ∙ ended in
     let f = h.all k.among.0 r.0 r.3 r.1 (subst (λ z. has_ended t z ≡ true) (sym r.2) kept_ended) in
@@ -150,10 +191,20 @@ finals-complete law all closed stop d t hidden pairs xs fs test w h registers me
       at = f.at;
       final = f.final;
       stands = f.stands;
-      registers_are = f.registers_are ∙ ap (λ z. seen hidden (registers_in z)) r.2 ∙ seen-same law t hidden k.state last k.alike kept_ended ∙ ap (seen hidden) e.registers_are;
+      registers_are =
+          f.registers_are
+          ∙ ap (λ z. seen hidden (registers_in z)) r.2
+          ∙ seen-same law t hidden k.state last k.alike kept_ended
+          ∙ ap (seen hidden) e.registers_are;
       memory_is = f.memory_is ∙ ap (λ z. z.memory) r.2 ∙ ap (λ z. z.memory) k.alike ∙ e.memory_is;
     }
 
 -- what goes by one depth, test and list of hidden registers goes by the same ones
-pub went-by : (P : ℕ → Litmus → List (List Bool) → Type 0) → (d e : ℕ) (t u : Litmus) (hidden other : List (List Bool)) → d ≡ e → t ≡ u → hidden ≡ other → P d t hidden → P e u other
+pub went-by : (P : ℕ → Litmus → List (List Bool) → Type 0)
+    → (d e : ℕ) (t u : Litmus) (hidden other : List (List Bool))
+    → d ≡ e
+    → t ≡ u
+    → hidden ≡ other
+    → P d t hidden
+    → P e u other
 went-by P d e t u hidden other p q r h = subst (λ z. P z u other) p (subst (λ z. P d z other) q (subst (λ z. P d t z) r h))

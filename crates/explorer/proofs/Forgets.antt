@@ -1,5 +1,8 @@
 -- Dead registers, forgotten one after the other, and core by core.
-use Rattle.explorer.proofs.Vocabulary.{◌≡◌, ◌<◌, ◌≤◌, ℕ, ◌+◌, ◌-◌, zero, suc, Bool, true, false, List, [], ◌∷◌, ◌++◌, length, Some, slice_get, slice_set, slice_index, slice_index_or, inl, inr, drop, take, if◌then◌else◌, arith, ap, sym, ◌∙◌, refl, slice_get-get_or, lt-or, drop-end, Litmus, CoreState, idle, program_of, Instr, dead_at, cleared, hidden_of, forgotten_core, forgotten_cores, AreDead}
+use Rattle.explorer.proofs.Vocabulary.{◌≡◌, ◌<◌, ◌≤◌, ℕ, ◌+◌, ◌-◌, zero, suc, Bool, true, false, List, [], ◌∷◌, ◌++◌, length, Some}
+use Rattle.explorer.proofs.Vocabulary.{slice_get, slice_set, slice_index, slice_index_or, inl, inr, drop, take, if◌then◌else◌, arith, ap}
+use Rattle.explorer.proofs.Vocabulary.{sym, ◌∙◌, refl, slice_get-get_or, lt-or, drop-end, Litmus, CoreState, idle, program_of, Instr}
+use Rattle.explorer.proofs.Vocabulary.{dead_at, cleared, hidden_of, forgotten_core, forgotten_cores, AreDead}
 
 -- ---- one register more
 
@@ -42,7 +45,11 @@ pub record IsClearing (ds : List Bool) (old new : List ℕ) (at : ℕ) : Type 0 
 pub clears-none : (ds : List Bool) (rs : List ℕ) → length rs ≡ 6 → IsClearing ds rs rs 0
 clears-none ds rs n = record { same = refl; zeros = λ j l. absurd (let z : ⊥ = omega (arith, l) in z); size = n }
 
-pub clears-more : (ds : List Bool) (old now new : List ℕ) (at : ℕ) → IsClearing ds old now at → slice_index_or ds at false ≡ true → new ≡ slice_set now at 0 → length new ≡ 6
+pub clears-more : (ds : List Bool) (old now new : List ℕ) (at : ℕ)
+    → IsClearing ds old now at
+    → slice_index_or ds at false ≡ true
+    → new ≡ slice_set now at 0
+    → length new ≡ 6
     → IsClearing ds old new (at + 1)
 clears-more ds old now new at h d e n = record {
   same = ap (cleared ds) e ∙ clear-one ds now at d ∙ h.same;
@@ -99,8 +106,11 @@ row-is p hidden rows place left d h l = elim (lt-or (length p) place) [
 -- ---- all cores
 
 module _ (t : Litmus) (hidden : List (List Bool)) where
-  one-more : (xs : List CoreState) (k m : ℕ) (y : CoreState) → k < length xs → y ≡ forgotten_core (program_of t m) (hidden_of hidden m) (slice_index_or xs k idle)
-      → take (suc k) (slice_set xs k y) ++ forgotten_cores t hidden (m + 1) (drop (suc k) (slice_set xs k y)) ≡ take k xs ++ forgotten_cores t hidden m (drop k xs)
+  one-more : (xs : List CoreState) (k m : ℕ) (y : CoreState)
+      → k < length xs
+      → y ≡ forgotten_core (program_of t m) (hidden_of hidden m) (slice_index_or xs k idle)
+      → take (suc k) (slice_set xs k y) ++ forgotten_cores t hidden (m + 1) (drop (suc k) (slice_set xs k y))
+      ≡ take k xs ++ forgotten_cores t hidden m (drop k xs)
   one-more [] k m y l e = absurd (let z : ⊥ = omega (arith, l) in z)
   one-more (x ∷ xs) zero m y l e = ap (λ z. z ∷ forgotten_cores t hidden (m + 1) xs) e
   one-more (x ∷ xs) (suc k) m y l e = ap (λ z. x ∷ z) (one-more xs k m y (omega (arith, l)) e)

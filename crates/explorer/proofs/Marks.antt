@@ -1,5 +1,7 @@
 -- Which cores are marked, and that nothing is pending.
-use Rattle.explorer.proofs.Vocabulary.{◌≡◌, ◌<◌, ◌≤◌, ◌==◌, ℕ, zero, suc, Bool, true, false, List, [], ◌∷◌, length, replicate, slice_index_or, arith, nat_tests, refl, Instr, CoreState, Avoids, IsHeldBack, away, by_drain, by_step}
+use Rattle.explorer.proofs.Vocabulary.{◌≡◌, ◌<◌, ◌≤◌, ◌==◌, ℕ, zero, suc, Bool, true, false, List, [], ◌∷◌, length, replicate}
+use Rattle.explorer.proofs.Vocabulary.{slice_index_or, arith, nat_tests, refl, Instr, CoreState, Avoids, IsHeldBack, away, by_drain}
+use Rattle.explorer.proofs.Vocabulary.{by_step}
 
 pub none-beyond : (marks : List Bool) (core : ℕ) → length marks ≤ core → slice_index_or marks core false ≡ false
 none-beyond [] core l = refl
@@ -24,7 +26,11 @@ none-marked (suc n) zero = refl
 none-marked (suc n) (suc core) = none-marked n core
 
 -- what no choice holds back keeps away by itself
-pub held-by-none : (d : ℕ) (loads : Bool) (loc : ℕ) (program : List Instr) (s : CoreState) (step drain : Bool) → step ≡ false → drain ≡ false → IsHeldBack d loads loc program s step drain → Avoids loads loc program s
+pub held-by-none : (d : ℕ) (loads : Bool) (loc : ℕ) (program : List Instr) (s : CoreState) (step drain : Bool)
+    → step ≡ false
+    → drain ≡ false
+    → IsHeldBack d loads loc program s step drain
+    → Avoids loads loc program s
 held-by-none d loads loc program s step drain p q (away h) = h
 held-by-none d loads loc program s step drain p q (by_drain l h e) = absurd (let z : ⊥ = cc in z)
 held-by-none d loads loc program s step drain p q (by_step h e) = absurd (let z : ⊥ = cc in z)

@@ -1,5 +1,7 @@
 -- Which registers are dead, worked out from the end of a program on.
-use Rattle.explorer.proofs.Vocabulary.{◌≡◌, ◌≤◌, ℕ, ◌+◌, Bool, List, [], ◌∷◌, ◌++◌, length, Some, slice_get, slice_index_or, inl, inr, drop, arith, ap, sym, ◌∙◌, subst, refl, length-append, slice_get-get_or, lt-or, drop-at, drop-end, action_of, Instr, Action, dead_before, dead_at, AreDead}
+use Rattle.explorer.proofs.Vocabulary.{◌≡◌, ◌≤◌, ℕ, ◌+◌, Bool, List, [], ◌∷◌, ◌++◌, length, Some, slice_get, slice_index_or, inl, inr, drop}
+use Rattle.explorer.proofs.Vocabulary.{arith, ap, sym, ◌∙◌, subst, refl, length-append, slice_get-get_or, lt-or, drop-at, drop-end}
+use Rattle.explorer.proofs.Vocabulary.{action_of, Instr, Action, dead_before, dead_at, AreDead}
 use Rattle.explorer.proofs.Linking.{get-left, get-back, get-last}
 
 -- the rows of the places with at most so many instructions still to come
@@ -20,34 +22,39 @@ rows-none p hidden rows e = record {
       ap (λ z. slice_get rows z) z ∙ ap (λ z. slice_get z 0) e ∙ ap (λ z. Some (dead_at z hidden)) (sym (drop-end p place end));
 }
 
-module _ (p : List Instr) (hidden : List Bool) (rows new : List (List Bool)) (left m : ℕ) (a : Action) (x : Instr) (d before : List Bool) (h : AreDeadSoFar p hidden rows left)
-    (m-is : m + (left + 1) ≡ length p) (a-is : a ≡ action_of (slice_index_or p m x)) (d-is : d ≡ slice_index_or rows left d) (before-is : before ≡ dead_before a d) (new-is : new ≡ rows ++ before ∷ []) where
-  d-dead : d ≡ dead_at (drop (m + 1) p) hidden
-  d-dead =
-      let n = h.count in
-      let a : slice_get rows left ≡ Some (slice_index_or rows left d) = slice_get-get_or rows left d (omega (arith, n)) in
-      let b = h.each left (m + 1) (omega arith) (omega (arith, m-is)) in
-      let z : slice_index_or rows left d ≡ dead_at (drop (m + 1) p) hidden = cc in
-      d-is ∙ z
+module _ (p : List Instr) (hidden : List Bool) (rows new : List (List Bool)) (left m : ℕ) (a : Action) (x : Instr)
+    (d before : List Bool) (h : AreDeadSoFar p hidden rows left)
+    (m-is : m + (left + 1) ≡ length p) (a-is : a ≡ action_of (slice_index_or p m x))
+    (d-is : d ≡ slice_index_or rows left d) (before-is : before ≡ dead_before a d) (new-is : new ≡ rows ++ before ∷ [])
+  where
+    d-dead : d ≡ dead_at (drop (m + 1) p) hidden
+    d-dead =
+        let n = h.count in
+        let a : slice_get rows left ≡ Some (slice_index_or rows left d) = slice_get-get_or rows left d (omega (arith, n)) in
+        let b = h.each left (m + 1) (omega arith) (omega (arith, m-is)) in
+        let z : slice_index_or rows left d ≡ dead_at (drop (m + 1) p) hidden = cc in
+        d-is ∙ z
 
-  before-dead : before ≡ dead_at (drop m p) hidden
-  before-dead =
-      before-is ∙ ap (dead_before a) d-dead ∙ ap (λ z. dead_before z (dead_at (drop (m + 1) p) hidden)) a-is
-      ∙ ap (λ z. dead_at z hidden) (sym (drop-at p m (slice_index_or p m x) (slice_get-get_or p m x (omega (arith, m-is)))))
+    before-dead : before ≡ dead_at (drop m p) hidden
+    before-dead =
+        before-is ∙ ap (dead_before a) d-dead ∙ ap (λ z. dead_before z (dead_at (drop (m + 1) p) hidden)) a-is
+        ∙ ap (λ z. dead_at z hidden) (sym (drop-at p m (slice_index_or p m x) (slice_get-get_or p m x (omega (arith, m-is)))))
 
-  pub rows-more : AreDeadSoFar p hidden new (left + 1)
-  rows-more = record {
-    count = let a = ap length new-is in let b = length-append rows (before ∷ []) in let n = h.count in omega (arith, a, b, n);
-    each = λ n place l q. elim (lt-or (left + 1) n) [
-      | inl k ↦ subst (λ z. slice_get z n ≡ Some (dead_at (drop place p) hidden)) (sym new-is) (get-left rows (before ∷ []) n _ (h.each n place (omega (arith, k)) q))
-      | inr k ↦
-          let c = h.count in
-          let i : n ≡ length rows = omega (arith, l, k, c) in
-          let j : m ≡ place = omega (arith, l, k, q, m-is) in
-          ap (λ z. slice_get z n) new-is ∙ ap (λ z. slice_get (rows ++ before ∷ []) z) i ∙ last-at rows before
-          ∙ ap Some (before-dead ∙ ap (λ z. dead_at (drop z p) hidden) j)
-    ];
-  }
+    pub rows-more : AreDeadSoFar p hidden new (left + 1)
+    rows-more = record {
+      count = let a = ap length new-is in let b = length-append rows (before ∷ []) in let n = h.count in omega (arith, a, b, n);
+      each = λ n place l q. elim (lt-or (left + 1) n) [
+        | inl k ↦
+            subst (λ z. slice_get z n ≡ Some (dead_at (drop place p) hidden)) (sym new-is)
+            (get-left rows (before ∷ []) n _ (h.each n place (omega (arith, k)) q))
+        | inr k ↦
+            let c = h.count in
+            let i : n ≡ length rows = omega (arith, l, k, c) in
+            let j : m ≡ place = omega (arith, l, k, q, m-is) in
+            ap (λ z. slice_get z n) new-is ∙ ap (λ z. slice_get (rows ++ before ∷ []) z) i ∙ last-at rows before
+            ∙ ap Some (before-dead ∙ ap (λ z. dead_at (drop z p) hidden) j)
+      ];
+    }
 
 pub plan-none : {A : Type 0} (P : ℕ → A → Type 0) (xs : List A) → xs ≡ [] → (k : ℕ) (y : A) → slice_get xs k ≡ Some y → P k y
 plan-none P [] e k y at = absurd (let z : ⊥ = cc in z)
@@ -63,7 +70,11 @@ plan-more P xs n x new c e p h k y at = elim (lt-or (length xs) k) [
       subst (λ z. P z y) (sym r.0) (subst (λ z. P (length xs) z) r.1 (subst (λ z. P z x) (sym c) p))
 ]
 
-pub rows-all : (p : List Instr) (hidden : List Bool) (rows : List (List Bool)) (left : ℕ) → length p ≤ left → left ≤ length p → AreDeadSoFar p hidden rows left → AreDead p hidden rows
+pub rows-all : (p : List Instr) (hidden : List Bool) (rows : List (List Bool)) (left : ℕ)
+    → length p ≤ left
+    → left ≤ length p
+    → AreDeadSoFar p hidden rows left
+    → AreDead p hidden rows
 rows-all p hidden rows left l m h = record {
   count = let n = h.count in omega (arith, n, l, m);
   each = λ n place q. h.each n place (omega (arith, q, l)) q;

@@ -1,5 +1,6 @@
 -- Packed states are equal by == exactly where their bytes are the same.
-use Rattle.explorer.proofs.Vocabulary.{◌≡◌, ℕ, List, [], ◌∷◌, Bool, true, ◌&&◌, ◌||◌, ◌∙◌, list_any, ap, refl, subst, pointwise, eqb-true, eq-eqb, eqb, false, sym, and-left, and-right, state_of_bytes, state_of_packed, Packed}
+use Rattle.explorer.proofs.Vocabulary.{◌≡◌, ℕ, List, [], ◌∷◌, Bool, true, ◌&&◌, ◌||◌, ◌∙◌, list_any, ap, refl, subst, pointwise, eqb-true}
+use Rattle.explorer.proofs.Vocabulary.{eq-eqb, eqb, false, sym, and-left, and-right, state_of_bytes, state_of_packed, Packed}
 use mathlib.Core.Bool.{beq}
 use Rattle.explorer.specs.contracts.packed.PackedPartialEq.TheImpl as packed_eq
 
@@ -7,7 +8,11 @@ pub pointwise-same : {A : Type 0} (E : A → A → Bool) → ((x y : A) → E x 
 pointwise-same E h [] [] q = refl
 pointwise-same E h [] (y ∷ ys) q = absurd (let z : ⊥ = cc in z)
 pointwise-same E h (x ∷ xs) [] q = absurd (let z : ⊥ = cc in z)
-pointwise-same E h (x ∷ xs) (y ∷ ys) q = rw (h x y (and-left (E x y) (pointwise E xs ys) q), pointwise-same E h xs ys (and-right (E x y) (pointwise E xs ys) q)) refl
+pointwise-same E h (x ∷ xs) (y ∷ ys) q =
+    rw (
+      h x y (and-left (E x y) (pointwise E xs ys) q),
+      pointwise-same E h xs ys (and-right (E x y) (pointwise E xs ys) q),
+    ) refl
 
 pub words-same : (xs ys : List ℕ) → pointwise eqb xs ys ≡ true → xs ≡ ys
 words-same xs ys q = pointwise-same eqb eqb-true xs ys q
@@ -25,7 +30,9 @@ pub packed-same : (a b : Packed) → (packed_eq.eq-value).it a b ≡ true → st
 packed-same a b q = ap state_of_bytes (words-same a.bytes.items b.bytes.items q)
 
 -- so the same bytes are in a set, or aren't
-pub same-any : (a b : Packed) (xs : List Packed) → a.bytes.items ≡ b.bytes.items → list_any ((packed_eq.eq-value).it a) xs ≡ list_any ((packed_eq.eq-value).it b) xs
+pub same-any : (a b : Packed) (xs : List Packed)
+    → a.bytes.items ≡ b.bytes.items
+    → list_any ((packed_eq.eq-value).it a) xs ≡ list_any ((packed_eq.eq-value).it b) xs
 same-any a b [] q = refl
 same-any a b (x ∷ xs) q =
     ap (λ z. pointwise eqb z x.bytes.items || list_any ((packed_eq.eq-value).it a) xs) q ∙ ap (λ z. (packed_eq.eq-value).it b x || z) (same-any a b xs q)

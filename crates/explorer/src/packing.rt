@@ -1,7 +1,9 @@
 //! Packs a state as a string of bytes: memory, and then each core. A number is short where it is small, as nearly all are.
 ghost use Rattle.std.specs.Prelude.{◌≡◌, OnOk, length, map};
 ghost use Rattle.flat_machine.specs.State.{state_of_snapshot, core_of_processor};
-ghost use Rattle.explorer.specs.inner.Packed.{Packs, number_bytes, kind_byte, all_bytes, list_bytes, entry_bytes, core_bytes, state_bytes, read_number, read_word, read_all, read_list, read_entry, read_registers, read_core, state_of_packed};
+ghost use Rattle.explorer.specs.inner.Packed.{Packs, number_bytes, kind_byte, all_bytes, list_bytes, entry_bytes, core_bytes, state_bytes};
+ghost use Rattle.explorer.specs.inner.Packed.{read_number, read_word, read_all, read_list, read_entry, read_registers, read_core};
+ghost use Rattle.explorer.specs.inner.Packed.{state_of_packed};
 
 use crate::packed::Packed;
 use flat_machine::{Processor, Snapshot};

@@ -38,7 +38,10 @@ fn visit_if(
     ensures grows { OnOk result (Grows found.old.states.keys found.new.states.keys) }
     ensures found { OnOk result (IsInOrder plan.now found.new) }
     ensures current { OnOk result (found.new.current ≡ found.old.current) }
-    ensures visited { OnOk result (is_picked ≡ true → IsVisited plan.now.depth plan.now.test.now plan.now.hidden.now plan.now.alike.items found.new.states.keys (state_of_snapshot found.old.current) choice) }
+    ensures visited { OnOk result
+        (is_picked ≡ true
+        → IsVisited plan.now.depth plan.now.test.now plan.now.hidden.now plan.now.alike.items found.new.states.keys
+        (state_of_snapshot found.old.current) choice) }
 {
     if !is_picked {
         return Ok(());
@@ -59,7 +62,8 @@ pub fn expand(alloc: Global, found: &mut Found, plan: &Plan, from: usize) -> Res
     ensures grows { OnOk result (Grows found.old.states.keys found.new.states.keys) }
     ensures found { OnOk result (IsInOrder plan.now found.new) }
     ensures expanded { OnOk result ((s : Packed) → slice_get found.old.states.keys from ≡ Some s
-        → IsExpandedEnough plan.now.depth plan.now.test.now plan.now.hidden.now plan.now.alike.items (map state_of_packed found.new.states.keys) (state_of_packed s)) }
+        → IsExpandedEnough plan.now.depth plan.now.test.now plan.now.hidden.now plan.now.alike.items
+        (map state_of_packed found.new.states.keys) (state_of_packed s)) }
 {
     unpack(&found.states[from], &mut found.current)?;
     let picked = pick(&found.current, plan.test, plan.depth);

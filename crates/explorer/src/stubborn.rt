@@ -36,7 +36,9 @@ pub fn is_marked(marks: &[bool], core: u8) -> bool
 /// Whether the core meets the location not at all, or only after one of its choices that are picked.
 fn is_held_back(at: &Situation, picked: &Picked, core: Core, meeting: Meeting) -> bool
     requires { core.0 < length at.now.test.now.programs }
-    ensures { result ≡ true → IsHeldBack at.now.depth meeting.loads meeting.loc.0 (program_of at.now.test.now core.0) (core_of (state_of_snapshot at.now.state.now) core.0)
+    ensures { result ≡ true
+        → IsHeldBack at.now.depth meeting.loads meeting.loc.0 (program_of at.now.test.now core.0)
+        (core_of (state_of_snapshot at.now.state.now) core.0)
         (has_step (set_of picked.now) core.0) (has_drain (set_of picked.now) core.0) }
 {
     let processor = at.processor(core);
@@ -49,7 +51,8 @@ fn is_held_back(at: &Situation, picked: &Picked, core: Core, meeting: Meeting) -
 
 /// Whether that is so of every other core.
 pub fn others_are_held_back(at: &Situation, picked: &Picked, core: Core, meeting: Meeting) -> bool
-    ensures { result ≡ true → OthersAreHeldBack at.now.depth meeting.loads meeting.loc.0 at.now.test.now (set_of picked.now) (state_of_snapshot at.now.state.now) core.0 }
+    ensures { result ≡ true
+        → OthersAreHeldBack at.now.depth meeting.loads meeting.loc.0 at.now.test.now (set_of picked.now) (state_of_snapshot at.now.state.now) core.0 }
 {
     for other in 0..at.test.cores() {
         if other != core.0 && !is_held_back(at, picked, Core(other), meeting) {
@@ -74,7 +77,9 @@ fn is_apart_write(at: &Situation, picked: &Picked, core: Core, loc: Loc) -> bool
 /// Whether the core's step, if it is picked, is so: nothing that isn't picked meets its next action, or that waits for the core's
 /// drain, which is picked.
 fn is_step_fine(at: &Situation, picked: &Picked, core: Core) -> bool
-    ensures { result ≡ true → has_step (set_of picked.now) core.0 ≡ true → IsApartStep at.now.depth at.now.test.now (set_of picked.now) (state_of_snapshot at.now.state.now) core.0 }
+    ensures { result ≡ true
+        → has_step (set_of picked.now) core.0 ≡ true
+        → IsApartStep at.now.depth at.now.test.now (set_of picked.now) (state_of_snapshot at.now.state.now) core.0 }
 {
     if !is_marked(&picked.steps, core.0) {
         return true;
@@ -97,7 +102,9 @@ fn is_step_fine(at: &Situation, picked: &Picked, core: Core) -> bool
 
 /// Whether the core's drain, if it is picked, is so.
 fn is_drain_fine(at: &Situation, picked: &Picked, core: Core) -> bool
-    ensures { result ≡ true → has_drain (set_of picked.now) core.0 ≡ true → IsApartDrain at.now.depth at.now.test.now (set_of picked.now) (state_of_snapshot at.now.state.now) core.0 }
+    ensures { result ≡ true
+        → has_drain (set_of picked.now) core.0 ≡ true
+        → IsApartDrain at.now.depth at.now.test.now (set_of picked.now) (state_of_snapshot at.now.state.now) core.0 }
 {
     if !is_marked(&picked.drains, core.0) {
         return true;

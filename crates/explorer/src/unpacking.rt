@@ -1,7 +1,8 @@
 //! Reads a state from its string of bytes. What is left of the bytes is handed on from one part to the next.
 ghost use Rattle.std.specs.Prelude.{◌≡◌, IfOk, OnOk, length};
 ghost use Rattle.flat_machine.specs.State.{state_of_snapshot};
-ghost use Rattle.explorer.specs.inner.Packed.{read_byte, read_long, read_number, word_or_zero, read_word, kind_of_byte, read_list, read_entry, read_registers, state_of_packed};
+ghost use Rattle.explorer.specs.inner.Packed.{read_byte, read_long, read_number, word_or_zero, read_word, kind_of_byte, read_list};
+ghost use Rattle.explorer.specs.inner.Packed.{read_entry, read_registers, state_of_packed};
 
 use crate::packed::Packed;
 use flat_machine::Snapshot;

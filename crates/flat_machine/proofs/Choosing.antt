@@ -1,5 +1,10 @@
 -- A choice in a snapshot is the choice in its state.
-use Rattle.flat_machine.proofs.Vocabulary.{◌≡◌, ℕ, ◌<◌, ◌≤◌, zero, suc, List, [], ◌∷◌, length, map, Some, None, slice_get, slice_set, slice_index_or, Result, Ok, Err, OnOk, refl, ap, sym, ◌∙◌, arith, true, false, ◌==◌, slice_get-get_or, action_of, Litmus, CoreState, State, Effect, idle, program_of, core_of, step_of, effect_by, drain_of, effect_of, memory_after, applied, after_choice, chosen, step, drain, stalled, Instr, Action, Choice, Stall, Outcome, Committed, Buffered, Moved, Asked, Stalled, stall_count, core_of_processor, state_of_snapshot, Processor, Snapshot}
+use Rattle.flat_machine.proofs.Vocabulary.{◌≡◌, ℕ, ◌<◌, ◌≤◌, zero, suc, List, [], ◌∷◌, length, map, Some, None, slice_get, slice_set}
+use Rattle.flat_machine.proofs.Vocabulary.{slice_index_or, Result, Ok, Err, OnOk, refl, ap, sym, ◌∙◌, arith, true, false, ◌==◌}
+use Rattle.flat_machine.proofs.Vocabulary.{slice_get-get_or, action_of, Litmus, CoreState, State, Effect, idle, program_of, core_of}
+use Rattle.flat_machine.proofs.Vocabulary.{step_of, effect_by, drain_of, effect_of, memory_after, applied, after_choice, chosen, step}
+use Rattle.flat_machine.proofs.Vocabulary.{drain, stalled, Instr, Action, Choice, Stall, Outcome, Committed, Buffered, Moved, Asked}
+use Rattle.flat_machine.proofs.Vocabulary.{Stalled, stall_count, core_of_processor, state_of_snapshot, Processor, Snapshot}
 use Rattle.tso_terms.specs.declared.choice.Stall.TheVariants as stall
 
 pub on-ok : {A E : Type 0} {P Q : Type 0} (r : Result A E) → (P → Q) → OnOk r P → OnOk r Q
@@ -10,12 +15,15 @@ pub on-ok-2 : {A E : Type 0} {P Q R : Type 0} (r : Result A E) → (P → Q → 
 on-ok-2 (Ok a) f h k = f h k
 on-ok-2 (Err e) f h k = h
 
-pub map-at : (xs : List Processor) (k : ℕ) (p : Processor) → k < length xs → slice_index_or (map core_of_processor xs) k idle ≡ core_of_processor (slice_index_or xs k p)
+pub map-at : (xs : List Processor) (k : ℕ) (p : Processor)
+    → k < length xs
+    → slice_index_or (map core_of_processor xs) k idle ≡ core_of_processor (slice_index_or xs k p)
 map-at [] k p l = absurd (let z : ⊥ = omega (arith, l) in z)
 map-at (x ∷ xs) zero p l = refl
 map-at (x ∷ xs) (suc k) p l = map-at xs k p (omega (arith, l))
 
-pub map-set : (xs : List Processor) (k : ℕ) (p : Processor) → map core_of_processor (slice_set xs k p) ≡ slice_set (map core_of_processor xs) k (core_of_processor p)
+pub map-set : (xs : List Processor) (k : ℕ) (p : Processor)
+    → map core_of_processor (slice_set xs k p) ≡ slice_set (map core_of_processor xs) k (core_of_processor p)
 map-set [] k p = refl
 map-set (x ∷ xs) zero p = refl
 map-set (x ∷ xs) (suc k) p = ap (λ z. core_of_processor x ∷ z) (map-set xs k p)
@@ -24,16 +32,25 @@ module _ (t : Litmus) (d : ℕ) (s : Snapshot) (k : ℕ) (p : Processor) (presen
   pub core-at : core_of (state_of_snapshot s) k ≡ core_of_processor p
   core-at = map-at s.cores.items k p present ∙ ap core_of_processor (sym p-is)
 
-  pub stepping : (x : Instr) → slice_get (program_of t k) p.place ≡ Some x → effect_of t d (state_of_snapshot s) (step k) ≡ effect_by d s.memory.items k (action_of x) (core_of_processor p)
-  stepping x at = ap (λ z. step_of d s.memory.items k (slice_get (program_of t k) z.place) z) core-at ∙ ap (λ i. step_of d s.memory.items k i (core_of_processor p)) at
+  pub stepping : (x : Instr)
+      → slice_get (program_of t k) p.place ≡ Some x
+      → effect_of t d (state_of_snapshot s) (step k) ≡ effect_by d s.memory.items k (action_of x) (core_of_processor p)
+  stepping x at =
+      ap (λ z. step_of d s.memory.items k (slice_get (program_of t k) z.place) z) core-at
+      ∙ ap (λ i. step_of d s.memory.items k i (core_of_processor p)) at
 
   pub done : slice_get (program_of t k) p.place ≡ None → effect_of t d (state_of_snapshot s) (step k) ≡ stalled stall.Done (core_of_processor p)
-  done at = ap (λ z. step_of d s.memory.items k (slice_get (program_of t k) z.place) z) core-at ∙ ap (λ i. step_of d s.memory.items k i (core_of_processor p)) at
+  done at =
+      ap (λ z. step_of d s.memory.items k (slice_get (program_of t k) z.place) z) core-at
+      ∙ ap (λ i. step_of d s.memory.items k i (core_of_processor p)) at
 
   pub draining : effect_of t d (state_of_snapshot s) (drain k) ≡ drain_of (core_of_processor p)
   draining = ap drain_of core-at
 
-  pub acted : (c : Choice) (f : Effect) (words : List ℕ) (cores : List Processor) (q : Processor) → chosen c ≡ k → effect_of t d (state_of_snapshot s) c ≡ f → core_of_processor q ≡ f.after
+  pub acted : (c : Choice) (f : Effect) (words : List ℕ) (cores : List Processor) (q : Processor)
+      → chosen c ≡ k
+      → effect_of t d (state_of_snapshot s) c ≡ f
+      → core_of_processor q ≡ f.after
       → words ≡ memory_after f.commits s.memory.items → cores ≡ slice_set s.cores.items k q
       → record { memory = words; cores = map core_of_processor cores } ≡ after_choice t d (state_of_snapshot s) c
   acted c f words cores q e g a m n = rw (e, g, m, n, map-set s.cores.items k q, a) refl

@@ -1,5 +1,7 @@
 -- A run, as far as it was made: what is left of the choices leaves from here on what the whole run leaves.
-use Rattle.flat_machine.proofs.Vocabulary.{◌≡◌, ℕ, Bool, true, false, if◌then◌else◌, List, [], ◌∷◌, length, slice_set, refl, ap, sym, ◌∙◌, length-set, Litmus, State, after_choice, effect_of, memory_after, is_write, Entry, Run, has_ended, run_from, then_run, Choice}
+use Rattle.flat_machine.proofs.Vocabulary.{◌≡◌, ℕ, Bool, true, false, if◌then◌else◌, List, [], ◌∷◌, length, slice_set, refl, ap, sym, ◌∙◌}
+use Rattle.flat_machine.proofs.Vocabulary.{length-set, Litmus, State, after_choice, effect_of, memory_after, is_write, Entry, Run}
+use Rattle.flat_machine.proofs.Vocabulary.{has_ended, run_from, then_run, Choice}
 
 pub record IsOnItsWay (t : Litmus) (depth : ℕ) (first : State) (all : List Choice) (now : State) (left : List Choice) : Type 0 where
   pub ended : (run_from t depth first all).ended ≡ (run_from t depth now left).ended
@@ -30,5 +32,7 @@ length-memory : (es : List Entry) (words : List ℕ) → length (memory_after es
 length-memory [] words = refl
 length-memory (e ∷ es) words = length-memory es _ ∙ length-written (is_write e) words e.loc.0 e.value
 
-pub as-many-words : (t : Litmus) (depth : ℕ) (now : State) (c : Choice) (after : State) → after ≡ after_choice t depth now c → length after.memory ≡ length now.memory
+pub as-many-words : (t : Litmus) (depth : ℕ) (now : State) (c : Choice) (after : State)
+    → after ≡ after_choice t depth now c
+    → length after.memory ≡ length now.memory
 as-many-words t depth now c after a = ap (λ (s : State). length s.memory) a ∙ length-memory (effect_of t depth now c).commits now.memory

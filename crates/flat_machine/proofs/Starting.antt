@@ -1,5 +1,7 @@
 -- The cores begin one after the other.
-use Rattle.flat_machine.proofs.Vocabulary.{◌≡◌, ℕ, ◌+◌, ◌<◌, ◌≤◌, zero, suc, List, [], ◌∷◌, ◌++◌, length, take, map, slice_index_or, refl, ap, sym, ◌∙◌, arith, take_all, CoreState, State, started, start, Litmus, Instr, core_of_processor, Processor}
+use Rattle.flat_machine.proofs.Vocabulary.{◌≡◌, ℕ, ◌+◌, ◌<◌, ◌≤◌, zero, suc, List, [], ◌∷◌, ◌++◌, length, take, map, slice_index_or, refl}
+use Rattle.flat_machine.proofs.Vocabulary.{ap, sym, ◌∙◌, arith, take_all, CoreState, State, started, start, Litmus, Instr}
+use Rattle.flat_machine.proofs.Vocabulary.{core_of_processor, Processor}
 
 pub map-last : (xs : List Processor) (y : Processor) → map core_of_processor (xs ++ y ∷ []) ≡ map core_of_processor xs ++ core_of_processor y ∷ []
 map-last [] y = refl
@@ -23,13 +25,18 @@ pub one-core-more : (ps : List (List Instr)) (rs : List (List ℕ)) (old new : L
 one-core-more ps rs old new y n h e q b =
     let z : 0 + n ≡ n = omega arith in
     ap (map core_of_processor) q ∙ map-last old y ∙ ap (λ w. w ++ core_of_processor y ∷ []) e ∙ ap (λ w. started 0 (take n ps) rs ++ w ∷ []) b
-    ∙ ap (λ m. started 0 (take n ps) rs ++ beginning (slice_index_or rs m []) ∷ []) (sym z) ∙ started-more ps rs 0 n h ∙ (let w : suc n ≡ n + 1 = omega arith in ap (λ m. started 0 (take m ps) rs) w)
+    ∙ ap (λ m. started 0 (take n ps) rs ++ beginning (slice_index_or rs m []) ∷ []) (sym z)
+    ∙ started-more ps rs 0 n h
+    ∙ (let w : suc n ≡ n + 1 = omega arith in ap (λ m. started 0 (take m ps) rs) w)
 
 abbrev pub state-with : List ℕ → List CoreState → State
 state-with memory cores = record { memory = memory; cores = cores }
 
 -- all cores have begun
-pub all-begun : (t : Litmus) (memory : List ℕ) (cores : List CoreState) (n : ℕ) → length t.programs ≤ n → memory ≡ t.words → cores ≡ started 0 (take n t.programs) t.registers
+pub all-begun : (t : Litmus) (memory : List ℕ) (cores : List CoreState) (n : ℕ)
+    → length t.programs ≤ n
+    → memory ≡ t.words
+    → cores ≡ started 0 (take n t.programs) t.registers
     → state-with memory cores ≡ start t
 all-begun t memory cores n past words begun =
     ap (λ m. state-with m cores) words ∙ ap (state-with t.words) (begun ∙ ap (λ l. started 0 l t.registers) (take_all n t.programs past))

@@ -1,5 +1,6 @@
 -- How texts begin: what is said of one holds of it with more before, and with less looked at.
-use Rattle.std.proofs.Common.{get_or, ◌≡◌, ℕ, Bool, true, false, List, [], ◌∷◌, ◌++◌, refl, sym, ap, subst, ◌∙◌, zero, suc, inl, inr, ◌==◌, ◌&&◌, not, map, take, eq-eqb, eqb-true, ◌⊎◌, ⊎_elim}
+use Rattle.std.proofs.Common.{get_or, ◌≡◌, ℕ, Bool, true, false, List, [], ◌∷◌, ◌++◌, refl, sym, ap, subst, ◌∙◌, zero, suc, inl, inr, ◌==◌}
+use Rattle.std.proofs.Common.{◌&&◌, not, map, take, eq-eqb, eqb-true, ◌⊎◌, ⊎_elim}
 use Rattle.std.specs.List.{list_all, list_any}
 use Rattle.std.specs.Str.{bytes_eq}
 use Rattle.std.specs.Char.{is_ascii_digit}
@@ -7,7 +8,10 @@ use Rattle.std.proofs.lemmas.Bool.{and_parts, and_from, or_cases, or_left, or_ri
 use Rattle.std.proofs.lemmas.Slice.Eq.{bytes_eq-Decides}
 use Rattle.tso_terms.specs.Names.{continues_name}
 use Rattle.formats.specs.Formats.{LocationName, AnyWord, is_in}
-use Rattle.formats.specs.Beginnings.{first_word, behind_at, behind, First, End, Mark, Exactly, Numbered, Named, is_numbered, is_end, is_mark, has_word, stands_at, stands_first, past, begins_with, begins_so, are_other_numbers, differ, part, all_part, is_feed, is_stop, first_word_at, with_first_word, with_letter, with_first_byte, with_text, is_same, is_within, one_way, each_way_once, far, before, before_word}
+use Rattle.formats.specs.Beginnings.{first_word, behind_at, behind, First, End, Mark, Exactly, Numbered, Named, is_numbered, is_end}
+use Rattle.formats.specs.Beginnings.{is_mark, has_word, stands_at, stands_first, past, begins_with, begins_so, are_other_numbers, differ}
+use Rattle.formats.specs.Beginnings.{part, all_part, is_feed, is_stop, first_word_at, with_first_word, with_letter, with_first_byte}
+use Rattle.formats.specs.Beginnings.{with_text, is_same, is_within, one_way, each_way_once, far, before, before_word}
 
 pub clash : {A : Type 0} (b : Bool) → b ≡ true → b ≡ false → A
 clash b is isnt = absurd (true≢false (sym is ∙ isnt))
@@ -93,7 +97,11 @@ word-past (c ∷ cs) rest whole stops =
     let parts = and_parts (continues_name c) (list_all continues_name cs) whole in
     rw (parts.0, behind-of cs rest parts.1 stops) refl
 
-word-before : (p : First) (ps : List First) (word rest : List ℕ) → IsWhole word → has_word p word ≡ true → begins_with ps rest ≡ true → begins_with (with_first_word p ps) (word ++ rest) ≡ true
+word-before : (p : First) (ps : List First) (word rest : List ℕ)
+    → IsWhole word
+    → has_word p word ≡ true
+    → begins_with ps rest ≡ true
+    → begins_with (with_first_word p ps) (word ++ rest) ≡ true
 word-before p ps word rest whole has is = by (is_stop ps) refl
   where
     by : (b : Bool) → is_stop ps ≡ b → begins_with (first_word_at b p ps) (word ++ rest) ≡ true
@@ -110,7 +118,10 @@ longer : (p q : First) (ps : List First) (c : ℕ) (rest : List ℕ) → continu
 longer p q ps c [] at end mark more is = clash (is_end p) (and_parts _ _ is).0 end
 longer p q ps c (d ∷ ds) at end mark more is = by (continues_name d) refl is
   where
-    by : (b : Bool) → continues_name d ≡ b → stands_at b p d ds && begins_with ps (behind_at b ds (behind ds)) ≡ true → begins_with (q ∷ ps) (c ∷ (d ∷ ds)) ≡ true
+    by : (b : Bool)
+        → continues_name d ≡ b
+        → stands_at b p d ds && begins_with ps (behind_at b ds (behind ds)) ≡ true
+        → begins_with (q ∷ ps) (c ∷ (d ∷ ds)) ≡ true
     by false in_word is = clash (is_mark p d) (and_parts _ _ is).0 (mark d)
     by true in_word is =
         let parts = and_parts (has_word p (d ∷ first_word ds)) (begins_with ps (behind ds)) is in
@@ -128,12 +139,16 @@ alone : (p : First) (ps : List First) (c : ℕ) (rest : List ℕ) → continues_
 alone p ps c rest at stops is =
     rw (at, none-run rest stops, none-behind rest stops) (and_from _ _ (bytes-same (c ∷ []) (c ∷ []) refl) is)
 
-byte-joined : (ps : List First) (c : ℕ) (rest : List ℕ) → continues_name c ≡ true → begins_with ps rest ≡ true → begins_with (with_letter c ps) (c ∷ rest) ≡ true
+byte-joined : (ps : List First) (c : ℕ) (rest : List ℕ)
+    → continues_name c ≡ true
+    → begins_with ps rest ≡ true
+    → begins_with (with_letter c ps) (c ∷ rest) ≡ true
 byte-joined [] c rest at is = refl
 byte-joined (End ∷ ps) c rest at is = alone End ps c rest at (stops-first (End ∷ ps) rest refl is) is
 byte-joined (Mark d ∷ ps) c rest at is = alone (Mark d) ps c rest at (stops-first (Mark d ∷ ps) rest refl is) is
 byte-joined (Exactly w ∷ ps) c rest at is =
-    longer (Exactly w) (Exactly (c ∷ w)) ps c rest at refl (λ d. refl) (λ word has. bytes-same (c ∷ w) (c ∷ word) (ap (λ (l : List ℕ). c ∷ l) (same-bytes w word has))) is
+    longer (Exactly w) (Exactly (c ∷ w)) ps c rest at refl (λ d. refl)
+    (λ word has. bytes-same (c ∷ w) (c ∷ word) (ap (λ (l : List ℕ). c ∷ l) (same-bytes w word has))) is
 byte-joined (Numbered front ∷ ps) c rest at is =
     longer (Numbered front) (Numbered (c ∷ front)) ps c rest at refl (λ d. refl) (λ word has. and_from (c == c) _ (eq-eqb c c refl) has) is
 byte-joined (Named class ∷ ps) c rest at is = refl
@@ -187,17 +202,23 @@ pub so-right : (ways others : List (List First)) (rest : List ℕ) → begins_so
 so-right [] others rest is = is
 so-right (b ∷ ways) others rest is = or_right _ _ (so-right ways others rest is)
 
-so-map : (f : List First → List First) (ways : List (List First)) (rest text : List ℕ) → ((b : List First) → begins_with b rest ≡ true → begins_with (f b) text ≡ true)
+so-map : (f : List First → List First) (ways : List (List First)) (rest text : List ℕ)
+    → ((b : List First) → begins_with b rest ≡ true → begins_with (f b) text ≡ true)
     → begins_so ways rest ≡ true → begins_so (map f ways) text ≡ true
 so-map f [] rest text each is = is
 so-map f (b ∷ ways) rest text each is =
-    ⊎_elim (λ at. or_left (begins_with (f b) text) (begins_so (map f ways) text) (each b at)) (λ more. or_right (begins_with (f b) text) _ (so-map f ways rest text each more))
+    ⊎_elim (λ at. or_left (begins_with (f b) text) (begins_so (map f ways) text) (each b at))
+    (λ more. or_right (begins_with (f b) text) _ (so-map f ways rest text each more))
     (or_cases (begins_with b rest) (begins_so ways rest) is)
 
-covered : (b : List First) (ways : List (List First)) (rest : List ℕ) → list_any (λ a. is_within a b) ways ≡ true → begins_with b rest ≡ true → begins_so ways rest ≡ true
+covered : (b : List First) (ways : List (List First)) (rest : List ℕ)
+    → list_any (λ a. is_within a b) ways ≡ true
+    → begins_with b rest ≡ true
+    → begins_so ways rest ≡ true
 covered b [] rest is at = clash false is refl
 covered b (a ∷ ways) rest is at =
-    ⊎_elim (λ within. or_left (begins_with a rest) (begins_so ways rest) (less-said a b rest within at)) (λ more. or_right (begins_with a rest) _ (covered b ways rest more at))
+    ⊎_elim (λ within. or_left (begins_with a rest) (begins_so ways rest) (less-said a b rest within at))
+    (λ more. or_right (begins_with a rest) _ (covered b ways rest more at))
     (or_cases (is_within a b) (list_any (λ a. is_within a b) ways) is)
 
 pub so-once : (ways : List (List First)) (rest : List ℕ) → begins_so ways rest ≡ true → begins_so (each_way_once ways) rest ≡ true
@@ -215,13 +236,15 @@ so-once (b ∷ ways) rest is =
 pub so-before : (front : List ℕ) (ways : List (List First)) (rest : List ℕ) → begins_so ways rest ≡ true → begins_so (before front ways) (front ++ rest) ≡ true
 so-before front ways rest is =
     so-once (map (λ b. take far (with_text front b)) ways) (front ++ rest)
-    (so-map (λ b. take far (with_text front b)) ways rest (front ++ rest) (λ b at. less-far far (with_text front b) (front ++ rest) (text-before front b rest at)) is)
+    (so-map (λ b. take far (with_text front b)) ways rest (front ++ rest)
+    (λ b at. less-far far (with_text front b) (front ++ rest) (text-before front b rest at)) is)
 
 pub so-before-word : (p : First) (ways : List (List First)) (word rest : List ℕ) → IsWhole word → has_word p word ≡ true → begins_so ways rest ≡ true
     → begins_so (before_word p ways) (word ++ rest) ≡ true
 so-before-word p ways word rest whole has is =
     so-once (map (λ b. take far (with_first_word p b)) ways) (word ++ rest)
-    (so-map (λ b. take far (with_first_word p b)) ways rest (word ++ rest) (λ b at. less-far far (with_first_word p b) (word ++ rest) (word-before p b word rest whole has at)) is)
+    (so-map (λ b. take far (with_first_word p b)) ways rest (word ++ rest)
+    (λ b at. less-far far (with_first_word p b) (word ++ rest) (word-before p b word rest whole has at)) is)
 
 pub so-stops : (ways : List (List First)) (rest : List ℕ) → list_all is_stop ways ≡ true → begins_so ways rest ≡ true → Stops rest
 so-stops [] rest all is = clash false is refl
@@ -272,7 +295,8 @@ both-numbers (c ∷ cs) (d ∷ ds) (x ∷ xs) other is at =
 
 -- of one word
 other-word : {A : Type 0} (p q : First) (word : List ℕ) → differ p q ≡ true → has_word p word ≡ true → has_word q word ≡ true → A
-other-word (Exactly w) (Exactly v) word differs is at = clash (bytes_eq w v) (bytes-same w v (same-bytes w word is ∙ sym (same-bytes v word at))) (not-so _ differs)
+other-word (Exactly w) (Exactly v) word differs is at =
+    clash (bytes_eq w v) (bytes-same w v (same-bytes w word is ∙ sym (same-bytes v word at))) (not-so _ differs)
 other-word (Exactly w) (Numbered v) word differs is at = clash (is_numbered v w) (ap (is_numbered v) (same-bytes w word is) ∙ at) (not-so _ differs)
 other-word (Exactly w) (Named class) word differs is at = clash (is_in class w) (ap (is_in class) (same-bytes w word is) ∙ at) (not-so _ differs)
 other-word (Numbered w) (Exactly v) word differs is at = clash (is_numbered w v) (ap (is_numbered w) (same-bytes v word at) ∙ is) (not-so _ differs)
@@ -328,14 +352,24 @@ apart (p ∷ ps) (q ∷ qs) rest parts is at =
     let two = and_parts (stands_first q rest) (begins_with qs (past rest)) at in
     ⊎_elim (λ differs. other-first p q rest differs one.0 two.0) (λ more. apart ps qs (past rest) more one.1 two.1) (or_cases (differ p q) (part ps qs) parts)
 
-one-apart : {A : Type 0} (b : List First) (others : List (List First)) (rest : List ℕ) → list_all (part b) others ≡ true → begins_with b rest ≡ true → begins_so others rest ≡ true → A
+one-apart : {A : Type 0} (b : List First) (others : List (List First)) (rest : List ℕ)
+    → list_all (part b) others ≡ true
+    → begins_with b rest ≡ true
+    → begins_so others rest ≡ true
+    → A
 one-apart b [] rest parts is at = clash false at refl
 one-apart b (a ∷ others) rest parts is at =
     let each = and_parts (part b a) (list_all (part b) others) parts in
-    ⊎_elim (λ first. apart b a rest each.0 is first) (λ later. one-apart b others rest each.1 is later) (or_cases (begins_with a rest) (begins_so others rest) at)
+    ⊎_elim (λ first. apart b a rest each.0 is first) (λ later. one-apart b others rest each.1 is later)
+    (or_cases (begins_with a rest) (begins_so others rest) at)
 
-pub all-apart : {A : Type 0} (ways others : List (List First)) (rest : List ℕ) → all_part ways others ≡ true → begins_so ways rest ≡ true → begins_so others rest ≡ true → A
+pub all-apart : {A : Type 0} (ways others : List (List First)) (rest : List ℕ)
+    → all_part ways others ≡ true
+    → begins_so ways rest ≡ true
+    → begins_so others rest ≡ true
+    → A
 all-apart [] others rest parts is at = clash false is refl
 all-apart (b ∷ ways) others rest parts is at =
     let each = and_parts (list_all (part b) others) (all_part ways others) parts in
-    ⊎_elim (λ first. one-apart b others rest each.0 first at) (λ later. all-apart ways others rest each.1 later at) (or_cases (begins_with b rest) (begins_so ways rest) is)
+    ⊎_elim (λ first. one-apart b others rest each.0 first at) (λ later. all-apart ways others rest each.1 later at)
+    (or_cases (begins_with b rest) (begins_so ways rest) is)

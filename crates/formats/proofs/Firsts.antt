@@ -1,5 +1,6 @@
 -- Each text of a format begins in one of the ways that are computed of it.
-use Rattle.std.proofs.Common.{◌≡◌, ℕ, ◌<◌, ◌^◌, Bool, true, false, List, [], ◌∷◌, ◌++◌, refl, sym, ap, subst, ◌∙◌, zero, suc, ◌==◌, cond, ◌/◌, ◌%◌, ◌+◌, lt-ltb, le-leb, arith, length, replicate}
+use Rattle.std.proofs.Common.{◌≡◌, ℕ, ◌<◌, ◌^◌, Bool, true, false, List, [], ◌∷◌, ◌++◌, refl, sym, ap, subst, ◌∙◌, zero, suc, ◌==◌, cond}
+use Rattle.std.proofs.Common.{◌/◌, ◌%◌, ◌+◌, lt-ltb, le-leb, arith, length, replicate}
 use Rattle.std.specs.Fmt.{decimal, digits_onto, digit_glyph}
 unfoldable use Rattle.std.specs.Fmt.{digits}
 use Rattle.std.specs.List.{list_all, flat_map, AllByRecursion}
@@ -9,7 +10,8 @@ use Rattle.std.proofs.lemmas.Bool.Decides.{nat_tests}
 use Rattle.std.proofs.lemmas.Fmt.{decimal_nonempty}
 use Rattle.std.proofs.lemmas.List.{append_assoc}
 use Rattle.tso_terms.specs.Names.{begins_name, continues_name, is_name}
-use Rattle.formats.specs.Formats.{Class, LocationName, AnyWord, is_in, This, That, Format, Nothing, Number, Word, Printable, Times, Lead, Trail, Both, Either, Many, Separated, Spelled, As, Value, text, FitsFormat}
+use Rattle.formats.specs.Formats.{Class, LocationName, AnyWord, is_in, This, That, Format, Nothing, Number, Word, Printable, Times, Lead}
+use Rattle.formats.specs.Formats.{Trail, Both, Either, Many, Separated, Spelled, As, Value, text, FitsFormat}
 use Rattle.formats.specs.Beginnings.{First, Numbered, Named, are_digits, is_numbered, begins_so, before, in_turn, firsts, with_text}
 use Rattle.formats.proofs.Beginnings.{IsWhole, clash, text-before, so-left, so-right, so-once, so-before, so-before-word}
 
@@ -79,7 +81,9 @@ module _ {X : Type 0} (t : X → List ℕ) (F : X → Type 0) (step : List (List
 -- ---- each format
 
 -- with texts joined the other way
-regroup : (ways : List (List First)) (front back rest : List ℕ) → begins_so ways (front ++ (back ++ rest)) ≡ true → begins_so ways ((front ++ back) ++ rest) ≡ true
+regroup : (ways : List (List First)) (front back rest : List ℕ)
+    → begins_so ways (front ++ (back ++ rest)) ≡ true
+    → begins_so ways ((front ++ back) ++ rest) ≡ true
 regroup ways front back rest is = subst (λ l. begins_so ways l ≡ true) (sym (append_assoc front back rest)) is
 
 times-begin : (byte : ℕ) (ways : List (List First)) (n : ℕ) (rest : List ℕ) → begins_so ways rest ≡ true
@@ -87,7 +91,10 @@ times-begin : (byte : ℕ) (ways : List (List First)) (n : ℕ) (rest : List ℕ
 times-begin byte ways zero rest is = or_right _ _ is
 times-begin byte ways (suc n) rest is = or_left _ _ (text-before (byte ∷ []) [] (replicate n byte ++ rest) refl)
 
-pub firsts-begin : (f : Format) (ways : List (List First)) (x : Value f) (rest : List ℕ) → FitsFormat f x → begins_so ways rest ≡ true → begins_so (firsts f ways) (text f x ++ rest) ≡ true
+pub firsts-begin : (f : Format) (ways : List (List First)) (x : Value f) (rest : List ℕ)
+    → FitsFormat f x
+    → begins_so ways rest ≡ true
+    → begins_so (firsts f ways) (text f x ++ rest) ≡ true
 firsts-begin Nothing ways x rest fits is = is
 firsts-begin Number ways n rest fits is =
     let whole = number-whole n fits in
@@ -103,9 +110,11 @@ firsts-begin (Both f g) ways x rest fits is =
     regroup (firsts (Both f g) ways) (text f x.0) (text g x.1) rest
     (firsts-begin f (firsts g ways) x.0 (text g x.1 ++ rest) fits.0 (firsts-begin g ways x.1 rest fits.1 is))
 firsts-begin (Either f g) ways (This x) rest fits is =
-    so-once (firsts f ways ++ firsts g ways) (text f x ++ rest) (so-left (firsts f ways) (firsts g ways) (text f x ++ rest) (firsts-begin f ways x rest fits is))
+    so-once (firsts f ways ++ firsts g ways) (text f x ++ rest)
+    (so-left (firsts f ways) (firsts g ways) (text f x ++ rest) (firsts-begin f ways x rest fits is))
 firsts-begin (Either f g) ways (That y) rest fits is =
-    so-once (firsts f ways ++ firsts g ways) (text g y ++ rest) (so-right (firsts f ways) (firsts g ways) (text g y ++ rest) (firsts-begin g ways y rest fits is))
+    so-once (firsts f ways ++ firsts g ways) (text g y ++ rest)
+    (so-right (firsts f ways) (firsts g ways) (text g y ++ rest) (firsts-begin g ways y rest fits is))
 firsts-begin (Many f) ways xs rest fits is =
     so-in-turn (text f) (FitsFormat f) (firsts f) (λ w x r fit at. firsts-begin f w x r fit at) ways xs rest fits is
 firsts-begin (Separated between f) ways [] rest fits is = absurd fits.0

@@ -9,7 +9,8 @@ use Rattle.std.proofs.lemmas.Bool.{or_parts}
 use Rattle.serde_json.specs.Data.{Data, string, Members, no_members, member, put}
 use Rattle.serde_json.specs.View.{items_of}
 use Rattle.serde_json.specs.Written.{has_float, items_have_float, members_have_float}
-use Rattle.formats.specs.Formats.{Manner, Member, Tagged, Entry, Object, Chain, NoStep, This, That, Format, Nothing, Number, Word, Printable, Times, Lead, Trail, Both, Either, Many, Separated, Spelled, As, Value}
+use Rattle.formats.specs.Formats.{Manner, Member, Tagged, Entry, Object, Chain, NoStep, This, That, Format, Nothing, Number, Word}
+use Rattle.formats.specs.Formats.{Printable, Times, Lead, Trail, Both, Either, Many, Separated, Spelled, As, Value}
 use Rattle.formats.specs.JsonData.{Json, adding, plain, all_add, listed, text_in, chain_steps, in_manner, json, data_of}
 
 neither : (p q : Bool) → p ≡ false → q ≡ false → p || q ≡ false
@@ -19,7 +20,9 @@ neither false q h k = k
 -- a value put among members
 one_more : (k : List ℕ) (x : Data) (ms : Members) → has_float x ≡ false → members_have_float ms ≡ false → members_have_float (put k x ms) ≡ false
 one_more k x no_members f h = neither (has_float x) false f refl
-one_more k x (member l d ms) f h = by_order (slice_cmp nat_cmp k l) (or_parts (has_float d) (members_have_float ms) h) (one_more k x ms f (or_parts (has_float d) (members_have_float ms) h).1)
+one_more k x (member l d ms) f h =
+    by_order (slice_cmp nat_cmp k l) (or_parts (has_float d) (members_have_float ms) h)
+    (one_more k x ms f (or_parts (has_float d) (members_have_float ms) h).1)
   where
     by_order : (o : Ordering) → (has_float d ≡ false) × (members_have_float ms ≡ false) → members_have_float (put k x ms) ≡ false
         → members_have_float (match_ordering o (member k x (member l d ms)) (member l x ms) (member l d (put k x ms))) ≡ false
@@ -55,7 +58,8 @@ all-none (j ∷ js) all =
     }
 
 steps-none : (from by to : List ℕ) (thing : Data) (ds : List (Data × Data)) → has_float thing ≡ false
-    → AllByRecursion (λ (d : Data × Data). (has_float d.0 ≡ false) × (has_float d.1 ≡ false)) ds → items_have_float (items_of (chain_steps from by to thing ds)) ≡ false
+    → AllByRecursion (λ (d : Data × Data). (has_float d.0 ≡ false) × (has_float d.1 ≡ false)) ds
+    → items_have_float (items_of (chain_steps from by to thing ds)) ≡ false
 steps-none from by to thing [] none all = refl
 steps-none from by to thing (d ∷ ds) none all =
     neither (members_have_float (put from thing (put by d.0 (put to d.1 no_members)))) (items_have_float (items_of (chain_steps from by to d.1 ds)))
@@ -64,7 +68,8 @@ steps-none from by to thing (d ∷ ds) none all =
 
 manner-none : (manner : Manner) (j : Json) → NoFloat j → NoFloat (in_manner manner j)
 manner-none (Member key) j none = adding-none j (put key j.value) none (λ ms h. one_more key j.value ms none.value h)
-manner-none (Tagged key word) j none = adding-none j (λ ms. put key (string word) (j.adds ms)) none (λ ms h. one_more key (string word) (j.adds ms) refl (none.adds ms h))
+manner-none (Tagged key word) j none =
+    adding-none j (λ ms. put key (string word) (j.adds ms)) none (λ ms h. one_more key (string word) (j.adds ms) refl (none.adds ms h))
 manner-none Entry j none = adding-none j (put (text_in j.first) j.second) none (λ ms h. one_more (text_in j.first) j.second ms none.second h)
 manner-none Object j none = by-itself _ (none.adds no_members refl)
 manner-none (Chain from by to) j none = by-itself _ (steps-none from by to j.first j.pairs none.first none.pairs)

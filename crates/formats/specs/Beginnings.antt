@@ -5,7 +5,8 @@ use Rattle.std.specs.List.{list_all, list_any}
 use Rattle.std.specs.Str.{bytes_eq}
 use Rattle.std.specs.Char.{is_ascii_digit}
 use Rattle.tso_terms.specs.Names.{continues_name}
-use Rattle.formats.specs.Formats.{Class, LocationName, AnyWord, is_in, Format, Nothing, Number, Word, Printable, Times, Lead, Trail, Both, Either, Many, Separated, Spelled, As}
+use Rattle.formats.specs.Formats.{Class, LocationName, AnyWord, is_in, Format, Nothing, Number, Word, Printable, Times, Lead, Trail, Both}
+use Rattle.formats.specs.Formats.{Either, Many, Separated, Spelled, As}
 
 -- ---- the first word of a text, or its first byte where that is in no word
 

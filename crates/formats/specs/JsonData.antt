@@ -2,7 +2,8 @@
 use Rattle.std.specs.Prelude.{ℕ, List, [], ◌∷◌, map}
 use Rattle.serde_json.specs.Data.{Data, null, number, unsigned, string, array, object, Members, no_members, put}
 use Rattle.serde_json.specs.View.{items_of}
-use Rattle.formats.specs.Formats.{Manner, Member, Tagged, Entry, Object, Chain, NoStep, This, That, Format, Nothing, Number, Word, Printable, Times, Lead, Trail, Both, Either, Many, Separated, Spelled, As, Value}
+use Rattle.formats.specs.Formats.{Manner, Member, Tagged, Entry, Object, Chain, NoStep, This, That, Format, Nothing, Number, Word}
+use Rattle.formats.specs.Formats.{Printable, Times, Lead, Trail, Both, Either, Many, Separated, Spelled, As, Value}
 
 -- how a value is shown: by itself; what it adds to the members of the object around it; its two parts, and those of all that it lists
 pub record Json : Type 0 where
@@ -27,7 +28,13 @@ all_add [] members = members
 all_add (j ∷ js) members = j.adds (all_add js members)
 
 abbrev pub listed : List Json → Json
-listed js = record { value = array (items_of (map (λ j. j.value) js)); adds = all_add js; first = null; second = null; pairs = map (λ j. (j.first, j.second)) js }
+listed js = record {
+  value = array (items_of (map (λ j. j.value) js));
+  adds = all_add js;
+  first = null;
+  second = null;
+  pairs = map (λ j. (j.first, j.second)) js;
+}
 
 abbrev pub text_in : Data → List ℕ
 text_in (string word) = word

@@ -27,11 +27,15 @@ printable_ascii c h = grind (arith, nat_tests)
 
 pub words_are_text : (bytes words : List ℕ) → words ≡ map shown_byte (take most_hint_bytes bytes) → IsUtf8 words
 words_are_text bytes words is =
-    rw is (IsUtf8-from_ascii _ (IsAscii-from_all _ (All-weaker (λ c. is_printable c ≡ true) (λ c. c < 128) printable_ascii _ (AllPass-from_list_all is_printable _ (shown_are_printable (take most_hint_bytes bytes))))))
+    rw is (IsUtf8-from_ascii _
+    (IsAscii-from_all _ (All-weaker (λ c. is_printable c ≡ true) (λ c. c < 128) printable_ascii _
+    (AllPass-from_list_all is_printable _ (shown_are_printable (take most_hint_bytes bytes))))))
 
 pub is_hint : (bytes words text : List ℕ) → words ≡ map shown_byte (take most_hint_bytes bytes) → text ≡ codes "hint: " ++ words ++ (10 ∷ []) → IsHint text
 is_hint bytes words text shown is =
-    let many : length words ≤ most_hint_bytes = rw (shown, length-map (take most_hint_bytes bytes) shown_byte, length-take most_hint_bytes bytes) (min-le_left most_hint_bytes (length bytes)) in
+    let many : length words ≤ most_hint_bytes =
+    rw (shown, length-map (take most_hint_bytes bytes) shown_byte, length-take most_hint_bytes bytes)
+    (min-le_left most_hint_bytes (length bytes)) in
     record {
       words = words;
       is = is;
@@ -46,4 +50,5 @@ cut (suc n) zero [] a b h = refl
 cut (suc n) zero (x ∷ xs) a b h = absurd (let z = h (omega arith) in omega (arith, z))
 cut zero (suc at) xs a b h = absurd (omega (arith, a))
 cut (suc n) (suc at) [] a b h = absurd (omega (arith, b))
-cut (suc n) (suc at) (x ∷ xs) a b h = ap (λ r. x ∷ r) (cut n at xs (omega (arith, a)) (omega (arith, b)) (λ lt. let z = h (omega (arith, lt)) in omega (arith, z)))
+cut (suc n) (suc at) (x ∷ xs) a b h =
+    ap (λ r. x ∷ r) (cut n at xs (omega (arith, a)) (omega (arith, b)) (λ lt. let z = h (omega (arith, lt)) in omega (arith, z)))

@@ -11,7 +11,9 @@ use Rattle.litmus_tokens.specs.Locations.{located}
 use Rattle.litmus_tokens.specs.Numbers.{word_at}
 use Rattle.litmus_tokens.specs.Forms.{spelled_in}
 use Rattle.litmus_tokens.specs.Places.{fault}
-use Rattle.litmus_tokens.specs.Shapes.{Shape, store_imm, store_reg, load, set_imm, set_reg, fence, xchg, xadd, compare_exchange, locked_constant, locked_register, locked_negate, combine_constant, combine_register, negate, swap, nothing}
+use Rattle.litmus_tokens.specs.Shapes.{Shape, store_imm, store_reg, load, set_imm, set_reg, fence, xchg, xadd, compare_exchange}
+use Rattle.litmus_tokens.specs.Shapes.{locked_constant, locked_register, locked_negate, combine_constant, combine_register, negate, swap}
+use Rattle.litmus_tokens.specs.Shapes.{nothing}
 use Rattle.tso_terms.specs.declared.instruction.Instr.TheVariants.{CompareExchange, LockedCombine, LockedNegate, Combine, Negate, Swap, Nop}
 use Rattle.basic_laws.specs.Types.{Number, Held}
 use Rattle.litmus_tokens.specs.declared.instructions.Instructions.{Instructions}

@@ -1,5 +1,9 @@
 -- Cells of a row.
-use Rattle.litmus_reader.proofs.Vocabulary.{◌≡◌, ℕ, Option, IfSome, Bor, ◌+◌, ◌-◌, ◌≤◌, ◌<◌, Bool, true, false, not, cond, suc, ltb, inl, inr, List, [], ◌∷◌, length, map, take, drop, Some, None, Result, Ok, Err, refl, sym, ap, ◌∙◌, arith, position, slice_split, position_or_len, onto_first, length-drop, length-map, take_all, ltb-true, slice_split_first, length-slice_split, Bar, Token, Piece, piece_of, pieces, is_symbol, Fault, ReadError, CoreInstr, Fails, cell_in, cells_in, cells_of, Instructions}
+use Rattle.litmus_reader.proofs.Vocabulary.{◌≡◌, ℕ, Option, IfSome, Bor, ◌+◌, ◌-◌, ◌≤◌, ◌<◌, Bool, true, false, not, cond, suc, ltb, inl}
+use Rattle.litmus_reader.proofs.Vocabulary.{inr, List, [], ◌∷◌, length, map, take, drop, Some, None, Result, Ok, Err, refl, sym, ap, ◌∙◌}
+use Rattle.litmus_reader.proofs.Vocabulary.{arith, position, slice_split, position_or_len, onto_first, length-drop, length-map, take_all}
+use Rattle.litmus_reader.proofs.Vocabulary.{ltb-true, slice_split_first, length-slice_split, Bar, Token, Piece, piece_of, pieces, is_symbol}
+use Rattle.litmus_reader.proofs.Vocabulary.{Fault, ReadError, CoreInstr, Fails, cell_in, cells_in, cells_of, Instructions}
 use Rattle.std.proofs.Common.{count_by}
 use Rattle.litmus_tokens.specs.declared.fault.ReadError.TheVariants as errors
 use Rattle.litmus_tokens.proofs.Gaps.{chosen}
@@ -9,7 +13,8 @@ use Rattle.litmus_reader.proofs.Maps.{slice_split-map}
 abbrev pub Read : Type 0
 Read = Result (List CoreInstr × List (List ℕ)) Fault
 
-pub cells_go_on : (set : Instructions) (core : ℕ) (instrs after : List CoreInstr) (names known : List (List ℕ)) (row cell : List Piece) (after_it : List (List Piece)) (total : Read)
+pub cells_go_on : (set : Instructions) (core : ℕ) (instrs after : List CoreInstr) (names known : List (List ℕ))
+    (row cell : List Piece) (after_it : List (List Piece)) (total : Read)
     → cells_of row ≡ cell ∷ after_it → cell_in set core instrs names cell ≡ Ok (after, known)
     → cells_in set core instrs names (cells_of row) ≡ total → cells_in set (core + 1) after known after_it ≡ total
 unfolding cells_in
@@ -17,7 +22,8 @@ cells_go_on set core instrs after names known row cell after_it total cut is so_
     let one : cells_in set core instrs names (cells_of row) ≡ cells_in set (core + 1) after known after_it = rw (cut, is) refl in
     sym one ∙ so_far
 
-pub cells_end : (set : Instructions) (e : ReadError) (core : ℕ) (instrs : List CoreInstr) (names : List (List ℕ)) (row cell : List Piece) (after_it : List (List Piece)) (total : Read)
+pub cells_end : (set : Instructions) (e : ReadError) (core : ℕ) (instrs : List CoreInstr) (names : List (List ℕ))
+    (row cell : List Piece) (after_it : List (List Piece)) (total : Read)
     → cells_of row ≡ cell ∷ after_it → Fails e (cell_in set core instrs names cell) → cells_in set core instrs names (cells_of row) ≡ total → Fails e total
 unfolding cells_in
 cells_end set errors.NoMemory core instrs names row cell after_it total cut is so_far = tt
@@ -25,7 +31,9 @@ cells_end set (errors.Fault f) core instrs names row cell after_it total cut is 
     let one : cells_in set core instrs names (cells_of row) ≡ Err f = rw (cut, is) refl in
     sym so_far ∙ one
 
-pub cells_done : (set : Instructions) (core : ℕ) (instrs : List CoreInstr) (names : List (List ℕ)) (total : Read) → cells_in set core instrs names [] ≡ total → total ≡ Ok (instrs, names)
+pub cells_done : (set : Instructions) (core : ℕ) (instrs : List CoreInstr) (names : List (List ℕ)) (total : Read)
+    → cells_in set core instrs names [] ≡ total
+    → total ≡ Ok (instrs, names)
 unfolding cells_in
 cells_done set core instrs names total so_far = sym so_far
 
@@ -38,11 +46,15 @@ pub first_cut : (row : List Token) (n : ℕ) → Some n ≡ position (λ t. is_s
     → cells_of (pieces row) ≡ pieces (take n row) ∷ cells_of (pieces (take (length row - (n + 1)) (drop (n + 1) row)))
 first_cut [] n at = absurd cc
 first_cut (t ∷ ts) n at =
-    elim (chosen (ltb (position_or_len (λ t. is_symbol Bar (piece_of t)) (t ∷ ts)) (length (t ∷ ts))) (Some (position_or_len (λ t. is_symbol Bar (piece_of t)) (t ∷ ts))) None (Some n) (sym at)) [
+    elim (chosen (ltb (position_or_len (λ t. is_symbol Bar (piece_of t)) (t ∷ ts)) (length (t ∷ ts)))
+    (Some (position_or_len (λ t. is_symbol Bar (piece_of t)) (t ∷ ts))) None (Some n) (sym at)) [
       | inl hit ↦
           let here : position_or_len (λ t. is_symbol Bar (piece_of t)) (t ∷ ts) ≡ n = cc in
-          let all : take (length (t ∷ ts) - (n + 1)) (drop (n + 1) (t ∷ ts)) ≡ drop (n + 1) (t ∷ ts) = take_all _ (drop (n + 1) (t ∷ ts)) (omega (arith, length-drop (n + 1) (t ∷ ts))) in
-          let cut : slice_split (λ t. is_symbol Bar (piece_of t)) (t ∷ ts) ≡ take n (t ∷ ts) ∷ slice_split (λ t. is_symbol Bar (piece_of t)) (drop (n + 1) (t ∷ ts)) = rw (← here) (slice_split_first (λ t. is_symbol Bar (piece_of t)) (t ∷ ts) t (ltb-true _ _ hit.0)) in
+          let all : take (length (t ∷ ts) - (n + 1)) (drop (n + 1) (t ∷ ts)) ≡ drop (n + 1) (t ∷ ts) =
+          take_all _ (drop (n + 1) (t ∷ ts)) (omega (arith, length-drop (n + 1) (t ∷ ts))) in
+          let cut : slice_split (λ t. is_symbol Bar (piece_of t)) (t ∷ ts)
+          ≡ take n (t ∷ ts) ∷ slice_split (λ t. is_symbol Bar (piece_of t)) (drop (n + 1) (t ∷ ts)) =
+          rw (← here) (slice_split_first (λ t. is_symbol Bar (piece_of t)) (t ∷ ts) t (ltb-true _ _ hit.0)) in
           rw (cells_as (t ∷ ts), cut, all, cells_as (drop (n + 1) (t ∷ ts))) refl
       | inr miss ↦ absurd cc
     ]
@@ -60,7 +72,14 @@ pub no_cut : (row : List Token) → None ≡ position (λ t. is_symbol Bar (piec
 no_cut row at = cells_as row ∙ ap (map pieces) (one_part (λ t. is_symbol Bar (piece_of t)) row (position_none (λ t. is_symbol Bar (piece_of t)) row at))
 
 pub cells_counted : (row : List Token) (n : ℕ) → n ≡ count_by (λ t. is_symbol Bar (piece_of t)) row → n + 1 ≡ length (cells_of (pieces row))
-cells_counted row n is = rw (cells_as row, length-map (slice_split (λ t. is_symbol Bar (piece_of t)) row) pieces, length-slice_split (λ t. is_symbol Bar (piece_of t)) row, is) refl
+cells_counted row n is =
+    rw (
+      cells_as row,
+      length-map (slice_split (λ t. is_symbol Bar (piece_of t)) row) pieces,
+      length-slice_split (λ t. is_symbol Bar (piece_of t)) row,
+      is,
+    )
+    refl
 
 -- one more than the tokens that are left, and none where no cell is
 abbrev pub room_of : Option (Bor (List Token)) → ℕ

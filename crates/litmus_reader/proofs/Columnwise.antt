@@ -1,5 +1,9 @@
 -- Rows by their columns, and as one list of instructions with their cores.
-use Rattle.litmus_reader.proofs.Vocabulary.{◌≡◌, ℕ, zero, suc, ◌+◌, ◌<◌, ◌≤◌, Bool, true, false, cond, eqb, eq-eqb, List, [], ◌∷◌, ◌++◌, length, map, filter, All, Option, Some, None, refl, sym, ap, subst, ◌∙◌, arith, count_by, slice_index_or, range_with_len, flat_map, map-append, sum_by-append, All-nil, All-cons, All-head, All-tail, Instr, CoreInstr, of_core, program_of, numbered, in_rows, column, location_in, instr_with, ValueFits, AreWithin, in_field, Shape, ne_eqb}
+use Rattle.litmus_reader.proofs.Vocabulary.{◌≡◌, ℕ, zero, suc, ◌+◌, ◌<◌, ◌≤◌, Bool, true, false, cond, eqb, eq-eqb, List, [], ◌∷◌, ◌++◌}
+use Rattle.litmus_reader.proofs.Vocabulary.{length, map, filter, All, Option, Some, None, refl, sym, ap, subst, ◌∙◌, arith, count_by}
+use Rattle.litmus_reader.proofs.Vocabulary.{slice_index_or, range_with_len, flat_map, map-append, sum_by-append, All-nil, All-cons}
+use Rattle.litmus_reader.proofs.Vocabulary.{All-head, All-tail, Instr, CoreInstr, of_core, program_of, numbered, in_rows, column}
+use Rattle.litmus_reader.proofs.Vocabulary.{location_in, instr_with, ValueFits, AreWithin, in_field, Shape, ne_eqb}
 use Rattle.litmus_reader.proofs.Placed.{Placed, placed_from, placed_in, locations_of, instrs_with, ValuesFit, EntriesWithin}
 
 -- ---- all instructions
@@ -88,14 +92,18 @@ picked-from (Some shape ∷ cells) (suc place) core other e =
 picked-column : (core : ℕ) (table : List (List (Option Shape))) → picked core (placed_in table) ≡ column core table
 picked-column core [] = refl
 picked-column core (row ∷ others) =
-    picked-append core (placed_from 0 row) (placed_in others) ∙ ap (λ (l : List Shape). l ++ picked core (placed_in others)) (picked-from row core 0 core (omega arith))
+    picked-append core (placed_from 0 row) (placed_in others)
+    ∙ ap (λ (l : List Shape). l ++ picked core (placed_in others)) (picked-from row core 0 core (omega arith))
     ∙ ap (λ (l : List Shape). field_of core row ++ l) (picked-column core others) ∙ ap (λ (l : List Shape). l ++ column core others) (field-there core row)
 
 picked-count : (core : ℕ) (es : List Placed) → count_by (λ e. eqb e.core core) es ≡ length (picked core es)
 picked-count core [] = refl
 picked-count core (e ∷ es) = sum_by-append (λ (x : Placed). cond (eqb x.core core) 1 0) (e ∷ []) es ∙ by_test (eqb e.core core) (picked-count core es)
   where
-    by_test : (b : Bool) → count_by (λ e. eqb e.core core) es ≡ length (picked core es) → 0 + cond b 1 0 + count_by (λ e. eqb e.core core) es ≡ length (cond b (e.shape ∷ picked core es) (picked core es))
+    by_test : (b : Bool)
+        → count_by (λ e. eqb e.core core) es ≡ length (picked core es)
+        → 0 + cond b 1 0 + count_by (λ e. eqb e.core core) es
+        ≡ length (cond b (e.shape ∷ picked core es) (picked core es))
     by_test true others = omega (arith, others)
     by_test false others = omega (arith, others)
 
@@ -103,15 +111,24 @@ picked-program : (core : ℕ) (names : List (List ℕ)) (es : List Placed) → p
 picked-program core names [] = refl
 picked-program core names (e ∷ es) = by_test (eqb e.core core) (picked-program core names es)
   where
-    by_test : (b : Bool) → program_of (instrs_with names es) core ≡ map (instr_with names) (picked core es) → map (λ (i : CoreInstr). i.instr) (cond b (of_core e.core (instr_with names e.shape) ∷ filter (λ (i : CoreInstr). eqb i.core core) (instrs_with names es)) (filter (λ (i : CoreInstr). eqb i.core core) (instrs_with names es)))
+    by_test : (b : Bool)
+        → program_of (instrs_with names es) core ≡ map (instr_with names) (picked core es)
+        → map (λ (i : CoreInstr). i.instr)
+        (cond b
+        (of_core e.core (instr_with names e.shape) ∷ filter (λ (i : CoreInstr). eqb i.core core) (instrs_with names es))
+        (filter (λ (i : CoreInstr). eqb i.core core) (instrs_with names es)))
         ≡ map (instr_with names) (cond b (e.shape ∷ picked core es) (picked core es))
     by_test true others = ap (λ (l : List Instr). instr_with names e.shape ∷ l) others
     by_test false others = others
 
-pub programs-columns : (names : List (List ℕ)) (table : List (List (Option Shape))) (cores core : ℕ) → map (program_of (instrs_with names (placed_in table))) (range_with_len core cores) ≡ map (program names table) (range_with_len core cores)
+pub programs-columns : (names : List (List ℕ)) (table : List (List (Option Shape))) (cores core : ℕ)
+    → map (program_of (instrs_with names (placed_in table))) (range_with_len core cores)
+    ≡ map (program names table) (range_with_len core cores)
 programs-columns names table zero core = refl
 programs-columns names table (suc cores) core =
-    ap (λ (l : List Instr). l ∷ map (program_of (instrs_with names (placed_in table))) (range_with_len (core + 1) cores)) (picked-program core names (placed_in table) ∙ ap (map (instr_with names)) (picked-column core table))
+    ap (λ (l : List Instr).
+    l ∷ map (program_of (instrs_with names (placed_in table))) (range_with_len (core + 1) cores))
+    (picked-program core names (placed_in table) ∙ ap (map (instr_with names)) (picked-column core table))
     ∙ ap (λ (l : List (List Instr)). program names table core ∷ l) (programs-columns names table cores (core + 1))
 
 -- ---- what fits

@@ -1,5 +1,6 @@
 -- A text spells a test or is refused.
-use Rattle.litmus_reader.proofs.Vocabulary.{◌≡◌, ◌≢◌, ℕ, List, Some, Result, Ok, Err, IfErr, MatchResult, refl, sym, ap, ◌∙◌, ◌⊎◌, inl, inr, Litmus, Why, NoMemory, Fault, ReadError, refusal, reading_of, Gives, Instructions}
+use Rattle.litmus_reader.proofs.Vocabulary.{◌≡◌, ◌≢◌, ℕ, List, Some, Result, Ok, Err, IfErr, MatchResult, refl, sym, ap, ◌∙◌, ◌⊎◌, inl, inr}
+use Rattle.litmus_reader.proofs.Vocabulary.{Litmus, Why, NoMemory, Fault, ReadError, refusal, reading_of, Gives, Instructions}
 use Rattle.litmus_tokens.specs.Line.{line_of}
 use Rattle.litmus_reader.specs.declared.fault.TextFault.{TextFault}
 use Rattle.litmus_tokens.specs.declared.fault.ReadError.TheVariants as errors
@@ -9,7 +10,8 @@ use Rattle.litmus_reader.proofs.GrammarTokens.{some_is, ok_is}
 
 same_refusal : (text : List ℕ) (r : TextFault) (f : Fault) → r.line ≡ line_of text f.remaining → r.why ≡ f.why → refusal text f ≡ r
 same_refusal text r f line why =
-    let first : refusal text f ≡ record { line = r.line; why = f.why } = ap (λ (n : ℕ). (let x : TextFault = record { line = n; why = f.why } in x)) (sym line) in
+    let first : refusal text f ≡ record { line = r.line; why = f.why } =
+    ap (λ (n : ℕ). (let x : TextFault = record { line = n; why = f.why } in x)) (sym line) in
     first ∙ ap (λ (w : Why). (let x : TextFault = record { line = r.line; why = w } in x)) (sym why)
 
 pub read_so : (set : Instructions) (text : List ℕ) (r : TextFault) → IsRefused set text r → refusal_of set text ≡ Some r
@@ -26,7 +28,9 @@ refused_so set text r e = by_reading (reading_of set text) refl e
         let same : refusal text f ≡ r = some_is (refusal text f) r h in
         record { at_fault = f; is = is; line = ap (λ (x : TextFault). x.line) (sym same); why = ap (λ (x : TextFault). x.why) (sym same) }
 
-pub refused_where_read : (set : Instructions) → {T : Type 0} (result : Result T TextFault) (text : List ℕ) → IfErr result (λ r. r.why ≢ NoMemory → refusal_of set text ≡ Some r)
+pub refused_where_read : (set : Instructions)
+    → {T : Type 0} (result : Result T TextFault) (text : List ℕ)
+    → IfErr result (λ r. r.why ≢ NoMemory → refusal_of set text ≡ Some r)
     → IfErr result (λ r. r.why ≢ NoMemory → IsRefused set text r)
 refused_where_read set (Ok x) text h = tt
 refused_where_read set (Err r) text h = λ other. refused_so set text r (h other)

@@ -1,5 +1,15 @@
 -- Atoms are read as they are spelled.
-use Rattle.litmus_reader.proofs.Vocabulary.{◌≡◌, ℕ, ◌+◌, ◌≤◌, ◌<◌, ◌^◌, Bool, true, false, cond, ltb, not, ◌&&◌, List, [], ◌∷◌, ◌++◌, length, Some, None, Ok, Err, refl, sym, ap, subst, ◌∙◌, inl, inr, arith, codes, bytes_eq, ltb-true, lt-ltb, and_parts, not-true, length-append, bytes_eq-Decides, Claim, TruthClaim, RegClaim, LocClaim, is_name, is_register_word, is_keyword, is_location_name, Loc, Stop, Equals, Colon, OpenSquare, CloseSquare, OpenRound, decimal_value, Term, number, name, symbol, Piece, is_symbol, symbol_at, name_at, TooLarge, NoSuchCore, there, word_after, located, word_at, setting_at, core_of, claim_in, Claimed, claimed, one_more, truth_at, setting_atom, atom_at, negation_at, terms, IsSetting, sets_register, sets_location, sets_in_squares, names_in, is_allowed, numbered, number_of, with_name, location, IsAtom, says_true, says_false, says_setting, PhraseFits, claim_by, IsWithin, fault, remaining_of, Setting, of_register, of_location, truth, atom, or_fault, BadNumber, part_of, BadCondition, ◌>>=◌, Passes}
+use Rattle.litmus_reader.proofs.Vocabulary.{◌≡◌, ℕ, ◌+◌, ◌≤◌, ◌<◌, ◌^◌, Bool, true, false, cond, ltb, not, ◌&&◌, List, [], ◌∷◌, ◌++◌}
+use Rattle.litmus_reader.proofs.Vocabulary.{length, Some, None, Ok, Err, refl, sym, ap, subst, ◌∙◌, inl, inr, arith, codes, bytes_eq}
+use Rattle.litmus_reader.proofs.Vocabulary.{ltb-true, lt-ltb, and_parts, not-true, length-append, bytes_eq-Decides, Claim, TruthClaim}
+use Rattle.litmus_reader.proofs.Vocabulary.{RegClaim, LocClaim, is_name, is_register_word, is_keyword, is_location_name, Loc, Stop, Equals}
+use Rattle.litmus_reader.proofs.Vocabulary.{Colon, OpenSquare, CloseSquare, OpenRound, decimal_value, Term, number, name, symbol, Piece}
+use Rattle.litmus_reader.proofs.Vocabulary.{is_symbol, symbol_at, name_at, TooLarge, NoSuchCore, there, word_after, located, word_at}
+use Rattle.litmus_reader.proofs.Vocabulary.{setting_at, core_of, claim_in, Claimed, claimed, one_more, truth_at, setting_atom, atom_at}
+use Rattle.litmus_reader.proofs.Vocabulary.{negation_at, terms, IsSetting, sets_register, sets_location, sets_in_squares, names_in}
+use Rattle.litmus_reader.proofs.Vocabulary.{is_allowed, numbered, number_of, with_name, location, IsAtom, says_true, says_false}
+use Rattle.litmus_reader.proofs.Vocabulary.{says_setting, PhraseFits, claim_by, IsWithin, fault, remaining_of, Setting, of_register}
+use Rattle.litmus_reader.proofs.Vocabulary.{of_location, truth, atom, or_fault, BadNumber, part_of, BadCondition, ◌>>=◌, Passes}
 use Rattle.litmus_reader.proofs.GrammarTokens.{chosen, there_is, there_some, some_is, ok_is, ok_pair, bind_ok, opened, terms_append, word_found}
 use Rattle.litmus_reader.proofs.GrammarItems.{setting_found, setting_taken}
 use Rattle.litmus_reader.proofs.GrammarPhrases.{Finds, Takes, Anything}
@@ -44,7 +54,9 @@ word_ok remaining v n e = by_room (ltb v (2 ^ 32)) refl e
 pub word_is : (remaining v : ℕ) → v < 2 ^ 32 → word_at remaining v ≡ Ok v
 word_is remaining v small = rw (lt-ltb v (2 ^ 32) small) refl
 
-pub core_ok : (cores remaining : ℕ) (digits : List ℕ) (n : ℕ) → core_of cores remaining digits ≡ Ok n → (decimal_value digits ≡ n) × (decimal_value digits < cores)
+pub core_ok : (cores remaining : ℕ) (digits : List ℕ) (n : ℕ)
+    → core_of cores remaining digits ≡ Ok n
+    → (decimal_value digits ≡ n) × (decimal_value digits < cores)
 core_ok cores remaining digits n e =
     elim (chosen (ltb (decimal_value digits) cores) (Ok (decimal_value digits)) (Err (fault NoSuchCore remaining)) (Ok n) e) [
       | inl hit ↦ (ok_is (decimal_value digits) n hit.1, ltb-true _ _ hit.0)
@@ -83,9 +95,13 @@ located_ok remaining names x r e =
 
 pub room_with : (names : List (List ℕ)) (x : List ℕ) → number_of names x < 16 → length names ≤ 16 → length (with_name names x) ≤ 16
 room_with names x few le =
-    with_name_by (λ l. length l ≤ 16) names x (λ _. le) (λ none. let at_end = place_none (bytes_eq x) names none in omega (arith, at_end, few, length-append names (x ∷ [])))
+    with_name_by (λ l. length l ≤ 16) names x (λ _. le)
+    (λ none. let at_end = place_none (bytes_eq x) names none in
+    omega (arith, at_end, few, length-append names (x ∷ [])))
 
-pub claim_taken : (cores remaining : ℕ) (names : List (List ℕ)) (s : Setting) (c : Claim × List (List ℕ)) → claim_in cores remaining names s ≡ Ok c → ClaimTaken cores names s c
+pub claim_taken : (cores remaining : ℕ) (names : List (List ℕ)) (s : Setting) (c : Claim × List (List ℕ))
+    → claim_in cores remaining names s ≡ Ok c
+    → ClaimTaken cores names s c
 unfolding claim_in numbered
 claim_taken cores remaining names (of_register digits reg v) c e =
     let a = bind_ok (core_of cores remaining digits) _ c e in
@@ -108,7 +124,11 @@ claim_taken cores remaining names (of_location x v) c e =
     record {
       fits = word.1;
       names_are = sym same.1 ∙ loc.1;
-      claim_is = sym same.0 ∙ ap (λ (n : ℕ). LocClaim b.0.0.0 n) (sym word.0) ∙ ap (λ (l : Loc). LocClaim l.0 v) loc.0 ∙ ap (λ (n : ℕ). LocClaim n v) (sym (number_with names x));
+      claim_is =
+          sym same.0
+          ∙ ap (λ (n : ℕ). LocClaim b.0.0.0 n) (sym word.0)
+          ∙ ap (λ (l : Loc). LocClaim l.0 v) loc.0
+          ∙ ap (λ (n : ℕ). LocClaim n v) (sym (number_with names x));
       room = λ le. room_with names x loc.2 le;
     }
 
@@ -150,14 +170,18 @@ setting_plain _ back _ (sets_in_squares x v value good is_value) ps e =
 
 -- ---- atoms found
 
-setting_atom_found : (stop : Stop) (cores : ℕ) (ts : List Term) (s : Setting) → IsSetting ts s → (atoms : ℕ) (names : List (List ℕ)) → IsWithin cores atoms names (atom s)
+setting_atom_found : (stop : Stop) (cores : ℕ) (ts : List Term) (s : Setting)
+    → IsSetting ts s
+    → (atoms : ℕ) (names : List (List ℕ))
+    → IsWithin cores atoms names (atom s)
     → (back : List Term) (ps : List Piece) → terms ps ≡ ts ++ back → ReadsPhrase (atom_at stop cores) atoms names (atom s) back ps
 unfolding atom_at setting_atom
 setting_atom_found stop cores ts s is atoms names allowed back ps e =
     let plain = setting_plain ts back s is ps e in
     let f = setting_found (part_of BadCondition stop) ts back s is ps e in
     let claim = claim_found cores (remaining_of ps) names s (fits_atom cores s allowed.fits) allowed.room in
-    let done : atom_at stop cores atoms names ps ≡ Ok (given_by atoms names (atom s) f.rest) = rw (plain.no_truth, f.is, claim, one_more_is (remaining_of ps) atoms allowed.few) refl in
+    let done : atom_at stop cores atoms names ps ≡ Ok (given_by atoms names (atom s) f.rest) =
+    rw (plain.no_truth, f.is, claim, one_more_is (remaining_of ps) atoms allowed.few) refl in
     record { rest = f.rest; is = done; after_it = f.after_it }
 
 pub atom_found : (stop : Stop) (cores : ℕ) → Finds cores (atom_at stop cores) IsAtom Anything
@@ -175,7 +199,8 @@ atom_found stop cores _ _ (says_setting ts s is) atoms names allowed back ok ps 
 pub truth_taken : (ps : List Piece) (t : Bool × List Piece) → truth_at ps ≡ Some t → Passes (λ ts. IsAtom ts (truth t.0)) ps t.1
 unfolding truth_at
 truth_taken ps t e =
-    elim (there_is (word_after (codes "true") ps) (λ rest. Some (true, rest)) (there (word_after (codes "false") ps) (λ rest. Some (false, rest)) None) (Some t) e) [
+    elim (there_is (word_after (codes "true") ps) (λ rest. Some (true, rest))
+    (there (word_after (codes "false") ps) (λ rest. Some (false, rest)) None) (Some t) e) [
       | inl yes_at ↦ let word = word_found (codes "true") ps yes_at.0 yes_at.1 in
           subst (λ (t : Bool × List Piece). Passes (λ ts. IsAtom ts (truth t.0)) ps t.1) (some_is (true, yes_at.0) t yes_at.2)
           (record { front = word.0 ∷ []; parts = word.1; is = rw word.2 says_true })
@@ -186,7 +211,10 @@ truth_taken ps t e =
           (record { front = word.0 ∷ []; parts = word.1; is = rw word.2 says_false })
     ]
 
-setting_atom_taken : (stop : Stop) (cores atoms : ℕ) (names : List (List ℕ)) (ps : List Piece) (c : Claimed) → length names ≤ 16 → setting_atom stop cores atoms names ps ≡ Ok c → SpellsPhrase IsAtom cores atoms names ps c
+setting_atom_taken : (stop : Stop) (cores atoms : ℕ) (names : List (List ℕ)) (ps : List Piece) (c : Claimed)
+    → length names ≤ 16
+    → setting_atom stop cores atoms names ps ≡ Ok c
+    → SpellsPhrase IsAtom cores atoms names ps c
 unfolding setting_atom
 setting_atom_taken stop cores atoms names ps c le e =
     let a = bind_ok (setting_at (part_of BadCondition stop) ps) _ c e in
@@ -206,7 +234,10 @@ setting_atom_taken stop cores atoms names ps c le e =
           ∙ ap (λ (l : List (List ℕ)). claimed (claim_by new (atom a.0.0)) (atoms + 1) l a.0.1) claim.names_are;
     })
 
-truth_atom_taken : (remaining cores atoms : ℕ) (names : List (List ℕ)) (ps : List Piece) (t : Bool × List Piece) (c : Claimed) → length names ≤ 16 → truth_at ps ≡ Some t
+truth_atom_taken : (remaining cores atoms : ℕ) (names : List (List ℕ)) (ps : List Piece) (t : Bool × List Piece)
+    (c : Claimed)
+    → length names ≤ 16
+    → truth_at ps ≡ Some t
     → (one_more remaining atoms >>= λ n. Ok (claimed (TruthClaim t.0) n names t.1)) ≡ Ok c → SpellsPhrase IsAtom cores atoms names ps c
 unfolding numbered
 truth_atom_taken remaining cores atoms names ps t c le at e =

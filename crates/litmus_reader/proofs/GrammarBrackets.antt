@@ -1,11 +1,14 @@
 -- The end of brackets is found where it is spelled.
-use Rattle.litmus_reader.proofs.Vocabulary.{◌≡◌, ℕ, zero, suc, ◌<◌, eqb, eqb-true, List, [], ◌∷◌, length, None, Ok, refl, inl, inr, arith, gap_end, from_gap, square_by, square_within, square_end, ClosesBrackets, here, further}
+use Rattle.litmus_reader.proofs.Vocabulary.{◌≡◌, ℕ, zero, suc, ◌<◌, eqb, eqb-true, List, [], ◌∷◌, length, None, Ok, refl, inl, inr, arith}
+use Rattle.litmus_reader.proofs.Vocabulary.{gap_end, from_gap, square_by, square_within, square_end, ClosesBrackets, here, further}
 use Rattle.litmus_reader.proofs.GrammarTokens.{chosen, ok_is, bind_ok}
 use Rattle.litmus_reader.proofs.GrammarGaps.{gap_within, from_gap_ok}
 
 -- ---- taken
 
-by_first : (n remaining : ℕ) (bytes rest : List ℕ) → ((bs : List ℕ) → square_within n remaining bs ≡ Ok rest → ClosesBrackets bs rest) → (at : List ℕ) → gap_end None bytes ≡ Ok at
+by_first : (n remaining : ℕ) (bytes rest : List ℕ)
+    → ((bs : List ℕ) → square_within n remaining bs ≡ Ok rest → ClosesBrackets bs rest)
+    → (at : List ℕ) → gap_end None bytes ≡ Ok at
     → square_by (square_within n remaining) remaining at ≡ Ok rest → ClosesBrackets bytes rest
 by_first n remaining bytes rest later [] gap e = absurd cc
 by_first n remaining bytes rest later (b ∷ bs) gap e =

@@ -1,5 +1,10 @@
 -- Cells are read as they are spelled.
-use Rattle.litmus_reader.proofs.Vocabulary.{◌≡◌, ℕ, true, false, cond, List, [], ◌∷◌, map, Some, None, refl, sym, ap, subst, ◌∙◌, inl, inr, codes, to_ascii_lowercase, bytes_eq-Decides, same_letters, Term, name, Piece, name_at, there, ArgumentTerm, in_memory, in_register, constant, two_arguments, mov_of, xchg_of, xadd_of, no_more, locked_by, by_mnemonic, locked_at, spelled_in, terms, IsCall, IsMove, IsExchange, IsCell, Shape, store_imm, store_reg, load, set_imm, set_reg, fence, xchg, xadd, IsAddition, IsLocked, Instructions, if_all, swap_of, locked_more, more_by, exchange_of}
+use Rattle.litmus_reader.proofs.Vocabulary.{◌≡◌, ℕ, true, false, cond, List, [], ◌∷◌, map, Some, None, refl, sym, ap, subst, ◌∙◌, inl, inr}
+use Rattle.litmus_reader.proofs.Vocabulary.{codes, to_ascii_lowercase, bytes_eq-Decides, same_letters, Term, name, Piece, name_at, there}
+use Rattle.litmus_reader.proofs.Vocabulary.{ArgumentTerm, in_memory, in_register, constant, two_arguments, mov_of, xchg_of, xadd_of}
+use Rattle.litmus_reader.proofs.Vocabulary.{no_more, locked_by, by_mnemonic, locked_at, spelled_in, terms, IsCall, IsMove, IsExchange}
+use Rattle.litmus_reader.proofs.Vocabulary.{IsCell, Shape, store_imm, store_reg, load, set_imm, set_reg, fence, xchg, xadd, IsAddition}
+use Rattle.litmus_reader.proofs.Vocabulary.{IsLocked, Instructions, if_all, swap_of, locked_more, more_by, exchange_of}
 use Rattle.litmus_reader.specs.GrammarCells as cells
 use Rattle.litmus_reader.proofs.GrammarTokens.{chosen, there_is, there_some, some_is, front, no_terms, name_takes}
 use Rattle.litmus_reader.proofs.GrammarOperands.{call_taken, called}
@@ -80,10 +85,25 @@ cell_found set _ _ (cells.fences letters is) ps e =
     rw (f.parts, f.is, other_word letters (codes "MFENCE") (codes "MOV") is refl, is, no_terms f.rest f.after_it) refl
 cell_found set _ _ (cells.exchanges ts a b shape is made) ps e =
     let c = called (codes "XCHG") ts a b is ps e in
-    rw (c.named, other_word c.letters (codes "XCHG") (codes "MOV") c.word_is refl, other_word c.letters (codes "XCHG") (codes "MFENCE") c.word_is refl, c.word_is, c.two) (exchange_made set a b shape made)
+    rw (
+      c.named,
+      other_word c.letters (codes "XCHG") (codes "MOV") c.word_is refl,
+      other_word c.letters (codes "XCHG") (codes "MFENCE") c.word_is refl,
+      c.word_is,
+      c.two,
+    )
+    (exchange_made set a b shape made)
 cell_found set _ _ (cells.locks letters ts shape is locked) ps e =
     let f = front ps (name letters) ts e in
-    rw (f.parts, f.is, other_word letters (codes "LOCK") (codes "MOV") is refl, other_word letters (codes "LOCK") (codes "MFENCE") is refl, other_word letters (codes "LOCK") (codes "XCHG") is refl, is) (locked_found set ts shape locked f.rest f.after_it)
+    rw (
+      f.parts,
+      f.is,
+      other_word letters (codes "LOCK") (codes "MOV") is refl,
+      other_word letters (codes "LOCK") (codes "MFENCE") is refl,
+      other_word letters (codes "LOCK") (codes "XCHG") is refl,
+      is,
+    )
+    (locked_found set ts shape locked f.rest f.after_it)
 cell_found set _ _ (cells.more ts shape all is) ps e = ap (λ (set : Instructions). spelled_in set ps) all ∙ more_found ts shape is ps e
 
 pub cell_again : (set : Instructions) (cell : List Piece) (shape : Shape) → IsCell set (terms cell) shape → spelled_in set cell ≡ Some shape
@@ -91,11 +111,16 @@ cell_again set cell shape is = cell_found set (terms cell) shape is cell refl
 
 -- ---- taken
 
-no_more_made : (set : Instructions) (letters : List ℕ) (ps : List Piece) (shape : Shape) → same_letters letters (codes "MFENCE") ≡ true → no_more fence ps ≡ Some shape → IsCell set (name letters ∷ terms ps) shape
+no_more_made : (set : Instructions) (letters : List ℕ) (ps : List Piece) (shape : Shape)
+    → same_letters letters (codes "MFENCE") ≡ true
+    → no_more fence ps ≡ Some shape
+    → IsCell set (name letters ∷ terms ps) shape
 no_more_made set letters [] shape is e = subst (IsCell set _) (some_is fence shape e) (cells.fences letters is)
 no_more_made set letters (p ∷ ps) shape is e = absurd cc
 
-exchange_taken : (set : Instructions) (word : List ℕ) (rest : List Piece) (both : ArgumentTerm × ArgumentTerm) (shape : Shape) → exchange_of set both ≡ Some shape
+exchange_taken : (set : Instructions) (word : List ℕ) (rest : List Piece) (both : ArgumentTerm × ArgumentTerm)
+    (shape : Shape)
+    → exchange_of set both ≡ Some shape
     → IsCall (codes "XCHG") (name word ∷ terms rest) both.0 both.1 → IsCell set (name word ∷ terms rest) shape
 exchange_taken set word rest both shape e is =
     elim (there_is (xchg_of both) (λ (shape : Shape). Some shape) (if_all set (swap_of both)) (Some shape) e) [
@@ -109,17 +134,22 @@ locked_taken set ps shape e =
     let w = there_some (name_at ps) (locked_by set) shape e in
     let word = w.0.0 in
     let rest = w.0.1 in
-    subst (λ ts. IsLocked set ts shape) (sym (name_takes ps rest word w.1)) (elim (chosen (same_letters word (codes "XCHG")) (there (two_arguments rest) xchg_of None)
+    subst (λ ts. IsLocked set ts shape) (sym (name_takes ps rest word w.1))
+    (elim (chosen (same_letters word (codes "XCHG")) (there (two_arguments rest) xchg_of None)
     (cond (same_letters word (codes "XADD")) (there (two_arguments rest) xadd_of None) (if_all set (locked_more (word, rest)))) (Some shape) w.2) [
       | inl hit ↦
           let two = there_some (two_arguments rest) xchg_of shape hit.1 in
           cells.locked_exchange _ two.0.0 two.0.1 shape (call_taken (codes "XCHG") word rest two.0 hit.0 two.1) (is_exchange two.0 shape two.2)
-      | inr miss ↦ elim (chosen (same_letters word (codes "XADD")) (there (two_arguments rest) xadd_of None) (if_all set (locked_more (word, rest))) (Some shape) miss.1) [
-        | inl hit ↦
-            let two = there_some (two_arguments rest) xadd_of shape hit.1 in
-            cells.locked_addition _ two.0.0 two.0.1 shape (call_taken (codes "XADD") word rest two.0 hit.0 two.1) (is_addition two.0 shape two.2)
-        | inr others ↦ let g = given_by_all set (locked_more (word, rest)) shape others.1 in cells.locked_more _ shape g.0 (locked_more_taken word rest shape g.1)
-      ]
+      | inr miss ↦
+          elim (chosen (same_letters word (codes "XADD")) (there (two_arguments rest) xadd_of None)
+          (if_all set (locked_more (word, rest))) (Some shape) miss.1) [
+            | inl hit ↦
+                let two = there_some (two_arguments rest) xadd_of shape hit.1 in
+                cells.locked_addition _ two.0.0 two.0.1 shape (call_taken (codes "XADD") word rest two.0 hit.0 two.1) (is_addition two.0 shape two.2)
+            | inr others ↦
+                let g = given_by_all set (locked_more (word, rest)) shape others.1 in
+                cells.locked_more _ shape g.0 (locked_more_taken word rest shape g.1)
+          ]
     ])
 
 pub cell_takes : (set : Instructions) (cell : List Piece) (shape : Shape) → spelled_in set cell ≡ Some shape → IsCell set (terms cell) shape
@@ -132,7 +162,8 @@ cell_takes set ps shape e =
     let at_lock = cond (same_letters word (codes "LOCK")) (locked_at set rest) others in
     let at_xchg = cond (same_letters word (codes "XCHG")) (there (two_arguments rest) (exchange_of set) None) at_lock in
     let at_fence = cond (same_letters word (codes "MFENCE")) (no_more fence rest) at_xchg in
-    subst (λ ts. IsCell set ts shape) (sym (name_takes ps rest word w.1)) (elim (chosen (same_letters word (codes "MOV")) (there (two_arguments rest) mov_of None) at_fence (Some shape) w.2) [
+    subst (λ ts. IsCell set ts shape) (sym (name_takes ps rest word w.1))
+    (elim (chosen (same_letters word (codes "MOV")) (there (two_arguments rest) mov_of None) at_fence (Some shape) w.2) [
       | inl hit ↦
           let two = there_some (two_arguments rest) mov_of shape hit.1 in
           cells.moves _ two.0.0 two.0.1 shape (call_taken (codes "MOV") word rest two.0 hit.0 two.1) (is_mov two.0 shape two.2)

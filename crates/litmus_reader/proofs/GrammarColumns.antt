@@ -1,5 +1,9 @@
 -- Header rows are read later they are spelled.
-use Rattle.litmus_reader.proofs.Vocabulary.{End, section, append_assoc, sym, row_ends, ◌>>=◌, Section, section_of, ◌≡◌, ℕ, zero, suc, ◌+◌, ◌≤◌, ◌<◌, List, [], ◌∷◌, ◌++◌, Result, Ok, Err, refl, ap, subst, ◌∙◌, inl, inr, arith, most_cores, Stop, Semicolon, Bar, Term, name, symbol, Piece, is_symbol, symbol_at, name_at, Fault, TooLarge, or_unfit, columns, terms, IsHeaderRow, core_name, fault, remaining_of, part_of, BadHeaderRow, word_after, Passes}
+use Rattle.litmus_reader.proofs.Vocabulary.{End, section, append_assoc, sym, row_ends, ◌>>=◌, Section, section_of, ◌≡◌, ℕ, zero, suc, ◌+◌}
+use Rattle.litmus_reader.proofs.Vocabulary.{◌≤◌, ◌<◌, List, [], ◌∷◌, ◌++◌, Result, Ok, Err, refl, ap, subst, ◌∙◌, inl, inr, arith}
+use Rattle.litmus_reader.proofs.Vocabulary.{most_cores, Stop, Semicolon, Bar, Term, name, symbol, Piece, is_symbol, symbol_at, name_at}
+use Rattle.litmus_reader.proofs.Vocabulary.{Fault, TooLarge, or_unfit, columns, terms, IsHeaderRow, core_name, fault, remaining_of, part_of}
+use Rattle.litmus_reader.proofs.Vocabulary.{BadHeaderRow, word_after, Passes}
 use Rattle.litmus_reader.specs.GrammarColumns.{AreColumns, last, more}
 use Rattle.litmus_reader.proofs.GrammarTokens.{there_is, ok_is, bind_ok, or_unfit_ok, opened, symbol_found, word_found}
 use Rattle.litmus_reader.proofs.SectionSteps.{Lacks, ends_with, section_found, section_terms, section_taken, section_parts}
@@ -9,7 +13,11 @@ pub grow : (core : ℕ) (ts : List Term) (cores : ℕ) → AreColumns core ts co
 grow _ _ _ (last core) = omega arith
 grow _ _ _ (more core ts cores are) = let g = grow (core + 1) ts cores are in omega arith
 
-columns_found : (stop : Stop) (core : ℕ) (ts : List Term) (cores : ℕ) → AreColumns core ts cores → (n : ℕ) → cores ≤ core + n → (ps : List Piece) → terms ps ≡ ts → columns stop n core ps ≡ Ok cores
+columns_found : (stop : Stop) (core : ℕ) (ts : List Term) (cores : ℕ)
+    → AreColumns core ts cores
+    → (n : ℕ) → cores ≤ core + n
+    → (ps : List Piece) → terms ps ≡ ts
+    → columns stop n core ps ≡ Ok cores
 unfolding columns word_after name_at symbol_at is_symbol
 columns_found stop core ts cores are zero few ps e = let g = grow core ts cores are in absurd (omega arith)
 columns_found stop _ _ _ (last core) (suc n) few ps e =
@@ -32,7 +40,11 @@ columns_parts : (core : ℕ) (ts : List Term) (cores : ℕ) → AreColumns core 
 columns_parts _ _ _ (last core) = record { front = name (core_name core) ∷ []; parts = refl; lacks = (refl, tt) }
 columns_parts _ _ _ (more core ts cores are) =
     let p = columns_parts (core + 1) ts cores are in
-    record { front = name (core_name core) ∷ symbol Bar ∷ p.front; parts = ap (λ (l : List Term). name (core_name core) ∷ symbol Bar ∷ l) p.parts; lacks = (refl, (refl, p.lacks)) }
+    record {
+      front = name (core_name core) ∷ symbol Bar ∷ p.front;
+      parts = ap (λ (l : List Term). name (core_name core) ∷ symbol Bar ∷ l) p.parts;
+      lacks = (refl, (refl, p.lacks));
+    }
 
 -- a header row is found as a section
 pub record HeaderFound (stop : Stop) (ps : List Piece) (cores : ℕ) (back : List Term) : Type 0 where
@@ -41,14 +53,21 @@ pub record HeaderFound (stop : Stop) (ps : List Piece) (cores : ℕ) (back : Lis
   pub is : columns s.stop most_cores 0 s.tokens ≡ Ok cores
   pub after_it : terms s.rest ≡ back
 
-pub header_row_again : (stop : Stop) (ps : List Piece) (ts back : List Term) (cores : ℕ) → IsHeaderRow ts cores → terms ps ≡ ts ++ back → HeaderFound stop ps cores back
+pub header_row_again : (stop : Stop) (ps : List Piece) (ts back : List Term) (cores : ℕ)
+    → IsHeaderRow ts cores
+    → terms ps ≡ ts ++ back
+    → HeaderFound stop ps cores back
 header_row_again stop ps ts back cores is e =
     let p = columns_parts 0 ts cores is.columns in
-    let f = section_found row_ends stop p.front back (symbol Semicolon) p.lacks refl ps (e ∙ ap (λ (l : List Term). l ++ back) p.parts ∙ append_assoc p.front (symbol Semicolon ∷ []) back) in
+    let f =
+    section_found row_ends stop p.front back (symbol Semicolon) p.lacks refl ps
+    (e ∙ ap (λ (l : List Term). l ++ back) p.parts ∙ append_assoc p.front (symbol Semicolon ∷ []) back) in
     record {
       s = section (f.front ++ f.last ∷ []) End f.rest;
       at = f.is;
-      is = columns_found End 0 ts cores is.columns most_cores (omega (arith, is.few)) (f.front ++ f.last ∷ []) (section_terms row_ends stop p.front back (symbol Semicolon) ps f ∙ sym p.parts);
+      is =
+          columns_found End 0 ts cores is.columns most_cores (omega (arith, is.few)) (f.front ++ f.last ∷ [])
+          (section_terms row_ends stop p.front back (symbol Semicolon) ps f ∙ sym p.parts);
       after_it = f.is_rest;
     }
 
@@ -100,13 +119,24 @@ columns_taken stop (suc n) core cores ps e =
           }
     ]
 
-pub header_row_takes : (stop : Stop) (ps : List Piece) (cores : ℕ) → columns (section_of row_ends stop ps).stop most_cores 0 (section_of row_ends stop ps).tokens ≡ Ok cores
+pub header_row_takes : (stop : Stop) (ps : List Piece) (cores : ℕ)
+    → columns (section_of row_ends stop ps).stop most_cores 0 (section_of row_ends stop ps).tokens ≡ Ok cores
     → Passes (λ ts. IsHeaderRow ts cores) ps (section_of row_ends stop ps).rest
 header_row_takes stop ps cores e =
     let s = section_of row_ends stop ps in
     let t = columns_taken s.stop most_cores 0 cores s.tokens e in
     let whole = section_taken row_ends stop ps t.front t.back t.end (symbol Semicolon) t.parts t.ends refl in
-    record { front = s.tokens; parts = section_parts row_ends stop ps; is = record { columns = subst (λ (ts : List Term). AreColumns 0 ts cores) (sym whole) t.are; few = omega (arith, t.few) } }
+    record {
+      front = s.tokens;
+      parts = section_parts row_ends stop ps;
+      is = record {
+        columns = subst (λ (ts : List Term). AreColumns 0 ts cores) (sym whole) t.are;
+        few = omega (arith, t.few);
+      };
+    }
 
-pub header_row_found : (stop : Stop) (ps : List Piece) (cores : ℕ) (s : Section) → section_of row_ends stop ps ≡ s → columns s.stop most_cores 0 s.tokens ≡ Ok cores → Passes (λ ts. IsHeaderRow ts cores) ps s.rest
+pub header_row_found : (stop : Stop) (ps : List Piece) (cores : ℕ) (s : Section)
+    → section_of row_ends stop ps ≡ s
+    → columns s.stop most_cores 0 s.tokens ≡ Ok cores
+    → Passes (λ ts. IsHeaderRow ts cores) ps s.rest
 header_row_found stop ps cores s at e = subst (λ (s : Section). Passes (λ ts. IsHeaderRow ts cores) ps s.rest) at (header_row_takes stop ps cores (rw at e))

@@ -1,5 +1,11 @@
 -- What comes after the rows is read as it is spelled.
-use Rattle.litmus_reader.proofs.Vocabulary.{◌≡◌, ℕ, ◌≤◌, List, [], ◌∷◌, length, Option, Some, None, Ok, refl, sym, ap, subst, ◌∙◌, inl, inr, codes, Condition, Stop, End, OpenSquare, Tilde, Term, name, symbol, Piece, pieces_of, is_symbol, symbol_at, name_at, ◌>>=◌, or_unfit, word_after, square_end, brackets_end, ending_tokens, Conditioned, condition_at, end_at, tail_at, terms, numbered, ClosesBrackets, condition, says_exists, says_forall, says_not_exists, MayAsk, nothing, a_condition, IsEnding, at_once, after_locations, names_asked, condition_of, IsAskedWithin, remaining_of, from_place, WrittenCondition, Phrase, Quantifier, part_of, Result, Fault, Instructions}
+use Rattle.litmus_reader.proofs.Vocabulary.{◌≡◌, ℕ, ◌≤◌, List, [], ◌∷◌, length, Option, Some, None, Ok, refl, sym, ap, subst, ◌∙◌, inl, inr}
+use Rattle.litmus_reader.proofs.Vocabulary.{codes, Condition, Stop, End, OpenSquare, Tilde, Term, name, symbol, Piece, pieces_of, is_symbol}
+use Rattle.litmus_reader.proofs.Vocabulary.{symbol_at, name_at, ◌>>=◌, or_unfit, word_after, square_end, brackets_end, ending_tokens}
+use Rattle.litmus_reader.proofs.Vocabulary.{Conditioned, condition_at, end_at, tail_at, terms, numbered, ClosesBrackets, condition}
+use Rattle.litmus_reader.proofs.Vocabulary.{says_exists, says_forall, says_not_exists, MayAsk, nothing, a_condition, IsEnding, at_once}
+use Rattle.litmus_reader.proofs.Vocabulary.{after_locations, names_asked, condition_of, IsAskedWithin, remaining_of, from_place}
+use Rattle.litmus_reader.proofs.Vocabulary.{WrittenCondition, Phrase, Quantifier, part_of, Result, Fault, Instructions}
 use Rattle.std.proofs.Common.{append-nil}
 use Rattle.litmus_tokens.specs.declared.token.Stop.TheVariants.{BadToken, Unclosed}
 use Rattle.litmus_tokens.specs.declared.fault.Why.TheVariants as whys
@@ -27,7 +33,12 @@ end_found : (stop : Stop) → stop ≡ End → end_at stop [] ≡ Ok tt
 unfolding end_at
 end_found stop ended = rw ended refl
 
-ending_found : (stop : Stop) (cores : ℕ) (names : List (List ℕ)) (ps : List Piece) (c : Option WrittenCondition) (ts : List Term) → stop ≡ End → terms ps ≡ ts → MayAsk ts c → IsAskedWithin cores names c
+ending_found : (stop : Stop) (cores : ℕ) (names : List (List ℕ)) (ps : List Piece) (c : Option WrittenCondition)
+    (ts : List Term)
+    → stop ≡ End
+    → terms ps ≡ ts
+    → MayAsk ts c
+    → IsAskedWithin cores names c
     → ending_at stop cores names ps ≡ Ok (given names c)
 unfolding condition_at word_after name_at symbol_at numbered end_at
 ending_found stop cores names ps _ _ ended e nothing within = rw (no_terms ps e, ended) refl
@@ -45,18 +56,26 @@ no_locations ps _ _ e (a_condition _ _ _ (condition _ us _ phrase says_forall is
 no_locations ps _ _ e (a_condition _ _ _ (condition _ us _ phrase says_not_exists is)) =
     opened (λ ps. word_after (codes "locations") ps ≡ None) ps (symbol Tilde) (name (codes "exists") ∷ us) e (λ p rest is after_it. rw is refl)
 
-pub observed_found : (set : Instructions) (text : List ℕ) (stop : Stop) (word opener : Piece) (ps : List Piece) (bytes : List ℕ) → word.term ≡ name (codes "locations") → opener.term ≡ symbol OpenSquare
+pub observed_found : (set : Instructions) (text : List ℕ) (stop : Stop) (word opener : Piece) (ps : List Piece)
+    (bytes : List ℕ)
+    → word.term ≡ name (codes "locations")
+    → opener.term ≡ symbol OpenSquare
     → ClosesBrackets (from_place text opener.remaining) bytes → ending_tokens set text stop (word ∷ opener ∷ ps) ≡ Ok (pieces_of set bytes)
 unfolding ending_tokens word_after name_at brackets_end symbol_at is_symbol
-observed_found set text stop word opener ps bytes is_word is_opener found = rw (is_word, is_opener, brackets_again opener.remaining (from_place text opener.remaining) bytes found) refl
+observed_found set text stop word opener ps bytes is_word is_opener found =
+    rw (is_word, is_opener, brackets_again opener.remaining (from_place text opener.remaining) bytes found) refl
 
-pub tail_again : (set : Instructions) (text : List ℕ) (stop : Stop) (cores : ℕ) (names : List (List ℕ)) (ps : List Piece) (c : Option WrittenCondition) → IsEnding set text stop ps c → IsAskedWithin cores names c
+pub tail_again : (set : Instructions) (text : List ℕ) (stop : Stop) (cores : ℕ) (names : List (List ℕ))
+    (ps : List Piece) (c : Option WrittenCondition)
+    → IsEnding set text stop ps c
+    → IsAskedWithin cores names c
     → tail_at set text stop cores names ps ≡ Ok (given names c)
 unfolding tail_at ending_tokens
 tail_again set text stop cores names _ _ (at_once ps c ended is) within =
     rw (no_locations ps c (terms ps) refl is) (ending_found stop cores names ps c (terms ps) ended refl is within)
 tail_again set text stop cores names _ _ (after_locations word opener ps bytes c is_word is_opener found ended is) within =
-    rw (observed_found set text stop word opener ps bytes is_word is_opener found) (ending_found (pieces_of set bytes).1 cores names (pieces_of set bytes).0 c (terms (pieces_of set bytes).0) ended refl is within)
+    rw (observed_found set text stop word opener ps bytes is_word is_opener found)
+    (ending_found (pieces_of set bytes).1 cores names (pieces_of set bytes).0 c (terms (pieces_of set bytes).0) ended refl is within)
 
 -- ---- taken
 
@@ -75,7 +94,10 @@ pub record Ends (stop : Stop) (cores : ℕ) (names : List (List ℕ)) (ps : List
   pub within : IsAskedWithin cores names c
   pub gives : g ≡ given names c
 
-ending_taken : (stop : Stop) (cores : ℕ) (names : List (List ℕ)) (ps : List Piece) (g : Given) → length names ≤ 16 → ending_at stop cores names ps ≡ Ok g → Ends stop cores names ps g
+ending_taken : (stop : Stop) (cores : ℕ) (names : List (List ℕ)) (ps : List Piece) (g : Given)
+    → length names ≤ 16
+    → ending_at stop cores names ps ≡ Ok g
+    → Ends stop cores names ps g
 unfolding numbered
 ending_taken stop cores names ps g le e =
     let a = bind_ok (condition_at stop cores names ps) (λ c. end_at stop c.rest >>= λ end. Ok (c.condition, c.names)) g e in
@@ -115,14 +137,22 @@ tail_takes set text stop cores names ps g le e =
       | inl at ↦
           let w = word_found (codes "locations") ps at.0 at.1 in
           let b = bind_ok (brackets_end text stop at.0) (λ bytes. Ok (pieces_of set bytes)) a.0 at.2 in
-          let d = bind_ok (or_unfit (part_of whys.BadToken stop) at.0 (symbol_at OpenSquare at.0)) (λ rest. square_end (remaining_of at.0) (from_place text (remaining_of at.0))) b.0 b.1 in
+          let d =
+          bind_ok (or_unfit (part_of whys.BadToken stop) at.0 (symbol_at OpenSquare at.0))
+          (λ rest. square_end (remaining_of at.0) (from_place text (remaining_of at.0))) b.0 b.1 in
           let o = symbol_found OpenSquare at.0 d.0 (or_unfit_ok _ at.0 (symbol_at OpenSquare at.0) d.0 d.1) in
           let tokens : pieces_of set b.0 ≡ a.0 = ok_is (pieces_of set b.0) a.0 b.2 in
-          let ends = ending_taken (pieces_of set b.0).1 cores names (pieces_of set b.0).0 g le (subst (λ (rest : List Piece × Stop). ending_at rest.1 cores names rest.0 ≡ Ok g) (sym tokens) a.2) in
-          let place : ClosesBrackets (from_place text o.0.remaining) b.0 = brackets_take o.0.remaining (from_place text o.0.remaining) b.0 (subst (λ (l : List Piece). square_end (remaining_of l) (from_place text (remaining_of l)) ≡ Ok b.0) o.1 d.2) in
+          let ends =
+          ending_taken (pieces_of set b.0).1 cores names (pieces_of set b.0).0 g le
+          (subst (λ (rest : List Piece × Stop). ending_at rest.1 cores names rest.0 ≡ Ok g) (sym tokens) a.2) in
+          let place : ClosesBrackets (from_place text o.0.remaining) b.0 =
+          brackets_take o.0.remaining (from_place text o.0.remaining) b.0
+          (subst (λ (l : List Piece). square_end (remaining_of l) (from_place text (remaining_of l)) ≡ Ok b.0) o.1 d.2) in
           record {
             c = ends.c;
-            ending = subst (λ l. IsEnding set text stop l ends.c) (sym (w.1 ∙ ap (λ (l : List Piece). w.0 ∷ l) o.1)) (after_locations w.0 o.0 d.0 b.0 ends.c w.2 o.2 place ends.ended ends.is);
+            ending =
+                subst (λ l. IsEnding set text stop l ends.c) (sym (w.1 ∙ ap (λ (l : List Piece). w.0 ∷ l) o.1))
+                (after_locations w.0 o.0 d.0 b.0 ends.c w.2 o.2 place ends.ended ends.is);
             within = ends.within;
             gives = ends.gives;
           }

@@ -1,5 +1,6 @@
 -- White space and comments, where they end.
-use Rattle.litmus_reader.proofs.Vocabulary.{◌≡◌, ℕ, ◌≤◌, List, [], ◌∷◌, length, Option, Some, None, Result, Ok, Err, ap, inl, inr, arith, Stop, is_space, opens_comment, closes_comment, gap_end, from_gap}
+use Rattle.litmus_reader.proofs.Vocabulary.{◌≡◌, ℕ, ◌≤◌, List, [], ◌∷◌, length, Option, Some, None, Result, Ok, Err, ap, inl, inr, arith}
+use Rattle.litmus_reader.proofs.Vocabulary.{Stop, is_space, opens_comment, closes_comment, gap_end, from_gap}
 use Rattle.litmus_reader.proofs.GrammarTokens.{chosen, ok_is}
 
 same_rest : (x y : List ℕ) → (let r : Result (List ℕ) Stop = Ok x in r) ≡ Ok y → x ≡ y

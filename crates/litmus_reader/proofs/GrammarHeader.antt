@@ -1,5 +1,7 @@
 -- A header line is read where it is spelled.
-use Rattle.litmus_reader.proofs.Vocabulary.{◌≡◌, ℕ, true, ◌&&◌, List, length, nat_lt, Option, Some, None, Ok, refl, sym, ap, subst, ◌∙◌, inl, inr, list_all, is_test_name, is_printable, gap_end, from_gap, header_at, first_line, IsHeaderLine, name_in}
+use Rattle.litmus_reader.proofs.Vocabulary.{◌≡◌, ℕ, true, ◌&&◌, List, length, nat_lt, Option, Some, None, Ok, refl, sym, ap, subst, ◌∙◌}
+use Rattle.litmus_reader.proofs.Vocabulary.{inl, inr, list_all, is_test_name, is_printable, gap_end, from_gap, header_at, first_line}
+use Rattle.litmus_reader.proofs.Vocabulary.{IsHeaderLine, name_in}
 use Rattle.litmus_reader.specs.Header.{judged}
 use Rattle.litmus_reader.proofs.GrammarTokens.{chosen, ok_is, ok_pair, bind_ok}
 use Rattle.litmus_reader.proofs.GrammarGaps.{from_gap_ok}

@@ -1,5 +1,9 @@
 -- Information lines are read where they are spelled.
-use Rattle.litmus_reader.proofs.Vocabulary.{◌≡◌, ℕ, zero, suc, ◌<◌, Bool, true, false, cond, eqb, eqb-true, List, [], ◌∷◌, ◌++◌, length, drop, Some, None, Ok, refl, sym, ap, subst, ◌∙◌, inl, inr, arith, is_ascii_alphabetic, list_all, prefix_len, not-true, length-append, gap_end, from_gap, ◌>>=◌, quotation_end, information_end, begins_initial, braces_within, braces_at, first_line, is_quoted, IsInformation, quotation, key_line, AreInformationLines, none, continues_key, ◌||◌, key_value, key_line_end}
+use Rattle.litmus_reader.proofs.Vocabulary.{◌≡◌, ℕ, zero, suc, ◌<◌, Bool, true, false, cond, eqb, eqb-true, List, [], ◌∷◌, ◌++◌, length}
+use Rattle.litmus_reader.proofs.Vocabulary.{drop, Some, None, Ok, refl, sym, ap, subst, ◌∙◌, inl, inr, arith, is_ascii_alphabetic, list_all}
+use Rattle.litmus_reader.proofs.Vocabulary.{prefix_len, not-true, length-append, gap_end, from_gap, ◌>>=◌, quotation_end, information_end}
+use Rattle.litmus_reader.proofs.Vocabulary.{begins_initial, braces_within, braces_at, first_line, is_quoted, IsInformation, quotation}
+use Rattle.litmus_reader.proofs.Vocabulary.{key_line, AreInformationLines, none, continues_key, ◌||◌, key_value, key_line_end}
 use Rattle.std.specs.Int.{is_in_range}
 use Rattle.litmus_reader.specs.GrammarText.{more}
 use Rattle.litmus_reader.proofs.GrammarTokens.{chosen, some_is, ok_is, bind_ok, or_fault_ok}
@@ -48,7 +52,11 @@ equals_ends : continues_key 61 ≡ false
 unfolding continues_key
 equals_ends = refl
 
-value_taken : (remaining b : ℕ) (key back after_it : List ℕ) → is_ascii_alphabetic b ≡ true → list_all continues_key key ≡ true → key_value remaining back ≡ Ok after_it → IsInformation (b ∷ key ++ back) after_it
+value_taken : (remaining b : ℕ) (key back after_it : List ℕ)
+    → is_ascii_alphabetic b ≡ true
+    → list_all continues_key key ≡ true
+    → key_value remaining back ≡ Ok after_it
+    → IsInformation (b ∷ key ++ back) after_it
 value_taken remaining b key [] after_it letter all e = absurd cc
 value_taken remaining b key (c ∷ cs) after_it letter all e =
     elim (chosen (eqb c 61) (Ok (first_line cs).1) _ (Ok after_it) e) [
@@ -66,7 +74,9 @@ key_after b key back letter all stops = run_after continues_key (b ∷ key) back
 key_line_takes : (b : ℕ) (bs after_it : List ℕ) → is_ascii_alphabetic b ≡ true → key_line_end (b ∷ bs) ≡ Ok after_it → IsInformation (b ∷ bs) after_it
 key_line_takes b bs after_it letter e =
     let r = run continues_key bs in
-    let there : drop (prefix_len continues_key (b ∷ bs)) (b ∷ bs) ≡ r.back = ap (λ (l : List ℕ). drop (prefix_len continues_key (b ∷ l)) (b ∷ l)) r.parts ∙ key_after b r.front r.back letter r.passes r.stops in
+    let there : drop (prefix_len continues_key (b ∷ bs)) (b ∷ bs) ≡ r.back =
+    ap (λ (l : List ℕ). drop (prefix_len continues_key (b ∷ l)) (b ∷ l)) r.parts
+    ∙ key_after b r.front r.back letter r.passes r.stops in
     subst (λ (l : List ℕ). IsInformation (b ∷ l) after_it) (sym r.parts)
     (value_taken (length (b ∷ bs)) b r.front r.back after_it letter r.passes (sym (ap (key_value (length (b ∷ bs))) there) ∙ e))
 
@@ -108,7 +118,9 @@ opened bytes (b ∷ bs) gap h =
     let curly : b ≡ 123 = eqb-true _ _ h in
     rw curly (none bytes bs (rw curly at gap))
 
-by_place : (n : ℕ) (bytes braces at : List ℕ) → ((rest : List ℕ) → braces_within n rest ≡ Ok braces → AreInformationLines rest braces) → gap_end None bytes ≡ Ok at
+by_place : (n : ℕ) (bytes braces at : List ℕ)
+    → ((rest : List ℕ) → braces_within n rest ≡ Ok braces → AreInformationLines rest braces)
+    → gap_end None bytes ≡ Ok at
     → cond (begins_initial at) (Ok at) (information_end at >>= λ rest. braces_within n rest) ≡ Ok braces → AreInformationLines bytes braces
 by_place n bytes braces at later gap e =
     elim (chosen (begins_initial at) (Ok at) _ (Ok braces) e) [

@@ -1,5 +1,10 @@
 -- An item more of the initial state, and what is given so far.
-use Rattle.litmus_reader.proofs.Vocabulary.{◌≡◌, ℕ, suc, ◌+◌, ◌≤◌, ◌<◌, ◌^◌, Bool, true, false, cond, ltb, not, List, [], ◌∷◌, ◌++◌, length, map, Ok, Err, refl, sym, ap, subst, ◌∙◌, inl, inr, arith, list_any, list_all, bytes_eq, ltb-false, and_parts, or_parts, not-true, length-append, map-append, list_any-append, list_all-append, Reg, Loc, TwiceInit, located, word_at, Given, given, Initial, initial, gives, judged, given_value, same_place, each_once, names_in, Fits, fault, number_of, location, Setting, of_register, of_location, append-nil, lt-ltb, le-ltb, ◌||◌}
+use Rattle.litmus_reader.proofs.Vocabulary.{◌≡◌, ℕ, suc, ◌+◌, ◌≤◌, ◌<◌, ◌^◌, Bool, true, false, cond, ltb, not, List, [], ◌∷◌, ◌++◌, length}
+use Rattle.litmus_reader.proofs.Vocabulary.{map, Ok, Err, refl, sym, ap, subst, ◌∙◌, inl, inr, arith, list_any, list_all, bytes_eq}
+use Rattle.litmus_reader.proofs.Vocabulary.{ltb-false, and_parts, or_parts, not-true, length-append, map-append, list_any-append}
+use Rattle.litmus_reader.proofs.Vocabulary.{list_all-append, Reg, Loc, TwiceInit, located, word_at, Given, given, Initial, initial, gives}
+use Rattle.litmus_reader.proofs.Vocabulary.{judged, given_value, same_place, each_once, names_in, Fits, fault, number_of, location, Setting}
+use Rattle.litmus_reader.proofs.Vocabulary.{of_register, of_location, append-nil, lt-ltb, le-ltb, ◌||◌}
 use Rattle.litmus_tokens.proofs.Maps.{list_any_map}
 use Rattle.litmus_reader.proofs.GrammarNames.{place_below, place_none}
 use Rattle.litmus_reader.proofs.GrammarTokens.{chosen, ok_is, bind_ok}
@@ -51,22 +56,29 @@ location_given x v [] = refl
 location_given x v (of_register core reg w ∷ done) = location_given x v done
 location_given x v (of_location y w ∷ done) = ap (λ (b : Bool). bytes_eq x y || b) (location_given x v done)
 
-among_registers : (core : List ℕ) (reg : Reg) (v : ℕ) (done : List Setting) → list_any (same_place (of_register core reg v)) done ≡ list_any (same_place (of_register core reg v)) (settings_of_registers done)
+among_registers : (core : List ℕ) (reg : Reg) (v : ℕ) (done : List Setting)
+    → list_any (same_place (of_register core reg v)) done
+    ≡ list_any (same_place (of_register core reg v)) (settings_of_registers done)
 among_registers core reg v [] = refl
-among_registers core reg v (of_register c r w ∷ done) = ap (λ (b : Bool). same_place (of_register core reg v) (of_register c r w) || b) (among_registers core reg v done)
+among_registers core reg v (of_register c r w ∷ done) =
+    ap (λ (b : Bool). same_place (of_register core reg v) (of_register c r w) || b) (among_registers core reg v done)
 among_registers core reg v (of_location y w ∷ done) = among_registers core reg v done
 
 pub register_given : (core : List ℕ) (reg : Reg) (v : ℕ) (done : List Setting) (gs : List Given) → map unplaced gs ≡ settings_of_registers done
     → list_any (same_place (of_register core reg v)) done ≡ list_any (gives core reg) gs
 register_given core reg v done gs e =
-    among_registers core reg v done ∙ ap (list_any (same_place (of_register core reg v))) (sym e) ∙ list_any_map (same_place (of_register core reg v)) unplaced gs
+    among_registers core reg v done
+    ∙ ap (list_any (same_place (of_register core reg v))) (sym e)
+    ∙ list_any_map (same_place (of_register core reg v)) unplaced gs
 
 pub once_apart : (done rest : List Setting) (s : Setting) → each_once (done ++ s ∷ rest) ≡ true → list_any (same_place s) done ≡ false
 once_apart [] rest s e = refl
 once_apart (d ∷ ds) rest s e =
     let both = and_parts (not (list_any (λ later. same_place later d) (ds ++ s ∷ rest))) (each_once (ds ++ s ∷ rest)) e in
     let none : list_any (λ later. same_place later d) (ds ++ s ∷ rest) ≡ false = not-true _ both.0 in
-    let split = or_parts (list_any (λ later. same_place later d) ds) (list_any (λ later. same_place later d) (s ∷ rest)) (sym (list_any-append (λ later. same_place later d) ds (s ∷ rest)) ∙ none) in
+    let split =
+    or_parts (list_any (λ later. same_place later d) ds) (list_any (λ later. same_place later d) (s ∷ rest))
+    (sym (list_any-append (λ later. same_place later d) ds (s ∷ rest)) ∙ none) in
     let first = or_parts (same_place s d) (list_any (λ later. same_place later d) rest) split.1 in
     let apart : same_place s d ≡ false = first.0 in
     rw apart (once_apart ds rest s both.1)
@@ -78,7 +90,8 @@ once_more (d ∷ ds) s e new =
     let none : list_any (λ later. same_place later d) ds ≡ false = not-true _ both.0 in
     let fresh = or_parts (same_place s d) (list_any (same_place s) ds) new in
     let apart : same_place s d ≡ false = fresh.0 in
-    let away : list_any (λ later. same_place later d) (ds ++ s ∷ []) ≡ false = list_any-append (λ later. same_place later d) ds (s ∷ []) ∙ rw (none, apart) refl in
+    let away : list_any (λ later. same_place later d) (ds ++ s ∷ []) ≡ false =
+    list_any-append (λ later. same_place later d) ds (s ∷ []) ∙ rw (none, apart) refl in
     rw away (once_more ds s both.1 fresh.1)
 
 -- ---- a word
@@ -88,14 +101,19 @@ has_room remaining v e = rw e refl
 
 -- ---- a location
 
-located_new : (remaining : ℕ) (names : List (List ℕ)) (x : List ℕ) → list_any (bytes_eq x) names ≡ false → length names < 16 → located remaining names x ≡ Ok (location (length names), names ++ x ∷ [])
+located_new : (remaining : ℕ) (names : List (List ℕ)) (x : List ℕ)
+    → list_any (bytes_eq x) names ≡ false
+    → length names < 16
+    → located remaining names x ≡ Ok (location (length names), names ++ x ∷ [])
 unfolding located
 located_new remaining names x new room =
     let at_end : number_of names x ≡ length names = place_none (bytes_eq x) names new in
     rw (at_end, lt-ltb (length names) 16 room, new) refl
 
 -- where a location's number is none of those that have a word
-located_is : (remaining : ℕ) (names : List (List ℕ)) (x : List ℕ) (loc : Loc × List (List ℕ)) → located remaining names x ≡ Ok loc → ltb loc.0.0 (length names) ≡ false
+located_is : (remaining : ℕ) (names : List (List ℕ)) (x : List ℕ) (loc : Loc × List (List ℕ))
+    → located remaining names x ≡ Ok loc
+    → ltb loc.0.0 (length names) ≡ false
     → (list_any (bytes_eq x) names ≡ false) × (length names < 16) × (loc.1 ≡ names ++ x ∷ [])
 located_is remaining names x loc e past =
     let found = located_ok remaining names x loc e in
@@ -109,9 +127,14 @@ located_is remaining names x loc e past =
 
 -- ---- judged
 
-values_split : (done rest : List Setting) (s : Setting) → list_all (λ s. ltb (given_value s) (2 ^ 32)) (done ++ s ∷ rest) ≡ true → ltb (given_value s) (2 ^ 32) ≡ true
+values_split : (done rest : List Setting) (s : Setting)
+    → list_all (λ s. ltb (given_value s) (2 ^ 32)) (done ++ s ∷ rest) ≡ true
+    → ltb (given_value s) (2 ^ 32) ≡ true
 values_split done rest s e =
-    let both = and_parts (list_all (λ s. ltb (given_value s) (2 ^ 32)) done) (list_all (λ s. ltb (given_value s) (2 ^ 32)) (s ∷ rest)) (sym (list_all-append (λ s. ltb (given_value s) (2 ^ 32)) done (s ∷ rest)) ∙ e) in
+    let both =
+    and_parts (list_all (λ s. ltb (given_value s) (2 ^ 32)) done)
+    (list_all (λ s. ltb (given_value s) (2 ^ 32)) (s ∷ rest))
+    (sym (list_all-append (λ s. ltb (given_value s) (2 ^ 32)) done (s ∷ rest)) ∙ e) in
     (and_parts (ltb (given_value s) (2 ^ 32)) (list_all (λ s. ltb (given_value s) (2 ^ 32)) rest) both.1).0
 
 pub values_more : (done : List Setting) (s : Setting) → list_all (λ s. ltb (given_value s) (2 ^ 32)) done ≡ true → ltb (given_value s) (2 ^ 32) ≡ true
@@ -129,7 +152,10 @@ hold_register : (done : List Setting) (i : Initial) (remaining : ℕ) (core : Li
 hold_register done i remaining core reg v h = record {
   names = h.names ∙ sym (append-nil (names_in done)) ∙ sym (names_in-append done (of_register core reg v ∷ []));
   words = h.words ∙ sym (append-nil (words_in done)) ∙ sym (words_in-append done (of_register core reg v ∷ []));
-  registers = map-append unplaced i.registers (given remaining core reg v ∷ []) ∙ ap (λ (l : List Setting). l ++ of_register core reg v ∷ []) h.registers ∙ sym (settings_of_registers-append done (of_register core reg v ∷ []));
+  registers =
+      map-append unplaced i.registers (given remaining core reg v ∷ [])
+      ∙ ap (λ (l : List Setting). l ++ of_register core reg v ∷ []) h.registers
+      ∙ sym (settings_of_registers-append done (of_register core reg v ∷ []));
 }
 
 hold_location : (done : List Setting) (i : Initial) (x : List ℕ) (v : ℕ) (names : List (List ℕ)) → Holds done i → names ≡ names_in done ++ x ∷ []
@@ -145,11 +171,20 @@ unfolding judged
 judged_found remaining i done rest (of_register core reg v) h fits =
     let room = has_room remaining v (values_split done rest (of_register core reg v) fits.values) in
     let once = sym (register_given core reg v done i.registers h.registers) ∙ once_apart done rest (of_register core reg v) fits.once in
-    record { after = initial i.names i.words (i.registers ++ given remaining core reg v ∷ []); is = rw (room, once) refl; holds = hold_register done i remaining core reg v h }
+    record {
+      after = initial i.names i.words (i.registers ++ given remaining core reg v ∷ []);
+      is = rw (room, once) refl;
+      holds = hold_register done i remaining core reg v h;
+    }
 judged_found remaining i done rest (of_location x v) h fits =
     let room = has_room remaining v (values_split done rest (of_location x v) fits.values) in
-    let apart : list_any (bytes_eq x) i.names ≡ false = ap (list_any (bytes_eq x)) h.names ∙ sym (location_given x v done) ∙ once_apart done rest (of_location x v) fits.once in
-    let count : length (names_in (done ++ of_location x v ∷ rest)) ≡ length (names_in done) + suc (length (names_in rest)) = ap length (names_in-append done (of_location x v ∷ rest)) ∙ length-append (names_in done) (x ∷ names_in rest) in
+    let apart : list_any (bytes_eq x) i.names ≡ false =
+    ap (list_any (bytes_eq x)) h.names
+    ∙ sym (location_given x v done)
+    ∙ once_apart done rest (of_location x v) fits.once in
+    let count : length (names_in (done ++ of_location x v ∷ rest))
+    ≡ length (names_in done) + suc (length (names_in rest)) =
+    ap length (names_in-append done (of_location x v ∷ rest)) ∙ length-append (names_in done) (x ∷ names_in rest) in
     let same : length i.names ≡ length (names_in done) = ap length h.names in
     let some : length i.names < 16 = omega (arith, count, same, fits.few) in
     let words : length i.words ≡ length i.names = ap length h.words ∙ a_word_each done ∙ sym same in
@@ -167,11 +202,13 @@ unfolding judged
 judged_taken remaining i after done (of_register core reg v) e h fits =
     let value = bind_ok (word_at remaining v) _ after e in
     let word = word_ok remaining v value.0 value.1 in
-    elim (chosen (list_any (gives core reg) i.registers) (Err (fault TwiceInit remaining)) (Ok (initial i.names i.words (i.registers ++ given remaining core reg value.0 ∷ []))) (Ok after) value.2) [
+    elim (chosen (list_any (gives core reg) i.registers) (Err (fault TwiceInit remaining))
+    (Ok (initial i.names i.words (i.registers ++ given remaining core reg value.0 ∷ []))) (Ok after) value.2) [
       | inl twice ↦ absurd cc
       | inr once ↦
           let same : initial i.names i.words (i.registers ++ given remaining core reg value.0 ∷ []) ≡ after = ok_is _ after once.1 in
-          let is : initial i.names i.words (i.registers ++ given remaining core reg v ∷ []) ≡ after = ap (λ (n : ℕ). initial i.names i.words (i.registers ++ given remaining core reg n ∷ [])) word.0 ∙ same in
+          let is : initial i.names i.words (i.registers ++ given remaining core reg v ∷ []) ≡ after =
+          ap (λ (n : ℕ). initial i.names i.words (i.registers ++ given remaining core reg n ∷ [])) word.0 ∙ same in
           let apart = register_given core reg v done i.registers h.registers ∙ once.0 in (
             subst (Holds (done ++ of_register core reg v ∷ [])) is (hold_register done i remaining core reg v h),
             record {
@@ -186,7 +223,8 @@ judged_taken remaining i after done (of_location x v) e h fits =
     let word = word_ok remaining v value.0 value.1 in
     let loc = bind_ok (located remaining i.names x) _ after value.2 in
     let words : length i.words ≡ length i.names = ap length h.words ∙ a_word_each done ∙ sym (ap length h.names) in
-    elim (chosen (ltb loc.0.0.0 (length i.words)) (Err (fault TwiceInit remaining)) (Ok (initial loc.0.1 (i.words ++ value.0 ∷ []) i.registers)) (Ok after) loc.2) [
+    elim (chosen (ltb loc.0.0.0 (length i.words)) (Err (fault TwiceInit remaining))
+    (Ok (initial loc.0.1 (i.words ++ value.0 ∷ []) i.registers)) (Ok after) loc.2) [
       | inl twice ↦ absurd cc
       | inr once ↦
           let same : initial loc.0.1 (i.words ++ value.0 ∷ []) i.registers ≡ after = ok_is _ after once.1 in

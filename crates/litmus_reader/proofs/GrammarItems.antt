@@ -1,5 +1,9 @@
 -- Items are read where they are spelled.
-use Rattle.litmus_reader.proofs.Vocabulary.{◌≡◌, ℕ, List, [], ◌∷◌, ◌++◌, Ok, refl, ap, subst, ◌∙◌, inl, inr, Equals, Colon, OpenSquare, CloseSquare, Term, number, name, symbol, Piece, is_symbol, symbol_at, name_at, number_at, Part, or_unfit, location_at, register_at, value_at, register_setting, square_setting, plain_setting, setting_at, terms, IsSetting, sets_register, sets_location, sets_in_squares, Setting, of_register, of_location, Passes, append_assoc, sym, numeral_at, IsNumeral}
+use Rattle.litmus_reader.proofs.Vocabulary.{◌≡◌, ℕ, List, [], ◌∷◌, ◌++◌, Ok, refl, ap, subst, ◌∙◌, inl, inr, Equals, Colon, OpenSquare}
+use Rattle.litmus_reader.proofs.Vocabulary.{CloseSquare, Term, number, name, symbol, Piece, is_symbol, symbol_at, name_at, number_at, Part}
+use Rattle.litmus_reader.proofs.Vocabulary.{or_unfit, location_at, register_at, value_at, register_setting, square_setting, plain_setting}
+use Rattle.litmus_reader.proofs.Vocabulary.{setting_at, terms, IsSetting, sets_register, sets_location, sets_in_squares, Setting}
+use Rattle.litmus_reader.proofs.Vocabulary.{of_register, of_location, Passes, append_assoc, sym, numeral_at, IsNumeral}
 use Rattle.litmus_reader.proofs.GrammarTokens.{there_is, ok_pair, bind_ok, or_unfit_ok, opened, terms_append, Takes, number_found, symbol_found}
 use Rattle.litmus_reader.proofs.GrammarNumerals.{symbol_there, numeral_found, numeral_taken}
 use Rattle.litmus_reader.proofs.GrammarOperands.{location_found, register_found}
@@ -14,7 +18,10 @@ record ValueFound (part : Part) (ps : List Piece) (v : ℕ) (back : List Term) :
   pub is : value_at part ps ≡ Ok (v, rest)
   pub after_it : terms rest ≡ back
 
-value_found : (part : Part) (ts back : List Term) (v : ℕ) → IsNumeral ts v → (ps : List Piece) → terms ps ≡ symbol Equals ∷ ts ++ back → ValueFound part ps v back
+value_found : (part : Part) (ts back : List Term) (v : ℕ)
+    → IsNumeral ts v
+    → (ps : List Piece) → terms ps ≡ symbol Equals ∷ ts ++ back
+    → ValueFound part ps v back
 unfolding value_at
 value_found part ts back v is ps e =
     opened (λ ps. ValueFound part ps v back) ps (symbol Equals) (ts ++ back) e (λ p after is_equals then.
@@ -65,18 +72,28 @@ abbrev Taken : List Piece → Setting → List Piece → Type 0
 Taken ps s rest = Passes (λ ts. IsSetting ts s) ps rest
 
 -- a value after some tokens, which say of what
-after_these : (make : ℕ → Setting) (s : Setting) (front ps rest after all : List Piece) (v : ℕ) → all ≡ front ++ ps → (t : ValueTaken ps after v) → (make v ≡ s) × (after ≡ rest)
+after_these : (make : ℕ → Setting) (s : Setting) (front ps rest after all : List Piece) (v : ℕ)
+    → all ≡ front ++ ps
+    → (t : ValueTaken ps after v) → (make v ≡ s) × (after ≡ rest)
     → ((w : List Term) → IsNumeral w v → IsSetting (terms front ++ symbol Equals ∷ w) (make v)) → Taken all s rest
 after_these make s front ps rest after all v begins t same spelled =
     let last = t.equals ∷ t.value in
     let are : terms (front ++ last) ≡ terms front ++ symbol Equals ∷ terms t.value = terms_append front last ∙ rw t.is_equals refl in
     record {
       front = front ++ last;
-      parts = begins ∙ ap (λ (l : List Piece). front ++ l) (t.parts ∙ ap (λ (l : List Piece). t.equals ∷ t.value ++ l) same.1) ∙ sym (append_assoc front last rest);
-      is = subst (λ (ts : List Term). IsSetting ts s) (sym are) (subst (IsSetting (terms front ++ symbol Equals ∷ terms t.value)) same.0 (spelled (terms t.value) t.is_value));
+      parts =
+          begins
+          ∙ ap (λ (l : List Piece). front ++ l) (t.parts ∙ ap (λ (l : List Piece). t.equals ∷ t.value ++ l) same.1)
+          ∙ sym (append_assoc front last rest);
+      is =
+          subst (λ (ts : List Term). IsSetting ts s) (sym are)
+          (subst (IsSetting (terms front ++ symbol Equals ∷ terms t.value)) same.0 (spelled (terms t.value) t.is_value));
     }
 
-register_taken : (part : Part) (core : List ℕ) (all ps rest : List Piece) (s : Setting) → Takes (number core) all ps → register_setting part core ps ≡ Ok (s, rest) → Taken all s rest
+register_taken : (part : Part) (core : List ℕ) (all ps rest : List Piece) (s : Setting)
+    → Takes (number core) all ps
+    → register_setting part core ps ≡ Ok (s, rest)
+    → Taken all s rest
 unfolding register_setting
 register_taken part core all ps rest s first e =
     let a = bind_ok (or_unfit part ps (symbol_at Colon ps)) _ (s, rest) e in
@@ -87,10 +104,14 @@ register_taken part core all ps rest s first e =
     let word = reg.1 in
     let front = first.0 ∷ colon.0 ∷ word.0 ∷ [] in
     let begins : all ≡ front ++ b.0.1 = first.1 ∙ ap (λ (l : List Piece). first.0 ∷ l) (colon.1 ∙ ap (λ (l : List Piece). colon.0 ∷ l) word.1) in
-    after_these (of_register core b.0.0) s front b.0.1 rest c.0.1 all c.0.0 begins (value_taken part b.0.1 c.0.1 c.0.0 c.1) (ok_pair (of_register core b.0.0 c.0.0) s c.0.1 rest c.2)
+    after_these (of_register core b.0.0) s front b.0.1 rest c.0.1 all c.0.0 begins
+    (value_taken part b.0.1 c.0.1 c.0.0 c.1) (ok_pair (of_register core b.0.0 c.0.0) s c.0.1 rest c.2)
     (λ w is. rw (first.2, colon.2, word.2) (sets_register core reg.0 b.0.0 w c.0.0 reg.2 is))
 
-square_taken : (part : Part) (all ps rest : List Piece) (s : Setting) → Takes (symbol OpenSquare) all ps → square_setting part ps ≡ Ok (s, rest) → Taken all s rest
+square_taken : (part : Part) (all ps rest : List Piece) (s : Setting)
+    → Takes (symbol OpenSquare) all ps
+    → square_setting part ps ≡ Ok (s, rest)
+    → Taken all s rest
 unfolding square_setting
 square_taken part all ps rest s first e =
     let a = bind_ok (or_unfit part ps (location_at ps)) _ (s, rest) e in
@@ -113,7 +134,8 @@ plain_taken part ps rest s e =
     let x = a.0.0 in
     let loc = location_found ps a.0.1 x (or_unfit_ok part ps (location_at ps) a.0 a.1) in
     let word = loc.0 in
-    after_these (of_location x) s (word.0 ∷ []) a.0.1 rest c.0.1 ps c.0.0 word.1 (value_taken part a.0.1 c.0.1 c.0.0 c.1) (ok_pair (of_location x c.0.0) s c.0.1 rest c.2)
+    after_these (of_location x) s (word.0 ∷ []) a.0.1 rest c.0.1 ps c.0.0 word.1
+    (value_taken part a.0.1 c.0.1 c.0.0 c.1) (ok_pair (of_location x c.0.0) s c.0.1 rest c.2)
     (λ w is. rw word.2 (sets_location x w c.0.0 loc.1 is))
 
 pub setting_taken : (part : Part) (ps rest : List Piece) (s : Setting) → setting_at part ps ≡ Ok (s, rest) → Taken ps s rest

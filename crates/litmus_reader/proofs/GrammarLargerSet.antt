@@ -1,5 +1,11 @@
 -- Cells of the larger set are read as they are spelled.
-use Rattle.litmus_reader.proofs.Vocabulary.{◌≡◌, ℕ, true, cond, List, [], ◌∷◌, map, Some, None, refl, ap, subst, ◌∙◌, inl, inr, codes, to_ascii_lowercase, bytes_eq-Decides, same_letters, Term, name, Piece, name_at, there, ArgumentTerm, in_memory, in_register, constant, two_arguments, no_more, locked_by, by_mnemonic, locked_at, spelled_in, terms, IsCall, Shape, name_then, Instructions, one_argument, if_all, swap_of, cmpxchg_of, operator_named, step_named, locked_of, combine_of, locked_step, combine_step, locked_neg, neg_of, locked_more, is_no_operation, more_by, IsCallOfOne, IsOperator, IsStep, DoesNothing, IsLockedMore, IsCellMore, Option, Bool, ◌||◌}
+use Rattle.litmus_reader.proofs.Vocabulary.{◌≡◌, ℕ, true, cond, List, [], ◌∷◌, map, Some, None, refl, ap, subst, ◌∙◌, inl, inr, codes}
+use Rattle.litmus_reader.proofs.Vocabulary.{to_ascii_lowercase, bytes_eq-Decides, same_letters, Term, name, Piece, name_at, there}
+use Rattle.litmus_reader.proofs.Vocabulary.{ArgumentTerm, in_memory, in_register, constant, two_arguments, no_more, locked_by, by_mnemonic}
+use Rattle.litmus_reader.proofs.Vocabulary.{locked_at, spelled_in, terms, IsCall, Shape, name_then, Instructions, one_argument, if_all}
+use Rattle.litmus_reader.proofs.Vocabulary.{swap_of, cmpxchg_of, operator_named, step_named, locked_of, combine_of, locked_step}
+use Rattle.litmus_reader.proofs.Vocabulary.{combine_step, locked_neg, neg_of, locked_more, is_no_operation, more_by, IsCallOfOne}
+use Rattle.litmus_reader.proofs.Vocabulary.{IsOperator, IsStep, DoesNothing, IsLockedMore, IsCellMore, Option, Bool, ◌||◌}
 use Rattle.litmus_tokens.specs.declared.instructions.Instructions.TheVariants.{All, Basic}
 use Rattle.std.proofs.lemmas.Bool.{or_cases}
 use Rattle.litmus_reader.specs.GrammarCells as cells
@@ -51,11 +57,26 @@ record HasStep (letters : List ℕ) (step : Operator × ℕ) : Type 0 where
 step_of : (letters : List ℕ) (step : Operator × ℕ) → step_named letters ≡ Some step → HasStep letters step
 step_of letters step e =
     elim (chosen (same_letters letters (codes "INC")) (Some (operator.Add, 1)) _ (Some step) e) [
-      | inl hit ↦ record { word = codes "INC"; same = hit.0; is = subst (λ (s : Operator × ℕ). IsStep (codes "INC") s.0 s.1) (some_is (operator.Add, 1) step hit.1) cells.increments }
+      | inl hit ↦ record {
+        word = codes "INC";
+        same = hit.0;
+        is =
+            subst (λ (s : Operator × ℕ). IsStep (codes "INC") s.0 s.1) (some_is (operator.Add, 1) step hit.1) cells.increments;
+      }
       | inr no_inc ↦ elim (chosen (same_letters letters (codes "DEC")) (Some (operator.Subtract, 1)) _ (Some step) no_inc.1) [
-        | inl hit ↦ record { word = codes "DEC"; same = hit.0; is = subst (λ (s : Operator × ℕ). IsStep (codes "DEC") s.0 s.1) (some_is (operator.Subtract, 1) step hit.1) cells.decrements }
+        | inl hit ↦ record {
+          word = codes "DEC";
+          same = hit.0;
+          is =
+              subst (λ (s : Operator × ℕ). IsStep (codes "DEC") s.0 s.1) (some_is (operator.Subtract, 1) step hit.1) cells.decrements;
+        }
         | inr no_dec ↦ elim (chosen (same_letters letters (codes "NOT")) (Some (operator.Xor, 4294967295)) None (Some step) no_dec.1) [
-          | inl hit ↦ record { word = codes "NOT"; same = hit.0; is = subst (λ (s : Operator × ℕ). IsStep (codes "NOT") s.0 s.1) (some_is (operator.Xor, 4294967295) step hit.1) cells.complements }
+          | inl hit ↦ record {
+            word = codes "NOT";
+            same = hit.0;
+            is =
+                subst (λ (s : Operator × ℕ). IsStep (codes "NOT") s.0 s.1) (some_is (operator.Xor, 4294967295) step hit.1) cells.complements;
+          }
           | inr none ↦ absurd cc
         ]
       ]
@@ -82,28 +103,43 @@ no_operation_of letters e =
     ]
 
 -- which instructions the operands of a locked instruction of the larger set spell
-compare_taken : (both : ArgumentTerm × ArgumentTerm) (shape : Shape) → cmpxchg_of both ≡ Some shape → (ts : List Term) → IsCall (codes "CMPXCHG") ts both.0 both.1 → IsLockedMore ts shape
+compare_taken : (both : ArgumentTerm × ArgumentTerm) (shape : Shape)
+    → cmpxchg_of both ≡ Some shape
+    → (ts : List Term) → IsCall (codes "CMPXCHG") ts both.0 both.1
+    → IsLockedMore ts shape
 compare_taken (in_memory x, in_register r) shape e ts is = subst (IsLockedMore ts) (some_is (compare_exchange x r) shape e) (cells.compares ts x r is)
 compare_taken (in_memory x, in_memory y) shape e ts is = absurd cc
 compare_taken (in_memory x, constant v) shape e ts is = absurd cc
 compare_taken (in_register r, other) shape e ts is = absurd cc
 compare_taken (constant v, other) shape e ts is = absurd cc
 
-locked_operator_taken : (word : List ℕ) (o : Operator) → IsOperator word o → (both : ArgumentTerm × ArgumentTerm) (shape : Shape) → locked_of o both ≡ Some shape
+locked_operator_taken : (word : List ℕ) (o : Operator)
+    → IsOperator word o
+    → (both : ArgumentTerm × ArgumentTerm) (shape : Shape)
+    → locked_of o both ≡ Some shape
     → (ts : List Term) → IsCall word ts both.0 both.1 → IsLockedMore ts shape
-locked_operator_taken word o of (in_memory x, constant v) shape e ts is = subst (IsLockedMore ts) (some_is (locked_constant o x v) shape e) (cells.combines_constant word o ts x v of is)
-locked_operator_taken word o of (in_memory x, in_register r) shape e ts is = subst (IsLockedMore ts) (some_is (locked_register o x r) shape e) (cells.combines_register word o ts x r of is)
+locked_operator_taken word o of (in_memory x, constant v) shape e ts is =
+    subst (IsLockedMore ts) (some_is (locked_constant o x v) shape e) (cells.combines_constant word o ts x v of is)
+locked_operator_taken word o of (in_memory x, in_register r) shape e ts is =
+    subst (IsLockedMore ts) (some_is (locked_register o x r) shape e) (cells.combines_register word o ts x r of is)
 locked_operator_taken word o of (in_memory x, in_memory y) shape e ts is = absurd cc
 locked_operator_taken word o of (in_register r, other) shape e ts is = absurd cc
 locked_operator_taken word o of (constant v, other) shape e ts is = absurd cc
 
-locked_step_taken : (word : List ℕ) (step : Operator × ℕ) → IsStep word step.0 step.1 → (only : ArgumentTerm) (shape : Shape) → locked_step step only ≡ Some shape
+locked_step_taken : (word : List ℕ) (step : Operator × ℕ)
+    → IsStep word step.0 step.1
+    → (only : ArgumentTerm) (shape : Shape)
+    → locked_step step only ≡ Some shape
     → (ts : List Term) → IsCallOfOne word ts only → IsLockedMore ts shape
-locked_step_taken word step of (in_memory x) shape e ts is = subst (IsLockedMore ts) (some_is (locked_constant step.0 x step.1) shape e) (cells.steps word step.0 step.1 ts x of is)
+locked_step_taken word step of (in_memory x) shape e ts is =
+    subst (IsLockedMore ts) (some_is (locked_constant step.0 x step.1) shape e) (cells.steps word step.0 step.1 ts x of is)
 locked_step_taken word step of (in_register r) shape e ts is = absurd cc
 locked_step_taken word step of (constant v) shape e ts is = absurd cc
 
-locked_neg_taken : (only : ArgumentTerm) (shape : Shape) → locked_neg only ≡ Some shape → (ts : List Term) → IsCallOfOne (codes "NEG") ts only → IsLockedMore ts shape
+locked_neg_taken : (only : ArgumentTerm) (shape : Shape)
+    → locked_neg only ≡ Some shape
+    → (ts : List Term) → IsCallOfOne (codes "NEG") ts only
+    → IsLockedMore ts shape
 locked_neg_taken (in_memory x) shape e ts is = subst (IsLockedMore ts) (some_is (locked_negate x) shape e) (cells.negates ts x is)
 locked_neg_taken (in_register r) shape e ts is = absurd cc
 locked_neg_taken (constant v) shape e ts is = absurd cc
@@ -111,15 +147,21 @@ locked_neg_taken (constant v) shape e ts is = absurd cc
 -- and those of the others
 combine_taken : (word : List ℕ) (o : Operator) → IsOperator word o → (both : ArgumentTerm × ArgumentTerm) (shape : Shape) → combine_of o both ≡ Some shape
     → (ts : List Term) → IsCall word ts both.0 both.1 → IsCellMore ts shape
-combine_taken word o of (in_register r, constant v) shape e ts is = subst (IsCellMore ts) (some_is (combine_constant o r v) shape e) (cells.adds_constant word o ts r v of is)
-combine_taken word o of (in_register r, in_register s) shape e ts is = subst (IsCellMore ts) (some_is (combine_register o r s) shape e) (cells.adds_register word o ts r s of is)
+combine_taken word o of (in_register r, constant v) shape e ts is =
+    subst (IsCellMore ts) (some_is (combine_constant o r v) shape e) (cells.adds_constant word o ts r v of is)
+combine_taken word o of (in_register r, in_register s) shape e ts is =
+    subst (IsCellMore ts) (some_is (combine_register o r s) shape e) (cells.adds_register word o ts r s of is)
 combine_taken word o of (in_register r, in_memory x) shape e ts is = absurd cc
 combine_taken word o of (in_memory x, other) shape e ts is = absurd cc
 combine_taken word o of (constant v, other) shape e ts is = absurd cc
 
-combine_step_taken : (word : List ℕ) (step : Operator × ℕ) → IsStep word step.0 step.1 → (only : ArgumentTerm) (shape : Shape) → combine_step step only ≡ Some shape
+combine_step_taken : (word : List ℕ) (step : Operator × ℕ)
+    → IsStep word step.0 step.1
+    → (only : ArgumentTerm) (shape : Shape)
+    → combine_step step only ≡ Some shape
     → (ts : List Term) → IsCallOfOne word ts only → IsCellMore ts shape
-combine_step_taken word step of (in_register r) shape e ts is = subst (IsCellMore ts) (some_is (combine_constant step.0 r step.1) shape e) (cells.steps_register word step.0 step.1 ts r of is)
+combine_step_taken word step of (in_register r) shape e ts is =
+    subst (IsCellMore ts) (some_is (combine_constant step.0 r step.1) shape e) (cells.steps_register word step.0 step.1 ts r of is)
 combine_step_taken word step of (in_memory x) shape e ts is = absurd cc
 combine_step_taken word step of (constant v) shape e ts is = absurd cc
 
@@ -128,14 +170,21 @@ neg_taken (in_register r) shape e ts is = subst (IsCellMore ts) (some_is (negate
 neg_taken (in_memory x) shape e ts is = absurd cc
 neg_taken (constant v) shape e ts is = absurd cc
 
-pub swap_taken : (both : ArgumentTerm × ArgumentTerm) (shape : Shape) → swap_of both ≡ Some shape → (ts : List Term) → IsCall (codes "XCHG") ts both.0 both.1 → IsCellMore ts shape
+pub swap_taken : (both : ArgumentTerm × ArgumentTerm) (shape : Shape)
+    → swap_of both ≡ Some shape
+    → (ts : List Term) → IsCall (codes "XCHG") ts both.0 both.1
+    → IsCellMore ts shape
 swap_taken (in_register r, in_register s) shape e ts is = subst (IsCellMore ts) (some_is (swap r s) shape e) (cells.swaps ts r s is)
 swap_taken (in_register r, in_memory x) shape e ts is = absurd cc
 swap_taken (in_register r, constant v) shape e ts is = absurd cc
 swap_taken (in_memory x, other) shape e ts is = absurd cc
 swap_taken (constant v, other) shape e ts is = absurd cc
 
-nothing_taken : (letters : List ℕ) → HasNoOperation letters → (ps : List Piece) (shape : Shape) → no_more shapes.nothing ps ≡ Some shape → IsCellMore (name letters ∷ terms ps) shape
+nothing_taken : (letters : List ℕ)
+    → HasNoOperation letters
+    → (ps : List Piece) (shape : Shape)
+    → no_more shapes.nothing ps ≡ Some shape
+    → IsCellMore (name letters ∷ terms ps) shape
 nothing_taken letters h [] shape e = subst (IsCellMore _) (some_is shapes.nothing shape e) (cells.does_nothing letters h.word h.is h.same)
 nothing_taken letters h (p ∷ ps) shape e = absurd cc
 
@@ -148,7 +197,9 @@ same_lower letters word is = (bytes_eq-Decides (map to_ascii_lowercase letters) 
 locked_alike : (letters word : List ℕ) (rest : List Piece) → same_letters letters word ≡ true → locked_by All (letters, rest) ≡ locked_by All (word, rest)
 locked_alike letters word rest is = rw (same_lower letters word is) refl
 
-mnemonics_alike : (letters word : List ℕ) (rest : List Piece) → same_letters letters word ≡ true → by_mnemonic All (letters, rest) ≡ by_mnemonic All (word, rest)
+mnemonics_alike : (letters word : List ℕ) (rest : List Piece)
+    → same_letters letters word ≡ true
+    → by_mnemonic All (letters, rest) ≡ by_mnemonic All (word, rest)
 mnemonics_alike letters word rest is = rw (same_lower letters word is) refl
 
 locked_operator : (word : List ℕ) (o : Operator) → IsOperator word o → (rest : List Piece) (both : ArgumentTerm × ArgumentTerm) (shape : Shape)
@@ -186,12 +237,16 @@ doing_nothing _ cells.fences_loads rest none = rw none refl
 doing_nothing _ cells.fences_stores rest none = rw none refl
 
 -- a word at the front is read by its letters
-locked_named : (word : List ℕ) (ps : List Piece) (letters : List ℕ) (rest : List Piece) (shape : Shape) → name_at ps ≡ Some (letters, rest) → same_letters letters word ≡ true
+locked_named : (word : List ℕ) (ps : List Piece) (letters : List ℕ) (rest : List Piece) (shape : Shape)
+    → name_at ps ≡ Some (letters, rest)
+    → same_letters letters word ≡ true
     → locked_by All (word, rest) ≡ Some shape → locked_at All ps ≡ Some shape
 unfolding locked_at
 locked_named word ps letters rest shape named is made = rw named (locked_alike letters word rest is ∙ made)
 
-cell_named : (word : List ℕ) (ps : List Piece) (letters : List ℕ) (rest : List Piece) (shape : Shape) → name_at ps ≡ Some (letters, rest) → same_letters letters word ≡ true
+cell_named : (word : List ℕ) (ps : List Piece) (letters : List ℕ) (rest : List Piece) (shape : Shape)
+    → name_at ps ≡ Some (letters, rest)
+    → same_letters letters word ≡ true
     → by_mnemonic All (word, rest) ≡ Some shape → spelled_in All ps ≡ Some shape
 unfolding spelled_in
 cell_named word ps letters rest shape named is made = rw named (mnemonics_alike letters word rest is ∙ made)
@@ -202,13 +257,16 @@ locked_more_found _ _ (cells.compares ts x r is) ps e =
     locked_named (codes "CMPXCHG") ps c.letters c.rest (compare_exchange x r) c.named c.word_is (rw c.two refl)
 locked_more_found _ _ (cells.combines_constant word o ts x v of is) ps e =
     let c = called word ts (in_memory x) (constant v) is ps e in
-    locked_named word ps c.letters c.rest (locked_constant o x v) c.named c.word_is (locked_operator word o of c.rest (in_memory x, constant v) (locked_constant o x v) c.two refl)
+    locked_named word ps c.letters c.rest (locked_constant o x v) c.named c.word_is
+    (locked_operator word o of c.rest (in_memory x, constant v) (locked_constant o x v) c.two refl)
 locked_more_found _ _ (cells.combines_register word o ts x r of is) ps e =
     let c = called word ts (in_memory x) (in_register r) is ps e in
-    locked_named word ps c.letters c.rest (locked_register o x r) c.named c.word_is (locked_operator word o of c.rest (in_memory x, in_register r) (locked_register o x r) c.two refl)
+    locked_named word ps c.letters c.rest (locked_register o x r) c.named c.word_is
+    (locked_operator word o of c.rest (in_memory x, in_register r) (locked_register o x r) c.two refl)
 locked_more_found _ _ (cells.steps word o v ts x of is) ps e =
     let c = called_with_one word ts (in_memory x) is ps e in
-    locked_named word ps c.letters c.rest (locked_constant o x v) c.named c.word_is (locked_by_step word o v of c.rest (in_memory x) (locked_constant o x v) c.one refl)
+    locked_named word ps c.letters c.rest (locked_constant o x v) c.named c.word_is
+    (locked_by_step word o v of c.rest (in_memory x) (locked_constant o x v) c.one refl)
 locked_more_found _ _ (cells.negates ts x is) ps e =
     let c = called_with_one (codes "NEG") ts (in_memory x) is ps e in
     locked_named (codes "NEG") ps c.letters c.rest (locked_negate x) c.named c.word_is (rw c.one refl)
@@ -217,13 +275,16 @@ pub more_found : (ts : List Term) (shape : Shape) → IsCellMore ts shape → (p
 unfolding name_at
 more_found _ _ (cells.adds_constant word o ts r v of is) ps e =
     let c = called word ts (in_register r) (constant v) is ps e in
-    cell_named word ps c.letters c.rest (combine_constant o r v) c.named c.word_is (by_operator word o of c.rest (in_register r, constant v) (combine_constant o r v) c.two refl)
+    cell_named word ps c.letters c.rest (combine_constant o r v) c.named c.word_is
+    (by_operator word o of c.rest (in_register r, constant v) (combine_constant o r v) c.two refl)
 more_found _ _ (cells.adds_register word o ts r s of is) ps e =
     let c = called word ts (in_register r) (in_register s) is ps e in
-    cell_named word ps c.letters c.rest (combine_register o r s) c.named c.word_is (by_operator word o of c.rest (in_register r, in_register s) (combine_register o r s) c.two refl)
+    cell_named word ps c.letters c.rest (combine_register o r s) c.named c.word_is
+    (by_operator word o of c.rest (in_register r, in_register s) (combine_register o r s) c.two refl)
 more_found _ _ (cells.steps_register word o v ts r of is) ps e =
     let c = called_with_one word ts (in_register r) is ps e in
-    cell_named word ps c.letters c.rest (combine_constant o r v) c.named c.word_is (by_step word o v of c.rest (in_register r) (combine_constant o r v) c.one refl)
+    cell_named word ps c.letters c.rest (combine_constant o r v) c.named c.word_is
+    (by_step word o v of c.rest (in_register r) (combine_constant o r v) c.one refl)
 more_found _ _ (cells.negates_register ts r is) ps e =
     let c = called_with_one (codes "NEG") ts (in_register r) is ps e in
     cell_named (codes "NEG") ps c.letters c.rest (negate r) c.named c.word_is (rw c.one refl)
@@ -232,12 +293,16 @@ more_found _ _ (cells.swaps ts r s is) ps e =
     cell_named (codes "XCHG") ps c.letters c.rest (swap r s) c.named c.word_is (rw c.two refl)
 more_found _ _ (cells.does_nothing letters word of is) ps e =
     let f = front ps (name letters) [] e in
-    cell_named word ps letters f.rest shapes.nothing (ap name_at f.parts ∙ ap (λ (t : Term). name_then t f.rest) f.is) is (doing_nothing word of f.rest (no_terms f.rest f.after_it))
+    cell_named word ps letters f.rest shapes.nothing
+    (ap name_at f.parts ∙ ap (λ (t : Term). name_then t f.rest) f.is) is
+    (doing_nothing word of f.rest (no_terms f.rest f.after_it))
 
 -- ---- taken
 
 -- what the larger set has after `LOCK`
-pub locked_more_taken : (word : List ℕ) (rest : List Piece) (shape : Shape) → locked_more (word, rest) ≡ Some shape → IsLockedMore (name word ∷ terms rest) shape
+pub locked_more_taken : (word : List ℕ) (rest : List Piece) (shape : Shape)
+    → locked_more (word, rest) ≡ Some shape
+    → IsLockedMore (name word ∷ terms rest) shape
 locked_more_taken word rest shape e =
     let at_step = there (step_named word) (λ (step : Operator × ℕ). there (one_argument rest) (locked_step step) None) None in
     let at_operator = there (operator_named word) (λ (o : Operator). there (two_arguments rest) (locked_of o) None) at_step in

@@ -1,5 +1,7 @@
 -- Locations keep their numbers as others appear.
-use Rattle.litmus_reader.proofs.Vocabulary.{◌≡◌, ℕ, ◌≤◌, ◌<◌, Bool, true, false, cond, List, [], ◌∷◌, ◌++◌, length, refl, ◌∙◌, arith, list_any, position_or_len, bytes_eq, bytes_eq-Decides, length-append, numbered, number_of, with_name, list_any-append, ◌||◌}
+use Rattle.litmus_reader.proofs.Vocabulary.{◌≡◌, ℕ, ◌≤◌, ◌<◌, Bool, true, false, cond, List, [], ◌∷◌, ◌++◌, length, refl, ◌∙◌, arith}
+use Rattle.litmus_reader.proofs.Vocabulary.{list_any, position_or_len, bytes_eq, bytes_eq-Decides, length-append, numbered, number_of}
+use Rattle.litmus_reader.proofs.Vocabulary.{with_name, list_any-append, ◌||◌}
 
 abbrev pub Known : List (List ℕ) → List ℕ → Type 0
 Known names x = list_any (bytes_eq x) names ≡ true
@@ -22,7 +24,10 @@ place_push : (p : List ℕ → Bool) (names : List (List ℕ)) (y : List ℕ) �
 place_push p [] y e = absurd cc
 place_push p (n ∷ ns) y e = by_first (λ h. place_push p ns y h) (p n) refl e
   where
-    by_first : (list_any p ns ≡ true → position_or_len p (ns ++ y ∷ []) ≡ position_or_len p ns) → (b : Bool) → p n ≡ b → (b || list_any p ns) ≡ true → position_or_len p (n ∷ ns ++ y ∷ []) ≡ position_or_len p (n ∷ ns)
+    by_first : (list_any p ns ≡ true → position_or_len p (ns ++ y ∷ []) ≡ position_or_len p ns)
+        → (b : Bool) → p n ≡ b
+        → (b || list_any p ns) ≡ true
+        → position_or_len p (n ∷ ns ++ y ∷ []) ≡ position_or_len p (n ∷ ns)
     by_first further true is h = rw is refl
     by_first further false is h = let same = further h in rw is (omega (arith, same))
 
@@ -31,25 +36,36 @@ place_last : (p : List ℕ → Bool) (names : List (List ℕ)) (y : List ℕ) �
 place_last p [] y e = rw e refl
 place_last p (n ∷ ns) y e = by_first (place_last p ns y e) (p n) refl
   where
-    by_first : position_or_len p (ns ++ y ∷ []) ≡ position_or_len p ns → (b : Bool) → p n ≡ b → position_or_len p (n ∷ ns ++ y ∷ []) ≡ position_or_len p (n ∷ ns)
+    by_first : position_or_len p (ns ++ y ∷ []) ≡ position_or_len p ns
+        → (b : Bool) → p n ≡ b
+        → position_or_len p (n ∷ ns ++ y ∷ []) ≡ position_or_len p (n ∷ ns)
     by_first further true is = rw is refl
     by_first further false is = rw is (omega (arith, further))
 
-pub with_name_by : (P : List (List ℕ) → Type 0) (names : List (List ℕ)) (y : List ℕ) → (list_any (bytes_eq y) names ≡ true → P names) → (list_any (bytes_eq y) names ≡ false → P (names ++ y ∷ [])) → P (with_name names y)
+pub with_name_by : (P : List (List ℕ) → Type 0) (names : List (List ℕ)) (y : List ℕ)
+    → (list_any (bytes_eq y) names ≡ true → P names)
+    → (list_any (bytes_eq y) names ≡ false → P (names ++ y ∷ []))
+    → P (with_name names y)
 with_name_by P names y old new = by_test (list_any (bytes_eq y) names) refl
   where
     by_test : (b : Bool) → list_any (bytes_eq y) names ≡ b → P (cond (list_any (bytes_eq y) names) names (names ++ y ∷ []))
     by_test true is = rw is (old is)
     by_test false is = rw is (new is)
 
-with_by : (P : List (List ℕ) → Type 0) (names : List (List ℕ)) (y : List ℕ) → (list_any (bytes_eq y) names ≡ true → P names) → P (names ++ y ∷ []) → P (with_name names y)
+with_by : (P : List (List ℕ) → Type 0) (names : List (List ℕ)) (y : List ℕ)
+    → (list_any (bytes_eq y) names ≡ true → P names)
+    → P (names ++ y ∷ [])
+    → P (with_name names y)
 with_by P names y old new = with_name_by P names y old (λ _. new)
 
 pub place_below : {A : Type 0} (p : A → Bool) (names : List A) → list_any p names ≡ true → position_or_len p names < length names
 place_below p [] e = absurd cc
 place_below p (n ∷ ns) e = by_first (λ h. place_below p ns h) (p n) refl e
   where
-    by_first : (list_any p ns ≡ true → position_or_len p ns < length ns) → (b : Bool) → p n ≡ b → (b || list_any p ns) ≡ true → position_or_len p (n ∷ ns) < length (n ∷ ns)
+    by_first : (list_any p ns ≡ true → position_or_len p ns < length ns)
+        → (b : Bool) → p n ≡ b
+        → (b || list_any p ns) ≡ true
+        → position_or_len p (n ∷ ns) < length (n ∷ ns)
     by_first further true is h = rw is (omega arith)
     by_first further false is h = let below = further h in rw is (omega (arith, below))
 
@@ -57,7 +73,10 @@ pub place_none : {A : Type 0} (p : A → Bool) (names : List A) → list_any p n
 place_none p [] e = refl
 place_none p (n ∷ ns) e = by_first (λ h. place_none p ns h) (p n) refl e
   where
-    by_first : (list_any p ns ≡ false → position_or_len p ns ≡ length ns) → (b : Bool) → p n ≡ b → (b || list_any p ns) ≡ false → position_or_len p (n ∷ ns) ≡ length (n ∷ ns)
+    by_first : (list_any p ns ≡ false → position_or_len p ns ≡ length ns)
+        → (b : Bool) → p n ≡ b
+        → (b || list_any p ns) ≡ false
+        → position_or_len p (n ∷ ns) ≡ length (n ∷ ns)
     by_first further true is h = absurd cc
     by_first further false is h = let same = further h in rw is (omega (arith, same))
 

@@ -1,5 +1,8 @@
 -- Numbers are read as they are spelled, perhaps with a sign.
-use Rattle.litmus_reader.proofs.Vocabulary.{◌≡◌, ℕ, false, true, List, [], ◌∷◌, ◌++◌, Some, None, refl, ap, subst, ◌∙◌, inl, inr, Symbol, Minus, Term, number, hexadecimal, name, symbol, decimal_value, hexadecimal_value, negative, Piece, is_symbol_term, is_symbol, symbol_at, unsigned_then, unsigned_at, numeral_at, terms, IsUnsigned, IsNumeral, Bool, sym, Passes}
+use Rattle.litmus_reader.proofs.Vocabulary.{◌≡◌, ℕ, false, true, List, [], ◌∷◌, ◌++◌, Some, None, refl, ap, subst, ◌∙◌, inl, inr, Symbol}
+use Rattle.litmus_reader.proofs.Vocabulary.{Minus, Term, number, hexadecimal, name, symbol, decimal_value, hexadecimal_value, negative}
+use Rattle.litmus_reader.proofs.Vocabulary.{Piece, is_symbol_term, is_symbol, symbol_at, unsigned_then, unsigned_at, numeral_at, terms}
+use Rattle.litmus_reader.proofs.Vocabulary.{IsUnsigned, IsNumeral, Bool, sym, Passes}
 use Rattle.litmus_reader.specs.GrammarNumerals as numerals
 use Rattle.litmus_reader.proofs.GrammarTokens.{there_is, there_some, pair_is, opened, symbol_found, terms_append}
 use Rattle.litmus_reader.proofs.SectionSteps.{Lacks}
@@ -56,11 +59,17 @@ unsigned_taken (p ∷ ps) rest v e = by_term p.term refl e
   where
     by_term : (t : Term) → p.term ≡ t → unsigned_then t ps ≡ Some (v, rest) → (q : Piece) × (p ∷ ps ≡ q ∷ rest) × IsUnsigned q.term v
     by_term (number d) is h =
-        let same = pair_is (decimal_value d) v ps rest h in
-        (p, ap (λ (l : List Piece). p ∷ l) same.1, subst (IsUnsigned p.term) same.0 (subst (λ (t : Term). IsUnsigned t (decimal_value d)) (sym is) (numerals.in_decimal d)))
+        let same = pair_is (decimal_value d) v ps rest h in (
+          p,
+          ap (λ (l : List Piece). p ∷ l) same.1,
+          subst (IsUnsigned p.term) same.0 (subst (λ (t : Term). IsUnsigned t (decimal_value d)) (sym is) (numerals.in_decimal d)),
+        )
     by_term (hexadecimal d) is h =
-        let same = pair_is (hexadecimal_value d) v ps rest h in
-        (p, ap (λ (l : List Piece). p ∷ l) same.1, subst (IsUnsigned p.term) same.0 (subst (λ (t : Term). IsUnsigned t (hexadecimal_value d)) (sym is) (numerals.in_hexadecimal d)))
+        let same = pair_is (hexadecimal_value d) v ps rest h in (
+          p,
+          ap (λ (l : List Piece). p ∷ l) same.1,
+          subst (IsUnsigned p.term) same.0 (subst (λ (t : Term). IsUnsigned t (hexadecimal_value d)) (sym is) (numerals.in_hexadecimal d)),
+        )
     by_term (name x) is h = absurd cc
     by_term (symbol s) is h = absurd cc
 
@@ -80,7 +89,9 @@ numeral_taken ps rest v e =
           record {
             front = minus.0 ∷ t.0 ∷ [];
             parts = minus.1 ∙ ap (λ (l : List Piece). minus.0 ∷ l) (t.1 ∙ ap (λ (l : List Piece). t.0 ∷ l) same.1);
-            is = subst (λ (u : Term). IsNumeral (u ∷ t.0.term ∷ []) v) (sym minus.2) (subst (IsNumeral (symbol Minus ∷ t.0.term ∷ [])) same.0 (numerals.signed t.0.term n.0.0 t.2));
+            is =
+                subst (λ (u : Term). IsNumeral (u ∷ t.0.term ∷ []) v) (sym minus.2)
+                (subst (IsNumeral (symbol Minus ∷ t.0.term ∷ [])) same.0 (numerals.signed t.0.term n.0.0 t.2));
           }
     ]
 
@@ -97,11 +108,19 @@ numeral_terms ps rest v e =
 
 -- ---- what doesn't stand in a number
 
-unsigned_lacks : (is_one : Term → Bool) → ((d : List ℕ) → is_one (number d) ≡ false) → ((d : List ℕ) → is_one (hexadecimal d) ≡ false) → (t : Term) (v : ℕ) → IsUnsigned t v → is_one t ≡ false
+unsigned_lacks : (is_one : Term → Bool)
+    → ((d : List ℕ) → is_one (number d) ≡ false)
+    → ((d : List ℕ) → is_one (hexadecimal d) ≡ false)
+    → (t : Term) (v : ℕ)
+    → IsUnsigned t v
+    → is_one t ≡ false
 unsigned_lacks is_one none none_so _ _ (numerals.in_decimal d) = none d
 unsigned_lacks is_one none none_so _ _ (numerals.in_hexadecimal d) = none_so d
 
-pub numeral_lacks : (is_one : Term → Bool) → ((d : List ℕ) → is_one (number d) ≡ false) → ((d : List ℕ) → is_one (hexadecimal d) ≡ false) → is_one (symbol Minus) ≡ false
+pub numeral_lacks : (is_one : Term → Bool)
+    → ((d : List ℕ) → is_one (number d) ≡ false)
+    → ((d : List ℕ) → is_one (hexadecimal d) ≡ false)
+    → is_one (symbol Minus) ≡ false
     → (ts : List Term) (v : ℕ) → IsNumeral ts v → Lacks is_one ts
 numeral_lacks is_one none none_so no_minus _ _ (numerals.unsigned t v is) = (unsigned_lacks is_one none none_so t v is, tt)
 numeral_lacks is_one none none_so no_minus _ _ (numerals.signed t v is) = (no_minus, (unsigned_lacks is_one none none_so t v is, tt))

@@ -1,5 +1,10 @@
 -- Operands are read as they are spelled.
-use Rattle.litmus_reader.proofs.Vocabulary.{◌≡◌, ℕ, true, List, [], ◌∷◌, ◌++◌, Some, None, refl, sym, ap, subst, ◌∙◌, inl, inr, append-nil, is_location_name, register_named, same_letters, Reg, OpenSquare, CloseSquare, Comma, Dollar, Term, name, symbol, Piece, is_symbol, symbol_at, name_at, location_at, register_at, ArgumentTerm, in_memory, in_register, constant, as_constant, memory_at, if_last, argument_at, two_arguments, terms, IsOperand, IsCall, name_then, numeral_at, unsigned_at, if_alone, one_argument, IsNumeral, IsCallOfOne}
+use Rattle.litmus_reader.proofs.Vocabulary.{◌≡◌, ℕ, true, List, [], ◌∷◌, ◌++◌, Some, None, refl, sym, ap, subst, ◌∙◌, inl, inr, append-nil}
+use Rattle.litmus_reader.proofs.Vocabulary.{is_location_name, register_named, same_letters, Reg, OpenSquare, CloseSquare, Comma, Dollar}
+use Rattle.litmus_reader.proofs.Vocabulary.{Term, name, symbol, Piece, is_symbol, symbol_at, name_at, location_at, register_at}
+use Rattle.litmus_reader.proofs.Vocabulary.{ArgumentTerm, in_memory, in_register, constant, as_constant, memory_at, if_last, argument_at}
+use Rattle.litmus_reader.proofs.Vocabulary.{two_arguments, terms, IsOperand, IsCall, name_then, numeral_at, unsigned_at, if_alone}
+use Rattle.litmus_reader.proofs.Vocabulary.{one_argument, IsNumeral, IsCallOfOne}
 use Rattle.litmus_reader.specs.GrammarCells as cells
 use Rattle.litmus_reader.proofs.GrammarNumerals.{symbol_there, no_numeral, numeral_found, numeral_terms}
 use Rattle.litmus_reader.proofs.GrammarTokens.{chosen, there_is, there_some, some_is, pair_is, front, opened, no_terms, symbol_takes, Takes, takes, name_found}
@@ -18,7 +23,9 @@ location_found ps rest x e =
       | inr miss ↦ absurd cc
     ]
 
-pub register_found : (ps rest : List Piece) (reg : Reg) → register_at ps ≡ Some (reg, rest) → (x : List ℕ) × Takes (name x) ps rest × (register_named x ≡ Some reg)
+pub register_found : (ps rest : List Piece) (reg : Reg)
+    → register_at ps ≡ Some (reg, rest)
+    → (x : List ℕ) × Takes (name x) ps rest × (register_named x ≡ Some reg)
 unfolding register_at
 register_found ps rest reg e =
     let n = there_some (name_at ps) _ (reg, rest) e in
@@ -56,7 +63,8 @@ operand_found _ back _ (cells.in_squares x good) ps e =
     opened (λ last. Found (p ∷ q ∷ last) (in_memory x) back) last (symbol CloseSquare) back close (λ r rest is_close after_it.
     record { rest = rest; is = rw (is, is_name, good, is_close) refl; after_it = after_it })))
 operand_found _ back _ (cells.named word reg is) ps e =
-    opened (λ ps. Found ps (in_register reg) back) ps (name word) back e (λ p rest is_name after_it. record { rest = rest; is = rw (is_name, is) refl; after_it = after_it })
+    opened (λ ps. Found ps (in_register reg) back) ps (name word) back e
+    (λ p rest is_name after_it. record { rest = rest; is = rw (is_name, is) refl; after_it = after_it })
 
 one_found : (ts : List Term) (only : ArgumentTerm) → IsOperand ts only → (ps : List Piece) → terms ps ≡ ts → one_argument ps ≡ Some only
 unfolding one_argument
@@ -64,7 +72,11 @@ one_found ts only is ps e =
     let one = operand_found ts [] only is ps (e ∙ sym (append-nil ts)) in
     rw (one.is, no_terms one.rest one.after_it) refl
 
-two_found : (a b : List Term) (first second : ArgumentTerm) → IsOperand a first → IsOperand b second → (ps : List Piece) → terms ps ≡ a ++ symbol Comma ∷ b → two_arguments ps ≡ Some (first, second)
+two_found : (a b : List Term) (first second : ArgumentTerm)
+    → IsOperand a first
+    → IsOperand b second
+    → (ps : List Piece) → terms ps ≡ a ++ symbol Comma ∷ b
+    → two_arguments ps ≡ Some (first, second)
 unfolding two_arguments symbol_at is_symbol
 two_found a b first second is_first is_second ps e =
     let one = operand_found a (symbol Comma ∷ b) first is_first ps e in
@@ -85,7 +97,11 @@ operand_taken ps rest o e =
       | inl n ↦
           let same = pair_is (constant n.0.0) o n.0.1 rest n.2 in
           let t = numeral_terms ps n.0.1 n.0.0 n.1 in
-          record { ts = t.ts; parts = t.parts ∙ ap (λ (l : List Piece). t.ts ++ terms l) same.1; is = subst (IsOperand t.ts) same.0 (cells.plain t.ts n.0.0 t.is) }
+          record {
+            ts = t.ts;
+            parts = t.parts ∙ ap (λ (l : List Piece). t.ts ++ terms l) same.1;
+            is = subst (IsOperand t.ts) same.0 (cells.plain t.ts n.0.0 t.is);
+          }
       | inr no_number ↦ elim (there_is (symbol_at Dollar ps) _ _ (Some (o, rest)) no_number.1) [
         | inl dollar ↦
             let n = there_some (numeral_at dollar.0) as_constant (o, rest) dollar.2 in
@@ -93,7 +109,9 @@ operand_taken ps rest o e =
             let t = numeral_terms dollar.0 n.0.1 n.0.0 n.1 in
             record {
               ts = symbol Dollar ∷ t.ts;
-              parts = symbol_takes Dollar ps dollar.0 dollar.1 ∙ ap (λ (ts : List Term). symbol Dollar ∷ ts) (t.parts ∙ ap (λ (l : List Piece). t.ts ++ terms l) same.1);
+              parts =
+                  symbol_takes Dollar ps dollar.0 dollar.1
+                  ∙ ap (λ (ts : List Term). symbol Dollar ∷ ts) (t.parts ∙ ap (λ (l : List Piece). t.ts ++ terms l) same.1);
               is = subst (IsOperand (symbol Dollar ∷ t.ts)) same.0 (cells.with_dollar t.ts n.0.0 t.is);
             }
         | inr no_dollar ↦ elim (there_is (symbol_at OpenSquare ps) memory_at _ (Some (o, rest)) no_dollar.1) [
@@ -105,23 +123,35 @@ operand_taken ps rest o e =
               record {
                 ts = symbol OpenSquare ∷ name x.0.0 ∷ symbol CloseSquare ∷ [];
                 parts = symbol_takes OpenSquare ps square.0 square.1
-                    ∙ ap (λ (ts : List Term). symbol OpenSquare ∷ ts) (takes (name x.0.0) square.0 x.0.1 is.0 ∙ ap (λ (ts : List Term). name x.0.0 ∷ ts) (symbol_takes CloseSquare x.0.1 c.0 c.1)) ∙ rw same.1 refl;
+                    ∙ ap (λ (ts : List Term). symbol OpenSquare ∷ ts)
+                    (takes (name x.0.0) square.0 x.0.1 is.0
+                    ∙ ap (λ (ts : List Term). name x.0.0 ∷ ts) (symbol_takes CloseSquare x.0.1 c.0 c.1))
+                    ∙ rw same.1 refl;
                 is = subst (IsOperand (symbol OpenSquare ∷ name x.0.0 ∷ symbol CloseSquare ∷ [])) same.0 (cells.in_squares x.0.0 is.1);
               }
           | inr no_square ↦
               let r = there_some (register_at ps) _ (o, rest) no_square.1 in
               let same = pair_is (in_register r.0.0) o r.0.1 rest r.2 in
               let is = register_found ps r.0.1 r.0.0 r.1 in
-              record { ts = name is.0 ∷ []; parts = takes (name is.0) ps r.0.1 is.1 ∙ ap (λ (l : List Piece). name is.0 ∷ terms l) same.1; is = subst (IsOperand (name is.0 ∷ [])) same.0 (cells.named is.0 r.0.0 is.2) }
+              record {
+                ts = name is.0 ∷ [];
+                parts = takes (name is.0) ps r.0.1 is.1 ∙ ap (λ (l : List Piece). name is.0 ∷ terms l) same.1;
+                is = subst (IsOperand (name is.0 ∷ [])) same.0 (cells.named is.0 r.0.0 is.2);
+              }
         ]
       ]
     ]
 
-at_last : (first : ArgumentTerm) (found : ArgumentTerm × List Piece) (both : ArgumentTerm × ArgumentTerm) → if_last first found ≡ Some both → (first ≡ both.0) × (found.0 ≡ both.1) × (found.1 ≡ [])
+at_last : (first : ArgumentTerm) (found : ArgumentTerm × List Piece) (both : ArgumentTerm × ArgumentTerm)
+    → if_last first found ≡ Some both
+    → (first ≡ both.0) × (found.0 ≡ both.1) × (found.1 ≡ [])
 at_last first (second, []) both e = let same = pair_is first both.0 second both.1 e in (same.0, same.1, refl)
 at_last first (second, p ∷ ps) both e = absurd cc
 
-pub call_taken : (word letters : List ℕ) (ps : List Piece) (both : ArgumentTerm × ArgumentTerm) → same_letters letters word ≡ true → two_arguments ps ≡ Some both → IsCall word (name letters ∷ terms ps) both.0 both.1
+pub call_taken : (word letters : List ℕ) (ps : List Piece) (both : ArgumentTerm × ArgumentTerm)
+    → same_letters letters word ≡ true
+    → two_arguments ps ≡ Some both
+    → IsCall word (name letters ∷ terms ps) both.0 both.1
 unfolding two_arguments
 call_taken word letters ps both is e =
     let f = there_some (argument_at ps) _ both e in
@@ -131,14 +161,20 @@ call_taken word letters ps both is e =
     let other = operand_taken c.0 s.0.1 s.0.0 s.1 in
     let last = at_last f.0.0 s.0 both s.2 in
     let nothing : other.ts ++ terms s.0.1 ≡ other.ts = ap (λ (l : List Piece). other.ts ++ terms l) last.2 ∙ append-nil other.ts in
-    let parts = one.parts ∙ ap (λ (ts : List Term). one.ts ++ ts) (symbol_takes Comma f.0.1 c.0 c.1 ∙ ap (λ (ts : List Term). symbol Comma ∷ ts) (other.parts ∙ nothing)) in
+    let parts =
+    one.parts
+    ∙ ap (λ (ts : List Term). one.ts ++ ts)
+    (symbol_takes Comma f.0.1 c.0 c.1 ∙ ap (λ (ts : List Term). symbol Comma ∷ ts) (other.parts ∙ nothing)) in
     rw parts (cells.call letters one.ts other.ts both.0 both.1 is (subst (IsOperand one.ts) last.0 one.is) (subst (IsOperand other.ts) last.1 other.is))
 
 alone : (found : ArgumentTerm × List Piece) (only : ArgumentTerm) → if_alone found ≡ Some only → (found.0 ≡ only) × (found.1 ≡ [])
 alone (first, []) only e = (some_is first only e, refl)
 alone (first, p ∷ ps) only e = absurd cc
 
-pub call_of_one_taken : (word letters : List ℕ) (ps : List Piece) (only : ArgumentTerm) → same_letters letters word ≡ true → one_argument ps ≡ Some only → IsCallOfOne word (name letters ∷ terms ps) only
+pub call_of_one_taken : (word letters : List ℕ) (ps : List Piece) (only : ArgumentTerm)
+    → same_letters letters word ≡ true
+    → one_argument ps ≡ Some only
+    → IsCallOfOne word (name letters ∷ terms ps) only
 unfolding one_argument
 call_of_one_taken word letters ps only is e =
     let f = there_some (argument_at ps) if_alone only e in
@@ -161,7 +197,13 @@ pub called : (word : List ℕ) (ts : List Term) (a b : ArgumentTerm) → IsCall 
 unfolding name_at
 called word _ _ _ (cells.call letters a b first second is is_first is_second) ps e =
     let f = front ps (name letters) (a ++ symbol Comma ∷ b) e in
-    record { letters = letters; rest = f.rest; word_is = is; named = ap name_at f.parts ∙ ap (λ (t : Term). name_then t f.rest) f.is; two = two_found a b first second is_first is_second f.rest f.after_it }
+    record {
+      letters = letters;
+      rest = f.rest;
+      word_is = is;
+      named = ap name_at f.parts ∙ ap (λ (t : Term). name_then t f.rest) f.is;
+      two = two_found a b first second is_first is_second f.rest f.after_it;
+    }
 
 -- the same with one operand
 pub record CalledWithOne (word : List ℕ) (ps : List Piece) (only : ArgumentTerm) : Type 0 where
@@ -175,4 +217,10 @@ pub called_with_one : (word : List ℕ) (ts : List Term) (a : ArgumentTerm) → 
 unfolding name_at
 called_with_one word _ _ (cells.call_of_one letters a only is is_operand) ps e =
     let f = front ps (name letters) a e in
-    record { letters = letters; rest = f.rest; word_is = is; named = ap name_at f.parts ∙ ap (λ (t : Term). name_then t f.rest) f.is; one = one_found a only is_operand f.rest f.after_it }
+    record {
+      letters = letters;
+      rest = f.rest;
+      word_is = is;
+      named = ap name_at f.parts ∙ ap (λ (t : Term). name_then t f.rest) f.is;
+      one = one_found a only is_operand f.rest f.after_it;
+    }

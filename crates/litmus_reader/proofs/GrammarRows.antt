@@ -1,5 +1,13 @@
 -- Rows are separated into cells as they are spelled.
-use Rattle.litmus_reader.proofs.Vocabulary.{section, End, row_ends, section_of, ◌≡◌, ℕ, suc, ◌+◌, ◌<◌, Bool, true, false, ltb, List, [], ◌∷◌, ◌++◌, length, Option, Some, None, Ok, Err, refl, sym, ap, subst, ◌∙◌, inl, inr, append_assoc, arith, slice_split, onto_first, position_or_len, before_first, ltb-true, lt-ltb, append-nil, slice_split-cons_yes, slice_split-cons_no, Stop, Symbol, OpenSquare, CloseSquare, Comma, Dollar, Semicolon, Bar, Term, symbol, Piece, is_symbol_term, is_symbol, name_at, Unclosed, spelled_in, row_at, terms, IsCell, IsField, empty, full, AreFields, IsRow, row, fault, at_stop, remaining_of, Shape, cells_of, ArgumentTerm, codes, IsOperand, IsCall, Passes, IsLocked, Instructions, Minus, IsCallOfOne, IsLockedMore, IsCellMore, in_memory, in_register, constant}
+use Rattle.litmus_reader.proofs.Vocabulary.{section, End, row_ends, section_of, ◌≡◌, ℕ, suc, ◌+◌, ◌<◌, Bool, true, false, ltb, List, []}
+use Rattle.litmus_reader.proofs.Vocabulary.{◌∷◌, ◌++◌, length, Option, Some, None, Ok, Err, refl, sym, ap, subst, ◌∙◌, inl, inr}
+use Rattle.litmus_reader.proofs.Vocabulary.{append_assoc, arith, slice_split, onto_first, position_or_len, before_first, ltb-true, lt-ltb}
+use Rattle.litmus_reader.proofs.Vocabulary.{append-nil, slice_split-cons_yes, slice_split-cons_no, Stop, Symbol, OpenSquare, CloseSquare}
+use Rattle.litmus_reader.proofs.Vocabulary.{Comma, Dollar, Semicolon, Bar, Term, symbol, Piece, is_symbol_term, is_symbol, name_at}
+use Rattle.litmus_reader.proofs.Vocabulary.{Unclosed, spelled_in, row_at, terms, IsCell, IsField, empty, full, AreFields, IsRow, row, fault}
+use Rattle.litmus_reader.proofs.Vocabulary.{at_stop, remaining_of, Shape, cells_of, ArgumentTerm, codes, IsOperand, IsCall, Passes}
+use Rattle.litmus_reader.proofs.Vocabulary.{IsLocked, Instructions, Minus, IsCallOfOne, IsLockedMore, IsCellMore, in_memory, in_register}
+use Rattle.litmus_reader.proofs.Vocabulary.{constant}
 use Rattle.litmus_reader.specs.GrammarCells as cells
 use Rattle.litmus_reader.specs.GrammarRows.{last, more}
 use Rattle.litmus_tokens.proofs.Symbols.{spelled_so}
@@ -36,7 +44,8 @@ operand_lacks s p _ _ (cells.in_squares x good) = (p.no_open, (refl, (p.no_close
 operand_lacks s p _ _ (cells.named word reg is) = (refl, tt)
 
 call_lacks : (s : Symbol) → Parts s → (word : List ℕ) (ts : List Term) (a b : ArgumentTerm) → IsCall word ts a b → Lacks (is_symbol_term s) ts
-call_lacks s p word _ _ _ (cells.call letters a b first second is f g) = (refl, lacks-append s a (symbol Comma ∷ b) (operand_lacks s p a first f) (p.no_comma, operand_lacks s p b second g))
+call_lacks s p word _ _ _ (cells.call letters a b first second is f g) =
+    (refl, lacks-append s a (symbol Comma ∷ b) (operand_lacks s p a first f) (p.no_comma, operand_lacks s p b second g))
 
 call_of_one_lacks : (s : Symbol) → Parts s → (word : List ℕ) (ts : List Term) (a : ArgumentTerm) → IsCallOfOne word ts a → Lacks (is_symbol_term s) ts
 call_of_one_lacks s p word _ _ (cells.call_of_one letters a only is f) = (refl, operand_lacks s p a only f)
@@ -74,7 +83,11 @@ field_lacks set s p _ _ (full ts shape is) = cell_lacks set s p ts shape is
 
 fields_lack : (set : Instructions) (ts : List Term) (cells : List (Option Shape)) → AreFields set ts cells → Lacks (is_symbol_term Semicolon) ts
 fields_lack set _ _ (last ts c is) = field_lacks set Semicolon semicolon_parts ts c is
-fields_lack set _ _ (more ts us c cs is are) = lacks-append Semicolon ts (symbol Bar ∷ us) (field_lacks set Semicolon semicolon_parts ts c is) (refl, fields_lack set us cs are)
+fields_lack set _ _ (more ts us c cs is are) =
+    lacks-append Semicolon ts (symbol Bar ∷ us) (field_lacks set Semicolon semicolon_parts ts c is) (
+      refl,
+      fields_lack set us cs are,
+    )
 
 -- ---- tokens cut at a symbol
 
@@ -116,7 +129,11 @@ before_miss s p ps miss =
     let further : 1 + position_or_len (is_symbol s) ps ≡ suc (position_or_len (is_symbol s) ps) = omega arith in
     rw (miss, further) refl
 
-cut_further : (s : Symbol) (u : Term) (us back : List Term) (p : Piece) (ps : List Piece) → is_symbol s p ≡ false → p.term ≡ u → Cut s us back ps → Cut s (u ∷ us) back (p ∷ ps)
+cut_further : (s : Symbol) (u : Term) (us back : List Term) (p : Piece) (ps : List Piece)
+    → is_symbol s p ≡ false
+    → p.term ≡ u
+    → Cut s us back ps
+    → Cut s (u ∷ us) back (p ∷ ps)
 cut_further s u us back p ps miss is c = record {
   front = p ∷ c.front;
   rest = c.rest;
@@ -154,19 +171,30 @@ field_read set _ _ empty (p ∷ ps) e = absurd cc
 field_read set _ _ (full ts shape is) [] e = no_instruction set shape (cell_again set [] shape (subst (λ (ts : List Term). IsCell set ts shape) (sym e) is))
 field_read set _ _ (full ts shape is) (p ∷ ps) e = cell_again set (p ∷ ps) shape (subst (λ (ts : List Term). IsCell set ts shape) (sym e) is)
 
-fields_read : (set : Instructions) (ts : List Term) (cells : List (Option Shape)) → AreFields set ts cells → (ps : List Piece) → terms ps ≡ ts → AreReadAs set (cells_of ps) cells
+fields_read : (set : Instructions) (ts : List Term) (cells : List (Option Shape))
+    → AreFields set ts cells
+    → (ps : List Piece) → terms ps ≡ ts
+    → AreReadAs set (cells_of ps) cells
 fields_read set _ _ (last ts c is) ps e =
-    let lacks : Lacks (is_symbol_term Bar) (terms ps) = subst (λ (l : List Term). Lacks (is_symbol_term Bar) l) (sym e) (field_lacks set Bar bar_parts ts c is) in
+    let lacks : Lacks (is_symbol_term Bar) (terms ps) =
+    subst (λ (l : List Term). Lacks (is_symbol_term Bar) l) (sym e) (field_lacks set Bar bar_parts ts c is) in
     subst (λ (l : List (List Piece)). AreReadAs set l (c ∷ [])) (sym (uncut Bar ps lacks)) (field_read set ts c is ps e, tt)
 fields_read set _ _ (more ts us c cs is are) ps e =
     let at = cut Bar ts us (field_lacks set Bar bar_parts ts c is) ps e in
-    subst (λ (l : List (List Piece)). AreReadAs set l (c ∷ cs)) (sym at.split) (field_read set ts c is at.front at.is_front, fields_read set us cs are at.rest at.is_rest)
+    subst (λ (l : List (List Piece)). AreReadAs set l (c ∷ cs)) (sym at.split) (
+      field_read set ts c is at.front at.is_front,
+      fields_read set us cs are at.rest at.is_rest,
+    )
 
 lacks_end : (ts : List Term) → Lacks (is_symbol_term Semicolon) ts → Lacks (ends_with row_ends) ts
 lacks_end [] lacks = tt
 lacks_end (t ∷ ts) lacks = (rw lacks.0 refl, lacks_end ts lacks.1)
 
-pub row_again : (set : Instructions) (stop : Stop) (cores : ℕ) (ps : List Piece) (ts back : List Term) (cells : List (Option Shape)) → IsRow set cores ts cells → terms ps ≡ ts ++ back → ReadsRow set stop ps cells back
+pub row_again : (set : Instructions) (stop : Stop) (cores : ℕ) (ps : List Piece) (ts back : List Term)
+    (cells : List (Option Shape))
+    → IsRow set cores ts cells
+    → terms ps ≡ ts ++ back
+    → ReadsRow set stop ps cells back
 unfolding row_at
 row_again set stop cores ps _ back _ (row ts cells are count) e =
     let lacks = fields_lack set ts cells are in
@@ -174,15 +202,26 @@ row_again set stop cores ps _ back _ (row ts cells are count) e =
     let tokens = f.front ++ f.last ∷ [] in
     let at = cut Semicolon ts [] lacks tokens (section_terms row_ends stop ts back (symbol Semicolon) ps f) in
     let closed : row_at End tokens ≡ Ok at.front = rw (lt-ltb _ _ at.there, at.before) refl in
-    record { s = section tokens End f.rest; at = f.is; row = at.front; is = closed; cells_are = fields_read set ts cells are at.front at.is_front; after_it = f.is_rest }
+    record {
+      s = section tokens End f.rest;
+      at = f.is;
+      row = at.front;
+      is = closed;
+      cells_are = fields_read set ts cells are at.front at.is_front;
+      after_it = f.is_rest;
+    }
 
 -- ---- taken
 
-row_cut : (s : Symbol) (ps : List Piece) → position_or_len (is_symbol s) ps < length ps → (p : Piece) × (back : List Piece) × (ps ≡ before_first (is_symbol s) ps ++ p ∷ back) × (p.term ≡ symbol s)
+row_cut : (s : Symbol) (ps : List Piece)
+    → position_or_len (is_symbol s) ps < length ps
+    → (p : Piece) × (back : List Piece) × (ps ≡ before_first (is_symbol s) ps ++ p ∷ back) × (p.term ≡ symbol s)
 row_cut s [] lt = absurd (omega arith)
 row_cut s (p ∷ ps) lt = by_first (λ h. row_cut s ps h) (is_symbol s p) refl
   where
-    by_first : (position_or_len (is_symbol s) ps < length ps → (q : Piece) × (back : List Piece) × (ps ≡ before_first (is_symbol s) ps ++ q ∷ back) × (q.term ≡ symbol s)) → (b : Bool) → is_symbol s p ≡ b
+    by_first : (position_or_len (is_symbol s) ps < length ps
+        → (q : Piece) × (back : List Piece) × (ps ≡ before_first (is_symbol s) ps ++ q ∷ back) × (q.term ≡ symbol s))
+        → (b : Bool) → is_symbol s p ≡ b
         → (q : Piece) × (back : List Piece) × (p ∷ ps ≡ before_first (is_symbol s) (p ∷ ps) ++ q ∷ back) × (q.term ≡ symbol s)
     by_first further true is = (p, ps, rw is refl, symbol_is s p is)
     by_first further false is =
@@ -219,8 +258,12 @@ split_joined (p ∷ ps) = by_first (split_joined ps) (is_symbol Bar p) refl
     by_first : (HasOne (slice_split (is_symbol Bar) ps)) × (joined (slice_split (is_symbol Bar) ps) ≡ terms ps) → (b : Bool) → is_symbol Bar p ≡ b
         → (HasOne (slice_split (is_symbol Bar) (p ∷ ps))) × (joined (slice_split (is_symbol Bar) (p ∷ ps)) ≡ terms (p ∷ ps))
     by_first further true is =
-        subst (λ (l : List (List Piece)). HasOne l × (joined l ≡ terms (p ∷ ps))) (sym (slice_split-cons_yes (is_symbol Bar) p ps is))
-        (tt, bar_before (slice_split (is_symbol Bar) ps) further.0 ∙ ap (λ (l : List Term). symbol Bar ∷ l) further.1 ∙ ap (λ (t : Term). t ∷ terms ps) (sym (symbol_is Bar p is)))
+        subst (λ (l : List (List Piece)). HasOne l × (joined l ≡ terms (p ∷ ps))) (sym (slice_split-cons_yes (is_symbol Bar) p ps is)) (
+          tt,
+          bar_before (slice_split (is_symbol Bar) ps) further.0
+              ∙ ap (λ (l : List Term). symbol Bar ∷ l) further.1
+              ∙ ap (λ (t : Term). t ∷ terms ps) (sym (symbol_is Bar p is)),
+        )
     by_first further false is =
         let grown = first_grows p (slice_split (is_symbol Bar) ps) further.0 in
         subst (λ (l : List (List Piece)). HasOne l × (joined l ≡ terms (p ∷ ps))) (sym (slice_split-cons_no (is_symbol Bar) p ps is))
@@ -232,25 +275,41 @@ field_made set [] (Some shape) is = absurd is
 field_made set (p ∷ ps) None is = absurd is
 field_made set (p ∷ ps) (Some shape) is = full (terms (p ∷ ps)) shape (cell_takes set (p ∷ ps) shape is)
 
-fields_made : (set : Instructions) (parts : List (List Piece)) (cells : List (Option Shape)) → HasOne parts → AreReadAs set parts cells → AreFields set (joined parts) cells
+fields_made : (set : Instructions) (parts : List (List Piece)) (cells : List (Option Shape))
+    → HasOne parts
+    → AreReadAs set parts cells
+    → AreFields set (joined parts) cells
 fields_made set [] cells some are = absurd some
 fields_made set (ps ∷ rest) [] some are = absurd are
-fields_made set (ps ∷ []) (c ∷ []) some are = subst (λ (ts : List Term). AreFields set ts (c ∷ [])) (sym (append-nil (terms ps))) (last (terms ps) c (field_made set ps c are.0))
+fields_made set (ps ∷ []) (c ∷ []) some are =
+    subst (λ (ts : List Term). AreFields set ts (c ∷ [])) (sym (append-nil (terms ps))) (last (terms ps) c (field_made set ps c are.0))
 fields_made set (ps ∷ []) (c ∷ d ∷ cs) some are = absurd are.1
-fields_made set (ps ∷ qs ∷ rest) (c ∷ cs) some are = more (terms ps) (joined (qs ∷ rest)) c cs (field_made set ps c are.0) (fields_made set (qs ∷ rest) cs tt are.1)
+fields_made set (ps ∷ qs ∷ rest) (c ∷ cs) some are =
+    more (terms ps) (joined (qs ∷ rest)) c cs (field_made set ps c are.0) (fields_made set (qs ∷ rest) cs tt are.1)
 
-pub row_takes : (set : Instructions) (stop : Stop) (cores : ℕ) (ps front : List Piece) (cells : List (Option Shape)) → row_at (section_of row_ends stop ps).stop (section_of row_ends stop ps).tokens ≡ Ok front → AreReadAs set (cells_of front) cells
+pub row_takes : (set : Instructions) (stop : Stop) (cores : ℕ) (ps front : List Piece) (cells : List (Option Shape))
+    → row_at (section_of row_ends stop ps).stop (section_of row_ends stop ps).tokens ≡ Ok front
+    → AreReadAs set (cells_of front) cells
     → length cells ≡ cores → Passes (λ ts. IsRow set cores ts cells) ps (section_of row_ends stop ps).rest
 unfolding row_at
 row_takes set stop cores ps front cells e are count =
     let s = section_of row_ends stop ps in
-    elim (chosen (ltb (position_or_len (is_symbol Semicolon) s.tokens) (length s.tokens)) (Ok (before_first (is_symbol Semicolon) s.tokens)) (Err (at_stop (fault Unclosed (remaining_of s.tokens)) s.stop)) (Ok front) e) [
+    elim (chosen (ltb (position_or_len (is_symbol Semicolon) s.tokens) (length s.tokens))
+    (Ok (before_first (is_symbol Semicolon) s.tokens))
+    (Err (at_stop (fault Unclosed (remaining_of s.tokens)) s.stop)) (Ok front) e) [
       | inl hit ↦
           let same = ok_is (before_first (is_symbol Semicolon) s.tokens) front hit.1 in
           let end = row_cut Semicolon s.tokens (ltb-true _ _ hit.0) in
-          let whole = section_taken row_ends stop ps front end.1 end.0 (symbol Semicolon) (end.2 ∙ ap (λ (l : List Piece). l ++ end.0 ∷ end.1) same) end.3 refl in
+          let whole =
+          section_taken row_ends stop ps front end.1 end.0 (symbol Semicolon)
+          (end.2 ∙ ap (λ (l : List Piece). l ++ end.0 ∷ end.1) same) end.3 refl in
           let split = split_joined front in
           let fields = subst (λ (ts : List Term). AreFields set ts cells) split.1 (fields_made set (cells_of front) cells split.0 are) in
-          record { front = s.tokens; parts = section_parts row_ends stop ps; is = subst (λ (ts : List Term). IsRow set cores ts cells) (sym whole) (row (terms front) cells fields count) }
+          record {
+            front = s.tokens;
+            parts = section_parts row_ends stop ps;
+            is =
+                subst (λ (ts : List Term). IsRow set cores ts cells) (sym whole) (row (terms front) cells fields count);
+          }
       | inr miss ↦ absurd cc
     ]

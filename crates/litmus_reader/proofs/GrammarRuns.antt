@@ -1,5 +1,7 @@
 -- Runs of bytes are found where they are spelled, and lines are within their bytes.
-use Rattle.litmus_reader.proofs.Vocabulary.{◌≡◌, ℕ, ◌≤◌, Bool, true, false, eqb, eqb-true, not, ◌&&◌, List, [], ◌∷◌, ◌++◌, length, drop, refl, sym, ap, ◌∙◌, ◌⊎◌, inl, inr, true≢false, arith, list_all, prefix_len, drop-append_seam, not-true, length-drop, first_line}
+use Rattle.litmus_reader.proofs.Vocabulary.{◌≡◌, ℕ, ◌≤◌, Bool, true, false, eqb, eqb-true, not, ◌&&◌, List, [], ◌∷◌, ◌++◌, length, drop}
+use Rattle.litmus_reader.proofs.Vocabulary.{refl, sym, ap, ◌∙◌, ◌⊎◌, inl, inr, true≢false, arith, list_all, prefix_len, drop-append_seam}
+use Rattle.litmus_reader.proofs.Vocabulary.{not-true, length-drop, first_line}
 
 pub both : (a b : Bool) → (a && b) ≡ true → (a ≡ true) × (b ≡ true)
 both true b e = (refl, e)
@@ -36,7 +38,15 @@ pub run : (p : ℕ → Bool) (bytes : List ℕ) → Run p bytes
 run p [] = record { front = []; back = []; parts = refl; passes = refl; stops = tt }
 run p (b ∷ bs) =
     elim (tested (p b)) [
-      | inl hit ↦ let r = run p bs in record { front = b ∷ r.front; back = r.back; parts = ap (λ (l : List ℕ). b ∷ l) r.parts; passes = rw hit r.passes; stops = r.stops }
+      | inl hit ↦
+          let r = run p bs in
+          record {
+            front = b ∷ r.front;
+            back = r.back;
+            parts = ap (λ (l : List ℕ). b ∷ l) r.parts;
+            passes = rw hit r.passes;
+            stops = r.stops;
+          }
       | inr miss ↦ record { front = []; back = b ∷ bs; parts = refl; passes = refl; stops = miss }
     ]
 

@@ -1,12 +1,17 @@
 -- Instructions keep their locations' numbers as other names appear.
-use Rattle.litmus_reader.proofs.Vocabulary.{◌≡◌, ℕ, List, [], ◌∷◌, refl, ap, ◌∙◌, StoreImm, StoreReg, Load, Xchg, Xadd, CoreInstr, numbered, location, instr_with, location_in, of_core, Shape, store_imm, store_reg, load, set_imm, set_reg, fence, xchg, xadd}
-use Rattle.litmus_tokens.specs.Shapes.{compare_exchange, locked_constant, locked_register, locked_negate, combine_constant, combine_register, negate, swap, nothing}
+use Rattle.litmus_reader.proofs.Vocabulary.{◌≡◌, ℕ, List, [], ◌∷◌, refl, ap, ◌∙◌, StoreImm, StoreReg, Load, Xchg, Xadd, CoreInstr, numbered}
+use Rattle.litmus_reader.proofs.Vocabulary.{location, instr_with, location_in, of_core, Shape, store_imm, store_reg, load, set_imm, set_reg}
+use Rattle.litmus_reader.proofs.Vocabulary.{fence, xchg, xadd}
+use Rattle.litmus_tokens.specs.Shapes.{compare_exchange, locked_constant, locked_register, locked_negate, combine_constant}
+use Rattle.litmus_tokens.specs.Shapes.{combine_register, negate, swap, nothing}
 use Rattle.tso_terms.specs.declared.instruction.Instr.TheVariants.{CompareExchange, LockedCombine, LockedNegate}
 use Rattle.basic_laws.specs.Types.{Number, Held}
 use Rattle.litmus_reader.proofs.Placed.{Placed, instrs_with, locations_of}
 use Rattle.litmus_reader.proofs.GrammarNames.{AllKnown, known_parts, number_more}
 
-pub instr_stays : (shape : Shape) (xs names : List (List ℕ)) → AllKnown names (location_in shape) → instr_with (numbered names xs) shape ≡ instr_with names shape
+pub instr_stays : (shape : Shape) (xs names : List (List ℕ))
+    → AllKnown names (location_in shape)
+    → instr_with (numbered names xs) shape ≡ instr_with names shape
 instr_stays (store_imm x v) xs names is = ap (λ n. StoreImm (location n) v) (number_more xs names x is.0)
 instr_stays (store_reg x reg) xs names is = ap (λ n. StoreReg (location n) reg) (number_more xs names x is.0)
 instr_stays (load reg x) xs names is = ap (λ n. Load reg (location n)) (number_more xs names x is.0)

@@ -1,5 +1,13 @@
 -- A whole text is read as it is spelled.
-use Rattle.litmus_reader.proofs.Vocabulary.{◌>>=◌, Fault, row_ends, Result, section_of, ◌≡◌, ℕ, ◌≤◌, ◌+◌, true, false, ltb, List, [], ◌∷◌, ◌++◌, length, map, drop, Option, Ok, refl, sym, ap, subst, ◌∙◌, inl, inr, append_assoc, arith, IsTrue, ltb-false, le-ltb, length-map-range_with_len, range_with_len, Litmus, Instr, Stop, Term, Piece, pieces_of, sized, header_at, braces_at, Initial, words_of, registers_of, initial_at, Rows, Table, table, table_at, rows_at, test_of, tail_at, body_of, reading_of, terms, Passes, numbered, with_name, IsHeaderLine, has_cores, names_in, first_words, first_registers, condition, says_exists, says_forall, says_not_exists, MayAsk, nothing, a_condition, IsEnding, at_once, after_locations, names_asked, condition_of, IsAskedWithin, Shape, Setting, WrittenCondition, Written, program_of, columns, most_cores, length-map, Instructions}
+use Rattle.litmus_reader.proofs.Vocabulary.{◌>>=◌, Fault, row_ends, Result, section_of, ◌≡◌, ℕ, ◌≤◌, ◌+◌, true, false, ltb, List, [], ◌∷◌}
+use Rattle.litmus_reader.proofs.Vocabulary.{◌++◌, length, map, drop, Option, Ok, refl, sym, ap, subst, ◌∙◌, inl, inr, append_assoc, arith}
+use Rattle.litmus_reader.proofs.Vocabulary.{IsTrue, ltb-false, le-ltb, length-map-range_with_len, range_with_len, Litmus, Instr, Stop, Term}
+use Rattle.litmus_reader.proofs.Vocabulary.{Piece, pieces_of, sized, header_at, braces_at, Initial, words_of, registers_of, initial_at}
+use Rattle.litmus_reader.proofs.Vocabulary.{Rows, Table, table, table_at, rows_at, test_of, tail_at, body_of, reading_of, terms, Passes}
+use Rattle.litmus_reader.proofs.Vocabulary.{numbered, with_name, IsHeaderLine, has_cores, names_in, first_words, first_registers, condition}
+use Rattle.litmus_reader.proofs.Vocabulary.{says_exists, says_forall, says_not_exists, MayAsk, nothing, a_condition, IsEnding, at_once}
+use Rattle.litmus_reader.proofs.Vocabulary.{after_locations, names_asked, condition_of, IsAskedWithin, Shape, Setting, WrittenCondition}
+use Rattle.litmus_reader.proofs.Vocabulary.{Written, program_of, columns, most_cores, length-map, Instructions}
 use Rattle.std.proofs.Common.{length-append}
 use Rattle.litmus_reader.specs.Limits.{longest_text}
 use Rattle.litmus_reader.proofs.Placed.{placed_in, instrs_with, locations_of, EntriesWithin}
@@ -42,7 +50,10 @@ all_left ps = record { taken = []; parts = refl }
 
 -- what comes after a part has these as its last
 left : {Is : List Term → Type 0} {ps after rest : List Piece} → Passes Is ps after → AreLast after rest → AreLast ps rest
-left {Is} {ps} {after} {rest} p last = record { taken = p.front ++ last.taken; parts = p.parts ∙ ap (λ (l : List Piece). p.front ++ l) last.parts ∙ sym (append_assoc p.front last.taken rest) }
+left {Is} {ps} {after} {rest} p last = record {
+  taken = p.front ++ last.taken;
+  parts = p.parts ∙ ap (λ (l : List Piece). p.front ++ l) last.parts ∙ sym (append_assoc p.front last.taken rest);
+}
 
 -- ---- the table ends where the ending begins
 
@@ -52,7 +63,9 @@ ends_asked _ _ (a_condition _ _ _ (condition _ us _ phrase says_exists is)) = re
 ends_asked _ _ (a_condition _ _ _ (condition _ us _ phrase says_forall is)) = refl
 ends_asked _ _ (a_condition _ _ _ (condition _ us _ phrase says_not_exists is)) = refl
 
-ends_here : (set : Instructions) (text : List ℕ) (stop : Stop) (ps : List Piece) (c : Option WrittenCondition) → IsEnding set text stop ps c → ends_table (terms ps) ≡ true
+ends_here : (set : Instructions) (text : List ℕ) (stop : Stop) (ps : List Piece) (c : Option WrittenCondition)
+    → IsEnding set text stop ps c
+    → ends_table (terms ps) ≡ true
 ends_here set text stop _ _ (at_once ps c ended is) = ends_asked (terms ps) c is
 ends_here set text stop _ _ (after_locations word opener ps bytes c is_word is_opener found ended is) = rw is_word refl
 
@@ -65,7 +78,8 @@ cores_given settings cores = length-map-range_with_len _ 0 cores
 abbrev pub parts_give : Written → Initial → Litmus
 parts_give w i =
     test_of w.name (given (numbered i.names (locations_of (placed_in w.table))) w.asked).1 i.words (first_registers w.settings w.cores)
-    (instrs_with (numbered i.names (locations_of (placed_in w.table))) (placed_in w.table)) (given (numbered i.names (locations_of (placed_in w.table))) w.asked).0
+    (instrs_with (numbered i.names (locations_of (placed_in w.table))) (placed_in w.table))
+    (given (numbered i.names (locations_of (placed_in w.table))) w.asked).0
 
 -- the test of these names and programs
 abbrev test_with : Written → List (List ℕ) → List (List Instr) → Litmus
@@ -85,7 +99,10 @@ all_with w named = numbered (numbered (numbered [] (names_in w.settings)) named)
 abbrev test_by : Written → List (List ℕ) → Litmus
 test_by w named = test_with w (all_with w named) (map (program (all_with w named) w.table) (range_with_len 0 w.cores))
 
-by_columns : (w : Written) → test_with w (all_with w (locations_of (placed_in w.table))) (map (program_of (instrs_with (all_with w (locations_of (placed_in w.table))) (placed_in w.table))) (range_with_len 0 w.cores)) ≡ test_written w
+by_columns : (w : Written)
+    → test_with w (all_with w (locations_of (placed_in w.table)))
+    (map (program_of (instrs_with (all_with w (locations_of (placed_in w.table))) (placed_in w.table))) (range_with_len 0 w.cores))
+    ≡ test_written w
 by_columns w =
     let all = all_with w (locations_of (placed_in w.table)) in
     ap (test_with w all) (programs-columns all w.table w.cores 0) ∙ ap (test_by w) (named-same w.table)
@@ -104,7 +121,10 @@ parts_are w i says =
 
 -- ---- found
 
-body_found : (set : Instructions) (braces : List ℕ) (w : Written) → IsBody set braces w → KeepsLimits w → body_of set w.name braces (pieces_of set braces).1 (pieces_of set braces).0 ≡ Ok (test_written w)
+body_found : (set : Instructions) (braces : List ℕ) (w : Written)
+    → IsBody set braces w
+    → KeepsLimits w
+    → body_of set w.name braces (pieces_of set braces).1 (pieces_of set braces).0 ≡ Ok (test_written w)
 unfolding body_of
 body_found set braces w b limits =
     let stop = (pieces_of set braces).1 in
@@ -113,23 +133,36 @@ body_found set braces w b limits =
     let one = b.head.initial in
     let two = b.head.header_row in
     let three = b.are_rows in
-    let initial = initial_found stop ps (terms one.front) (terms b.head.columns) w.settings one.is limits.settings (ap terms one.parts ∙ terms_append one.front b.head.columns) in
+    let initial =
+    initial_found stop ps (terms one.front) (terms b.head.columns) w.settings one.is limits.settings
+    (ap terms one.parts ∙ terms_append one.front b.head.columns) in
     let i = initial.reads in
     let says = said w.settings initial.i initial.holds limits.settings in
     let c = header_row_again stop i.rest (terms two.front) (terms b.rows) w.cores two.is (i.after_it ∙ ap terms two.parts ∙ terms_append two.front b.rows) in
     let registers : registers_of w.cores initial.i.registers ≡ Ok (first_registers w.settings w.cores) = says.registers w.cores limits.cores in
-    let within : EntriesWithin initial.i.names es = subst (λ names. EntriesWithin names es) (sym says.names) (entries_within (first_names w) w.table limits.rows) in
-    let r = rows_again set stop w.cores initial.i.names c.s.rest (terms three.front) (terms b.ending) w.table three.is within (c.after_it ∙ ap terms three.parts ∙ terms_append three.front b.ending)
+    let within : EntriesWithin initial.i.names es =
+    subst (λ names. EntriesWithin names es) (sym says.names) (entries_within (first_names w) w.table limits.rows) in
+    let r =
+    rows_again set stop w.cores initial.i.names c.s.rest (terms three.front) (terms b.ending) w.table three.is
+    within
+    (c.after_it ∙ ap terms three.parts ∙ terms_append three.front b.ending)
     (ends_here set braces stop b.ending w.asked b.is_ending) in
     let known = numbered initial.i.names (locations_of es) in
     let most : length initial.i.names ≤ 16 = let more = grows (locations_of es) initial.i.names in omega (arith, more, within.room) in
-    let last = left (initial_taken stop ps i.rest initial.i i.is).spelled (left (header_row_found stop i.rest w.cores c.s c.at c.is) (left (rows_take set stop w.cores initial.i.names c.s.rest (rows_by initial.i.names es r.rest) most r.is).spelled (all_left r.rest))) in
+    let last =
+    left (initial_taken stop ps i.rest initial.i i.is).spelled
+    (left (header_row_found stop i.rest w.cores c.s c.at c.is)
+    (left (rows_take set stop w.cores initial.i.names c.s.rest (rows_by initial.i.names es r.rest) most r.is).spelled (all_left r.rest))) in
     let whole = left one (left two (left three (all_left b.ending))) in
     let same : r.rest ≡ b.ending = same_end last.taken whole.taken r.rest b.ending (sym last.parts ∙ whole.parts) (same_length r.rest b.ending r.after_it) in
-    let asked : IsAskedWithin w.cores known w.asked = subst (λ names. IsAskedWithin w.cores (numbered names (locations_of es)) w.asked) (sym says.names) (subst (λ named. IsAskedWithin w.cores (numbered (first_names w) named) w.asked) (sym (named-same w.table)) limits.condition) in
+    let asked : IsAskedWithin w.cores known w.asked =
+    subst (λ names. IsAskedWithin w.cores (numbered names (locations_of es)) w.asked) (sym says.names)
+    (subst (λ named. IsAskedWithin w.cores (numbered (first_names w) named) w.asked) (sym (named-same w.table)) limits.condition) in
     let tail : tail_at set braces stop w.cores known r.rest ≡ Ok (given known w.asked) =
-    subst (λ (l : List Piece). tail_at set braces stop w.cores known l ≡ Ok (given known w.asked)) (sym same) (tail_again set braces stop w.cores known b.ending w.asked b.is_ending asked) in
-    let table_here : table_at set stop initial.i.registers initial.i.names i.rest ≡ Ok (table w.cores (first_registers w.settings w.cores) (rows_by initial.i.names es r.rest)) =
+    subst (λ (l : List Piece). tail_at set braces stop w.cores known l ≡ Ok (given known w.asked)) (sym same)
+    (tail_again set braces stop w.cores known b.ending w.asked b.is_ending asked) in
+    let table_here : table_at set stop initial.i.registers initial.i.names i.rest
+    ≡ Ok (table w.cores (first_registers w.settings w.cores) (rows_by initial.i.names es r.rest)) =
     table_is set stop initial.i.registers initial.i.names i.rest c.s w.cores (first_registers w.settings w.cores) c.at (sym c.is) registers
     ∙ ap (λ (x : Result Rows Fault). x >>= λ rows. Ok (table w.cores (first_registers w.settings w.cores) rows)) r.is in
     rw (i.is, table_here, tail) (ap (λ (t : Litmus). Ok t) (parts_are w initial.i says))
@@ -161,10 +194,13 @@ pub numbered_few : (xs names : List (List ℕ)) → length (numbered names xs) �
 unfolding numbered
 numbered_few [] names = omega arith
 numbered_few (x ∷ xs) names =
-    let one : length (with_name names x) ≤ length names + 1 = with_name_by (λ l. length l ≤ length names + 1) names x (λ _. omega arith) (λ _. omega (arith, length-append names (x ∷ []))) in
+    let one : length (with_name names x) ≤ length names + 1 =
+    with_name_by (λ l. length l ≤ length names + 1) names x (λ _. omega arith) (λ _. omega (arith, length-append names (x ∷ []))) in
     omega (arith, one, numbered_few xs (with_name names x))
 
-pub body_taken : (set : Instructions) (called braces : List ℕ) (t : Litmus) → body_of set called braces (pieces_of set braces).1 (pieces_of set braces).0 ≡ Ok t → Taken set braces called t
+pub body_taken : (set : Instructions) (called braces : List ℕ) (t : Litmus)
+    → body_of set called braces (pieces_of set braces).1 (pieces_of set braces).0 ≡ Ok t
+    → Taken set braces called t
 unfolding body_of table_at
 body_taken set called braces t e =
     let stop = (pieces_of set braces).1 in
@@ -181,19 +217,25 @@ body_taken set called braces t e =
     let columns = header_row_takes stop i.0.1 c.0 c.1 in
     let settings = initial.settings in
     let says = said settings i.0.0 initial.holds initial.fits in
-    let few : length i.0.0.names ≤ 16 = rw says.names (let count = numbered_few (names_in settings) [] in let most = initial.fits.few in omega (arith, count, most)) in
+    let few : length i.0.0.names ≤ 16 =
+    rw says.names (let count = numbered_few (names_in settings) [] in let most = initial.fits.few in omega (arith, count, most)) in
     let rows = rows_take set stop c.0 i.0.0.names header.rest r.0 few r.1 in
     let es = placed_in rows.table in
     let known = numbered i.0.0.names (locations_of es) in
-    let tail_here : tail_at set braces stop c.0 r.0.names r.0.rest ≡ Ok tail.0 = subst (λ (b : Table). tail_at set braces stop b.cores b.rows.names b.rows.rest ≡ Ok tail.0) (sym is_table) tail.1 in
+    let tail_here : tail_at set braces stop c.0 r.0.names r.0.rest ≡ Ok tail.0 =
+    subst (λ (b : Table). tail_at set braces stop b.cores b.rows.names b.rows.rest ≡ Ok tail.0) (sym is_table) tail.1 in
     let names_are : r.0.names ≡ known = ap (λ (r : Rows). r.names) rows.given in
     let instrs_are : r.0.instrs ≡ instrs_with known es = ap (λ (r : Rows). r.instrs) rows.given in
-    let ends = tail_takes set braces stop c.0 known r.0.rest tail.0 rows.within.room (subst (λ names. tail_at set braces stop c.0 names r.0.rest ≡ Ok tail.0) names_are tail_here) in
+    let ends =
+    tail_takes set braces stop c.0 known r.0.rest tail.0 rows.within.room
+    (subst (λ names. tail_at set braces stop c.0 names r.0.rest ≡ Ok tail.0) names_are tail_here) in
     let w : Written = written called settings c.0 rows.table ends.c in
     let has : IsTrue (has_cores c.0 settings) = says.cores c.0 g.0 g.1 in
     let registers : first_registers settings c.0 ≡ g.0 = ok_is (first_registers settings c.0) g.0 (sym (says.registers c.0 has) ∙ g.1) in
-    let read : test_of called tail.0.1 i.0.0.words b.0.registers b.0.rows.instrs tail.0.0 ≡ t = ok_is (test_of called tail.0.1 i.0.0.words b.0.registers b.0.rows.instrs tail.0.0) t tail.2 in
-    let table_read : test_of called tail.0.1 i.0.0.words g.0 r.0.instrs tail.0.0 ≡ t = subst (λ (b : Table). test_of called tail.0.1 i.0.0.words b.registers b.rows.instrs tail.0.0 ≡ t) (sym is_table) read in
+    let read : test_of called tail.0.1 i.0.0.words b.0.registers b.0.rows.instrs tail.0.0 ≡ t =
+    ok_is (test_of called tail.0.1 i.0.0.words b.0.registers b.0.rows.instrs tail.0.0) t tail.2 in
+    let table_read : test_of called tail.0.1 i.0.0.words g.0 r.0.instrs tail.0.0 ≡ t =
+    subst (λ (b : Table). test_of called tail.0.1 i.0.0.words b.registers b.rows.instrs tail.0.0 ≡ t) (sym is_table) read in
     let gives : parts_give w i.0.0 ≡ t =
     subst (λ registers. test_of called (given known ends.c).1 i.0.0.words registers (instrs_with known es) (given known ends.c).0 ≡ t) (sym registers)
     (subst (λ instrs. test_of called (given known ends.c).1 i.0.0.words g.0 instrs (given known ends.c).0 ≡ t) instrs_are

@@ -1,5 +1,8 @@
 -- Tokens at the front, found and taken.
-use Rattle.litmus_reader.proofs.Vocabulary.{◌≡◌, ℕ, true, List, [], ◌∷◌, Option, Some, None, Result, Ok, Err, refl, sym, ap, ◌∙◌, ◌⊎◌, inl, inr, bytes_eq, bytes_eq-Decides, Symbol, Term, number, name, symbol, spelling_of, Piece, is_symbol_term, is_symbol, symbol_at, name_then, name_at, number_then, number_at, hexadecimal, Fault, Part, ◌>>=◌, there, or_unfit, terms, or_fault, word_after, ◌++◌}
+use Rattle.litmus_reader.proofs.Vocabulary.{◌≡◌, ℕ, true, List, [], ◌∷◌, Option, Some, None, Result, Ok, Err, refl, sym, ap, ◌∙◌, ◌⊎◌, inl}
+use Rattle.litmus_reader.proofs.Vocabulary.{inr, bytes_eq, bytes_eq-Decides, Symbol, Term, number, name, symbol, spelling_of, Piece}
+use Rattle.litmus_reader.proofs.Vocabulary.{is_symbol_term, is_symbol, symbol_at, name_then, name_at, number_then, number_at, hexadecimal}
+use Rattle.litmus_reader.proofs.Vocabulary.{Fault, Part, ◌>>=◌, there, or_unfit, terms, or_fault, word_after, ◌++◌}
 use Rattle.litmus_tokens.proofs.Symbols.{spelling_tells}
 pub use Rattle.litmus_tokens.proofs.Gaps.{chosen}
 

@@ -1,5 +1,10 @@
 -- All tokens of a text: those from a place on are those of the bytes that are there.
-use Rattle.litmus_reader.proofs.Vocabulary.{◌≡◌, ℕ, zero, suc, ◌≤◌, ◌<◌, List, [], ◌∷◌, length, None, Result, Ok, Err, refl, sym, ap, ◌∙◌, arith, Stop, End, gap_end, Term, term_at, Piece, piece_at, onto, pieces_within, pieces_of, Bool, true, ltb, ltb-true, and_parts, list_all, inl, inr, drop, prefix_len, length-drop, Option, Some, Symbol, symbol, spelling_of, symbol_among, symbols, starts_with, nat_eq, is_ascii_digit, begins_name, continues_name, longest_name, run_of, symbol_or_bad, symbol_of, ◌+◌, Instructions, is_hexadecimal, is_minus, Minus}
+use Rattle.litmus_reader.proofs.Vocabulary.{◌≡◌, ℕ, zero, suc, ◌≤◌, ◌<◌, List, [], ◌∷◌, length, None, Result, Ok, Err, refl, sym, ap, ◌∙◌}
+use Rattle.litmus_reader.proofs.Vocabulary.{arith, Stop, End, gap_end, Term, term_at, Piece, piece_at, onto, pieces_within, pieces_of, Bool}
+use Rattle.litmus_reader.proofs.Vocabulary.{true, ltb, ltb-true, and_parts, list_all, inl, inr, drop, prefix_len, length-drop, Option, Some}
+use Rattle.litmus_reader.proofs.Vocabulary.{Symbol, symbol, spelling_of, symbol_among, symbols, starts_with, nat_eq, is_ascii_digit}
+use Rattle.litmus_reader.proofs.Vocabulary.{begins_name, continues_name, longest_name, run_of, symbol_or_bad, symbol_of, ◌+◌, Instructions}
+use Rattle.litmus_reader.proofs.Vocabulary.{is_hexadecimal, is_minus, Minus}
 use Rattle.std.specs.Char.{is_ascii_hexdigit}
 use Rattle.litmus_tokens.proofs.Pieces.{begins_in_name}
 use Rattle.litmus_reader.proofs.GrammarTokens.{chosen, some_is}
@@ -18,7 +23,10 @@ run_shorter p b bs after pass is =
     let n : prefix_len p (b ∷ bs) ≡ 1 + prefix_len p bs = rw pass refl in
     omega (arith, ap (λ (l : List ℕ). length l) is, length-drop (prefix_len p (b ∷ bs)) (b ∷ bs), n)
 
-symbol_shorter : (ss : List Symbol) (bytes : List ℕ) (found : Symbol × List ℕ) → list_all (λ s. ltb 0 (length (spelling_of s))) ss ≡ true → symbol_among ss bytes ≡ Some found → 0 < length bytes
+symbol_shorter : (ss : List Symbol) (bytes : List ℕ) (found : Symbol × List ℕ)
+    → list_all (λ s. ltb 0 (length (spelling_of s))) ss ≡ true
+    → symbol_among ss bytes ≡ Some found
+    → 0 < length bytes
     → length found.1 < length bytes
 symbol_shorter [] bytes found all e some = absurd cc
 symbol_shorter (x ∷ others) bytes found all e some =
@@ -38,7 +46,12 @@ term_shorter set (b ∷ bs) t after e =
       | inl digit ↦ elim (chosen (is_hexadecimal set (b ∷ bs)) _ _ (Ok (t, after)) digit.1) [
         | inl sixteen ↦
             let rest = (ok_both _ t _ after sixteen.1).1 in
-            omega (arith, ap (λ (l : List ℕ). length l) rest, length-drop (prefix_len is_ascii_hexdigit (drop 2 (b ∷ bs))) (drop 2 (b ∷ bs)), length-drop 2 (b ∷ bs))
+            omega (
+              arith,
+              ap (λ (l : List ℕ). length l) rest,
+              length-drop (prefix_len is_ascii_hexdigit (drop 2 (b ∷ bs))) (drop 2 (b ∷ bs)),
+              length-drop 2 (b ∷ bs),
+            )
         | inr ten ↦ run_shorter is_ascii_digit b bs after digit.0 (ok_both _ t _ after ten.1).1
       ]
       | inr none ↦ elim (chosen (begins_name b) _ _ (Ok (t, after)) none.1) [
@@ -53,7 +66,10 @@ term_shorter set (b ∷ bs) t after e =
       ]
     ]
   where
-    by_symbol : (o : Option (Symbol × List ℕ)) → symbol_among symbols (b ∷ bs) ≡ o → symbol_or_bad (length (b ∷ bs)) o ≡ Ok (t, after) → length after < length (b ∷ bs)
+    by_symbol : (o : Option (Symbol × List ℕ))
+        → symbol_among symbols (b ∷ bs) ≡ o
+        → symbol_or_bad (length (b ∷ bs)) o ≡ Ok (t, after)
+        → length after < length (b ∷ bs)
     by_symbol None missing h = absurd cc
     by_symbol (Some (s, rest)) found h =
         let shorter = symbol_shorter symbols (b ∷ bs) (s, rest) refl found (omega arith) in
@@ -87,7 +103,9 @@ one_step : (set : Instructions) (n : ℕ) (bytes : List ℕ) → pieces_within s
 unfolding pieces_within
 one_step set n bytes = by_piece (piece_at set bytes)
   where
-    by_piece : (r : Result (Piece × List ℕ) Stop) → elim r [ Ok found ↦ onto found.0 (pieces_within set n found.1) | Err stop ↦ ([], stop) ] ≡ onward (pieces_within set n) r
+    by_piece : (r : Result (Piece × List ℕ) Stop)
+        → elim r [ Ok found ↦ onto found.0 (pieces_within set n found.1) | Err stop ↦ ([], stop) ]
+        ≡ onward (pieces_within set n) r
     by_piece (Ok found) = refl
     by_piece (Err stop) = refl
 
@@ -105,25 +123,37 @@ pub pieces_same : (set : Instructions) (n m : ℕ) (bytes : List ℕ) → length
 pieces_same set n m [] le le' = no_bytes set n ∙ sym (no_bytes set m)
 pieces_same set zero m (b ∷ bs) le le' = absurd (omega arith)
 pieces_same set (suc n) zero (b ∷ bs) le le' = absurd (omega arith)
-pieces_same set (suc n) (suc m) (b ∷ bs) le le' = one_step set n (b ∷ bs) ∙ by_piece (piece_at set (b ∷ bs)) refl (λ rest le le'. pieces_same set n m rest le le') ∙ sym (one_step set m (b ∷ bs))
+pieces_same set (suc n) (suc m) (b ∷ bs) le le' =
+    one_step set n (b ∷ bs)
+    ∙ by_piece (piece_at set (b ∷ bs)) refl (λ rest le le'. pieces_same set n m rest le le')
+    ∙ sym (one_step set m (b ∷ bs))
   where
     by_piece : (r : Result (Piece × List ℕ) Stop) → piece_at set (b ∷ bs) ≡ r
-        → ((rest : List ℕ) → length rest ≤ n → length rest ≤ m → pieces_within set n rest ≡ pieces_within set m rest) → onward (pieces_within set n) r ≡ onward (pieces_within set m) r
+        → ((rest : List ℕ) → length rest ≤ n → length rest ≤ m → pieces_within set n rest ≡ pieces_within set m rest)
+        → onward (pieces_within set n) r ≡ onward (pieces_within set m) r
     by_piece (Err stop) is same = refl
     by_piece (Ok (p, after)) is same =
         let shorter = piece_shorter set (b ∷ bs) p after is in
         ap (onto p) (same after (omega (arith, shorter)) (omega (arith, shorter)))
 
 -- and the other way round
-pub first_again : (set : Instructions) (bytes : List ℕ) (p : Piece) (ps : List Piece) (stop : Stop) (after : List ℕ) → piece_at set bytes ≡ Ok (p, after) → (ps, stop) ≡ pieces_of set after → (p ∷ ps, stop) ≡ pieces_of set bytes
+pub first_again : (set : Instructions) (bytes : List ℕ) (p : Piece) (ps : List Piece) (stop : Stop) (after : List ℕ)
+    → piece_at set bytes ≡ Ok (p, after)
+    → (ps, stop) ≡ pieces_of set after
+    → (p ∷ ps, stop) ≡ pieces_of set bytes
 unfolding pieces_of
-first_again set [] p ps stop after is e = let never : (let q : Result (Piece × List ℕ) Stop = Err End in q) ≡ Ok (p, after) = sym (nothing_there set) ∙ is in absurd cc
+first_again set [] p ps stop after is e =
+    let never : (let q : Result (Piece × List ℕ) Stop = Err End in q) ≡ Ok (p, after) = sym (nothing_there set) ∙ is in
+    absurd cc
 first_again set (b ∷ bs) p ps stop after is e =
     let shorter = piece_shorter set (b ∷ bs) p after is in
-    ap (onto p) (e ∙ pieces_same set (length after) (length bs) after (omega arith) (omega (arith, shorter))) ∙ sym (one_step set (length bs) (b ∷ bs) ∙ ap (onward (pieces_within set (length bs))) is)
+    ap (onto p) (e ∙ pieces_same set (length after) (length bs) after (omega arith) (omega (arith, shorter)))
+    ∙ sym (one_step set (length bs) (b ∷ bs) ∙ ap (onward (pieces_within set (length bs))) is)
 
 -- where no token is at the front, there are none
 pub none_again : (set : Instructions) (bytes : List ℕ) (stop : Stop) → piece_at set bytes ≡ Err stop → ([], stop) ≡ pieces_of set bytes
 unfolding pieces_of
-none_again set [] stop is = let same : (let q : Result (Piece × List ℕ) Stop = Err End in q) ≡ Err stop = sym (nothing_there set) ∙ is in ap (λ (s : Stop). ([], s)) (sym (piece_stop End stop same)) ∙ sym (no_bytes set zero)
+none_again set [] stop is =
+    let same : (let q : Result (Piece × List ℕ) Stop = Err End in q) ≡ Err stop = sym (nothing_there set) ∙ is in
+    ap (λ (s : Stop). ([], s)) (sym (piece_stop End stop same)) ∙ sym (no_bytes set zero)
 none_again set (b ∷ bs) stop is = sym (one_step set (length bs) (b ∷ bs) ∙ ap (onward (pieces_within set (length bs))) is)

@@ -1,5 +1,9 @@
 -- The first registers of a test, one more at a time.
-use Rattle.litmus_reader.proofs.Vocabulary.{◌≡◌, ◌==◌, ◌&&◌, true, false, ℕ, Bor, ◌+◌, ◌≤◌, ◌<◌, List, [], ◌∷◌, ◌++◌, length, map, drop, get_or, Result, Ok, Err, refl, sym, ap, ◌∙◌, add-one, drop-cons, arith, list_any, bytes_eq, index_of, nil_from_length, length-drop, map_push, Reg, TwiceInit, Fault, word_at, core_of, given_of, named_by_key, named_by_word, Given, initial, gives, judged, with_register, registers_with, fault, of_register}
+use Rattle.litmus_reader.proofs.Vocabulary.{◌≡◌, ◌==◌, ◌&&◌, true, false, ℕ, Bor, ◌+◌, ◌≤◌, ◌<◌, List, [], ◌∷◌, ◌++◌, length, map, drop}
+use Rattle.litmus_reader.proofs.Vocabulary.{get_or, Result, Ok, Err, refl, sym, ap, ◌∙◌, add-one, drop-cons, arith, list_any, bytes_eq}
+use Rattle.litmus_reader.proofs.Vocabulary.{index_of, nil_from_length, length-drop, map_push, Reg, TwiceInit, Fault, word_at, core_of}
+use Rattle.litmus_reader.proofs.Vocabulary.{given_of, named_by_key, named_by_word, Given, initial, gives, judged, with_register}
+use Rattle.litmus_reader.proofs.Vocabulary.{registers_with, fault, of_register}
 use Rattle.std.specs.Prelude.{not, Bool}
 use Rattle.std.specs.Cmp.{nat_eq_equiv}
 use Rattle.std.specs.Cmp.Lexicographic.{nat_list_eq_equiv}
@@ -9,7 +13,9 @@ use Rattle.litmus_tokens.proofs.Maps.{list_any_map}
 abbrev pub Registers : Type 0
 Registers = Result (List (List ℕ)) Fault
 
-rest_at : (given : List RegisterWord) (i : ℕ) (d : RegisterWord) → i < length given → map given_of (drop i given) ≡ given_of (get_or given i d) ∷ map given_of (drop (i + 1) given)
+rest_at : (given : List RegisterWord) (i : ℕ) (d : RegisterWord)
+    → i < length given
+    → map given_of (drop i given) ≡ given_of (get_or given i d) ∷ map given_of (drop (i + 1) given)
 rest_at given i d lt = rw (add-one, drop-cons given i d) refl
 
 pub registers_go_on : (cores i core : ℕ) (registers : List (List ℕ)) (given : List RegisterWord) (d : RegisterWord) (total : Registers)
@@ -18,7 +24,9 @@ pub registers_go_on : (cores i core : ℕ) (registers : List (List ℕ)) (given 
     → registers_with cores (with_register registers core (get_or given i d).reg (get_or given i d).value) (map given_of (drop (i + 1) given)) ≡ total
 unfolding registers_with
 registers_go_on cores i core registers given d total lt is so_far =
-    let one : registers_with cores registers (map given_of (drop i given)) ≡ registers_with cores (with_register registers core (get_or given i d).reg (get_or given i d).value) (map given_of (drop (i + 1) given)) = rw (rest_at given i d lt, is) refl in
+    let one : registers_with cores registers (map given_of (drop i given))
+    ≡ registers_with cores (with_register registers core (get_or given i d).reg (get_or given i d).value) (map given_of (drop (i + 1) given)) =
+    rw (rest_at given i d lt, is) refl in
     sym one ∙ so_far
 
 pub registers_fail : (f : Fault) (cores i : ℕ) (registers : List (List ℕ)) (given : List RegisterWord) (d : RegisterWord) (total : Registers)
@@ -46,11 +54,15 @@ unfolding judged
 judged_twice remaining names words registers core reg v value is twice = rw (← is, list_any_map (gives core reg) given_of registers, twice) refl
 
 pub judged_new : (remaining : ℕ) (names : List (List ℕ)) (words : List ℕ) (registers new : List RegisterWord) (w : RegisterWord) (v : ℕ)
-    → Ok w.value ≡ word_at remaining v → list_any (λ r. gives w.core.now w.reg (given_of r)) registers ≡ false → remaining ≡ w.remaining → new ≡ registers ++ w ∷ []
+    → Ok w.value ≡ word_at remaining v
+    → list_any (λ r. gives w.core.now w.reg (given_of r)) registers ≡ false
+    → remaining ≡ w.remaining
+    → new ≡ registers ++ w ∷ []
     → judged remaining (initial names words (map given_of registers)) (of_register w.core.now w.reg v) ≡ Ok (initial names words (map given_of new))
 unfolding judged
 judged_new remaining names words registers new w v is once place pushed =
-    rw (← is, list_any_map (gives w.core.now w.reg) given_of registers, once, place, pushed) (ap (λ (l : List Given). Ok (initial names words l)) (sym (map_push given_of registers w)))
+    rw (← is, list_any_map (gives w.core.now w.reg) given_of registers, once, place, pushed)
+    (ap (λ (l : List Given). Ok (initial names words l)) (sym (map_push given_of registers w)))
 
 -- ---- the registers that were given before
 

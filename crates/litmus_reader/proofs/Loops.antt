@@ -8,7 +8,11 @@ pub record After {S A : Type 0} (size : S → ℕ) (within : ℕ → S → A) (s
   pub same : within count s ≡ total
 
 -- what the next step gives is the total
-pub ends : {S A : Type 0} (size : S → ℕ) (within : ℕ → S → A) (s : S) (r total : A) → (size s ≤ 0 → within zero s ≡ r) → ((n : ℕ) → within (suc n) s ≡ r) → After size within s total → total ≡ r
+pub ends : {S A : Type 0} (size : S → ℕ) (within : ℕ → S → A) (s : S) (r total : A)
+    → (size s ≤ 0 → within zero s ≡ r)
+    → ((n : ℕ) → within (suc n) s ≡ r)
+    → After size within s total
+    → total ≡ r
 ends size within s r total none some b = by_count b.count b.enough b.same
   where
     by_count : (n : ℕ) → size s ≤ n → within n s ≡ total → total ≡ r
@@ -16,7 +20,11 @@ ends size within s r total none some b = by_count b.count b.enough b.same
     by_count (suc n) enough same = sym same ∙ some n
 
 -- the next step leads to a smaller rest
-pub goes_on : {S A : Type 0} (size : S → ℕ) (within : ℕ → S → A) (s t : S) (total : A) → size t < size s → ((n : ℕ) → within (suc n) s ≡ within n t) → After size within s total → After size within t total
+pub goes_on : {S A : Type 0} (size : S → ℕ) (within : ℕ → S → A) (s t : S) (total : A)
+    → size t < size s
+    → ((n : ℕ) → within (suc n) s ≡ within n t)
+    → After size within s total
+    → After size within t total
 goes_on size within s t total smaller step b = by_count b.count b.enough b.same
   where
     by_count : (n : ℕ) → size s ≤ n → within n s ≡ total → After size within t total

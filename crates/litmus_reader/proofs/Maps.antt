@@ -9,6 +9,8 @@ pub slice_split-map : {X Y : Type 0} (p : Y → Bool) (f : X → Y) (xs : List X
 slice_split-map p f [] = refl
 slice_split-map p f (x ∷ xs) = rw (slice_split-map p f xs) (choice (p (f x)))
   where
-    choice : (b : Bool) → cond b ([] ∷ map (map f) (slice_split (λ y. p (f y)) xs)) (onto_first (f x) (map (map f) (slice_split (λ y. p (f y)) xs))) ≡ map (map f) (cond b ([] ∷ slice_split (λ y. p (f y)) xs) (onto_first x (slice_split (λ y. p (f y)) xs)))
+    choice : (b : Bool)
+        → cond b ([] ∷ map (map f) (slice_split (λ y. p (f y)) xs)) (onto_first (f x) (map (map f) (slice_split (λ y. p (f y)) xs)))
+        ≡ map (map f) (cond b ([] ∷ slice_split (λ y. p (f y)) xs) (onto_first x (slice_split (λ y. p (f y)) xs)))
     choice true = refl
     choice false = onto_first-map f x (slice_split (λ y. p (f y)) xs)

@@ -1,5 +1,11 @@
 -- What the grammar has as a location's name is one that a location may have.
-use Rattle.litmus_reader.proofs.Vocabulary.{◌≡◌, ℕ, true, false, not, List, [], ◌∷◌, ◌++◌, Option, refl, sym, ap, ◌∙◌, list_any, list_all, bytes_eq, and_parts, and_from, or_parts, not-true, list_all-append, flat_map, is_location_name, is_among, are_distinct, Term, numbered, with_name, IsSetting, sets_register, sets_location, sets_in_squares, IsInitialItem, AreInitialItems, IsInitialState, in_braces, names_in, IsOperand, IsCall, IsMove, IsExchange, IsCell, IsField, empty, full, AreFields, IsRow, row, AreRows, in_field, in_rows, location_in, Shape, ArgumentTerm, in_memory, in_register, constant, Setting, IsAddition, IsLocked, Instructions, IsCallOfOne, IsLockedMore, IsCellMore}
+use Rattle.litmus_reader.proofs.Vocabulary.{◌≡◌, ℕ, true, false, not, List, [], ◌∷◌, ◌++◌, Option, refl, sym, ap, ◌∙◌, list_any, list_all}
+use Rattle.litmus_reader.proofs.Vocabulary.{bytes_eq, and_parts, and_from, or_parts, not-true, list_all-append, flat_map, is_location_name}
+use Rattle.litmus_reader.proofs.Vocabulary.{is_among, are_distinct, Term, numbered, with_name, IsSetting, sets_register, sets_location}
+use Rattle.litmus_reader.proofs.Vocabulary.{sets_in_squares, IsInitialItem, AreInitialItems, IsInitialState, in_braces, names_in, IsOperand}
+use Rattle.litmus_reader.proofs.Vocabulary.{IsCall, IsMove, IsExchange, IsCell, IsField, empty, full, AreFields, IsRow, row, AreRows}
+use Rattle.litmus_reader.proofs.Vocabulary.{in_field, in_rows, location_in, Shape, ArgumentTerm, in_memory, in_register, constant, Setting}
+use Rattle.litmus_reader.proofs.Vocabulary.{IsAddition, IsLocked, Instructions, IsCallOfOne, IsLockedMore, IsCellMore}
 use Rattle.litmus_reader.specs.GrammarInitial as initial
 use Rattle.litmus_reader.specs.GrammarCells as cells
 use Rattle.litmus_reader.specs.GrammarRows as rows
@@ -41,7 +47,11 @@ names_numbered [] names h are = h
 names_numbered (x ∷ xs) names h are =
     let both = and_parts (is_location_name x) (list_all is_location_name xs) are in
     let one : Spelled (x ∷ []) = and_from (is_location_name x) true both.0 refl in
-    names_numbered xs (with_name names x) (with_name_by AreNames names x (λ _. h) (λ new. record { spelled = spelled_both names (x ∷ []) h.spelled one; differ = distinct-push x names h.differ new })) both.1
+    names_numbered xs (with_name names x)
+    (with_name_by AreNames names x (λ _. h)
+    (λ new.
+    record { spelled = spelled_both names (x ∷ []) h.spelled one; differ = distinct-push x names h.differ new }))
+    both.1
 
 -- ---- those of the grammar
 
@@ -57,7 +67,8 @@ item_spelled _ _ (initial.given ts s is) = setting_spelled ts s is
 items_spelled : (ts : List Term) (settings : List Setting) → AreInitialItems ts settings → Spelled (names_in settings)
 items_spelled _ _ (initial.last ts item is) = item_spelled ts item is
 items_spelled _ _ (initial.more ts others item settings is are) =
-    ap (list_all is_location_name) (names_in-append item settings) ∙ spelled_both (names_in item) (names_in settings) (item_spelled ts item is) (items_spelled others settings are)
+    ap (list_all is_location_name) (names_in-append item settings)
+    ∙ spelled_both (names_in item) (names_in settings) (item_spelled ts item is) (items_spelled others settings are)
 
 pub state_spelled : (ts : List Term) (settings : List Setting) → IsInitialState ts settings → Spelled (names_in settings)
 state_spelled _ _ (in_braces ts settings are) = items_spelled ts settings are
@@ -131,7 +142,9 @@ Named shapes = Spelled (flat_map location_in shapes)
 named_both : (xs ys : List Shape) → Named xs → Named ys → Named (xs ++ ys)
 named_both [] ys h k = k
 named_both (x ∷ xs) ys h k =
-    let parts = and_parts (list_all is_location_name (location_in x)) (list_all is_location_name (flat_map location_in xs)) (sym (list_all-append is_location_name (location_in x) (flat_map location_in xs)) ∙ h) in
+    let parts =
+    and_parts (list_all is_location_name (location_in x)) (list_all is_location_name (flat_map location_in xs))
+    (sym (list_all-append is_location_name (location_in x) (flat_map location_in xs)) ∙ h) in
     spelled_both (location_in x) (flat_map location_in (xs ++ ys)) parts.0 (named_both xs ys parts.1 k)
 
 field_named : (set : Instructions) (ts : List Term) (c : Option Shape) → IsField set ts c → Named (in_field c)
@@ -147,4 +160,5 @@ row_named set cores _ _ (row ts fields are count) = fields_named set ts fields a
 
 pub rows_named : (set : Instructions) (cores : ℕ) (ts : List Term) (all : List (List (Option Shape))) → AreRows set cores ts all → Named (in_rows all)
 rows_named set cores _ _ table.none = refl
-rows_named set cores _ _ (table.more ts us one others is are) = named_both (flat_map in_field one) (in_rows others) (row_named set cores ts one is) (rows_named set cores us others are)
+rows_named set cores _ _ (table.more ts us one others is are) =
+    named_both (flat_map in_field one) (in_rows others) (row_named set cores ts one is) (rows_named set cores us others are)

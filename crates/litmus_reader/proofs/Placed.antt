@@ -1,5 +1,6 @@
 -- The instructions of rows as one list, each with its core: so they are read.
-use Rattle.litmus_reader.proofs.Vocabulary.{count_by, most_instructions, most_locations, CoreInstr, of_core, numbered, location_in, instr_with, ValueFits, Shape}
+use Rattle.litmus_reader.proofs.Vocabulary.{count_by, most_instructions, most_locations, CoreInstr, of_core, numbered, location_in}
+use Rattle.litmus_reader.proofs.Vocabulary.{instr_with, ValueFits, Shape}
 use Rattle.std.specs.Prelude.{◌≤◌, ℕ, ◌+◌, List, [], ◌∷◌, ◌++◌, length, map, Option, Some, None, ◌==◌}
 
 -- an instruction in a core's column, with the name of its location

@@ -1,6 +1,10 @@
 -- What readings give, as proofs speak of it.
 use Rattle.std.specs.Prelude.{◌≡◌, List, ◌++◌, Result, Ok, ℕ, true, [], ◌∷◌, length, IsTrue, Option, Some, None, ◌+◌, Bool, ◌||◌}
-use Rattle.litmus_reader.proofs.Vocabulary.{row_ends, section_of, Section, Term, Piece, Passes, Fault, Initial, words_of, registers_of, numbered, Stop, row_at, Rows, rows, terms, spelled_in, Claimed, claimed, Proposition, Conditioned, conditioned, Quantifier, AreRows, ends_rows, ends_rows_term, IsCondition, IsWithin, locations_in, atoms_of, claim_by, has_cores, names_in, first_words, first_registers, Shape, Setting, Phrase, cells_of, is_symbol_term, Tilde, Instructions}
+use Rattle.litmus_reader.proofs.Vocabulary.{row_ends, section_of, Section, Term, Piece, Passes, Fault, Initial, words_of, registers_of}
+use Rattle.litmus_reader.proofs.Vocabulary.{numbered, Stop, row_at, Rows, rows, terms, spelled_in, Claimed, claimed, Proposition}
+use Rattle.litmus_reader.proofs.Vocabulary.{Conditioned, conditioned, Quantifier, AreRows, ends_rows, ends_rows_term, IsCondition, IsWithin}
+use Rattle.litmus_reader.proofs.Vocabulary.{locations_in, atoms_of, claim_by, has_cores, names_in, first_words, first_registers, Shape}
+use Rattle.litmus_reader.proofs.Vocabulary.{Setting, Phrase, cells_of, is_symbol_term, Tilde, Instructions}
 use Rattle.litmus_reader.proofs.Placed.{Placed, placed_in, instrs_with, locations_of, EntriesWithin}
 
 -- nothing is there, or a token with which no row begins

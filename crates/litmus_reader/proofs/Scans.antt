@@ -1,5 +1,6 @@
 -- What a loop over a list finds, where it goes from one item to the next.
-use Rattle.litmus_reader.proofs.Vocabulary.{◌≡◌, ◌∙◌, ℕ, ◌+◌, ◌<◌, ◌≤◌, Bool, true, false, cond, ◌||◌, List, length, drop, Some, None, sym, ap, subst, arith, position, position_or_len, lt-ltb, le-ltb, prefix_len, ltb}
+use Rattle.litmus_reader.proofs.Vocabulary.{◌≡◌, ◌∙◌, ℕ, ◌+◌, ◌<◌, ◌≤◌, Bool, true, false, cond, ◌||◌, List, length, drop, Some, None, sym}
+use Rattle.litmus_reader.proofs.Vocabulary.{ap, subst, arith, position, position_or_len, lt-ltb, le-ltb, prefix_len, ltb}
 use Rattle.std.proofs.Common.{slice_index_or}
 use Rattle.std.specs.List.{list_any}
 use Rattle.std.proofs.lemmas.Option.{slice_get-get_or}
@@ -16,20 +17,30 @@ module _ {X : Type 0} (p : X → Bool) where
       let is : i ≡ position_or_len p xs = omega (arith, so_far, none) in
       subst (λ n. None ≡ cond (ltb n (length xs)) (Some n) None) is (sym (ap (λ b. cond b (Some i) None) (le-ltb i (length xs) l)))
 
-  pub any_on : (xs : List X) (i : ℕ) (d : X) (b : Bool) → i < length xs → p (slice_index_or xs i d) ≡ b → list_any p (drop i xs) ≡ (b || list_any p (drop (i + 1) xs))
+  pub any_on : (xs : List X) (i : ℕ) (d : X) (b : Bool)
+      → i < length xs
+      → p (slice_index_or xs i d) ≡ b
+      → list_any p (drop i xs) ≡ (b || list_any p (drop (i + 1) xs))
   any_on xs i d b l q = ap (list_any p) (drop-at xs i (slice_index_or xs i d) (slice_get-get_or xs i d l)) ∙ ap (λ b. b || list_any p (drop (i + 1) xs)) q
 
   pub any_ends : (xs : List X) (i : ℕ) → length xs ≤ i → i ≤ length xs → list_any p (drop i xs) ≡ false
   any_ends xs i l m = ap (list_any p) (drop-end xs i (omega (arith, l, m)))
 
-  pub prefix_on : (xs : List X) (i : ℕ) (d : X) → i < length xs → p (slice_index_or xs i d) ≡ true → i + 1 + prefix_len p (drop (i + 1) xs) ≡ i + prefix_len p (drop i xs)
+  pub prefix_on : (xs : List X) (i : ℕ) (d : X)
+      → i < length xs
+      → p (slice_index_or xs i d) ≡ true
+      → i + 1 + prefix_len p (drop (i + 1) xs) ≡ i + prefix_len p (drop i xs)
   prefix_on xs i d l q =
       let step : prefix_len p (drop i xs) ≡ 1 + prefix_len p (drop (i + 1) xs) =
       ap (prefix_len p) (drop-at xs i (slice_index_or xs i d) (slice_get-get_or xs i d l)) ∙ ap (λ b. cond b (1 + prefix_len p (drop (i + 1) xs)) 0) q in
       omega (arith, step)
 
   -- the prefix ends at an item that doesn't pass, or with the list
-  pub prefix_is : (xs : List X) (i : ℕ) (d : X) → i < length xs → p (slice_index_or xs i d) ≡ false → i + prefix_len p (drop i xs) ≡ prefix_len p xs → i ≡ prefix_len p xs
+  pub prefix_is : (xs : List X) (i : ℕ) (d : X)
+      → i < length xs
+      → p (slice_index_or xs i d) ≡ false
+      → i + prefix_len p (drop i xs) ≡ prefix_len p xs
+      → i ≡ prefix_len p xs
   prefix_is xs i d l q so_far =
       let none : prefix_len p (drop i xs) ≡ 0 =
       ap (prefix_len p) (drop-at xs i (slice_index_or xs i d) (slice_get-get_or xs i d l)) ∙ ap (λ b. cond b (1 + prefix_len p (drop (i + 1) xs)) 0) q in

@@ -1,5 +1,8 @@
 -- Units by what begins them, and by how many negations and brackets may be open in them.
-use Rattle.litmus_reader.proofs.Vocabulary.{◌≡◌, ℕ, zero, suc, ◌-◌, ◌<◌, Bool, true, false, ◌||◌, List, cond, Option, Some, None, Result, Ok, Err, refl, sym, ap, arith, Stop, Piece, TooLarge, Fault, ReadError, Fails, ◌>>=◌, opens_unit, atom_at, unit_by, unit_at, proposition_at, negation_at, fault, remaining_of, there, symbol_at, OpenRound, bracketed, Claimed, length, Bor, Token}
+use Rattle.litmus_reader.proofs.Vocabulary.{◌≡◌, ℕ, zero, suc, ◌-◌, ◌<◌, Bool, true, false, ◌||◌, List, cond, Option, Some, None, Result}
+use Rattle.litmus_reader.proofs.Vocabulary.{Ok, Err, refl, sym, ap, arith, Stop, Piece, TooLarge, Fault, ReadError, Fails, ◌>>=◌}
+use Rattle.litmus_reader.proofs.Vocabulary.{opens_unit, atom_at, unit_by, unit_at, proposition_at, negation_at, fault, remaining_of, there}
+use Rattle.litmus_reader.proofs.Vocabulary.{symbol_at, OpenRound, bracketed, Claimed, length, Bor, Token}
 use Rattle.std.specs.Prelude.{is_some, IfOk}
 use Rattle.litmus_reader.specs.inner.Propositions.{opening_at, as_negation, closed, opened_at}
 use Rattle.litmus_reader.specs.declared.condition.Opening.{Opening}
@@ -21,7 +24,10 @@ rest_is : (s : Opening) (x y : List Piece) → (let a : Begun = Some (s, x) in a
 rest_is s x y e = ap (λ (q : Opening × List Piece). q.1) (some_is (s, x) (s, y) e)
 
 differ : (x y : List Piece) → (let a : Begun = Some (openings.Negation, x) in a) ≡ Some (openings.Bracket, y) → ⊥
-differ x y e = let signs : openings.Negation ≡ openings.Bracket = ap (λ (q : Opening × List Piece). q.0) (some_is (openings.Negation, x) (openings.Bracket, y) e) in cc
+differ x y e =
+    let signs : openings.Negation ≡ openings.Bracket =
+    ap (λ (q : Opening × List Piece). q.0) (some_is (openings.Negation, x) (openings.Bracket, y) e) in
+    cc
 
 by_negation : {X : Type 0} (n o : Option (List Piece)) (f g : List Piece → X) (atom : X) (rest : List Piece)
     → (let a : Begun = Some (openings.Negation, rest) in a) ≡ opening_of n o → there n f (there o g atom) ≡ f rest
@@ -35,7 +41,9 @@ by_bracket (Some r) o f g atom rest e = absurd (differ r rest (sym e))
 by_bracket None (Some r) f g atom rest e = ap g (sym (rest_is openings.Bracket rest r e))
 by_bracket None None f g atom rest e = absurd (let z : ⊥ = cc in z)
 
-by_none : {X : Type 0} (n o : Option (List Piece)) (f g : List Piece → X) (atom : X) → (let a : Begun = None in a) ≡ opening_of n o → there n f (there o g atom) ≡ atom
+by_none : {X : Type 0} (n o : Option (List Piece)) (f g : List Piece → X) (atom : X)
+    → (let a : Begun = None in a) ≡ opening_of n o
+    → there n f (there o g atom) ≡ atom
 by_none (Some r) o f g atom e = absurd (let z : ⊥ = cc in z)
 by_none None (Some r) f g atom e = absurd (let z : ⊥ = cc in z)
 by_none None None f g atom e = refl
@@ -56,11 +64,15 @@ abbrev last : Stop → ℕ → ℕ → List (List ℕ) → List Piece → Bool �
 last stop cores atoms names ps b = cond b (Err (fault TooLarge (remaining_of ps))) (atom_at stop cores atoms names ps)
 
 module _ (stop : Stop) (cores : ℕ) where
-  pub unit_atom : (opens atoms : ℕ) (names : List (List ℕ)) (ps : List Piece) → None ≡ opening_at ps → unit_at stop cores opens atoms names ps ≡ atom_at stop cores atoms names ps
+  pub unit_atom : (opens atoms : ℕ) (names : List (List ℕ)) (ps : List Piece)
+      → None ≡ opening_at ps
+      → unit_at stop cores opens atoms names ps ≡ atom_at stop cores atoms names ps
   unfolding unit_at unit_by opens_unit
   unit_atom zero atoms names ps none = ap (last stop cores atoms names ps) (opens_none (negation_at ps) (symbol_at OpenRound ps) none)
   unit_atom (suc n) atoms names ps none =
-      by_none (negation_at ps) (symbol_at OpenRound ps) (λ rest. unit_at stop cores n atoms names rest >>= as_negation) (bracketed stop (unit_at stop cores n) atoms names) (atom_at stop cores atoms names ps) none
+      by_none (negation_at ps) (symbol_at OpenRound ps)
+      (λ rest. unit_at stop cores n atoms names rest >>= as_negation)
+      (bracketed stop (unit_at stop cores n) atoms names) (atom_at stop cores atoms names ps) none
 
   pub unit_refused : (opens atoms : ℕ) (names : List (List ℕ)) (ps : List Piece) (x : Opening × List Piece) → opens ≡ 0 → Some x ≡ opening_at ps
       → unit_at stop cores opens atoms names ps ≡ Err (fault TooLarge (remaining_of ps))
@@ -74,7 +86,9 @@ module _ (stop : Stop) (cores : ℕ) where
   unit_negated zero atoms names ps inside some is = absurd (omega arith)
   unit_negated (suc n) atoms names ps inside some is =
       let e : suc n - 1 ≡ n = omega arith in
-      rw e (by_negation (negation_at ps) (symbol_at OpenRound ps) (λ rest. unit_at stop cores n atoms names rest >>= as_negation) (bracketed stop (unit_at stop cores n) atoms names) (atom_at stop cores atoms names ps) inside is)
+      rw e (by_negation (negation_at ps) (symbol_at OpenRound ps)
+      (λ rest. unit_at stop cores n atoms names rest >>= as_negation)
+      (bracketed stop (unit_at stop cores n) atoms names) (atom_at stop cores atoms names ps) inside is)
 
   unit_bracketed : (opens atoms : ℕ) (names : List (List ℕ)) (ps inside : List Piece) → 0 < opens → Some (openings.Bracket, inside) ≡ opening_at ps
       → unit_at stop cores opens atoms names ps ≡ (proposition_at stop cores (opens - 1) atoms names inside >>= closed stop)
@@ -82,7 +96,9 @@ module _ (stop : Stop) (cores : ℕ) where
   unit_bracketed zero atoms names ps inside some is = absurd (omega arith)
   unit_bracketed (suc n) atoms names ps inside some is =
       let e : suc n - 1 ≡ n = omega arith in
-      rw e (by_bracket (negation_at ps) (symbol_at OpenRound ps) (λ rest. unit_at stop cores n atoms names rest >>= as_negation) (bracketed stop (unit_at stop cores n) atoms names) (atom_at stop cores atoms names ps) inside is)
+      rw e (by_bracket (negation_at ps) (symbol_at OpenRound ps)
+      (λ rest. unit_at stop cores n atoms names rest >>= as_negation)
+      (bracketed stop (unit_at stop cores n) atoms names) (atom_at stop cores atoms names ps) inside is)
 
   pub unit_opened : (opening : Opening) (opens atoms : ℕ) (names : List (List ℕ)) (ps inside : List Piece) → 0 < opens → Some (opening, inside) ≡ opening_at ps
       → unit_at stop cores opens atoms names ps ≡ opened_at opening stop cores (opens - 1) atoms names inside
@@ -97,6 +113,9 @@ fails_first (errors.Fault f) r k fails = ap (λ z. z >>= k) fails
 
 -- ---- what is shorter than a part is shorter than the whole
 
-pub shorter_still : {X : Type 0} (r : Result (X × Bor (List Token)) ReadError) (part whole : ℕ) → part < whole → IfOk r (λ x. length x.1.now < part) → IfOk r (λ x. length x.1.now < whole)
+pub shorter_still : {X : Type 0} (r : Result (X × Bor (List Token)) ReadError) (part whole : ℕ)
+    → part < whole
+    → IfOk r (λ x. length x.1.now < part)
+    → IfOk r (λ x. length x.1.now < whole)
 shorter_still (Ok x) part whole less within = omega (arith, less, within)
 shorter_still (Err e) part whole less within = tt

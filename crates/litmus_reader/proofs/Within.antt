@@ -1,5 +1,20 @@
 -- What a text spells is within the limits of a test, for what is written keeps them.
-use Rattle.litmus_reader.proofs.Vocabulary.{◌≡◌, ℕ, zero, suc, ◌≤◌, ◌<◌, ◌^◌, Bool, true, false, cond, not, eqb, ltb, ◌&&◌, List, [], ◌∷◌, ◌++◌, length, map, All, Option, Some, None, Ok, refl, sym, ap, subst, ◌∙◌, arith, list_all, bytes_eq, IsUtf8, and_parts, and_from, ltb-true, nat_tests, AllPass-from_list_all, All-weaker, All-nil, All-cons, All-head, All-tail, All-map, length-map, length-map-range_with_len, range_with_len, flat_map, Litmus, IsTest, KnownLocation, ConstantIsWord, IsProgram, IsWord, AreRegisters, NamesExist, atoms_in, negations_in, Condition, is_name, is_location_name, is_register_word, is_test_name, is_printable, begins_name, continues_name, last_byte, Term, And, Or, Symbol, Stop, Piece, header_at, Initial, initial_at, Table, table_at, tail_at, test_of, body_of, reading_of, numbered, Fits, first_registers, first_registers_of, value_in, given_value, names_in, in_field, in_rows, column, location_in, instr_with, ValueFits, Shape, store_imm, store_reg, load, set_imm, set_reg, fence, xchg, xadd, IsAtom, says_true, says_false, says_setting, AreJoined, IsConjunction, IsProposition, IsUnit, in_brackets, condition, MayAsk, nothing, a_condition, IsEnding, at_once, after_locations, names_asked, IsAskedWithin, settings_in, locations_in, atoms_of, PhraseFits, claim_by, Setting, of_register, of_location, Phrase, truth, atom, negation, both, either, WrittenCondition, Written, tokens_in, stop_of, condition_of, AreWithin, Instr, slice_index_or, Eax, Ebx, Ecx, Edx, Esi, Edi, Instructions}
+use Rattle.litmus_reader.proofs.Vocabulary.{◌≡◌, ℕ, zero, suc, ◌≤◌, ◌<◌, ◌^◌, Bool, true, false, cond, not, eqb, ltb, ◌&&◌, List, [], ◌∷◌}
+use Rattle.litmus_reader.proofs.Vocabulary.{◌++◌, length, map, All, Option, Some, None, Ok, refl, sym, ap, subst, ◌∙◌, arith, list_all}
+use Rattle.litmus_reader.proofs.Vocabulary.{bytes_eq, IsUtf8, and_parts, and_from, ltb-true, nat_tests, AllPass-from_list_all, All-weaker}
+use Rattle.litmus_reader.proofs.Vocabulary.{All-nil, All-cons, All-head, All-tail, All-map, length-map, length-map-range_with_len}
+use Rattle.litmus_reader.proofs.Vocabulary.{range_with_len, flat_map, Litmus, IsTest, KnownLocation, ConstantIsWord, IsProgram, IsWord}
+use Rattle.litmus_reader.proofs.Vocabulary.{AreRegisters, NamesExist, atoms_in, negations_in, Condition, is_name, is_location_name}
+use Rattle.litmus_reader.proofs.Vocabulary.{is_register_word, is_test_name, is_printable, begins_name, continues_name, last_byte, Term, And}
+use Rattle.litmus_reader.proofs.Vocabulary.{Or, Symbol, Stop, Piece, header_at, Initial, initial_at, Table, table_at, tail_at, test_of}
+use Rattle.litmus_reader.proofs.Vocabulary.{body_of, reading_of, numbered, Fits, first_registers, first_registers_of, value_in, given_value}
+use Rattle.litmus_reader.proofs.Vocabulary.{names_in, in_field, in_rows, column, location_in, instr_with, ValueFits, Shape, store_imm}
+use Rattle.litmus_reader.proofs.Vocabulary.{store_reg, load, set_imm, set_reg, fence, xchg, xadd, IsAtom, says_true, says_false}
+use Rattle.litmus_reader.proofs.Vocabulary.{says_setting, AreJoined, IsConjunction, IsProposition, IsUnit, in_brackets, condition, MayAsk}
+use Rattle.litmus_reader.proofs.Vocabulary.{nothing, a_condition, IsEnding, at_once, after_locations, names_asked, IsAskedWithin}
+use Rattle.litmus_reader.proofs.Vocabulary.{settings_in, locations_in, atoms_of, PhraseFits, claim_by, Setting, of_register, of_location}
+use Rattle.litmus_reader.proofs.Vocabulary.{Phrase, truth, atom, negation, both, either, WrittenCondition, Written, tokens_in, stop_of}
+use Rattle.litmus_reader.proofs.Vocabulary.{condition_of, AreWithin, Instr, slice_index_or, Eax, Ebx, Ecx, Edx, Esi, Edi, Instructions}
 use Rattle.litmus_tokens.specs.Shapes.{compare_exchange, locked_constant, locked_register, locked_negate, combine_constant, combine_register, negate, swap}
 use Rattle.litmus_tokens.specs.Shapes as shapes
 use Rattle.std.proofs.lemmas.Str.{IsUtf8-from_ascii}
@@ -64,7 +79,9 @@ atom_keeps d _ _ (says_setting ts s is) = record { spelled = setting_spelled ts 
 
 both_keep : (d : ℕ) (p q : Phrase) → KeepsPhrase d p → KeepsPhrase d q → KeepsPhrase d (both p q)
 both_keep d p q h k = record {
-  spelled = ap (list_all is_location_name) (names_in-append (settings_in p) (settings_in q)) ∙ spelled_both (locations_in p) (locations_in q) h.spelled k.spelled;
+  spelled =
+      ap (list_all is_location_name) (names_in-append (settings_in p) (settings_in q))
+      ∙ spelled_both (locations_in p) (locations_in q) h.spelled k.spelled;
   negations = λ names. let m = h.negations names in let n = k.negations names in omega (arith, m, n);
 }
 
@@ -74,7 +91,9 @@ either_keep d p q h k = let b = both_keep d p q h k in record { spelled = b.spel
 abbrev Keeping : ℕ → (List Term → Phrase → Type 0) → Type 0
 Keeping d Is = (ts : List Term) (p : Phrase) → Is ts p → KeepsPhrase d p
 
-joined_keep : (s : Symbol) (join : Phrase → Phrase → Phrase) (Is : List Term → Phrase → Type 0) (d : ℕ) → ((p q : Phrase) → KeepsPhrase d p → KeepsPhrase d q → KeepsPhrase d (join p q)) → Keeping d Is
+joined_keep : (s : Symbol) (join : Phrase → Phrase → Phrase) (Is : List Term → Phrase → Type 0) (d : ℕ)
+    → ((p q : Phrase) → KeepsPhrase d p → KeepsPhrase d q → KeepsPhrase d (join p q))
+    → Keeping d Is
     → Keeping d (AreJoined s join Is)
 joined_keep s join Is d two part _ _ (conditions.one ts p is) = part ts p is
 joined_keep s join Is d two part _ _ (conditions.more ts us p q are is) = two p q (joined_keep s join Is d two part ts p are) (part us q is)
@@ -93,13 +112,22 @@ unit_keeps : (n : ℕ) → Keeping n (IsUnit n)
 unit_keeps zero = atom_keeps zero
 unit_keeps (suc n) = next_keeps n (unit_keeps n)
 
-exist_by : (cores : ℕ) (names : List (List ℕ)) (p : Phrase) → AllKnown names (locations_in p) → PhraseFits cores p → NamesExist cores (length names) (claim_by names p)
+exist_by : (cores : ℕ) (names : List (List ℕ)) (p : Phrase)
+    → AllKnown names (locations_in p)
+    → PhraseFits cores p
+    → NamesExist cores (length names) (claim_by names p)
 exist_by cores names (truth b) k f = tt
 exist_by cores names (atom (of_register core reg v)) k f = (fits_atom cores (of_register core reg v) f).0
 exist_by cores names (atom (of_location x v)) k f = place_below (bytes_eq x) names k.0
 exist_by cores names (negation p) k f = exist_by cores names p k f
-exist_by cores names (both p q) k f = let known = known_both p q names k in let fits = each_fits cores p q f in (exist_by cores names p known.0 fits.0, exist_by cores names q known.1 fits.1)
-exist_by cores names (either p q) k f = let known = known_both p q names k in let fits = each_fits cores p q f in (exist_by cores names p known.0 fits.0, exist_by cores names q known.1 fits.1)
+exist_by cores names (both p q) k f =
+    let known = known_both p q names k in
+    let fits = each_fits cores p q f in
+    (exist_by cores names p known.0 fits.0, exist_by cores names q known.1 fits.1)
+exist_by cores names (either p q) k f =
+    let known = known_both p q names k in
+    let fits = each_fits cores p q f in
+    (exist_by cores names p known.0 fits.0, exist_by cores names q known.1 fits.1)
 
 atoms_by : (names : List (List ℕ)) (p : Phrase) → atoms_in (claim_by names p) ≡ atoms_of p
 atoms_by names (truth b) = refl
@@ -134,7 +162,10 @@ body_names set braces w b =
 
 -- ---- words and registers
 
-value_word : (is : Setting → Bool) (otherwise : ℕ) (settings : List Setting) → IsWord otherwise → list_all (λ s. ltb (given_value s) (2 ^ 32)) settings ≡ true → IsWord (value_in is otherwise settings)
+value_word : (is : Setting → Bool) (otherwise : ℕ) (settings : List Setting)
+    → IsWord otherwise
+    → list_all (λ s. ltb (given_value s) (2 ^ 32)) settings ≡ true
+    → IsWord (value_in is otherwise settings)
 value_word is otherwise [] w all = w
 value_word is otherwise (s ∷ rest) w all =
     let both = and_parts (ltb (given_value s) (2 ^ 32)) (list_all (λ s. ltb (given_value s) (2 ^ 32)) rest) all in
@@ -150,7 +181,9 @@ first_value is settings fits = value_word is 0 settings (omega arith) fits.value
 registers_are : (settings : List Setting) (cores : ℕ) → Fits settings → All AreRegisters (first_registers settings cores)
 registers_are settings cores fits = All-map AreRegisters (first_registers_of settings) (range_with_len 0 cores) (λ i d lt. record {
   six = refl;
-  words = All-map IsWord (λ r. value_in (initial.names_register (slice_index_or (range_with_len 0 cores) i d) r) 0 settings) (Eax ∷ Ebx ∷ Ecx ∷ Edx ∷ Esi ∷ Edi ∷ []) (λ j e less. first_value _ settings fits);
+  words =
+      All-map IsWord (λ r. value_in (initial.names_register (slice_index_or (range_with_len 0 cores) i d) r) 0 settings)
+      (Eax ∷ Ebx ∷ Ecx ∷ Edx ∷ Esi ∷ Edi ∷ []) (λ j e less. first_value _ settings fits);
 })
 
 -- ---- programs
@@ -176,7 +209,9 @@ from_all : {X : Type 0} (P : X → Type 0) (xs : List X) → All P xs → Each P
 from_all P [] h = tt
 from_all P (x ∷ xs) h = (All-head P x xs h, from_all P xs (All-tail P x xs h))
 
-in_one_field : (P : Shape → Type 0) (core : ℕ) (fields : List (Option Shape)) → Each P (flat_map in_field fields) → Each P (in_field (slice_index_or fields core None))
+in_one_field : (P : Shape → Type 0) (core : ℕ) (fields : List (Option Shape))
+    → Each P (flat_map in_field fields)
+    → Each P (in_field (slice_index_or fields core None))
 in_one_field P zero [] h = tt
 in_one_field P (suc core) [] h = tt
 in_one_field P zero (c ∷ cs) h = (each_part P (in_field c) (flat_map in_field cs) h).0
@@ -188,9 +223,13 @@ in_one_column P core (one ∷ others) h =
     let parts = each_part P (flat_map in_field one) (in_rows others) h in
     each_join P (in_field (slice_index_or one core None)) (column core others) (in_one_field P core one parts.0) (in_one_column P core others parts.1)
 
-shapes_known : (shapes : List Shape) (names : List (List ℕ)) → AllKnown names (flat_map location_in shapes) → Each (λ shape. AllKnown names (location_in shape)) shapes
+shapes_known : (shapes : List Shape) (names : List (List ℕ))
+    → AllKnown names (flat_map location_in shapes)
+    → Each (λ shape. AllKnown names (location_in shape)) shapes
 shapes_known [] names k = tt
-shapes_known (s ∷ shapes) names k = let parts = known_parts (location_in s) (flat_map location_in shapes) names k in (parts.0, shapes_known shapes names parts.1)
+shapes_known (s ∷ shapes) names k =
+    let parts = known_parts (location_in s) (flat_map location_in shapes) names k in
+    (parts.0, shapes_known shapes names parts.1)
 
 location_known : (names : List (List ℕ)) (shape : Shape) → AllKnown names (location_in shape) → KnownLocation (length names) (instr_with names shape)
 location_known names (store_imm x v) k = place_below (bytes_eq x) names k.0
@@ -250,7 +289,8 @@ condition_fits cores names (Some c) k h = λ x e.
 
 column_words : (w : Written) (core : ℕ) → AreWithin (first_names w) w.table → All ConstantIsWord (map (instr_with (located w)) (column core w.table))
 column_words w core h =
-    each_all ValueFits ConstantIsWord (instr_with (located w)) (constant_word (located w)) (column core w.table) (in_one_column ValueFits core w.table (from_all ValueFits (in_rows w.table) h.values))
+    each_all ValueFits ConstantIsWord (instr_with (located w)) (constant_word (located w)) (column core w.table)
+    (in_one_column ValueFits core w.table (from_all ValueFits (in_rows w.table) h.values))
 
 column_fits : (w : Written) (core : ℕ) → AreWithin (first_names w) w.table → IsProgram (length (located w)) (map (instr_with (located w)) (column core w.table))
 column_fits w core h =
@@ -260,7 +300,9 @@ column_fits w core h =
     let known = shapes_known (in_rows w.table) all (all_known_more named (names_asked w.asked) (located_in_rows w) (all_known named (first_names w))) in
     record {
       size = omega (arith, length-map (column core w.table) (instr_with all), h.few core);
-      locations_known = each_all Knows (KnownLocation (length all)) (instr_with all) (location_known all) (column core w.table) (in_one_column Knows core w.table known);
+      locations_known =
+          each_all Knows (KnownLocation (length all)) (instr_with all) (location_known all) (column core w.table)
+          (in_one_column Knows core w.table known);
     }
 
 written_is_test : (set : Instructions) (text : List ℕ) (w : Written) → IsText set text w → KeepsLimits w → IsTest (test_written w)
@@ -297,11 +339,18 @@ spelled_is_test set text t e = let f = text_takes set text t e in subst IsTest (
 pub name_is_text : (text called rest : List ℕ) → Ok (called, rest) ≡ header_at text → IsUtf8 called
 name_is_text text called rest at = test_text called (header_takes text called rest (sym at)).good
 
-pub names_are_text : (set : Instructions) (text : List ℕ) (rest : List Piece) (i : Initial) (t : Table) (asked : Option Condition) (names : List (List ℕ)) → initial_at (stop_of set text) [] (tokens_in set text) ≡ Ok (i, rest)
-    → table_at set (stop_of set text) i.registers i.names rest ≡ Ok t → tail_at set text (stop_of set text) t.cores t.rows.names t.rows.rest ≡ Ok (asked, names) → All (λ x. IsUtf8 x) names
+pub names_are_text : (set : Instructions) (text : List ℕ) (rest : List Piece) (i : Initial) (t : Table)
+    (asked : Option Condition) (names : List (List ℕ))
+    → initial_at (stop_of set text) [] (tokens_in set text) ≡ Ok (i, rest)
+    → table_at set (stop_of set text) i.registers i.names rest ≡ Ok t
+    → tail_at set text (stop_of set text) t.cores t.rows.names t.rows.rest ≡ Ok (asked, names)
+    → All (λ x. IsUtf8 x) names
 unfolding body_of
 names_are_text set text rest i t asked names first further ending =
-    let read : body_of set [] text (stop_of set text) (tokens_in set text) ≡ Ok (test_of [] names i.words t.registers t.rows.instrs asked) = rw (first, further, ending) refl in
+    let read : body_of set [] text (stop_of set text) (tokens_in set text)
+    ≡ Ok (test_of [] names i.words t.registers t.rows.instrs asked) =
+    rw (first, further, ending) refl in
     let k = body_taken set [] text _ read in
     let same : names ≡ located k.w = ap (λ (t : Litmus). t.locations) k.says in
-    All-weaker (λ x. is_location_name x ≡ true) (λ x. IsUtf8 x) location_text names (AllPass-from_list_all is_location_name names (rw same (body_names set text k.w k.body).spelled))
+    All-weaker (λ x. is_location_name x ≡ true) (λ x. IsUtf8 x) location_text names
+    (AllPass-from_list_all is_location_name names (rw same (body_names set text k.w k.body).spelled))

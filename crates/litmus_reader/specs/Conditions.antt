@@ -1,7 +1,10 @@
 -- The condition, as it is read: by recursion on its units, of which only so many may be open at once; so the reading comes
 -- to an end.
-use Rattle.std.specs.Prelude.{ℕ, zero, suc, ◌+◌, Bool, true, false, List, length, codes, Option, Some, None, Result, Ok, Err, nat_lt, is_some, ◌||◌, if◌then◌else◌}
-use Rattle.litmus_reader.specs.Vocabulary.{And, AndClaim, BadCondition, Claim, CloseRound, Condition, Exists, Fault, fault, Forall, LocClaim, most_atoms, most_open, NotClaim, NotExists, OpenRound, Or, OrClaim, Piece, Quantifier, RegClaim, Stop, Symbol, symbol_at, there, Tilde, TooLarge, TruthClaim, word_at, ◌>>=◌}
+use Rattle.std.specs.Prelude.{ℕ, zero, suc, ◌+◌, Bool, true, false, List, length, codes, Option, Some, None, Result, Ok, Err, nat_lt}
+use Rattle.std.specs.Prelude.{is_some, ◌||◌, if◌then◌else◌}
+use Rattle.litmus_reader.specs.Vocabulary.{And, AndClaim, BadCondition, Claim, CloseRound, Condition, Exists, Fault, fault, Forall}
+use Rattle.litmus_reader.specs.Vocabulary.{LocClaim, most_atoms, most_open, NotClaim, NotExists, OpenRound, Or, OrClaim, Piece, Quantifier}
+use Rattle.litmus_reader.specs.Vocabulary.{RegClaim, Stop, Symbol, symbol_at, there, Tilde, TooLarge, TruthClaim, word_at, ◌>>=◌}
 use Rattle.litmus_reader.specs.Faults.{or_unfit}
 use Rattle.litmus_reader.specs.Keywords.{word_after}
 use Rattle.litmus_tokens.specs.Locations.{located}

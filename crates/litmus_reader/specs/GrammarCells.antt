@@ -1,7 +1,10 @@
 -- Which tokens spell which instruction in a cell: the x86 instructions as litmus tests write them. (Intel's manual, for
 -- what they are; litmus7 and herd, for the form.)
 use Rattle.std.specs.Prelude.{◌≡◌, ℕ, List, [], ◌∷◌, ◌++◌, codes, Some, IsTrue}
-use Rattle.litmus_reader.specs.Vocabulary.{All, CloseSquare, combine_constant, combine_register, Comma, compare_exchange, Dollar, fence, Instructions, is_location_name, load, locked_constant, locked_negate, locked_register, negate, nothing, OpenSquare, Reg, register_named, same_letters, set_imm, set_reg, Shape, store_imm, store_reg, swap, xadd, xchg}
+use Rattle.litmus_reader.specs.Vocabulary.{All, CloseSquare, combine_constant, combine_register, Comma, compare_exchange, Dollar, fence}
+use Rattle.litmus_reader.specs.Vocabulary.{Instructions, is_location_name, load, locked_constant, locked_negate, locked_register, negate}
+use Rattle.litmus_reader.specs.Vocabulary.{nothing, OpenSquare, Reg, register_named, same_letters, set_imm, set_reg, Shape, store_imm}
+use Rattle.litmus_reader.specs.Vocabulary.{store_reg, swap, xadd, xchg}
 use Rattle.tso_terms.specs.declared.action.Operator.{Operator}
 use Rattle.tso_terms.specs.declared.action.Operator.TheVariants as operator
 use Rattle.litmus_reader.specs.GrammarNumerals.{IsNumeral}

@@ -1,7 +1,9 @@
 -- Which tokens spell which proposition: `/\` binds closer than `\/`, and `~` closer than both, so each is read in one way.
 use Rattle.std.specs.Prelude.{◌≤◌, ℕ, zero, suc, ◌+◌, true, false, List, [], ◌∷◌, ◌++◌, length, codes, IsTrue, Bool, ◌||◌}
 use Rattle.std.specs.List.{list_all}
-use Rattle.litmus_reader.specs.Vocabulary.{And, AndClaim, Claim, CloseRound, decimal_value, Exists, Forall, is_symbol_term, LocClaim, most_atoms, most_locations, most_open, NotClaim, NotExists, number_of, numbered, OpenRound, Or, OrClaim, Quantifier, RegClaim, Symbol, Tilde, TruthClaim}
+use Rattle.litmus_reader.specs.Vocabulary.{And, AndClaim, Claim, CloseRound, decimal_value, Exists, Forall, is_symbol_term, LocClaim}
+use Rattle.litmus_reader.specs.Vocabulary.{most_atoms, most_locations, most_open, NotClaim, NotExists, number_of, numbered, OpenRound, Or}
+use Rattle.litmus_reader.specs.Vocabulary.{OrClaim, Quantifier, RegClaim, Symbol, Tilde, TruthClaim}
 use Rattle.litmus_tokens.specs.Terms.{Term, name, symbol}
 use Rattle.litmus_reader.specs.GrammarItems.{IsSetting}
 use Rattle.litmus_reader.specs.GrammarInitial.{names_in, is_allowed}

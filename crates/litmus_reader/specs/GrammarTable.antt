@@ -1,7 +1,11 @@
 -- Which tokens spell which rows, and the instructions that these say: a core's program is its column, from top to bottom.
 use Rattle.std.specs.Prelude.{◌<◌, ◌≤◌, ℕ, ◌^◌, Bool, true, List, [], ◌∷◌, ◌++◌, length, All, IfSome, Option, Some, None, ◌||◌, false, codes, slice_index_or}
-use Rattle.litmus_reader.specs.Vocabulary.{combine_constant, combine_register, compare_exchange, fence, Instr, Instructions, is_symbol, load, location, locked_constant, locked_negate, locked_register, most_instructions, most_locations, negate, nothing, number_of, numbered, Piece, set_imm, set_reg, Shape, store_imm, store_reg, swap, Tilde, xadd, xchg}
-use Rattle.tso_terms.specs.declared.instruction.Instr.TheVariants.{StoreImm, StoreReg, Load, SetImm, SetReg, Fence, Xchg, Xadd, CompareExchange, LockedCombine, LockedNegate, Combine, Negate, Swap, Nop}
+use Rattle.litmus_reader.specs.Vocabulary.{combine_constant, combine_register, compare_exchange, fence, Instr, Instructions, is_symbol}
+use Rattle.litmus_reader.specs.Vocabulary.{load, location, locked_constant, locked_negate, locked_register, most_instructions}
+use Rattle.litmus_reader.specs.Vocabulary.{most_locations, negate, nothing, number_of, numbered, Piece, set_imm, set_reg, Shape, store_imm}
+use Rattle.litmus_reader.specs.Vocabulary.{store_reg, swap, Tilde, xadd, xchg}
+use Rattle.tso_terms.specs.declared.instruction.Instr.TheVariants.{StoreImm, StoreReg, Load, SetImm, SetReg, Fence, Xchg, Xadd}
+use Rattle.tso_terms.specs.declared.instruction.Instr.TheVariants.{CompareExchange, LockedCombine, LockedNegate, Combine, Negate, Swap, Nop}
 use Rattle.basic_laws.specs.Types.{Number, Held}
 use Rattle.litmus_tokens.specs.Terms.{Term, name}
 use Rattle.litmus_reader.specs.GrammarRows.{IsRow}

@@ -1,6 +1,7 @@
 -- Which bytes spell a header line, information lines, and the brackets of `locations [..]`. White space and comments,
 -- and that they end, are the lexical layer's.
-use Rattle.std.specs.Prelude.{◌≡◌, ℕ, Bool, List, [], ◌∷◌, ◌++◌, codes, None, Ok, IsTrue, IsFalse, ◌==◌, not, ◌-◌, false, length, take, drop, nat_eq, Option, Some, ◌&&◌, ◌||◌, if◌then◌else◌}
+use Rattle.std.specs.Prelude.{◌≡◌, ℕ, Bool, List, [], ◌∷◌, ◌++◌, codes, None, Ok, IsTrue, IsFalse, ◌==◌, not, ◌-◌, false, length, take}
+use Rattle.std.specs.Prelude.{drop, nat_eq, Option, Some, ◌&&◌, ◌||◌, if◌then◌else◌}
 use Rattle.std.specs.List.{list_all, prefix_len, suffix_len, starts_with, before_first, after_first}
 use Rattle.std.specs.Char.{is_ascii_alphabetic, is_ascii_alphanumeric}
 use Rattle.litmus_reader.specs.Vocabulary.{gap_end, is_test_name}

@@ -1,8 +1,10 @@
 -- The initial state, as it is read: its items one after the other, each refused where it gives a second value.
-use Rattle.std.specs.Prelude.{ℕ, zero, suc, Bool, List, [], ◌∷◌, ◌++◌, length, replicate, Option, Some, None, true, Result, Ok, Err, nat_lt, slice_index_or, slice_set, ◌==◌, ◌&&◌, if◌then◌else◌, false}
+use Rattle.std.specs.Prelude.{ℕ, zero, suc, Bool, List, [], ◌∷◌, ◌++◌, length, replicate, Option, Some, None, true, Result, Ok, Err, nat_lt}
+use Rattle.std.specs.Prelude.{slice_index_or, slice_set, ◌==◌, ◌&&◌, if◌then◌else◌, false}
 use Rattle.std.specs.List.{list_any}
 use Rattle.std.specs.Str.{bytes_eq}
-use Rattle.litmus_reader.specs.Vocabulary.{BadToken, CloseCurly, Fault, fault, index_of, OpenCurly, Piece, Reg, Semicolon, Stop, symbol_at, there, TwiceInit, Unclosed, with_value, word_at, ◌>>=◌}
+use Rattle.litmus_reader.specs.Vocabulary.{BadToken, CloseCurly, Fault, fault, index_of, OpenCurly, Piece, Reg, Semicolon, Stop, symbol_at}
+use Rattle.litmus_reader.specs.Vocabulary.{there, TwiceInit, Unclosed, with_value, word_at, ◌>>=◌}
 use Rattle.litmus_reader.specs.declared.fault.Part.{Part}
 use Rattle.litmus_reader.specs.Faults.{or_unfit}
 use Rattle.litmus_tokens.specs.Locations.{located}

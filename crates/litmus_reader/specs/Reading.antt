@@ -2,7 +2,8 @@
 -- refusal with a line at the end, where lines are counted.
 use Rattle.std.specs.Prelude.{ℕ, ◌-◌, List, [], ◌∷◌, ◌++◌, map, filter, replicate, ◌==◌, length, Option, Result, Ok, Err}
 use Rattle.std.specs.List.{range_with_len}
-use Rattle.litmus_reader.specs.Vocabulary.{BadToken, Condition, CoreInstr, Fault, fault, Instr, Instructions, line_of, Litmus, Piece, pieces_of, Stop, Trailing, Unclosed, ◌>>=◌}
+use Rattle.litmus_reader.specs.Vocabulary.{BadToken, Condition, CoreInstr, Fault, fault, Instr, Instructions, line_of, Litmus, Piece}
+use Rattle.litmus_reader.specs.Vocabulary.{pieces_of, Stop, Trailing, Unclosed, ◌>>=◌}
 use Rattle.litmus_reader.specs.declared.fault.TextFault.{TextFault}
 use Rattle.litmus_reader.specs.Header.{sized, header_at}
 use Rattle.litmus_reader.specs.Information.{braces_at}

@@ -1,6 +1,7 @@
 -- `c:REG=v`, `x=v` and `[x]=v`, as they are in the initial state and in conditions.
 use Rattle.std.specs.Prelude.{ℕ, List, Result, Ok, Err, nat_lt, if◌then◌else◌}
-use Rattle.litmus_reader.specs.Vocabulary.{CloseSquare, Colon, decimal_value, Equals, Fault, fault, NoSuchCore, number_at, numeral_at, OpenSquare, Piece, symbol_at, there, ◌>>=◌}
+use Rattle.litmus_reader.specs.Vocabulary.{CloseSquare, Colon, decimal_value, Equals, Fault, fault, NoSuchCore, number_at, numeral_at}
+use Rattle.litmus_reader.specs.Vocabulary.{OpenSquare, Piece, symbol_at, there, ◌>>=◌}
 use Rattle.litmus_tokens.specs.Names.{location_at, register_at}
 use Rattle.litmus_reader.specs.declared.fault.Part.{Part}
 use Rattle.litmus_reader.specs.Faults.{or_unfit}

@@ -17,15 +17,19 @@ pub use Rattle.litmus_tokens.specs.Terms.{symbol, Term}
 pub use Rattle.litmus_tokens.specs.declared.token.Stop.{Stop}
 pub use Rattle.litmus_tokens.specs.declared.token.Stop.TheVariants.{End}
 pub use Rattle.litmus_tokens.specs.declared.token.Symbol.{Symbol}
-pub use Rattle.litmus_tokens.specs.declared.token.Symbol.TheVariants.{And, Bar, CloseCurly, CloseRound, CloseSquare, Colon, Comma, Dollar, Equals, Minus, OpenCurly, OpenRound, OpenSquare, Or, Semicolon, Tilde}
+pub use Rattle.litmus_tokens.specs.declared.token.Symbol.TheVariants.{And, Bar, CloseCurly, CloseRound, CloseSquare, Colon, Comma, Dollar}
+pub use Rattle.litmus_tokens.specs.declared.token.Symbol.TheVariants.{Equals, Minus, OpenCurly, OpenRound, OpenSquare, Or, Semicolon, Tilde}
 pub use Rattle.litmus_tokens.specs.declared.token.Token.{Token}
 pub use Rattle.litmus_tokens.specs.inner.Pieces.{pieces}
 pub use Rattle.litmus_tokens.specs.Faults.{or_fault, there, ◌>>=◌}
 pub use Rattle.litmus_tokens.specs.GrammarNames.{location, number_of, numbered}
 pub use Rattle.litmus_tokens.specs.Numbers.{hexadecimal_value, negative, word_at}
 pub use Rattle.litmus_tokens.specs.Places.{fault}
-pub use Rattle.litmus_tokens.specs.Shapes.{combine_constant, combine_register, compare_exchange, fence, load, locked_constant, locked_negate, locked_register, negate, nothing, set_imm, set_reg, Shape, store_imm, store_reg, swap, xadd, xchg}
+pub use Rattle.litmus_tokens.specs.Shapes.{combine_constant, combine_register, compare_exchange, fence, load, locked_constant}
+pub use Rattle.litmus_tokens.specs.Shapes.{locked_negate, locked_register, negate, nothing, set_imm, set_reg, Shape, store_imm, store_reg}
+pub use Rattle.litmus_tokens.specs.Shapes.{swap, xadd, xchg}
 pub use Rattle.litmus_cells.specs.declared.cell.CoreInstr.{CoreInstr}
 pub use Rattle.litmus_tokens.specs.declared.fault.Fault.{Fault}
 pub use Rattle.litmus_tokens.specs.declared.fault.Why.{Why}
-pub use Rattle.litmus_tokens.specs.declared.fault.Why.TheVariants.{BadCondition, BadHeaderRow, BadInit, BadToken, NoHeader, NoSuchCore, TooLarge, Trailing, TwiceInit, Unclosed, WrongCells}
+pub use Rattle.litmus_tokens.specs.declared.fault.Why.TheVariants.{BadCondition, BadHeaderRow, BadInit, BadToken, NoHeader, NoSuchCore}
+pub use Rattle.litmus_tokens.specs.declared.fault.Why.TheVariants.{TooLarge, Trailing, TwiceInit, Unclosed, WrongCells}

@@ -89,7 +89,8 @@ pub fn parts_of(
 ) -> Result<TestParts, ReadError>
     requires name { IsUtf8 name.now }
     requires names { All (λ name. IsUtf8 name) (texts names.now) }
-    ensures { Gives (λ parts. litmus_of parts) result (Ok (spec.test_of name.now (texts names.now) words.old.items table.old.registers.items table.old.instrs.items (asked_of cond.old))) }
+    ensures { Gives (λ parts. litmus_of parts) result
+        (Ok (spec.test_of name.now (texts names.now) words.old.items table.old.registers.items table.old.instrs.items (asked_of cond.old))) }
 {
     let cores = table.registers.len();
     fill_words(words, names.len())?;

@@ -113,7 +113,8 @@ fn read_item<'a>(
 ) -> Result<bool, ReadError>
     requires { KnowsGiven state.old }
     ensures knows { OnOk result (KnowsGiven state.new) }
-    ensures value { GivesItem result names.new.items state.new (inner.item_in (places.in_initial remaining stop) (so_far names.old.items state.old) (pieces tokens.now)) }
+    ensures value { GivesItem result names.new.items state.new
+        (inner.item_in (places.in_initial remaining stop) (so_far names.old.items state.old) (pieces tokens.now)) }
 {
     if let Some(is_last) = item_end(tokens) {
         return Ok(is_last);
@@ -163,7 +164,8 @@ pub fn read_initial<'a>(
     requires words { state.old.words.items ≡ [] }
     requires registers { state.old.registers.items ≡ [] }
     requires knows { KnowsGiven state.old }
-    ensures value { GivesInitial set result names.new.items state.new (inner.initial_at (stop_of set text.now) (texts names.old.items) (tokens_in set text.now)) }
+    ensures value { GivesInitial set result names.new.items state.new
+        (inner.initial_at (stop_of set text.now) (texts names.old.items) (tokens_in set text.now)) }
     ensures stop { IfOk result (λ x. stop_of set x.now ≡ stop_of set text.now) }
 {
     let (remaining, mut rest) = after_opening(set, Symbol::OpenCurly, Why::Unclosed, text)?;

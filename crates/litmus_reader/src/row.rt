@@ -130,7 +130,9 @@ pub fn read_table<'a>(
     text: &'a [u8],
 ) -> Result<&'a [u8], ReadError>
     requires { table.old.instrs.items ≡ [] }
-    ensures value { GivesTable set (spec.table_at set (stop_of set text.now) (map given_of given.now)) names.old.items text.now result names.new.items table.new }
+    ensures value { GivesTable set
+        (spec.table_at set (stop_of set text.now) (map given_of given.now)) names.old.items text.now result names.new.items
+        table.new }
     ensures cores { OnOk result (table.new.cores ≤ most_cores) }
     ensures stop { IfOk result (λ x. stop_of set x.now ≡ stop_of set text.now) }
 {

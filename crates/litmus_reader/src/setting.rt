@@ -67,7 +67,10 @@ fn location_setting<'a, 'b>(
     is_bracketed: bool,
     tokens: &'b [Token<'a>],
 ) -> Result<(SpelledSetting<'a>, &'b [Token<'a>]), Fault>
-    ensures value { mapped (λ x. (setting_of x.0, pieces x.1.now)) result ≡ (if is_bracketed then spec.square_setting part (pieces tokens.now) else spec.plain_setting part (pieces tokens.now)) }
+    ensures value { mapped (λ x. (setting_of x.0, pieces x.1.now)) result
+        ≡ (if is_bracketed
+        then spec.square_setting part (pieces tokens.now)
+        else spec.plain_setting part (pieces tokens.now)) }
     ensures shorter { IfOk result (λ x. length x.1.now < length tokens.now) }
 {
     let Some((name, mut rest)) = location_at(tokens) else {

@@ -1,5 +1,6 @@
 -- A comment's end, and the gap after it.
-use Rattle.std.proofs.Common.{◌≡◌, ℕ, ◌-◌, ◌<◌, ◌≤◌, Bool, true, false, cond, eqb, ◌&&◌, List, [], ◌∷◌, length, get_or, take, drop, take_all, Some, None, Ok, Err, refl, sym, ap, inl, inr, ◌⊎◌, arith}
+use Rattle.std.proofs.Common.{◌≡◌, ℕ, ◌-◌, ◌<◌, ◌≤◌, Bool, true, false, cond, eqb, ◌&&◌, List, [], ◌∷◌, length, get_or, take, drop}
+use Rattle.std.proofs.Common.{take_all, Some, None, Ok, Err, refl, sym, ap, inl, inr, ◌⊎◌, arith}
 use Rattle.std.proofs.lemmas.Bool.{ne_eqb}
 use Rattle.std.proofs.lemmas.Bool.Decides.{eqb_tells, nat_tests}
 use Rattle.std.proofs.lemmas.List.{length-take, length-drop}
@@ -52,7 +53,12 @@ gap_unclosed opener (b ∷ c ∷ bs) e =
       | inr miss ↦ rw miss.0 (gap_unclosed opener (c ∷ bs) miss.1)
     ]
 
-pub gap_over_comment : (bytes after inside rest : List ℕ) (first second : ℕ) → bytes ≡ first ∷ after → is_space first ≡ false → after ≡ second ∷ inside → first ≡ 40 → second ≡ 42
+pub gap_over_comment : (bytes after inside rest : List ℕ) (first second : ℕ)
+    → bytes ≡ first ∷ after
+    → is_space first ≡ false
+    → after ≡ second ∷ inside
+    → first ≡ 40
+    → second ≡ 42
     → Some rest ≡ comment_end inside → gap_end None bytes ≡ gap_end None rest
 unfolding gap_end
 gap_over_comment bytes after inside rest first second whole solid more open_round star ends =
@@ -60,7 +66,12 @@ gap_over_comment bytes after inside rest first second whole solid more open_roun
     let solid' : is_space 40 ≡ false = rw (← open_round) solid in
     rw (bytes-is, solid') (gap_inside (length (40 ∷ 42 ∷ inside)) inside rest (sym ends))
 
-pub gap_over_unclosed : (bytes after inside : List ℕ) (first second : ℕ) → bytes ≡ first ∷ after → is_space first ≡ false → after ≡ second ∷ inside → first ≡ 40 → second ≡ 42
+pub gap_over_unclosed : (bytes after inside : List ℕ) (first second : ℕ)
+    → bytes ≡ first ∷ after
+    → is_space first ≡ false
+    → after ≡ second ∷ inside
+    → first ≡ 40
+    → second ≡ 42
     → None ≡ comment_end inside → gap_end None bytes ≡ Err (Unclosed (length bytes))
 unfolding gap_end
 gap_over_unclosed bytes after inside first second whole solid more open_round star ends =
@@ -78,14 +89,23 @@ comment_open (b ∷ []) few = refl
 comment_open (b ∷ c ∷ bs) few = absurd (omega arith)
 
 -- it ends here
-pub comment_ends : (rest : List ℕ) (n : ℕ) → n ≡ length rest - 2 → 2 ≤ length rest → get_or rest 0 0 ≡ 42 → get_or rest 1 0 ≡ 41 → comment_end rest ≡ Some (take n (drop 2 rest))
+pub comment_ends : (rest : List ℕ) (n : ℕ)
+    → n ≡ length rest - 2
+    → 2 ≤ length rest
+    → get_or rest 0 0 ≡ 42
+    → get_or rest 1 0 ≡ 41
+    → comment_end rest ≡ Some (take n (drop 2 rest))
 unfolding comment_end
 comment_ends [] n e many one two = absurd (omega arith)
 comment_ends (b ∷ []) n e many one two = absurd (omega arith)
 comment_ends (b ∷ c ∷ bs) n e many one two = rw (take_all n bs (omega arith), one, two) refl
 
 -- it doesn't end here
-pub comment_goes_on : (rest : List ℕ) (n : ℕ) → n ≡ length rest - 1 → 2 ≤ length rest → (get_or rest 0 0 ≡ 42 → get_or rest 1 0 ≡ 41 → ⊥) → comment_end (take n (drop 1 rest)) ≡ comment_end rest
+pub comment_goes_on : (rest : List ℕ) (n : ℕ)
+    → n ≡ length rest - 1
+    → 2 ≤ length rest
+    → (get_or rest 0 0 ≡ 42 → get_or rest 1 0 ≡ 41 → ⊥)
+    → comment_end (take n (drop 1 rest)) ≡ comment_end rest
 unfolding comment_end
 comment_goes_on [] n e many other = absurd (omega arith)
 comment_goes_on (b ∷ []) n e many other = absurd (omega arith)

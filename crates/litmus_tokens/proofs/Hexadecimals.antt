@@ -1,5 +1,6 @@
 -- The number that hexadecimal digits say, digit by digit.
-use Rattle.std.proofs.Common.{◌≡◌, ℕ, ◌+◌, ◌*◌, ◌<◌, ◌≤◌, ◌^◌, true, false, ltb, List, [], ◌∷◌, length, get_or, drop, Some, None, refl, sym, ap, ◌∙◌, add-one, drop-cons, arith}
+use Rattle.std.proofs.Common.{◌≡◌, ℕ, ◌+◌, ◌*◌, ◌<◌, ◌≤◌, ◌^◌, true, false, ltb, List, [], ◌∷◌, length, get_or, drop, Some, None, refl, sym}
+use Rattle.std.proofs.Common.{ap, ◌∙◌, add-one, drop-cons, arith}
 use Rattle.std.proofs.lemmas.Bool.{lt-ltb, le-ltb}
 use Rattle.std.proofs.lemmas.List.{nil_from_length, length-drop}
 use Rattle.std.specs.Char.{digit_value}
@@ -16,7 +17,10 @@ sixteen-le n [] = omega arith
 sixteen-le n (d ∷ ds) = let more = sixteen-le (n * 16 + digit_value d) ds in omega (arith, more)
 
 -- a number that is too great already
-pub sixteen_over : (n : ℕ) (digits rest : List ℕ) → digits_value_after 16 n rest ≡ hexadecimal_value digits → 4294967295 < n → word_of (hexadecimal_value digits) ≡ None
+pub sixteen_over : (n : ℕ) (digits rest : List ℕ)
+    → digits_value_after 16 n rest ≡ hexadecimal_value digits
+    → 4294967295 < n
+    → word_of (hexadecimal_value digits) ≡ None
 sixteen_over n digits rest same over =
     let no_word : ltb (hexadecimal_value digits) (2 ^ 32) ≡ false = le-ltb _ _ (omega (arith, sixteen-le n rest, same)) in
     rw no_word refl

@@ -1,5 +1,6 @@
 -- The token at the front of some bytes, by its first byte.
-use Rattle.std.proofs.Common.{◌≡◌, ℕ, Bool, ◌<◌, ◌≤◌, true, false, List, [], ◌∷◌, length, take, drop, Option, Some, None, Ok, Err, if◌then◌else◌, refl, sym, ◌∙◌, arith}
+use Rattle.std.proofs.Common.{◌≡◌, ℕ, Bool, ◌<◌, ◌≤◌, true, false, List, [], ◌∷◌, length, take, drop, Option, Some, None, Ok, Err}
+use Rattle.std.proofs.Common.{if◌then◌else◌, refl, sym, ◌∙◌, arith}
 use Rattle.std.specs.List.{prefix_len, slice_get}
 use Rattle.std.specs.Char.{is_ascii_digit, is_ascii_hexdigit}
 use Rattle.std.proofs.lemmas.Bool.{lt-ltb, le-ltb}
@@ -9,7 +10,9 @@ use Rattle.litmus_tokens.specs.declared.instructions.Instructions.{Instructions}
 use Rattle.litmus_tokens.specs.declared.token.Stop.TheVariants.{End, BadToken}
 use Rattle.litmus_tokens.specs.declared.token.Symbol.{Symbol}
 use Rattle.litmus_tokens.specs.declared.token.Symbol.TheVariants.{Minus}
-use Rattle.litmus_tokens.specs.Terms.{Term, number, hexadecimal, name, symbol, run_of, number_term, hexadecimal_term, numeral_term, begins_hexadecimal, is_hexadecimal, is_minus, name_term, symbol_or_bad, symbol_of, without_zeros, term_at}
+use Rattle.litmus_tokens.specs.Terms.{Term, number, hexadecimal, name, symbol, run_of, number_term, hexadecimal_term, numeral_term}
+use Rattle.litmus_tokens.specs.Terms.{begins_hexadecimal, is_hexadecimal, is_minus, name_term, symbol_or_bad, symbol_of, without_zeros}
+use Rattle.litmus_tokens.specs.Terms.{term_at}
 
 -- ---- numbers
 

@@ -1,5 +1,6 @@
 -- Searches of a list, seen through a map.
-use Rattle.std.proofs.Common.{◌≡◌, ℕ, ◌+◌, ◌<◌, ◌≤◌, Bool, true, false, cond, ltb, not, ◌||◌, List, [], ◌∷◌, length, map, drop, slice_index_or, Some, None, refl, sym, ap, ◌∙◌, inl, inr, arith}
+use Rattle.std.proofs.Common.{◌≡◌, ℕ, ◌+◌, ◌<◌, ◌≤◌, Bool, true, false, cond, ltb, not, ◌||◌, List, [], ◌∷◌, length, map, drop}
+use Rattle.std.proofs.Common.{slice_index_or, Some, None, refl, sym, ap, ◌∙◌, inl, inr, arith}
 use Rattle.std.proofs.lemmas.Option.{slice_get-get_or}
 use Rattle.basic_laws.proofs.Lists.{drop-at, drop-end}
 use Rattle.std.specs.Prelude.{position}
@@ -29,14 +30,20 @@ position_none p xs at = elim (chosen (ltb (position_or_len p xs) (length xs)) (S
 -- ---- what is left to search while a loop goes over a list: one that goes on, one that finds, and one that ends
 
 module _ {X : Type 0} (p : X → Bool) where
-  pub search_on : (xs : List X) (i : ℕ) (d : X) → i < length xs → p (slice_index_or xs i d) ≡ false → i + 1 + position_or_len p (drop (i + 1) xs) ≡ i + position_or_len p (drop i xs)
+  pub search_on : (xs : List X) (i : ℕ) (d : X)
+      → i < length xs
+      → p (slice_index_or xs i d) ≡ false
+      → i + 1 + position_or_len p (drop (i + 1) xs) ≡ i + position_or_len p (drop i xs)
   search_on xs i d l q =
       let step : position_or_len p (drop i xs) ≡ 1 + position_or_len p (drop (i + 1) xs) =
-      ap (position_or_len p) (drop-at xs i (slice_index_or xs i d) (slice_get-get_or xs i d l)) ∙ ap (λ b. cond (not b) (1 + position_or_len p (drop (i + 1) xs)) 0) q in
+      ap (position_or_len p) (drop-at xs i (slice_index_or xs i d) (slice_get-get_or xs i d l))
+      ∙ ap (λ b. cond (not b) (1 + position_or_len p (drop (i + 1) xs)) 0) q in
       omega (arith, step)
 
   pub search_here : (xs : List X) (i : ℕ) (d : X) → i < length xs → p (slice_index_or xs i d) ≡ true → position_or_len p (drop i xs) ≡ 0
-  search_here xs i d l q = ap (position_or_len p) (drop-at xs i (slice_index_or xs i d) (slice_get-get_or xs i d l)) ∙ ap (λ b. cond (not b) (1 + position_or_len p (drop (i + 1) xs)) 0) q
+  search_here xs i d l q =
+      ap (position_or_len p) (drop-at xs i (slice_index_or xs i d) (slice_get-get_or xs i d l))
+      ∙ ap (λ b. cond (not b) (1 + position_or_len p (drop (i + 1) xs)) 0) q
 
   pub search_ends : (xs : List X) (i : ℕ) → length xs ≤ i → i ≤ length xs → position_or_len p (drop i xs) ≡ 0
   search_ends xs i l m = ap (position_or_len p) (drop-end xs i (omega (arith, l, m)))

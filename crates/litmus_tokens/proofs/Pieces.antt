@@ -29,13 +29,26 @@ nothing_there set (b ∷ bs) le = absurd (omega arith)
 pub begins_in_name : (b : ℕ) → begins_name b ≡ true → continues_name b ≡ true
 begins_in_name b first = grind (arith, nat_tests)
 
-pub goes_on_step : (set : Instructions) (front : List Piece) (rest after : List ℕ) (p : Piece) (total : List Piece × Stop) → Ok (p, after) ≡ piece_at set rest → length after < length rest → goes_on set front rest total → goes_on set (front ++ p ∷ []) after total
+pub goes_on_step : (set : Instructions) (front : List Piece) (rest after : List ℕ) (p : Piece)
+    (total : List Piece × Stop)
+    → Ok (p, after) ≡ piece_at set rest
+    → length after < length rest
+    → goes_on set front rest total
+    → goes_on set (front ++ p ∷ []) after total
 unfolding pieces_within
 goes_on_step set front rest after p total read shorter (zero, enough, same) = absurd (omega arith)
-goes_on_step set front rest after p total read shorter (suc n, enough, same) =
-    (n, omega arith, ap (λ (l : List Piece). (l, (pieces_within set n after).1)) (append_assoc front (p ∷ []) (pieces_within set n after).0) ∙ rw (← read, pieces_within) at same)
+goes_on_step set front rest after p total read shorter (suc n, enough, same) = (
+  n,
+  omega arith,
+  ap (λ (l : List Piece). (l, (pieces_within set n after).1)) (append_assoc front (p ∷ []) (pieces_within set n after).0)
+      ∙ rw (← read, pieces_within) at same,
+)
 
-pub goes_on_to_stop : (set : Instructions) (front : List Piece) (rest : List ℕ) (stop : Stop) (total : List Piece × Stop) → Err stop ≡ piece_at set rest → goes_on set front rest total → (front, stop) ≡ total
+pub goes_on_to_stop : (set : Instructions) (front : List Piece) (rest : List ℕ) (stop : Stop)
+    (total : List Piece × Stop)
+    → Err stop ≡ piece_at set rest
+    → goes_on set front rest total
+    → (front, stop) ≡ total
 unfolding pieces_within
 goes_on_to_stop set front rest stop total read (zero, enough, same) =
     let none : piece_at set rest ≡ Err End = nothing_there set rest enough in

@@ -1,11 +1,13 @@
 -- Symbols by their spellings.
-use Rattle.std.proofs.Common.{◌≡◌, ℕ, Bool, true, false, List, [], ◌∷◌, length, ◌&&◌, Option, Some, None, nat_eq, eqb, if◌then◌else◌, refl, sym, ap, ◌∙◌, inl, inr, arith}
+use Rattle.std.proofs.Common.{◌≡◌, ℕ, Bool, true, false, List, [], ◌∷◌, length, ◌&&◌, Option, Some, None, nat_eq, eqb, if◌then◌else◌, refl}
+use Rattle.std.proofs.Common.{sym, ap, ◌∙◌, inl, inr, arith}
 use Rattle.std.specs.Str.{bytes_eq}
 use Rattle.std.proofs.lemmas.Bool.{eqb-true, eq-eqb, ne_eqb}
 use Rattle.std.proofs.lemmas.Bool.Decides.{nat_tests, same_from_decides, eqb_tells}
 use Rattle.std.proofs.lemmas.Slice.Eq.{bytes_eq-Decides}
 use Rattle.litmus_tokens.specs.declared.token.Symbol.{Symbol}
-use Rattle.litmus_tokens.specs.declared.token.Symbol.TheVariants.{Equals, Semicolon, Colon, OpenSquare, CloseSquare, OpenCurly, CloseCurly, Bar, Comma, Dollar, Tilde, OpenRound, CloseRound, And, Or, Minus}
+use Rattle.litmus_tokens.specs.declared.token.Symbol.TheVariants.{Equals, Semicolon, Colon, OpenSquare, CloseSquare, OpenCurly, CloseCurly}
+use Rattle.litmus_tokens.specs.declared.token.Symbol.TheVariants.{Bar, Comma, Dollar, Tilde, OpenRound, CloseRound, And, Or, Minus}
 use Rattle.litmus_tokens.specs.Terms.{spelling_of, symbols, symbol_among, symbol_of}
 use Rattle.litmus_tokens.specs.inner.SymbolSteps.{single, wedge_at, single_or}
 
@@ -145,7 +147,17 @@ last_two b (c ∷ cs) = rw (turned 47 b, turned 92 b, turned 47 c, turned 92 c, 
 pub symbol_by_bytes : (b : ℕ) (bs : List ℕ) → symbol_of (b ∷ bs) ≡ single_or b bs (single b)
 unfolding symbol_of symbols single
 symbol_by_bytes b bs =
-    one_more b 61 bs Equals _ _ (one_more b 59 bs Semicolon _ _ (one_more b 58 bs Colon _ _ (one_more b 91 bs OpenSquare _ _ (one_more b 93 bs CloseSquare _ _ (one_more b 123 bs OpenCurly _ _ (one_more b 125 bs CloseCurly _ _ (one_more b 124 bs Bar _ _ (one_more b 44 bs Comma _ _ (one_more b 36 bs Dollar _ _ (one_more b 126 bs Tilde _ _ (one_more b 40 bs OpenRound _ _ (one_more b 41 bs CloseRound _ _ (last_two b bs)))))))))))))
+    one_more b 61 bs Equals _ _
+    (one_more b 59 bs Semicolon _ _
+    (one_more b 58 bs Colon _ _
+    (one_more b 91 bs OpenSquare _ _
+    (one_more b 93 bs CloseSquare _ _
+    (one_more b 123 bs OpenCurly _ _
+    (one_more b 125 bs CloseCurly _ _
+    (one_more b 124 bs Bar _ _
+    (one_more b 44 bs Comma _ _
+    (one_more b 36 bs Dollar _ _
+    (one_more b 126 bs Tilde _ _ (one_more b 40 bs OpenRound _ _ (one_more b 41 bs CloseRound _ _ (last_two b bs)))))))))))))
 
 -- ---- looked for at the front of some bytes
 

@@ -7,7 +7,9 @@ use Rattle.litmus_tokens.specs.Pieces.{Piece}
 use Rattle.litmus_tokens.specs.Front.{name_at}
 use Rattle.litmus_tokens.specs.Faults.{there}
 use Rattle.litmus_tokens.specs.Arguments.{ArgumentTerm, in_memory, in_register, constant, one_argument, two_arguments}
-use Rattle.litmus_tokens.specs.Shapes.{Shape, store_imm, store_reg, load, set_imm, set_reg, fence, xchg, xadd, compare_exchange, locked_constant, locked_register, locked_negate, combine_constant, combine_register, negate, swap, nothing}
+use Rattle.litmus_tokens.specs.Shapes.{Shape, store_imm, store_reg, load, set_imm, set_reg, fence, xchg, xadd, compare_exchange}
+use Rattle.litmus_tokens.specs.Shapes.{locked_constant, locked_register, locked_negate, combine_constant, combine_register, negate, swap}
+use Rattle.litmus_tokens.specs.Shapes.{nothing}
 use Rattle.litmus_tokens.specs.declared.instructions.Instructions.{Instructions}
 use Rattle.litmus_tokens.specs.declared.instructions.Instructions.TheVariants.{Basic, All}
 

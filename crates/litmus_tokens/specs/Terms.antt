@@ -1,5 +1,6 @@
 -- Single tokens: numbers, names and symbols. A number has any size here: whether it is too great is said where it is used.
-use Rattle.std.specs.Prelude.{ℕ, ◌^◌, ◌&&◌, ◌||◌, Bool, false, List, [], ◌∷◌, length, take, drop, Option, Some, None, Result, Ok, Err, nat_lt, nat_eq, codes, ◌==◌, if◌then◌else◌}
+use Rattle.std.specs.Prelude.{ℕ, ◌^◌, ◌&&◌, ◌||◌, Bool, false, List, [], ◌∷◌, length, take, drop, Option, Some, None, Result, Ok, Err}
+use Rattle.std.specs.Prelude.{nat_lt, nat_eq, codes, ◌==◌, if◌then◌else◌}
 use Rattle.std.specs.List.{prefix_len, starts_with}
 use Rattle.std.specs.Char.{is_ascii_digit, is_ascii_hexdigit}
 use Rattle.tso_terms.specs.Limits.{longest_name}
@@ -9,7 +10,8 @@ use Rattle.litmus_tokens.specs.declared.token.Stop.TheVariants.{End, BadToken}
 use Rattle.litmus_tokens.specs.declared.token.Symbol.{Symbol}
 use Rattle.litmus_tokens.specs.declared.instructions.Instructions.{Instructions}
 use Rattle.litmus_tokens.specs.declared.instructions.Instructions.TheVariants.{Basic, All}
-use Rattle.litmus_tokens.specs.declared.token.Symbol.TheVariants.{Equals, Semicolon, Colon, OpenSquare, CloseSquare, OpenCurly, CloseCurly, Bar, Comma, Dollar, Tilde, OpenRound, CloseRound, And, Or, Minus}
+use Rattle.litmus_tokens.specs.declared.token.Symbol.TheVariants.{Equals, Semicolon, Colon, OpenSquare, CloseSquare, OpenCurly, CloseCurly}
+use Rattle.litmus_tokens.specs.declared.token.Symbol.TheVariants.{Bar, Comma, Dollar, Tilde, OpenRound, CloseRound, And, Or, Minus}
 
 -- A token without its place. A number is of any size, and is its digits without leading zeros: equal numbers have equal
 -- digits.

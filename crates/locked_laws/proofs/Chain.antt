@@ -1,11 +1,14 @@
 -- What follows from the turns of locked instructions: each comes directly after what its load part reads, so what comes directly
 -- after one source is one instruction.
-use Rattle.relational_model.proofs.Vocabulary.{◌≡◌, ℕ, zero, suc, true, List, [], ◌∷◌, ◌++◌, Option, Some, None, slice_get, arith, refl, sym, ap, ◌∙◌, ◌⊎◌, inl, inr, subst, length, Litmus, writes_to, Entry, IsIn, Candidate, events, last_in, IsAllowed, ArePair, part_of}
+use Rattle.relational_model.proofs.Vocabulary.{◌≡◌, ℕ, zero, suc, true, List, [], ◌∷◌, ◌++◌, Option, Some, None, slice_get, arith, refl}
+use Rattle.relational_model.proofs.Vocabulary.{sym, ap, ◌∙◌, ◌⊎◌, inl, inr, subst, length, Litmus, writes_to, Entry, IsIn, Candidate}
+use Rattle.relational_model.proofs.Vocabulary.{events, last_in, IsAllowed, ArePair, part_of}
 use Rattle.relational_model.proofs.Sources.{StandOnce}
 use Rattle.relational_model.proofs.Events.{Sound, sound}
 use Rattle.relational_model.proofs.Order.{stand-once, location}
 use Rattle.relational_model.proofs.Pairs.{coupled, HasLoad}
-use Rattle.locked_laws.specs.Turns.{TakesItsTurn, IsLoadPart, IsWrittenByLockedAlone, IsReadByLocked, LockedInstructionsTakeTurns, NoTwoReadOneSource, SomebodyReadsTheInitialWord, EachButTheLastIsRead}
+use Rattle.locked_laws.specs.Turns.{TakesItsTurn, IsLoadPart, IsWrittenByLockedAlone, IsReadByLocked, LockedInstructionsTakeTurns}
+use Rattle.locked_laws.specs.Turns.{NoTwoReadOneSource, SomebodyReadsTheInitialWord, EachButTheLastIsRead}
 
 -- ---- lists
 

@@ -1,6 +1,9 @@
 -- Along coherence each locked addition reads what the one before it wrote. So the words add up, and in which order doesn't matter
 -- to the last one.
-use Rattle.relational_model.proofs.Vocabulary.{◌≡◌, ◌+◌, ℕ, zero, suc, true, List, [], ◌∷◌, ◌++◌, Option, Some, None, slice_get, slice_index, arith, refl, sym, ap, ◌∙◌, inl, inr, subst, length, filter, append_assoc, append-nil, Litmus, writes_to, Entry, IsIn, Candidate, Returns, events, IsAllowed, Once, last_word}
+use Rattle.relational_model.proofs.Vocabulary.{◌≡◌, ◌+◌, ℕ, zero, suc, true, List, [], ◌∷◌, ◌++◌, Option, Some, None, slice_get}
+use Rattle.relational_model.proofs.Vocabulary.{slice_index, arith, refl, sym, ap, ◌∙◌, inl, inr, subst, length, filter, append_assoc}
+use Rattle.relational_model.proofs.Vocabulary.{append-nil, Litmus, writes_to, Entry, IsIn, Candidate, Returns, events, IsAllowed, Once}
+use Rattle.relational_model.proofs.Vocabulary.{last_word}
 use Rattle.std.specs.Prelude.{◌%◌, ◌^◌}
 use Rattle.std.proofs.Math.Nat.{mod-add-mod}
 use Rattle.tso_terms.specs.Thread.{sum_of}

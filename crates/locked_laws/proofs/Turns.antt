@@ -1,6 +1,9 @@
 -- In the order of an allowed candidate the store part follows its load part at once. So what the load part reads is the last write
 -- before both, and in coherence the store part comes directly after it.
-use Rattle.relational_model.proofs.Vocabulary.{◌≡◌, ℕ, zero, suc, Bool, true, false, if◌then◌else◌, List, [], ◌∷◌, ◌++◌, Some, slice_get, arith, refl, sym, ap, ◌∙◌, inl, subst, filter, append-nil, Litmus, is_before, is_read, is_write, writes_to, may_be_passed, counting, Entry, LR, LW, IsIn, IsEarlier, Candidate, events, last_in, IsAllowed, ArePair, part_of}
+use Rattle.relational_model.proofs.Vocabulary.{◌≡◌, ℕ, zero, suc, Bool, true, false, if◌then◌else◌, List, [], ◌∷◌, ◌++◌, Some, slice_get}
+use Rattle.relational_model.proofs.Vocabulary.{arith, refl, sym, ap, ◌∙◌, inl, subst, filter, append-nil, Litmus, is_before, is_read}
+use Rattle.relational_model.proofs.Vocabulary.{is_write, writes_to, may_be_passed, counting, Entry, LR, LW, IsIn, IsEarlier, Candidate}
+use Rattle.relational_model.proofs.Vocabulary.{events, last_in, IsAllowed, ArePair, part_of}
 use Rattle.relational_model.proofs.Lists.{in-later, from-precedes, Precedes, precedes-right}
 use Rattle.relational_model.proofs.Uniproc.{writes-at}
 use Rattle.relational_model.proofs.Sources.{Known, never-back, event-in}

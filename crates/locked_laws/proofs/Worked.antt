@@ -1,5 +1,7 @@
 -- The worked tests: not both cores have the lock, and the counter ends as 2.
-use Rattle.relational_model.proofs.Vocabulary.{◌≡◌, ◌≢◌, ℕ, zero, suc, true, [], ◌∷◌, Option, Some, None, slice_index, slice_index_or, arith, refl, sym, ap, ◌∙◌, subst, entry, writes_to, Entry, LR, LW, IsIn, Candidate, Returns, is_read, events, registers_left, IsAllowed}
+use Rattle.relational_model.proofs.Vocabulary.{◌≡◌, ◌≢◌, ℕ, zero, suc, true, [], ◌∷◌, Option, Some, None, slice_index, slice_index_or}
+use Rattle.relational_model.proofs.Vocabulary.{arith, refl, sym, ap, ◌∙◌, subst, entry, writes_to, Entry, LR, LW, IsIn, Candidate, Returns}
+use Rattle.relational_model.proofs.Vocabulary.{is_read, events, registers_left, IsAllowed}
 use Rattle.tso_terms.specs.Examples.{loc_x}
 use Rattle.tso_terms.specs.Thread.{sum_of}
 use Rattle.relational_model.specs.Candidates.{words_left}
@@ -20,9 +22,17 @@ module _ (c : Candidate) where
 
   -- each write of the test stores 1
   writes-one : (w : Entry) → IsIn (events lock c) w → writes_to 0 w ≡ true → w.value ≡ 1
-  writes-one w (zero, p) h = let e : load 0 ≡ w = cc in let q : writes_to 0 (load 0) ≡ true = subst (λ x. writes_to 0 x ≡ true) (sym e) h in let z : ⊥ = cc in absurd z
+  writes-one w (zero, p) h =
+      let e : load 0 ≡ w = cc in
+      let q : writes_to 0 (load 0) ≡ true = subst (λ x. writes_to 0 x ≡ true) (sym e) h in
+      let z : ⊥ = cc in
+      absurd z
   writes-one w (suc zero, p) h = let e : entry 0 0 LW loc_x 1 ≡ w = cc in sym (ap (λ (x : Entry). x.value) e)
-  writes-one w (suc (suc zero), p) h = let e : load 1 ≡ w = cc in let q : writes_to 0 (load 1) ≡ true = subst (λ x. writes_to 0 x ≡ true) (sym e) h in let z : ⊥ = cc in absurd z
+  writes-one w (suc (suc zero), p) h =
+      let e : load 1 ≡ w = cc in
+      let q : writes_to 0 (load 1) ≡ true = subst (λ x. writes_to 0 x ≡ true) (sym e) h in
+      let z : ⊥ = cc in
+      absurd z
   writes-one w (suc (suc (suc zero)), p) h = let e : entry 1 0 LW loc_x 1 ≡ w = cc in sym (ap (λ (x : Entry). x.value) e)
   writes-one w (suc (suc (suc (suc i))), p) h = let z : ⊥ = cc in absurd z
 
@@ -61,9 +71,17 @@ module _ (c : Candidate) where
   written core = entry core 0 LW loc_x (sum_of (read_by c core) 1)
 
   of-additions : (w : Entry) → IsIn (events counter c) w → writes_to 0 w ≡ true → w.kind ≡ LW
-  of-additions w (zero, p) h = let e : read 0 ≡ w = cc in let q : writes_to 0 (read 0) ≡ true = subst (λ x. writes_to 0 x ≡ true) (sym e) h in let z : ⊥ = cc in absurd z
+  of-additions w (zero, p) h =
+      let e : read 0 ≡ w = cc in
+      let q : writes_to 0 (read 0) ≡ true = subst (λ x. writes_to 0 x ≡ true) (sym e) h in
+      let z : ⊥ = cc in
+      absurd z
   of-additions w (suc zero, p) h = let e : written 0 ≡ w = cc in sym (ap (λ (x : Entry). x.kind) e)
-  of-additions w (suc (suc zero), p) h = let e : read 1 ≡ w = cc in let q : writes_to 0 (read 1) ≡ true = subst (λ x. writes_to 0 x ≡ true) (sym e) h in let z : ⊥ = cc in absurd z
+  of-additions w (suc (suc zero), p) h =
+      let e : read 1 ≡ w = cc in
+      let q : writes_to 0 (read 1) ≡ true = subst (λ x. writes_to 0 x ≡ true) (sym e) h in
+      let z : ⊥ = cc in
+      absurd z
   of-additions w (suc (suc (suc zero)), p) h = let e : written 1 ≡ w = cc in sym (ap (λ (x : Entry). x.kind) e)
   of-additions w (suc (suc (suc (suc i))), p) h = let z : ⊥ = cc in absurd z
 

@@ -1,5 +1,6 @@
 -- What the caches' bus tells of its holder, of the load part that waits for its store part.
-use Rattle.machine_core.proofs.Vocabulary.{◌≡◌, IfSome, Some, refl, subst, ap, ◌∙◌, Litmus, holder_of, holder, StandsAlone, Locked, Hardware, IsHeldForAccess, held_as, state_in, IsAloneIn}
+use Rattle.machine_core.proofs.Vocabulary.{◌≡◌, IfSome, Some, refl, subst, ap, ◌∙◌, Litmus, holder_of, holder, StandsAlone, Locked}
+use Rattle.machine_core.proofs.Vocabulary.{Hardware, IsHeldForAccess, held_as, state_in, IsAloneIn}
 
 pub alone-in : {P : Type 0} (t : Litmus) (m : Hardware P) → IsHeldForAccess t m → IfSome (holder_of m.bus) (StandsAlone m.bus) → IsAloneIn m
 alone-in t m held alone e between =

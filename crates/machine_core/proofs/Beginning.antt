@@ -1,5 +1,9 @@
 -- The hardware of a machine that goes back to the beginning of its test.
-use Rattle.machine_core.proofs.Vocabulary.{◌≡◌, ◌+◌, ℕ, zero, suc, List, [], ◌∷◌, Option, None, length, slice_index_or, map, replicate, All, refl, sym, ap, ◌∙◌, subst, arith, Litmus, started, start, unheld, Instr, IsPossibleOn, stores, table_of_rows, BusModel, cores_of, new_bus, Next, Processor, core_states, core_state, state_of_cores, at_start, Counts, no_counts, no_statistics, caches_of, Hardware, IsCore, state_in}
+use Rattle.machine_core.proofs.Vocabulary.{◌≡◌, ◌+◌, ℕ, zero, suc, List, [], ◌∷◌, Option, None, length, slice_index_or, map, replicate, All}
+use Rattle.machine_core.proofs.Vocabulary.{refl, sym, ap, ◌∙◌, subst, arith, Litmus, started, start, unheld, Instr, IsPossibleOn, stores}
+use Rattle.machine_core.proofs.Vocabulary.{table_of_rows, BusModel, cores_of, new_bus, Next, Processor, core_states, core_state}
+use Rattle.machine_core.proofs.Vocabulary.{state_of_cores, at_start, Counts, no_counts, no_statistics, caches_of, Hardware, IsCore}
+use Rattle.machine_core.proofs.Vocabulary.{state_in}
 use Rattle.tso_terms.specs.declared.choice.Bus as kind
 use Rattle.snoop_bus.specs.declared.holding.BusAction as bus_action
 use Rattle.machine_core.proofs.Overwriting.{written}
@@ -30,16 +34,22 @@ pub all-none : (cs : List Counts) → map (λ _. no_counts) cs ≡ replicate (le
 all-none [] = refl
 all-none (c ∷ cs) = ap (λ ns. no_counts ∷ ns) (all-none cs)
 
-pub begun-state : (ps : List Processor) (words : List ℕ) (t : Litmus) (next : Next) (h : Option bus_action.BusAction) → core_states 0 ps ≡ started 0 t.programs t.registers → words ≡ t.words
+pub begun-state : (ps : List Processor) (words : List ℕ) (t : Litmus) (next : Next) (h : Option bus_action.BusAction)
+    → core_states 0 ps ≡ started 0 t.programs t.registers
+    → words ≡ t.words
     → h ≡ None → record { flat = state_of_cores ps words; holder = held-with next h } ≡ unheld (start t)
 begun-state ps words t next h cores memory free = rw (cores, memory, free) refl
 
-pub begun-statistics : (old new : BusModel) (init : List ℕ) (counts : List Counts) (t : Litmus) (n : ℕ) → new ≡ new_bus (table_of_rows old.rows) (cores_of old) old.shape init → cores_of old ≡ length t.programs
+pub begun-statistics : (old new : BusModel) (init : List ℕ) (counts : List Counts) (t : Litmus) (n : ℕ)
+    → new ≡ new_bus (table_of_rows old.rows) (cores_of old) old.shape init
+    → cores_of old ≡ length t.programs
     → init ≡ t.words → counts ≡ replicate n no_counts → n ≡ length t.programs
     → record { caches = caches_of new; counts = counts } ≡ no_statistics (table_of_rows old.rows) old.shape t
 begun-statistics old new init counts t n exact cores words none all =
     let bus : new ≡ new_bus (table_of_rows old.rows) (length t.programs) old.shape t.words =
-    exact ∙ ap (λ k. new_bus (table_of_rows old.rows) k old.shape init) cores ∙ ap (λ w. new_bus (table_of_rows old.rows) (length t.programs) old.shape w) words in
+    exact
+    ∙ ap (λ k. new_bus (table_of_rows old.rows) k old.shape init) cores
+    ∙ ap (λ w. new_bus (table_of_rows old.rows) (length t.programs) old.shape w) words in
     rw (bus, none, all) refl
 
 -- what a machine has come to at the beginning is possible

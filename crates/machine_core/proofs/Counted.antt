@@ -1,5 +1,10 @@
 -- What a choice of the flat machine commits, against the access that it makes.
-use Rattle.machine_core.proofs.Vocabulary.{◌≡◌, ◌↔◌, ℕ, zero, suc, Bool, true, false, if◌then◌else◌, List, [], ◌∷◌, filter, length, Option, Some, None, slice_get, nat_lt, refl, sym, ap, ◌⊎◌, inl, inr, subst, chosen, MemoryAccess, NoAccess, store_access, load_access, locked_access, step_access, drain_access, next_of, access_of, Loc, table_of_rows, IsUseFor, IsHitUse, use_at, access_by, cases_Bool, at_access, Reg, Instr, Action, Entry, W, Choice, Step, Drain, Caches, Used, not_through, whole_by, load_after, use_of, hits_by}
+use Rattle.machine_core.proofs.Vocabulary.{◌≡◌, ◌↔◌, ℕ, zero, suc, Bool, true, false, if◌then◌else◌, List, [], ◌∷◌, filter, length, Option}
+use Rattle.machine_core.proofs.Vocabulary.{Some, None, slice_get, nat_lt, refl, sym, ap, ◌⊎◌, inl, inr, subst, chosen, MemoryAccess}
+use Rattle.machine_core.proofs.Vocabulary.{NoAccess, store_access, load_access, locked_access, step_access, drain_access, next_of}
+use Rattle.machine_core.proofs.Vocabulary.{access_of, Loc, table_of_rows, IsUseFor, IsHitUse, use_at, access_by, cases_Bool, at_access, Reg}
+use Rattle.machine_core.proofs.Vocabulary.{Instr, Action, Entry, W, Choice, Step, Drain, Caches, Used, not_through, whole_by, load_after}
+use Rattle.machine_core.proofs.Vocabulary.{use_of, hits_by}
 use Rattle.std.specs.List.{list_any}
 use Rattle.tso_terms.specs.Litmus.{Litmus}
 use Rattle.tso_terms.specs.Actions.{action_of}
@@ -13,15 +18,18 @@ use Rattle.basic_laws.proofs.WithPending.{drain_with, fenced_with, locked_with}
 use Rattle.machine_core.proofs.Told.{access-told}
 
 -- a load is answered by one of these pending stores, or by none
-answered : (c : Caches) (pending : List Entry) (core : ℕ) (loc : Loc) → IsUseFor c core (load_access loc (filter (writes_to loc.0) pending)) (load_after c pending core loc.0)
+answered : (c : Caches) (pending : List Entry) (core : ℕ) (loc : Loc)
+    → IsUseFor c core (load_access loc (filter (writes_to loc.0) pending)) (load_after c pending core loc.0)
 answered c pending core loc = by_stores pending
   where
     by_stores : (xs : List Entry)
-        → IsUseFor c core (load_access loc (filter (writes_to loc.0) xs)) (if list_any (writes_to loc.0) xs then not_through Forwarded c else whole_by c core loc.0 false)
+        → IsUseFor c core (load_access loc (filter (writes_to loc.0) xs))
+        (if list_any (writes_to loc.0) xs then not_through Forwarded c else whole_by c core loc.0 false)
     by_stores [] = refl
     by_stores (x ∷ xs) = elim (cases_Bool (writes_to loc.0 x)) [ inl is ↦ rw is (inr refl) | inr is ↦ rw is (by_stores xs) ]
 
-fenced-use : (c : Caches) (pending : List Entry) (core : ℕ) (s : CoreState) (q : List Entry) → IsUseFor c core NoAccess (use_of c pending (fenced_with core s q).commits)
+fenced-use : (c : Caches) (pending : List Entry) (core : ℕ) (s : CoreState) (q : List Entry)
+    → IsUseFor c core NoAccess (use_of c pending (fenced_with core s q).commits)
 fenced-use c pending core s [] = inl refl
 fenced-use c pending core s (p ∷ ps) = inl refl
 
@@ -70,4 +78,6 @@ use-told c core NoAccess u h = ((λ k. absurd (none h k)), (λ k. absurd (let z 
     none : (u ≡ not_through Unused c) ⊎ (u ≡ not_through Forwarded c) → IsHitUse u.how → ⊥
     none (inl e) k = subst (λ (z : Used). IsHitUse z.how) e k
     none (inr e) k = subst (λ (z : Used). IsHitUse z.how) e k
-use-told c core what u h = subst (λ (z : Used). IsHitUse z.how ↔ (hits_by c core what ≡ true)) (sym h) (access-told (table_of_rows c.rows) (at_access false (λ loc write. write) what) core _ c.contents)
+use-told c core what u h =
+    subst (λ (z : Used). IsHitUse z.how ↔ (hits_by c core what ≡ true)) (sym h)
+    (access-told (table_of_rows c.rows) (at_access false (λ loc write. write) what) core _ c.contents)

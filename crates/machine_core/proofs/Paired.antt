@@ -1,5 +1,6 @@
 -- Where nobody holds the bus, the load parts of locked instructions have their store parts.
-use Rattle.machine_core.proofs.Vocabulary.{◌≡◌, ◌≢◌, ℕ, ◌==◌, inl, inr, true, false, List, [], ◌∷◌, refl, arith, nat_tests, same_kind, Free, Entry, Kind, LR, IsAnswered, ArePaired, cases_Bool}
+use Rattle.machine_core.proofs.Vocabulary.{◌≡◌, ◌≢◌, ℕ, ◌==◌, inl, inr, true, false, List, [], ◌∷◌, refl, arith, nat_tests, same_kind, Free}
+use Rattle.machine_core.proofs.Vocabulary.{Entry, Kind, LR, IsAnswered, ArePaired, cases_Bool}
 use Rattle.commit_order.specs.Pairs.{IsPaired, has_its_store_part}
 
 same-number : (m n : ℕ) → m ≡ n → (m == n) ≡ true
@@ -19,4 +20,7 @@ answered-by x (e ∷ es) (inr later) = rw (other-number e.core.0 x.core.0 later.
 
 pub paired : (commits : List Entry) → ArePaired commits Free → IsPaired commits
 paired [] h = refl
-paired (e ∷ es) h = elim (cases_Bool (same_kind e.kind LR)) [ inl q ↦ rw (q, answered-by e es (h.0 (load_kind e.kind q)), paired es h.1) refl | inr q ↦ rw q (paired es h.1) ]
+paired (e ∷ es) h = elim (cases_Bool (same_kind e.kind LR)) [
+  | inl q ↦ rw (q, answered-by e es (h.0 (load_kind e.kind q)), paired es h.1) refl
+  | inr q ↦ rw q (paired es h.1)
+]

@@ -1,9 +1,19 @@
 -- What a contract sees of a machine, part by part.
-use Rattle.machine_core.proofs.Vocabulary.{◌≡◌, ◌&&◌, ℕ, Bool, true, false, not, IsTrue, List, [], ◌++◌, Result, Ok, Err, IfOk, OnOk, OnErr, sym, ap, ◌∙◌, subst, Litmus, chosen, core_of, access_of, Free, Attempt, BusState, effect_on, after_on, HitFits, NoMemory, IsPossibleOn, Hardware, IsFree, IsHeldForAccess, held_as, state_in, ChoiceAnswer, HasEffect, attempt_in, effect_in, Bus, Entry, Choice, attempt_of, is_awaited, used_between, use_of, Running, Statistics, statistics_with, statistics_after}
+use Rattle.machine_core.proofs.Vocabulary.{◌≡◌, ◌&&◌, ℕ, Bool, true, false, not, IsTrue, List, [], ◌++◌, Result, Ok, Err, IfOk, OnOk, OnErr}
+use Rattle.machine_core.proofs.Vocabulary.{sym, ap, ◌∙◌, subst, Litmus, chosen, core_of, access_of, Free, Attempt, BusState, effect_on}
+use Rattle.machine_core.proofs.Vocabulary.{after_on, HitFits, NoMemory, IsPossibleOn, Hardware, IsFree, IsHeldForAccess, held_as, state_in}
+use Rattle.machine_core.proofs.Vocabulary.{ChoiceAnswer, HasEffect, attempt_in, effect_in, Bus, Entry, Choice, attempt_of, is_awaited}
+use Rattle.machine_core.proofs.Vocabulary.{used_between, use_of, Running, Statistics, statistics_with, statistics_after}
 use Rattle.machine_core.proofs.Splitting.{used-same}
 
 pub Running-same : (now : Running) (t : Litmus) (bus bus' : Bus) (d d' : ℕ) (s s' : BusState) (xs xs' : List Entry) (n n' : Statistics) (f f' : Bool)
-    → record { test = t; bus = bus; depth = d; state = s; commits = xs; statistics = n; failed = f } ≡ now → bus' ≡ bus → d' ≡ d → s' ≡ s → xs' ≡ xs → n' ≡ n → f' ≡ f
+    → record { test = t; bus = bus; depth = d; state = s; commits = xs; statistics = n; failed = f } ≡ now
+    → bus' ≡ bus
+    → d' ≡ d
+    → s' ≡ s
+    → xs' ≡ xs
+    → n' ≡ n
+    → f' ≡ f
     → record { test = t; bus = bus'; depth = d'; state = s'; commits = xs'; statistics = n'; failed = f' } ≡ now
 Running-same now t bus bus' d d' s s' xs xs' n n' f f' v b p q r w u = rw (b, p, q, r, w, u) v
 
@@ -27,16 +37,26 @@ on-ok (Ok x) Q q = q
 on-ok (Err e) Q q = tt
 
 -- what a machine has come to is possible after a choice too
-pub possible-next : {P : Type 0} (r : Result ChoiceAnswer NoMemory) (t : Litmus) (m new : Hardware P) (choice : Choice) → IsPossibleOn m.config.bus t m.config.depth m.commits.entries (state_in m)
-    → ((a : Attempt) → IsPossibleOn m.config.bus t m.config.depth m.commits.entries (state_in m) → HitFits t m.config.depth (state_in m).flat a (state_in m).holder
-    → IsPossibleOn m.config.bus t m.config.depth (m.commits.entries ++ (effect_on m.config.bus t m.config.depth (state_in m) a).effect.commits) (after_on m.config.bus t m.config.depth (state_in m) a))
+pub possible-next : {P : Type 0} (r : Result ChoiceAnswer NoMemory) (t : Litmus) (m new : Hardware P) (choice : Choice)
+    → IsPossibleOn m.config.bus t m.config.depth m.commits.entries (state_in m)
+    → ((a : Attempt)
+    → IsPossibleOn m.config.bus t m.config.depth m.commits.entries (state_in m)
+    → HitFits t m.config.depth (state_in m).flat a (state_in m).holder
+    → IsPossibleOn m.config.bus t m.config.depth
+    (m.commits.entries ++ (effect_on m.config.bus t m.config.depth (state_in m) a).effect.commits)
+    (after_on m.config.bus t m.config.depth (state_in m) a))
     → HitFits t m.config.depth (state_in m).flat (attempt_in t m choice) (state_in m).holder → IfOk r (λ o. HasEffect m new choice (effect_in t m choice) o.0)
-    → OnErr r (state_in new ≡ state_in m) → OnErr r (new.commits.entries ≡ m.commits.entries) → new.config ≡ m.config → IsPossibleOn new.config.bus t new.config.depth new.commits.entries (state_in new)
+    → OnErr r (state_in new ≡ state_in m)
+    → OnErr r (new.commits.entries ≡ m.commits.entries)
+    → new.config ≡ m.config
+    → IsPossibleOn new.config.bus t new.config.depth new.commits.entries (state_in new)
 possible-next (Ok o) t m new choice possible next fits done state commits config =
     subst (λ c. IsPossibleOn c.bus t c.depth new.commits.entries (state_in new)) (sym config)
     (subst (λ s. IsPossibleOn m.config.bus t m.config.depth new.commits.entries s)
     (sym (same-state (state_in new) (after_on m.config.bus t m.config.depth (state_in m) (attempt_in t m choice)) done.flat done.holder))
-    (subst (λ es. IsPossibleOn m.config.bus t m.config.depth es (after_on m.config.bus t m.config.depth (state_in m) (attempt_in t m choice))) (sym done.commits) (next (attempt_in t m choice) possible fits)))
+    (subst (λ es.
+    IsPossibleOn m.config.bus t m.config.depth es (after_on m.config.bus t m.config.depth (state_in m) (attempt_in t m choice)))
+    (sym done.commits) (next (attempt_in t m choice) possible fits)))
 possible-next (Err e) t m new choice possible next fits done state commits config =
     subst (λ c. IsPossibleOn c.bus t c.depth new.commits.entries (state_in new)) (sym config)
     (subst (λ s. IsPossibleOn m.config.bus t m.config.depth new.commits.entries s) (sym state)

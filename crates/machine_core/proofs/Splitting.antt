@@ -1,5 +1,15 @@
 -- A choice on a split bus that isn't the holder's next one.
-use Rattle.machine_core.proofs.Vocabulary.{◌≡◌, ◌≢◌, ℕ, ◌<◌, ◌++◌, Bool, true, false, List, [], Option, None, Some, Result, Ok, Err, IfOk, OnOk, OnErr, inr, length, slice_set, append-nil, refl, sym, ap, ◌∙◌, subst, set-get_or, Litmus, CoreState, Effect, stalled, after_choice, chosen, core_of, idle, MemoryAccess, NoAccess, Reads, Writes, Locks, access_of, Holder, Free, HeldBy, HeldBetween, Attempt, BusEffect, acts, asks, needs_bus, same_choice, BusState, HitFits, NoMemory, Split, Core, Loc, Entry, Choice, Outcome, HolderFits, BusModel, words_of, cores_of, holder_of, IsSameMachine, AsksFor, Locked, Unused, Next, Complete, Write, Hardware, Way, by_way, Caches, Used, caches_of, at_access, ask_by, not_through, hits_by, is_awaited, used_between, completing_by, use_of, HardwareFitsTest, IsHeldForAccess, held_as, held_for, core_in, holder_by, state_in, ChoiceAnswer, HasUsed, HasEffect, MayAct, attempt_in, flat_effect_in, use_by, IsOther, needed_by, IsAccessAmong, begins_in, HasMade, IsUndone, effect_made_in}
+use Rattle.machine_core.proofs.Vocabulary.{◌≡◌, ◌≢◌, ℕ, ◌<◌, ◌++◌, Bool, true, false, List, [], Option, None, Some, Result, Ok, Err, IfOk}
+use Rattle.machine_core.proofs.Vocabulary.{OnOk, OnErr, inr, length, slice_set, append-nil, refl, sym, ap, ◌∙◌, subst, set-get_or, Litmus}
+use Rattle.machine_core.proofs.Vocabulary.{CoreState, Effect, stalled, after_choice, chosen, core_of, idle, MemoryAccess, NoAccess, Reads}
+use Rattle.machine_core.proofs.Vocabulary.{Writes, Locks, access_of, Holder, Free, HeldBy, HeldBetween, Attempt, BusEffect, acts, asks}
+use Rattle.machine_core.proofs.Vocabulary.{needs_bus, same_choice, BusState, HitFits, NoMemory, Split, Core, Loc, Entry, Choice, Outcome}
+use Rattle.machine_core.proofs.Vocabulary.{HolderFits, BusModel, words_of, cores_of, holder_of, IsSameMachine, AsksFor, Locked, Unused}
+use Rattle.machine_core.proofs.Vocabulary.{Next, Complete, Write, Hardware, Way, by_way, Caches, Used, caches_of, at_access, ask_by}
+use Rattle.machine_core.proofs.Vocabulary.{not_through, hits_by, is_awaited, used_between, completing_by, use_of, HardwareFitsTest}
+use Rattle.machine_core.proofs.Vocabulary.{IsHeldForAccess, held_as, held_for, core_in, holder_by, state_in, ChoiceAnswer, HasUsed}
+use Rattle.machine_core.proofs.Vocabulary.{HasEffect, MayAct, attempt_in, flat_effect_in, use_by, IsOther, needed_by, IsAccessAmong}
+use Rattle.machine_core.proofs.Vocabulary.{begins_in, HasMade, IsUndone, effect_made_in}
 use Rattle.tso_terms.specs.FlatMachine.{State}
 use Rattle.multiprocessor.specs.declared.accesses.CacheUse.{CacheUse}
 use Rattle.multiprocessor.specs.Caches.{asking_use}
@@ -15,7 +25,9 @@ use Rattle.multiprocessor.specs.declared.turn.Way.TheVariants as way
 abbrev pub needs_in : {P : Type 0} → Litmus → Hardware P → Choice → Bool
 needs_in t m choice = needs_bus (access_of t m.config.depth (state_in m).flat choice) (attempt_in t m choice).hits
 
-pub begins-acts : {P : Type 0} (t : Litmus) (m : Hardware P) (choice : Choice) → needs_in t m choice ≡ false → begins_in t m choice ≡ acts (flat_effect_in t m choice) (state_in m).holder
+pub begins-acts : {P : Type 0} (t : Litmus) (m : Hardware P) (choice : Choice)
+    → needs_in t m choice ≡ false
+    → begins_in t m choice ≡ acts (flat_effect_in t m choice) (state_in m).holder
 begins-acts t m choice h = rw h refl
 
 pub begins-asks : {P : Type 0} (t : Litmus) (m : Hardware P) (choice : Choice) → needs_in t m choice ≡ true
@@ -27,11 +39,13 @@ abbrev pub flat_use_in : {P : Type 0} → Litmus → Hardware P → Choice → U
 flat_use_in t m choice = use_of (caches_of m.bus) (core_of (state_in m).flat (chosen choice)).pending (flat_effect_in t m choice).commits
 
 -- where the same is awaited before it and after it, a choice uses the caches as on the flat machine
-pub used-same : (b : Bool) (c : Caches) (core : ℕ) (what : MemoryAccess) (pending commits : List Entry) → used_between b b c core what pending commits ≡ use_of c pending commits
+pub used-same : (b : Bool) (c : Caches) (core : ℕ) (what : MemoryAccess) (pending commits : List Entry)
+    → used_between b b c core what pending commits ≡ use_of c pending commits
 used-same true c core what pending commits = refl
 used-same false c core what pending commits = refl
 
-pub use-acts : {P : Type 0} (t : Litmus) (m : Hardware P) (choice : Choice) → use_by t m choice (acts (flat_effect_in t m choice) (state_in m).holder) ≡ flat_use_in t m choice
+pub use-acts : {P : Type 0} (t : Litmus) (m : Hardware P) (choice : Choice)
+    → use_by t m choice (acts (flat_effect_in t m choice) (state_in m).holder) ≡ flat_use_in t m choice
 use-acts t m choice = used-same (is_awaited (state_in m).holder) _ _ _ _ _
 
 -- where what was awaited comes, by its completion
@@ -44,7 +58,9 @@ use-frees t m choice f asked free =
     ∙ ap (λ b. used_between true b (caches_of m.bus) (chosen choice) what pending f.effect.commits) free
 
 -- the caches after an ask
-pub asked-caches : (old new : BusModel) (core : Core) (loc : Loc) (write : Bool) (request : Option BusRequest) → AsksFor old new core loc write request → IsSameMachine old new
+pub asked-caches : (old new : BusModel) (core : Core) (loc : Loc) (write : Bool) (request : Option BusRequest)
+    → AsksFor old new core loc write request
+    → IsSameMachine old new
     → caches_of new ≡ (ask_by (caches_of old) core.0 loc.0 write).caches
 asked-caches old new core loc write request done machine = rw (machine.rows, machine.shape, done.contents, done.awaited_is) refl
 
@@ -55,12 +71,17 @@ asked-how old new core loc write request done = ap asking_use done.request_is
 
 -- an action that has asked keeps its access
 pub held-kept : (t : Litmus) (depth : ℕ) (state : State) (choice : Choice) (holder : Holder) → IsOther holder choice → HolderFits Split t depth state holder
-    → ((a b : Choice) → access_of t depth state a ≢ NoAccess → same_choice a b ≡ false → access_of t depth (after_choice t depth state b) a ≡ access_of t depth state a)
+    → ((a b : Choice)
+    → access_of t depth state a ≢ NoAccess
+    → same_choice a b ≡ false
+    → access_of t depth (after_choice t depth state b) a ≡ access_of t depth state a)
     → held_as t depth (after_choice t depth state choice) holder ≡ held_as t depth state holder
 held-kept t depth state choice (HeldBy asked) other fits waits = ap (held_for (core_in asked)) (waits asked choice fits other)
 held-kept t depth state choice _ other fits waits = refl
 
-pub held-next : {P : Type 0} (r : Result ChoiceAnswer NoMemory) (t : Litmus) (m new : Hardware P) (choice : Choice) → IsHeldForAccess t m → IsOther (state_in m).holder choice
+pub held-next : {P : Type 0} (r : Result ChoiceAnswer NoMemory) (t : Litmus) (m new : Hardware P) (choice : Choice)
+    → IsHeldForAccess t m
+    → IsOther (state_in m).holder choice
     → HolderFits Split t m.config.depth (state_in m).flat (state_in m).holder
     → ((a b : Choice) → access_of t m.config.depth (state_in m).flat a ≢ NoAccess → same_choice a b ≡ false
     → access_of t m.config.depth (after_choice t m.config.depth (state_in m).flat b) a ≡ access_of t m.config.depth (state_in m).flat a)
@@ -72,11 +93,19 @@ held-next (Ok x) t m new choice held other fits waits config same done err =
     ∙ ap (λ s. held_as t m.config.depth s (state_in m).holder) (sym flat) ∙ ap (λ h. held_as t m.config.depth (state_in new).flat h) (sym done.ok.holder)
     ∙ ap (λ c. held_as t c.depth (state_in new).flat (state_in new).holder) (sym config)
 held-next (Err x) t m new choice held other fits waits config same done err =
-    ap holder_of err.bus ∙ held ∙ ap (λ (s : BusState). held_as t m.config.depth s.flat s.holder) (sym err.state) ∙ ap (λ c. held_as t c.depth (state_in new).flat (state_in new).holder) (sym config)
+    ap holder_of err.bus
+    ∙ held
+    ∙ ap (λ (s : BusState). held_as t m.config.depth s.flat s.holder) (sym err.state)
+    ∙ ap (λ c. held_as t c.depth (state_in new).flat (state_in new).holder) (sym config)
 
 -- the caches' answer fits
 pub answer-fits : (t : Litmus) (depth : ℕ) (state : State) (a : Attempt) (b : BusModel) (holder : Holder) → holder_of b ≡ held_as t depth state holder
-    → ((e : Entry) (loc : Loc) → holder_of b ≡ Some (bus.holder e.core e.loc Locked) → access_of t depth state a.choice ≡ Writes loc → a.hits ≡ true → chosen a.choice ≢ e.core.0 → loc.0 ≢ e.loc.0)
+    → ((e : Entry) (loc : Loc)
+    → holder_of b ≡ Some (bus.holder e.core e.loc Locked)
+    → access_of t depth state a.choice ≡ Writes loc
+    → a.hits ≡ true
+    → chosen a.choice ≢ e.core.0
+    → loc.0 ≢ e.loc.0)
     → HitFits t depth state a holder
 answer-fits t depth state a b (HeldBetween e) held taken = λ loc. taken e loc held
 answer-fits t depth state a b _ held taken = tt
@@ -96,18 +125,36 @@ performs-stall t m choice f s o e after commits outcome =
     } in
     subst (λ g. HasEffect m m choice g o) (sym e) all
 
-pub use-rests : {P : Type 0} (t : Litmus) (m : Hardware P) (choice : Choice) (f : BusEffect) (s : Effect) → f ≡ acts s (state_in m).holder → s.commits ≡ [] → HasUsed (use_by t m choice f) m.bus Unused
+pub use-rests : {P : Type 0} (t : Litmus) (m : Hardware P) (choice : Choice) (f : BusEffect) (s : Effect)
+    → f ≡ acts s (state_in m).holder
+    → s.commits ≡ []
+    → HasUsed (use_by t m choice f) m.bus Unused
 use-rests t m choice f s e none =
     let same : use_by t m choice f ≡ not_through Unused (caches_of m.bus) =
-    ap (use_by t m choice) e ∙ used-same (is_awaited (state_in m).holder) _ _ _ _ _ ∙ ap (use_of (caches_of m.bus) (core_of (state_in m).flat (chosen choice)).pending) none in
+    ap (use_by t m choice) e
+    ∙ used-same (is_awaited (state_in m).holder) _ _ _ _ _
+    ∙ ap (use_of (caches_of m.bus) (core_of (state_in m).flat (chosen choice)).pending) none in
     subst (λ u. HasUsed u m.bus Unused) (sym same) (record { how_is = refl; caches = refl })
 
-pub performs-ask : {P : Type 0} (t : Litmus) (m new : Hardware P) (choice : Choice) → needs_in t m choice ≡ true → (state_in m).holder ≡ Free → new.processors.items ≡ m.processors.items
-    → words_of new.bus ≡ words_of m.bus → (state_in new).holder ≡ HeldBy choice → new.commits.entries ≡ m.commits.entries → HasEffect m new choice (begins_in t m choice) Asked
+pub performs-ask : {P : Type 0} (t : Litmus) (m new : Hardware P) (choice : Choice)
+    → needs_in t m choice ≡ true
+    → (state_in m).holder ≡ Free
+    → new.processors.items ≡ m.processors.items
+    → words_of new.bus ≡ words_of m.bus
+    → (state_in new).holder ≡ HeldBy choice
+    → new.commits.entries ≡ m.commits.entries
+    → HasEffect m new choice (begins_in t m choice) Asked
 performs-ask t m new choice needs free processors words holder commits =
     let same : begins_in t m choice ≡ acts (record { outcome = Asked; after = core_of (state_in m).flat (chosen choice); commits = [] }) (HeldBy choice) =
     begins-asks t m choice needs ∙ ap (asks (core_of (state_in m).flat (chosen choice)) choice) free in
-    let all : HasEffect m new choice (acts (record { outcome = Asked; after = core_of (state_in m).flat (chosen choice); commits = [] }) (HeldBy choice)) Asked = record {
+    let all : HasEffect m new choice
+    (acts (record {
+      outcome = Asked;
+      after = core_of (state_in m).flat (chosen choice);
+      commits = [];
+    }) (HeldBy choice))
+    Asked =
+    record {
       outcome = refl;
       flat = rw (processors, words) (sym (rests-at (state_in m).flat (chosen choice)));
       holder = holder;
@@ -115,15 +162,26 @@ performs-ask t m new choice needs free processors words holder commits =
     } in
     subst (λ g. HasEffect m new choice g Asked) (sym same) all
 
-pub use-ask : {P : Type 0} (t : Litmus) (m : Hardware P) (bus : BusModel) (choice : Choice) (core : ℕ) (access : MemoryAccess) (how : CacheUse) → needs_in t m choice ≡ true → (state_in m).holder ≡ Free → core ≡ chosen choice
+pub use-ask : {P : Type 0} (t : Litmus) (m : Hardware P) (bus : BusModel) (choice : Choice) (core : ℕ)
+    (access : MemoryAccess) (how : CacheUse)
+    → needs_in t m choice ≡ true
+    → (state_in m).holder ≡ Free
+    → core ≡ chosen choice
     → access ≡ access_of t m.config.depth (state_in m).flat choice
     → how ≡ (at_access (not_through Unused (caches_of m.bus)) (λ loc write. ask_by (caches_of m.bus) core loc.0 write) access).how
-    → caches_of bus ≡ (at_access (not_through Unused (caches_of m.bus)) (λ loc write. ask_by (caches_of m.bus) core loc.0 write) access).caches → HasUsed (use_by t m choice (begins_in t m choice)) bus how
+    → caches_of bus ≡ (at_access (not_through Unused (caches_of m.bus)) (λ loc write. ask_by (caches_of m.bus) core loc.0 write) access).caches
+    → HasUsed (use_by t m choice (begins_in t m choice)) bus how
 use-ask t m bus choice core access how needs free is at told caches =
-    let asked : Used = at_access (not_through Unused (caches_of m.bus)) (λ loc write. ask_by (caches_of m.bus) (chosen choice) loc.0 write) (access_of t m.config.depth (state_in m).flat choice) in
+    let asked : Used =
+    at_access (not_through Unused (caches_of m.bus))
+    (λ loc write. ask_by (caches_of m.bus) (chosen choice) loc.0 write)
+    (access_of t m.config.depth (state_in m).flat choice) in
     let same : use_by t m choice (begins_in t m choice) ≡ asked =
     ap (use_by t m choice) (begins-asks t m choice needs ∙ ap (asks (core_of (state_in m).flat (chosen choice)) choice) free)
-    ∙ ap (λ h. used_between (is_awaited h) true (caches_of m.bus) (chosen choice) (access_of t m.config.depth (state_in m).flat choice) (core_of (state_in m).flat (chosen choice)).pending []) free in
+    ∙ ap (λ h.
+    used_between (is_awaited h) true (caches_of m.bus) (chosen choice)
+    (access_of t m.config.depth (state_in m).flat choice) (core_of (state_in m).flat (chosen choice)).pending [])
+    free in
     subst (λ u. HasUsed u bus how) (sym same) (record {
       how_is = told ∙ rw (is, at) refl;
       caches = caches ∙ rw (is, at) refl;
@@ -153,7 +211,9 @@ module _ (loc : Loc) (write : Bool) where
   needs-some (Writes at) false h = refl
   needs-some (Locks at) hits h = refl
 
-  pub needed-at : {A : Type 0} (none : A) (f : Loc → Bool → A) (a : MemoryAccess) (hits : Bool) → Some (loc, write) ≡ needed_by a hits → at_access none f a ≡ f loc write
+  pub needed-at : {A : Type 0} (none : A) (f : Loc → Bool → A) (a : MemoryAccess) (hits : Bool)
+      → Some (loc, write) ≡ needed_by a hits
+      → at_access none f a ≡ f loc write
   needed-at none f NoAccess hits h = absurd (let z : ⊥ = cc in z)
   needed-at none f (Reads at) true h = absurd (let z : ⊥ = cc in z)
   needed-at none f (Reads at) false h = let z : (at, false) ≡ (loc, write) = cc in ap (λ (x : Loc × Bool). f x.0 x.1) z
@@ -164,10 +224,19 @@ module _ (loc : Loc) (write : Bool) where
   pub needed-among : (locations : ℕ) (a : MemoryAccess) (hits : Bool) → Some (loc, write) ≡ needed_by a hits → IsAccessAmong locations a → loc.0 < locations
   needed-among locations NoAccess hits h among = absurd (let z : ⊥ = cc in z)
   needed-among locations (Reads at) true h among = absurd (let z : ⊥ = cc in z)
-  needed-among locations (Reads at) false h among = let both : (at, false) ≡ (loc, write) = cc in let z : at ≡ loc = ap (λ (x : Loc × Bool). x.0) both in subst (λ (l : Loc). l.0 < locations) z among
+  needed-among locations (Reads at) false h among =
+      let both : (at, false) ≡ (loc, write) = cc in
+      let z : at ≡ loc = ap (λ (x : Loc × Bool). x.0) both in
+      subst (λ (l : Loc). l.0 < locations) z among
   needed-among locations (Writes at) true h among = absurd (let z : ⊥ = cc in z)
-  needed-among locations (Writes at) false h among = let both : (at, true) ≡ (loc, write) = cc in let z : at ≡ loc = ap (λ (x : Loc × Bool). x.0) both in subst (λ (l : Loc). l.0 < locations) z among
-  needed-among locations (Locks at) hits h among = let both : (at, true) ≡ (loc, write) = cc in let z : at ≡ loc = ap (λ (x : Loc × Bool). x.0) both in subst (λ (l : Loc). l.0 < locations) z among
+  needed-among locations (Writes at) false h among =
+      let both : (at, true) ≡ (loc, write) = cc in
+      let z : at ≡ loc = ap (λ (x : Loc × Bool). x.0) both in
+      subst (λ (l : Loc). l.0 < locations) z among
+  needed-among locations (Locks at) hits h among =
+      let both : (at, true) ≡ (loc, write) = cc in
+      let z : at ≡ loc = ap (λ (x : Loc × Bool). x.0) both in
+      subst (λ (l : Loc). l.0 < locations) z among
 
   pub needed-misses : (a : MemoryAccess) (hits : Bool) → Some (loc, write) ≡ needed_by a hits → write ≡ false → hits ≡ false
   needed-misses NoAccess hits h reads = absurd (let z : ⊥ = cc in z)
@@ -175,21 +244,34 @@ module _ (loc : Loc) (write : Bool) where
   needed-misses (Reads at) false h reads = refl
   needed-misses (Writes at) true h reads = absurd (let z : ⊥ = cc in z)
   needed-misses (Writes at) false h reads = refl
-  needed-misses (Locks at) hits h reads = let both : (at, true) ≡ (loc, write) = cc in let z : true ≡ false = ap (λ (x : Loc × Bool). x.1) both ∙ reads in absurd (let w : ⊥ = cc in w)
+  needed-misses (Locks at) hits h reads =
+      let both : (at, true) ≡ (loc, write) = cc in
+      let z : true ≡ false = ap (λ (x : Loc × Bool). x.1) both ∙ reads in
+      absurd (let w : ⊥ = cc in w)
 
 pub may-act : {P : Type 0} (t : Litmus) (m : Hardware P) (choice : Choice) → needs_in t m choice ≡ false
     → MayAct m.bus (chosen choice) (access_of t m.config.depth (state_in m).flat choice)
 may-act t m choice h = inr h
 
-pub fits-by : {P : Type 0} (t : Litmus) (m : Hardware P) (choice : Choice) (core : ℕ) (access : MemoryAccess) → IsHeldForAccess t m → core ≡ chosen choice → access ≡ access_of t m.config.depth (state_in m).flat choice
-    → ((e : Entry) (loc : Loc) → holder_of m.bus ≡ Some (bus.holder e.core e.loc Locked) → access ≡ Writes loc → hits_by (caches_of m.bus) core access ≡ true → core ≢ e.core.0 → loc.0 ≢ e.loc.0)
+pub fits-by : {P : Type 0} (t : Litmus) (m : Hardware P) (choice : Choice) (core : ℕ) (access : MemoryAccess)
+    → IsHeldForAccess t m
+    → core ≡ chosen choice
+    → access ≡ access_of t m.config.depth (state_in m).flat choice
+    → ((e : Entry) (loc : Loc)
+    → holder_of m.bus ≡ Some (bus.holder e.core e.loc Locked)
+    → access ≡ Writes loc
+    → hits_by (caches_of m.bus) core access ≡ true
+    → core ≢ e.core.0
+    → loc.0 ≢ e.loc.0)
     → HitFits t m.config.depth (state_in m).flat (attempt_in t m choice) (state_in m).holder
 fits-by t m choice core access held i a taken =
     answer-fits t m.config.depth (state_in m).flat (attempt_in t m choice) m.bus (state_in m).holder held
     (λ e loc h w hit other. taken e loc h (a ∙ w)
     (ap (λ k. hits_by (caches_of m.bus) k access) i ∙ ap (λ x. hits_by (caches_of m.bus) (chosen choice) x) a ∙ hit) (λ q. other (sym i ∙ q)))
 
-pub asks-taken : (s : CoreState) (choice : Choice) (next : Next) (holder : Holder) → holder ≡ holder_by (Some next) → asks s choice holder ≡ acts (stalled stall.Bus s) holder
+pub asks-taken : (s : CoreState) (choice : Choice) (next : Next) (holder : Holder)
+    → holder ≡ holder_by (Some next)
+    → asks s choice holder ≡ acts (stalled stall.Bus s) holder
 asks-taken s choice (Complete asked) holder h = rw h refl
 asks-taken s choice (Write e) holder h = rw h refl
 
@@ -203,21 +285,31 @@ held-made way.Whole next h = refl
 held-made way.Asked next h = refl
 
 -- an access that needs the bus holds it once it was asked for
-pub asks-hold : (core : Core) (access : MemoryAccess) (hit : Bool) (choice : Choice) → needs_bus access hit ≡ true → held-with (Complete choice) (held_for core access) ≡ HeldBy choice
+pub asks-hold : (core : Core) (access : MemoryAccess) (hit : Bool) (choice : Choice)
+    → needs_bus access hit ≡ true
+    → held-with (Complete choice) (held_for core access) ≡ HeldBy choice
 asks-hold core NoAccess hit choice needs = absurd (let z : ⊥ = cc in z)
 asks-hold core _ hit choice needs = refl
 
 -- a bus that nobody holds is held for no access
-pub held-freed : (t : Litmus) (depth : ℕ) (state : State) (next : Next) (h : Option bus_action.BusAction) → h ≡ None → h ≡ held_as t depth state (held-with next h)
+pub held-freed : (t : Litmus) (depth : ℕ) (state : State) (next : Next) (h : Option bus_action.BusAction)
+    → h ≡ None
+    → h ≡ held_as t depth state (held-with next h)
 held-freed t depth state next h free = free ∙ sym (ap (λ k. held_as t depth state (held-with next k)) free)
 
 -- who holds the caches' bus once it was asked for
-pub held-ask : (t : Litmus) (depth : ℕ) (old new : State) (choice : Choice) (core : Core) (access : MemoryAccess) (b : Option bus_action.BusAction) → core ≡ core_in choice
+pub held-ask : (t : Litmus) (depth : ℕ) (old new : State) (choice : Choice) (core : Core) (access : MemoryAccess)
+    (b : Option bus_action.BusAction)
+    → core ≡ core_in choice
     → access ≡ access_of t depth old choice → new ≡ old → b ≡ held_for core access → b ≡ held_as t depth new (HeldBy choice)
 held-ask t depth old new choice core access b i a s h =
     h ∙ ap (λ k. held_for k access) i ∙ ap (held_for (core_in choice)) (a ∙ ap (λ st. access_of t depth st choice) (sym s))
 
-pub fits-ask : {P : Type 0} (t : Litmus) (m new : Hardware P) → HardwareFitsTest t m → new.config ≡ m.config → new.processors.items ≡ m.processors.items → words_of new.bus ≡ words_of m.bus
+pub fits-ask : {P : Type 0} (t : Litmus) (m new : Hardware P)
+    → HardwareFitsTest t m
+    → new.config ≡ m.config
+    → new.processors.items ≡ m.processors.items
+    → words_of new.bus ≡ words_of m.bus
     → cores_of new.bus ≡ cores_of m.bus → HardwareFitsTest t new
 fits-ask t m new fits config processors words cores = record {
   cores = ap length processors ∙ fits.cores;

@@ -1,10 +1,13 @@
 -- Accesses, by the state of the core's own copy.
-use Rattle.machine_core.proofs.Vocabulary.{◌≡◌, ◌↔◌, ℕ, Bool, true, false, List, Option, Some, None, refl, sym, ap, ◌∙◌, is_some, State, Table, TagSets, Accessed, hits, tag_at, next_in_place, awaited_as, request_for, whole_in, whole_access, asked_at_once, awaiting}
+use Rattle.machine_core.proofs.Vocabulary.{◌≡◌, ◌↔◌, ℕ, Bool, true, false, List, Option, Some, None, refl, sym, ap, ◌∙◌, is_some, State}
+use Rattle.machine_core.proofs.Vocabulary.{Table, TagSets, Accessed, hits, tag_at, next_in_place, awaited_as, request_for, whole_in}
+use Rattle.machine_core.proofs.Vocabulary.{whole_access, asked_at_once, awaiting}
 use Rattle.protocol_tables.specs.declared.requests.Transient.{Transient}
 use Rattle.protocol_tables.specs.declared.requests.Transient.TheVariants.{IsD}
 use Rattle.machine_core.specs.Hits.{IsHit}
 
-pub access-told : (t : Table) (write : Bool) (core line : ℕ) (caches : List TagSets) → IsHit (whole_access t write core line caches) ↔ (hits t core line write caches ≡ true)
+pub access-told : (t : Table) (write : Bool) (core line : ℕ) (caches : List TagSets)
+    → IsHit (whole_access t write core line caches) ↔ (hits t core line write caches ≡ true)
 unfolding awaiting
 access-told t write core line caches = by_next (tag_at core line caches) (next_in_place t write (tag_at core line caches))
   where
@@ -18,7 +21,11 @@ access-told t write core line caches = by_next (tag_at core line caches) (next_i
 
 -- the same of an access that is this one in another form
 pub told-as : (a b : Accessed) (P : Type 0) → a ≡ b → IsHit a ↔ P → IsHit b ↔ P
-told-as a b P e told = ((λ h. told.0 (ap (λ (z : Accessed). z.report.access.kind) e ∙ h)), (λ p. sym (ap (λ (z : Accessed). z.report.access.kind) e) ∙ told.1 p))
+told-as a b P e told = (
+  (
+      λ h. told.0 (ap (λ (z : Accessed). z.report.access.kind) e ∙ h)),
+  (λ p. sym (ap (λ (z : Accessed). z.report.access.kind) e) ∙ told.1 p),
+)
 
 pub not-both : (b : Bool) → b ≡ false → b ≡ true → ⊥
 not-both b f t = let z : ⊥ = cc in z

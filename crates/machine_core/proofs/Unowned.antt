@@ -1,5 +1,11 @@
 -- A line of memory that changes has no dirty copy then: the one that was sent or written back was the only one.
-use Rattle.machine_core.proofs.Vocabulary.{◌≡◌, ◌≢◌, ◌∙◌, ℕ, suc, Bool, true, false, if◌then◌else◌, List, [], ◌∷◌, Option, Some, None, option_map, inl, inr, refl, sym, ap, subst, get_or-set_other, decide, is_dirty, Table, table_of, ProtocolKind, State, I, M, Snoop, Line, Victim, table_of_rows, rows_of, Words, line_in, state_of_copy, may_share, leaving, filled, TagSets, tags_at, tag_in, at_line, sets_of, requested, filled_by, Sets, copy_at, copy_in, tags_of, written_back, flushed, sent_of, first_of_two, sent_words, tag_at, or_invalid, tag_at-copy, cases_Bool, is_written_back, filled_by_sharing, get_s_flushing, get_s_owning}
+use Rattle.machine_core.proofs.Vocabulary.{◌≡◌, ◌≢◌, ◌∙◌, ℕ, suc, Bool, true, false, if◌then◌else◌, List, [], ◌∷◌, Option, Some, None}
+use Rattle.machine_core.proofs.Vocabulary.{option_map, inl, inr, refl, sym, ap, subst, get_or-set_other, decide, is_dirty, Table, table_of}
+use Rattle.machine_core.proofs.Vocabulary.{ProtocolKind, State, I, M, Snoop, Line, Victim, table_of_rows, rows_of, Words, line_in}
+use Rattle.machine_core.proofs.Vocabulary.{state_of_copy, may_share, leaving, filled, TagSets, tags_at, tag_in, at_line, sets_of, requested}
+use Rattle.machine_core.proofs.Vocabulary.{filled_by, Sets, copy_at, copy_in, tags_of, written_back, flushed, sent_of, first_of_two}
+use Rattle.machine_core.proofs.Vocabulary.{sent_words, tag_at, or_invalid, tag_at-copy, cases_Bool, is_written_back, filled_by_sharing}
+use Rattle.machine_core.proofs.Vocabulary.{get_s_flushing, get_s_owning}
 use Rattle.machine_core.proofs.Changed.{core-at}
 use Rattle.protocol_tables.specs.declared.kind.ProtocolKind.TheVariants.{Msi, Mesi, Moesi, Mosi}
 use Rattle.snoop_bus.proofs.RowLemmas.{table_of-rows}
@@ -49,8 +55,20 @@ settles kind = subst SettlesMemory (sym (table_of-rows (table_of kind))) (by_pro
     by_protocol : (kind : ProtocolKind) → SettlesMemory (table_of kind)
     by_protocol Msi = record { written = back-dirty; filled = λ shared. refl; sent = flushes-m; clean = λ h. refl; absent = refl }
     by_protocol Mesi = record { written = back-dirty; filled = sharing-clean; sent = flushes-m; clean = λ h. refl; absent = refl }
-    by_protocol Moesi = record { written = back-dirty; filled = sharing-clean; sent = λ s h. absurd (owning-keeps s h); clean = λ h. absurd (owning-keeps M h); absent = refl }
-    by_protocol Mosi = record { written = back-dirty; filled = λ shared. refl; sent = λ s h. absurd (owning-keeps s h); clean = λ h. absurd (owning-keeps M h); absent = refl }
+    by_protocol Moesi = record {
+      written = back-dirty;
+      filled = sharing-clean;
+      sent = λ s h. absurd (owning-keeps s h);
+      clean = λ h. absurd (owning-keeps M h);
+      absent = refl;
+    }
+    by_protocol Mosi = record {
+      written = back-dirty;
+      filled = λ shared. refl;
+      sent = λ s h. absurd (owning-keeps s h);
+      clean = λ h. absurd (owning-keeps M h);
+      absent = refl;
+    }
 
 left-clean : (t : Table) (o : Option State) → SettlesMemory t → or_invalid o ≡ I → is_dirty (left_of t.on_get_s o) ≡ false
 left-clean t None h q = refl
@@ -87,14 +105,18 @@ victim-other lines core line caches victim neat none leaves same =
     let y : ⊥ = cc in y
 
 -- where another core's copy is sent to memory on GetS, no other is dirty then
-pub sent-unowned : (t : Table) (lines core line : ℕ) (caches : List TagSets) (sender : ℕ) (state : State) (i : ℕ) → SettlesMemory t → AreNeat lines (sets_of caches i)
+pub sent-unowned : (t : Table) (lines core line : ℕ) (caches : List TagSets) (sender : ℕ) (state : State) (i : ℕ)
+    → SettlesMemory t
+    → AreNeat lines (sets_of caches i)
     → (i ≢ sender → may_share state (or_invalid (tag_at i line caches)) ≡ true)
     → tag_at sender line caches ≡ Some state → (t.on_get_s state).to_memory ≡ true → i ≢ core
     → IsDirtyAt i line (requested t.on_get_s core line caches) → ⊥
 sent-unowned t lines core line caches sender state i h neat alone there sent n found =
     never _ (subst (λ s. is_dirty s ≡ true) (requested-here lines t.on_get_s core line caches i neat n) found) (elim (decide i sender) [
       | inl q ↦ ap (λ o. is_dirty (left_of t.on_get_s o)) (ap (λ k. tag_at k line caches) q ∙ there) ∙ clean
-      | inr apart ↦ left-clean t (tag_at i line caches) h (beside_m _ (subst (λ s. may_share s (or_invalid (tag_at i line caches)) ≡ true) (h.sent state sent) (alone apart)))
+      | inr apart ↦
+          left-clean t (tag_at i line caches) h
+          (beside_m _ (subst (λ s. may_share s (or_invalid (tag_at i line caches)) ≡ true) (h.sent state sent) (alone apart)))
     ])
   where
     clean : is_dirty (t.on_get_s state).next ≡ false
@@ -102,12 +124,18 @@ sent-unowned t lines core line caches sender state i h neat alone there sent n f
 
 -- ---- memory
 
-pub back-stale : (t : Table) (v : Option Victim) (memory : List Words) (k : ℕ) → ((w : Victim) → v ≡ Some w → t.evicts_dirty w.content.state ≡ true → k ≢ w.line)
+pub back-stale : (t : Table) (v : Option Victim) (memory : List Words) (k : ℕ)
+    → ((w : Victim) → v ≡ Some w → t.evicts_dirty w.content.state ≡ true → k ≢ w.line)
     → line_in (written_back t v memory) k ≡ line_in memory k
 back-stale t None memory k h = refl
-back-stale t (Some w) memory k h = elim (cases_Bool (t.evicts_dirty w.content.state)) [ inl q ↦ rw q (get_or-set_other memory w.line k w.content.words [] (h w refl q)) | inr q ↦ rw q refl ]
+back-stale t (Some w) memory k h = elim (cases_Bool (t.evicts_dirty w.content.state)) [
+  | inl q ↦ rw q (get_or-set_other memory w.line k w.content.words [] (h w refl q))
+  | inr q ↦ rw q refl
+]
 
-pub sent-stale : (line : ℕ) (o : Option Words) (memory : List Words) (k : ℕ) → ((w : Words) → o ≡ Some w → k ≢ line) → line_in (flushed line o memory) k ≡ line_in memory k
+pub sent-stale : (line : ℕ) (o : Option Words) (memory : List Words) (k : ℕ)
+    → ((w : Words) → o ≡ Some w → k ≢ line)
+    → line_in (flushed line o memory) k ≡ line_in memory k
 sent-stale line None memory k h = refl
 sent-stale line (Some w) memory k h = get_or-set_other memory line k w [] (h w refl)
 
@@ -125,7 +153,10 @@ sender-of on line (sets ∷ caches) w h = by_copy (copy_in sets line) refl (send
     later : IsSent on line caches → IsSent on line (sets ∷ caches)
     later s = record { sender = suc s.sender; copy = s.copy; there = s.there; sent = s.sent }
 
-    by_test : (copy : Line) (b : Bool) → (on copy.state).to_memory ≡ b → copy_in sets line ≡ Some copy → (sent_words on line caches ≡ Some w → IsSent on line caches)
+    by_test : (copy : Line) (b : Bool)
+        → (on copy.state).to_memory ≡ b
+        → copy_in sets line ≡ Some copy
+        → (sent_words on line caches ≡ Some w → IsSent on line caches)
         → first_of_two (if b then Some copy.words else None) (sent_words on line caches) ≡ Some w → IsSent on line (sets ∷ caches)
     by_test copy true q is rest h = record { sender = 0; copy = copy; there = is; sent = q }
     by_test copy false q is rest h = later (rest h)

@@ -1,5 +1,9 @@
 -- Sets of tags under accesses: each line lies in one set alone and once, none is in I, and the line that leaves a set is gone.
-use Rattle.machine_core.proofs.Vocabulary.{arith, ◌≡◌, ◌≢◌, ◌<◌, ◌-◌, ◌%◌, ℕ, zero, suc, false, List, [], ◌∷◌, length, take, map, slice_get, slice_set, slice_index_or, Option, Some, None, nat_eq, if◌then◌else◌, inl, inr, refl, sym, subst, eqb_tells, eq-eqb, length-set, lookup, remove_entry, State, I, Snoop, TagSet, tag_set, tag_of, used, filled, leaving, restated, in_next, snooped, snooped_in, TagSets, tags_at, tag_in, at_line, sets_of, at_core, at_others, requested, used_by, filled_by}
+use Rattle.machine_core.proofs.Vocabulary.{arith, ◌≡◌, ◌≢◌, ◌<◌, ◌-◌, ◌%◌, ℕ, zero, suc, false, List, [], ◌∷◌, length, take, map, slice_get}
+use Rattle.machine_core.proofs.Vocabulary.{slice_set, slice_index_or, Option, Some, None, nat_eq, if◌then◌else◌, inl, inr, refl, sym, subst}
+use Rattle.machine_core.proofs.Vocabulary.{eqb_tells, eq-eqb, length-set, lookup, remove_entry, State, I, Snoop, TagSet, tag_set, tag_of}
+use Rattle.machine_core.proofs.Vocabulary.{used, filled, leaving, restated, in_next, snooped, snooped_in, TagSets, tags_at, tag_in, at_line}
+use Rattle.machine_core.proofs.Vocabulary.{sets_of, at_core, at_others, requested, used_by, filled_by}
 use Rattle.machine_core.proofs.Changed.{slot, set-at, core-at}
 
 -- ---- the tags of one set
@@ -66,7 +70,10 @@ once-take (suc n) (e ∷ es) h = (absent-take n e.0 es h.0, once-take n es h.1)
 abbrev restate : ℕ → State → List (ℕ × State) → List (ℕ × State)
 restate line state es = map (λ e. if nat_eq line e.0 then (e.0, state) else e) es
 
-kind-restate : (P : ℕ → State → Type 0) (line : ℕ) (state : State) (es : List (ℕ × State)) → ((k : ℕ) (s : State) → P k s → P k state) → OfKind P es → OfKind P (restate line state es)
+kind-restate : (P : ℕ → State → Type 0) (line : ℕ) (state : State) (es : List (ℕ × State))
+    → ((k : ℕ) (s : State) → P k s → P k state)
+    → OfKind P es
+    → OfKind P (restate line state es)
 kind-restate P line state [] may h = tt
 kind-restate P line state (e ∷ es) may h = elim (eqb_tells line e.0) [
   | inl p ↦ rw p.0 (may e.0 e.1 h.0, kind-restate P line state es may h.1)
@@ -131,7 +138,11 @@ pub record IsNeat (P : ℕ → State → Type 0) (s : TagSet) : Type 0 where
 used-neat : (P : ℕ → State → Type 0) (line : ℕ) (state : State) (s : TagSet) → P line state → IsNeat P s → IsNeat P (used line state s)
 used-neat P line state s p h = record { kind = (p, kind-remove P line s.tags h.kind); once = (gone-remove line s.tags h.once, once-remove line s.tags h.once) }
 
-filled-neat : (P : ℕ → State → Type 0) (line : ℕ) (state : State) (s : TagSet) → P line state → tag_of s line ≡ None → IsNeat P s → IsNeat P (filled line state s)
+filled-neat : (P : ℕ → State → Type 0) (line : ℕ) (state : State) (s : TagSet)
+    → P line state
+    → tag_of s line ≡ None
+    → IsNeat P s
+    → IsNeat P (filled line state s)
 filled-neat P line state s p none h = record {
   kind = kind-take P s.ways ((line, state) ∷ s.tags) (p, h.kind);
   once = once-take s.ways ((line, state) ∷ s.tags) (none, h.once);
@@ -167,7 +178,11 @@ kind-at P n x [] h q = absurd (let z : ⊥ = cc in z)
 kind-at P zero x (e ∷ es) h q = let same : e ≡ x = cc in subst (λ (y : ℕ × State). P y.0 y.1) same h.0
 kind-at P (suc n) x (e ∷ es) h q = kind-at P n x es h.1 q
 
-has-left : (P : ℕ → State → Type 0) (line : ℕ) (state : State) (s : TagSet) (victim : ℕ × State) → IsNeat P s → tag_of s line ≡ None → leaving s ≡ Some victim → HasLeft P line state s victim
+has-left : (P : ℕ → State → Type 0) (line : ℕ) (state : State) (s : TagSet) (victim : ℕ × State)
+    → IsNeat P s
+    → tag_of s line ≡ None
+    → leaving s ≡ Some victim
+    → HasLeft P line state s victim
 has-left P line state s victim h none leaves =
     let there = found-at (s.ways - 1) victim s.tags h.once leaves in
     record { kind = kind-at P (s.ways - 1) victim s.tags h.kind leaves; before = there; after = by_ways s.ways leaves }
@@ -208,25 +223,37 @@ pub no-sets : (lines : ℕ) → AreNeat lines []
 no-sets lines i = none-neat (Lies lines 0 i)
 
 set-changed : (lines line : ℕ) (change : TagSet → TagSet) (sets : TagSets) → AreNeat lines sets
-    → (IsNeat (Lies lines (length sets) (line % length sets)) (tags_at sets line) → IsNeat (Lies lines (length sets) (line % length sets)) (change (tags_at sets line)))
+    → (IsNeat (Lies lines (length sets) (line % length sets)) (tags_at sets line)
+    → IsNeat (Lies lines (length sets) (line % length sets)) (change (tags_at sets line)))
     → AreNeat lines (at_line line change sets)
 set-changed lines line change sets h changed i =
     let there = line % length sets in
     let new = change (tags_at sets line) in
     subst (λ n. IsNeat (Lies lines n i) (slice_index_or (slice_set sets there new) i no_set)) (sym (length-set sets there new))
-    (slot (IsNeat (Lies lines (length sets) i)) sets there i new no_set (λ q l. subst (λ k. IsNeat (Lies lines (length sets) k) new) (sym q) (changed (h there))) (λ q past. none-neat (Lies lines (length sets) i)) (λ n. h i))
+    (slot (IsNeat (Lies lines (length sets) i)) sets there i new no_set
+    (λ q l. subst (λ k. IsNeat (Lies lines (length sets) k) new) (sym q) (changed (h there)))
+    (λ q past. none-neat (Lies lines (length sets) i)) (λ n. h i))
 
 -- a copy that is found is in a state other than I
 pub found-valid : (lines line : ℕ) (state : State) (sets : TagSets) → AreNeat lines sets → tag_in sets line ≡ Some state → state ≢ I
 found-valid lines line state sets h q =
     (kind-found (Lies lines (length sets) (line % length sets)) line state (tags_at sets line).tags (h (line % length sets)).kind q).valid
 
-sets-used : (lines line : ℕ) (state : State) (sets : TagSets) → line < lines → state ≢ I → AreNeat lines sets → AreNeat lines (at_line line (used line state) sets)
+sets-used : (lines line : ℕ) (state : State) (sets : TagSets)
+    → line < lines
+    → state ≢ I
+    → AreNeat lines sets
+    → AreNeat lines (at_line line (used line state) sets)
 sets-used lines line state sets l valid h =
     set-changed lines line (used line state) sets h
     (used-neat (Lies lines (length sets) (line % length sets)) line state (tags_at sets line) (record { within = l; place = refl; valid = valid }))
 
-sets-filled : (lines line : ℕ) (state : State) (sets : TagSets) → line < lines → state ≢ I → tag_in sets line ≡ None → AreNeat lines sets → AreNeat lines (at_line line (filled line state) sets)
+sets-filled : (lines line : ℕ) (state : State) (sets : TagSets)
+    → line < lines
+    → state ≢ I
+    → tag_in sets line ≡ None
+    → AreNeat lines sets
+    → AreNeat lines (at_line line (filled line state) sets)
 sets-filled lines line state sets l valid none h =
     set-changed lines line (filled line state) sets h
     (filled-neat (Lies lines (length sets) (line % length sets)) line state (tags_at sets line) (record { within = l; place = refl; valid = valid }) none)
@@ -234,7 +261,8 @@ sets-filled lines line state sets l valid none h =
 sets-snooped : (lines : ℕ) (on : State → Snoop) (line : ℕ) (sets : TagSets) → AreNeat lines sets → AreNeat lines (at_line line (snooped on line) sets)
 sets-snooped lines on line sets h =
     set-changed lines line (snooped on line) sets h
-    (snooped-neat (Lies lines (length sets) (line % length sets)) on line (tags_at sets line) (λ k old next valid there. record { within = there.within; place = there.place; valid = valid }))
+    (snooped-neat (Lies lines (length sets) (line % length sets)) on line (tags_at sets line)
+    (λ k old next valid there. record { within = there.within; place = there.place; valid = valid }))
 
 -- a dirty line that leaves was in the cache, and isn't then
 pub record Leaves (lines line : ℕ) (state : State) (sets : TagSets) (victim : ℕ × State) : Type 0 where
@@ -243,7 +271,10 @@ pub record Leaves (lines line : ℕ) (state : State) (sets : TagSets) (victim : 
   pub before : tag_in sets victim.0 ≡ Some victim.1
   pub after : tag_in (at_line line (filled line state) sets) victim.0 ≡ None
 
-pub sets-leave : (lines line : ℕ) (state : State) (sets : TagSets) (victim : ℕ × State) → AreNeat lines sets → tag_in sets line ≡ None → leaving (tags_at sets line) ≡ Some victim
+pub sets-leave : (lines line : ℕ) (state : State) (sets : TagSets) (victim : ℕ × State)
+    → AreNeat lines sets
+    → tag_in sets line ≡ None
+    → leaving (tags_at sets line) ≡ Some victim
     → Leaves lines line state sets victim
 sets-leave lines line state sets victim h none leaves =
     let there = line % length sets in
@@ -261,17 +292,24 @@ sets-leave lines line state sets victim h none leaves =
 abbrev pub AllNeat : ℕ → List TagSets → Type 0
 AllNeat lines caches = (core : ℕ) → AreNeat lines (sets_of caches core)
 
-own-changed : (lines core : ℕ) (change : TagSets → TagSets) (caches : List TagSets) → AllNeat lines caches → (AreNeat lines (sets_of caches core) → AreNeat lines (change (sets_of caches core)))
+own-changed : (lines core : ℕ) (change : TagSets → TagSets) (caches : List TagSets)
+    → AllNeat lines caches
+    → (AreNeat lines (sets_of caches core) → AreNeat lines (change (sets_of caches core)))
     → AllNeat lines (at_core core change caches)
 own-changed lines core change caches h changed k = core-at (AreNeat lines) core k change caches (λ q l. changed (h core)) (λ q past. no-sets lines) (λ n. h k)
 
 -- of the others a change that keeps no sets as they are
-each-changed : (lines : ℕ) (change : TagSets → TagSets) (caches : List TagSets) → ((sets : TagSets) → AreNeat lines sets → AreNeat lines (change sets)) → AllNeat lines caches → AllNeat lines (map change caches)
+each-changed : (lines : ℕ) (change : TagSets → TagSets) (caches : List TagSets)
+    → ((sets : TagSets) → AreNeat lines sets → AreNeat lines (change sets))
+    → AllNeat lines caches
+    → AllNeat lines (map change caches)
 each-changed lines change [] changed h k = no-sets lines
 each-changed lines change (sets ∷ caches) changed h zero = changed sets (h 0)
 each-changed lines change (sets ∷ caches) changed h (suc k) = each-changed lines change caches changed (λ j. h (suc j)) k
 
-others-changed : (lines core : ℕ) (change : TagSets → TagSets) (caches : List TagSets) → ((sets : TagSets) → AreNeat lines sets → AreNeat lines (change sets)) → AllNeat lines caches
+others-changed : (lines core : ℕ) (change : TagSets → TagSets) (caches : List TagSets)
+    → ((sets : TagSets) → AreNeat lines sets → AreNeat lines (change sets))
+    → AllNeat lines caches
     → AllNeat lines (at_others core change caches)
 others-changed lines core change [] changed h k = no-sets lines
 others-changed lines zero change (sets ∷ caches) changed h zero = h 0
@@ -285,12 +323,24 @@ own-kept core change [] = refl
 own-kept zero change (sets ∷ caches) = refl
 own-kept (suc core) change (sets ∷ caches) = own-kept core change caches
 
-pub all-requested : (lines : ℕ) (on : State → Snoop) (core line : ℕ) (caches : List TagSets) → AllNeat lines caches → AllNeat lines (requested on core line caches)
+pub all-requested : (lines : ℕ) (on : State → Snoop) (core line : ℕ) (caches : List TagSets)
+    → AllNeat lines caches
+    → AllNeat lines (requested on core line caches)
 all-requested lines on core line caches h = others-changed lines core (at_line line (snooped on line)) caches (sets-snooped lines on line) h
 
-pub all-used : (lines core line : ℕ) (state : State) (caches : List TagSets) → line < lines → state ≢ I → AllNeat lines caches → AllNeat lines (used_by core line state caches)
-all-used lines core line state caches l valid h = own-changed lines core (at_line line (used line state)) caches h (sets-used lines line state (sets_of caches core) l valid)
+pub all-used : (lines core line : ℕ) (state : State) (caches : List TagSets)
+    → line < lines
+    → state ≢ I
+    → AllNeat lines caches
+    → AllNeat lines (used_by core line state caches)
+all-used lines core line state caches l valid h =
+    own-changed lines core (at_line line (used line state)) caches h (sets-used lines line state (sets_of caches core) l valid)
 
-pub all-filled : (lines core line : ℕ) (state : State) (caches : List TagSets) → line < lines → state ≢ I → tag_in (sets_of caches core) line ≡ None → AllNeat lines caches
+pub all-filled : (lines core line : ℕ) (state : State) (caches : List TagSets)
+    → line < lines
+    → state ≢ I
+    → tag_in (sets_of caches core) line ≡ None
+    → AllNeat lines caches
     → AllNeat lines (filled_by core line state caches)
-all-filled lines core line state caches l valid none h = own-changed lines core (at_line line (filled line state)) caches h (sets-filled lines line state (sets_of caches core) l valid none)
+all-filled lines core line state caches l valid none h =
+    own-changed lines core (at_line line (filled line state)) caches h (sets-filled lines line state (sets_of caches core) l valid none)

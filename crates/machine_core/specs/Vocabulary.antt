@@ -4,7 +4,8 @@ pub use Rattle.tso_terms.specs.FlatMachine.{CoreState, drain, start, State, step
 pub use Rattle.tso_terms.specs.Litmus.{Litmus, IsTest}
 pub use Rattle.tso_terms.specs.MemoryAccess.{access_of, Locks, MemoryAccess, NoAccess, Reads, Writes}
 pub use Rattle.tso_terms.specs.Runs.{has_ended}
-pub use Rattle.tso_terms.specs.SplitMachine.{Attempt, BusEffect, Free, HeldBetween, HeldBy, Holder, acts, begins, completes, needs_bus, same_choice, split_effect, writes_last}
+pub use Rattle.tso_terms.specs.SplitMachine.{Attempt, BusEffect, Free, HeldBetween, HeldBy, Holder, acts, begins, completes, needs_bus}
+pub use Rattle.tso_terms.specs.SplitMachine.{same_choice, split_effect, writes_last}
 pub use Rattle.protocol_tables.specs.Tables.{Table}
 pub use Rattle.cache_set.specs.Geometry.{Geometry, geometry}
 pub use Rattle.snoop_bus.specs.Accesses.{with_words}

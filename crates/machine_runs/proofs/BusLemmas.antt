@@ -1,5 +1,9 @@
 -- Runs on either bus: the choices with the caches' answers, and what an ended run leaves.
-use Rattle.machine_runs.proofs.Vocabulary.{◌≡◌, ℕ, zero, suc, arith, true, List, [], ◌∷◌, ◌++◌, length, append-nil, refl, sym, ap, subst, ◌∙◌, Litmus, IsTest, IsTsoExecution, KeepsAllOrder, State, start, Run, run, Free, Attempt, BusState, BusRun, unheld, run_on, after_on, choices_in, HitsFit, put_together, together, Bus, Atomic, Split, Choice, Entry, IsExecution, EndOn, waiting, IsFlatRun, Table, Caches, attempt_of, use_on, Configuration, run_by, AnswersFitBy}
+use Rattle.machine_runs.proofs.Vocabulary.{◌≡◌, ℕ, zero, suc, arith, true, List, [], ◌∷◌, ◌++◌, length, append-nil, refl, sym, ap, subst}
+use Rattle.machine_runs.proofs.Vocabulary.{◌∙◌, Litmus, IsTest, IsTsoExecution, KeepsAllOrder, State, start, Run, run, Free, Attempt}
+use Rattle.machine_runs.proofs.Vocabulary.{BusState, BusRun, unheld, run_on, after_on, choices_in, HitsFit, put_together, together, Bus}
+use Rattle.machine_runs.proofs.Vocabulary.{Atomic, Split, Choice, Entry, IsExecution, EndOn, waiting, IsFlatRun, Table, Caches, attempt_of}
+use Rattle.machine_runs.proofs.Vocabulary.{use_on, Configuration, run_by, AnswersFitBy}
 use Rattle.tso_terms.specs.FinalState.{final_words, final_registers}
 use Rattle.tso_laws.specs.EndedRuns.{registers_in}
 use Rattle.tso_laws.specs.Words.{HoldsWords}
@@ -12,7 +16,8 @@ choices-answered : (bus : Bus) (t : Litmus) (depth : ℕ) (state : BusState) (c 
     → choices_in (answered_from bus t depth state c choices) ≡ choices
 choices-answered bus t depth state c [] = refl
 choices-answered bus t depth state c (x ∷ xs) =
-    ap (λ (cs : List Choice). x ∷ cs) (choices-answered bus t depth (after_on bus t depth state (attempt_of t depth state.flat c x)) (use_on bus t depth state x c).caches xs)
+    ap (λ (cs : List Choice). x ∷ cs)
+    (choices-answered bus t depth (after_on bus t depth state (attempt_of t depth state.flat c x)) (use_on bus t depth state x c).caches xs)
 
 pub length-answered : (bus : Bus) (t : Litmus) (depth : ℕ) (state : BusState) (c : Caches) (choices : List Choice)
     → length (answered_from bus t depth state c choices) ≡ length choices
@@ -53,7 +58,9 @@ pub run-is : (table : Table) (c : Configuration) (t : Litmus) (choices : List Ch
 run-is table c t choices laws = run-by c.bus table c t choices laws
 
 -- on the atomic bus it is the flat machine's run
-pub atomic-run : (table : Table) (c : Configuration) (t : Litmus) (choices : List Choice) → c.bus ≡ Atomic → run_by c.bus table c t choices ≡ run t c.depth choices
+pub atomic-run : (table : Table) (c : Configuration) (t : Litmus) (choices : List Choice)
+    → c.bus ≡ Atomic
+    → run_by c.bus table c t choices ≡ run t c.depth choices
 atomic-run table c t choices is = ap (λ (b : Bus). run_by b table c t choices) is
 
 -- ---- what an ended run leaves
@@ -61,7 +68,9 @@ atomic-run table c t choices is = ap (λ (b : Bus). run_by b table c t choices) 
 -- what the laws of either bus, and those of the flat machine, say of ended runs
 pub record EndedRuns : Type 0 where
   pub atomic : AtomicRunsAreFlatRuns
-  pub flat : (bus : Bus) (t : Litmus) (depth : ℕ) (attempts : List Attempt) → HitsFit bus t depth (unheld (start t)) attempts → IsFlatRun bus t depth attempts (run_on bus t depth attempts)
+  pub flat : (bus : Bus) (t : Litmus) (depth : ℕ) (attempts : List Attempt)
+      → HitsFit bus t depth (unheld (start t)) attempts
+      → IsFlatRun bus t depth attempts (run_on bus t depth attempts)
   pub free : (bus : Bus) (t : Litmus) (depth : ℕ) (attempts : List Attempt) → EndOn bus t depth attempts → (run_on bus t depth attempts).holder ≡ Free
   pub executions : (t : Litmus) (depth : ℕ) (choices : List Choice) → IsTest t → (run t depth choices).ended ≡ true → IsExecution t (run t depth choices)
   pub words : (t : Litmus) (depth : ℕ) (choices : List Choice) → IsTest t → HoldsWords (run t depth choices).commits (run t depth choices).state
@@ -86,7 +95,9 @@ followed table c t choices laws fit ended =
       choices = flat.choices;
       ended = flat.ended ∙ over;
       state = flat.state;
-      commits = sym (ap (λ (es : List Entry). (run t c.depth flat.choices).commits ++ es) alone ∙ append-nil (run t c.depth flat.choices).commits) ∙ flat.commits;
+      commits =
+          sym (ap (λ (es : List Entry). (run t c.depth flat.choices).commits ++ es) alone ∙ append-nil (run t c.depth flat.choices).commits)
+          ∙ flat.commits;
     })
 
 execution-of : (t : Litmus) (r u : Run) → r.state ≡ u.state → r.commits ≡ u.commits → IsExecution t r → IsExecution t u
@@ -115,12 +126,21 @@ abbrev pub UnbufferedRuns : Type 0
 UnbufferedRuns = (bus : Bus) (t : Litmus) (attempts : List Attempt) → IsTest t → HitsFit bus t 0 (unheld (start t)) attempts → EndOn bus t 0 attempts
     → KeepsAllOrder (put_together (run_on bus t 0 attempts).run.commits)
 
-at-depth : (bus : Bus) (t : Litmus) (depth : ℕ) (attempts : List Attempt) → UnbufferedRuns → depth ≡ 0 → IsTest t → HitsFit bus t depth (unheld (start t)) attempts
+at-depth : (bus : Bus) (t : Litmus) (depth : ℕ) (attempts : List Attempt)
+    → UnbufferedRuns
+    → depth ≡ 0
+    → IsTest t
+    → HitsFit bus t depth (unheld (start t)) attempts
     → EndOn bus t depth attempts → KeepsAllOrder (put_together (run_on bus t depth attempts).run.commits)
 at-depth bus t zero attempts law none test fit over = law bus t attempts test fit over
 at-depth bus t (suc n) attempts law none test fit over = absurd (omega arith)
 
-pub ended-all-order : (table : Table) (c : Configuration) (t : Litmus) (choices : List Choice) → AtomicRunsAreFlatRuns → UnbufferedRuns → c.depth ≡ 0 → IsTest t → AnswersFitBy table c t choices
+pub ended-all-order : (table : Table) (c : Configuration) (t : Litmus) (choices : List Choice)
+    → AtomicRunsAreFlatRuns
+    → UnbufferedRuns
+    → c.depth ≡ 0
+    → IsTest t
+    → AnswersFitBy table c t choices
     → (run_by c.bus table c t choices).ended ≡ true → KeepsAllOrder (run_by c.bus table c t choices).commits
 ended-all-order table c t choices atomic law none test fit ended =
     let is = run-is table c t choices atomic in
@@ -128,5 +148,8 @@ ended-all-order table c t choices atomic law none test fit ended =
     subst (λ (r : Run). KeepsAllOrder r.commits) (sym is) (at-depth c.bus t c.depth (attempts_in table c t choices) law none test fit over)
 
 pub atomic-fit : (table : Table) (c : Configuration) (t : Litmus) (choices : List Choice)
-    → ((t : Litmus) (depth : ℕ) (attempts : List Attempt) → HitsFit Atomic t depth (unheld (start t)) attempts) → c.bus ≡ Atomic → AnswersFitBy table c t choices
-atomic-fit table c t choices fit is = subst (λ (b : Bus). HitsFit b t c.depth (unheld (start t)) (answered b table c.shape t c.depth choices)) (sym is) (fit t c.depth _)
+    → ((t : Litmus) (depth : ℕ) (attempts : List Attempt) → HitsFit Atomic t depth (unheld (start t)) attempts)
+    → c.bus ≡ Atomic
+    → AnswersFitBy table c t choices
+atomic-fit table c t choices fit is =
+    subst (λ (b : Bus). HitsFit b t c.depth (unheld (start t)) (answered b table c.shape t c.depth choices)) (sym is) (fit t c.depth _)

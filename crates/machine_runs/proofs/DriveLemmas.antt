@@ -1,5 +1,10 @@
 -- A machine that is driven through choices: how far it has come, and where it stops.
-use Rattle.machine_runs.proofs.Vocabulary.{◌≡◌, ◌⊎◌, inl, inr, ◌+◌, ℕ, true, false, List, [], ◌∷◌, ◌++◌, length, append-nil, append_assoc, refl, sym, ap, subst, ◌∙◌, arith, Litmus, has_ended, stall_count, Holder, Free, Attempt, BusState, BusRun, effect_on, after_on, run_on, then_on, resting_on, HitFits, HitsFit, Bus, Choice, Entry, EndOn, left_by, ChangesNothingOn, StopsAtTheEndOn, Running, attempt_on, machine_effect, machine_after, AnswerFits, Statistics, statistics_from, answers_of, bus_run_of, HaveFittingAnswers, Drives}
+use Rattle.machine_runs.proofs.Vocabulary.{◌≡◌, ◌⊎◌, inl, inr, ◌+◌, ℕ, true, false, List, [], ◌∷◌, ◌++◌, length, append-nil, append_assoc}
+use Rattle.machine_runs.proofs.Vocabulary.{refl, sym, ap, subst, ◌∙◌, arith, Litmus, has_ended, stall_count, Holder, Free, Attempt}
+use Rattle.machine_runs.proofs.Vocabulary.{BusState, BusRun, effect_on, after_on, run_on, then_on, resting_on, HitFits, HitsFit, Bus}
+use Rattle.machine_runs.proofs.Vocabulary.{Choice, Entry, EndOn, left_by, ChangesNothingOn, StopsAtTheEndOn, Running, attempt_on}
+use Rattle.machine_runs.proofs.Vocabulary.{machine_effect, machine_after, AnswerFits, Statistics, statistics_from, answers_of, bus_run_of}
+use Rattle.machine_runs.proofs.Vocabulary.{HaveFittingAnswers, Drives}
 use Rattle.basic_laws.specs.Types.{Outcome, Committed, Buffered, Moved, Asked, Stalled, Stall}
 use Rattle.tso_laws.specs.BusLaws.{WhatHoldsSoFarOnEitherBus}
 use Rattle.tso_laws.specs.inner.BusLaws.{AttemptsLeadFromStateToState, RunsOnEitherBusStopWhereTheyEnd, StallsOnEitherBusChangeNothing}
@@ -50,11 +55,17 @@ at-first m all whole possible = record {
 }
 
 -- whatever an observer and a machine become along what is left, the first ones become along all
-pub record WatchedSoFar {O : Type 0} (makes : O → Running → ℕ → Choice → O → Type 0) (first o : O) (old m : Running) (all left : List Choice) (used : ℕ) : Type 0 where
+pub record WatchedSoFar {O : Type 0} (makes : O → Running → ℕ → Choice → O → Type 0) (first o : O) (old m : Running)
+    (all left : List Choice) (used : ℕ) : Type 0 where
   pub on : (last : O) (end : Running) → Watched makes o m (used + 1) left last end → Watched makes first old 1 all last end
 
-pub watched-more : {O : Type 0} (makes : O → Running → ℕ → Choice → O → Type 0) (first o more : O) (old m new : Running) (all left rest : List Choice) (c : Choice) (used : ℕ)
-    → WatchedSoFar makes first o old m all left used → left ≡ c ∷ rest → new ≡ machine_after m c → has_ended m.test m.state.flat ≡ false → makes o m (used + 1) c more
+pub watched-more : {O : Type 0} (makes : O → Running → ℕ → Choice → O → Type 0) (first o more : O) (old m new : Running)
+    (all left rest : List Choice) (c : Choice) (used : ℕ)
+    → WatchedSoFar makes first o old m all left used
+    → left ≡ c ∷ rest
+    → new ≡ machine_after m c
+    → has_ended m.test m.state.flat ≡ false
+    → makes o m (used + 1) c more
     → WatchedSoFar makes first more old new all rest (used + 1)
 watched-more makes first o more old m new all left rest c used so_far is after live made = record {
   on = λ last end w. so_far.on last end
@@ -93,7 +104,11 @@ made old m all rest c used stalled laws s live fits =
     }
 
 pub one-more : (old m new : Running) (all left rest : List Choice) (c : Choice) (used stalled more : ℕ) → Laws → SoFar old m all left used stalled
-    → left ≡ c ∷ rest → new ≡ machine_after m c → has_ended m.test m.state.flat ≡ false → AnswerFits m c → more ≡ stall_count (machine_effect m c).effect.outcome
+    → left ≡ c ∷ rest
+    → new ≡ machine_after m c
+    → has_ended m.test m.state.flat ≡ false
+    → AnswerFits m c
+    → more ≡ stall_count (machine_effect m c).effect.outcome
     → SoFar old new all rest (used + 1) (stalled + more)
 one-more old m new all left rest c used stalled more laws s is after live fits stalls =
     let here : SoFar old m all (c ∷ rest) used stalled = subst (λ (l : List Choice). SoFar old m all l used stalled) is s in
@@ -101,7 +116,11 @@ one-more old m new all left rest c used stalled more laws s is after live fits s
     (subst (λ (k : ℕ). SoFar old (machine_after m c) all rest (used + 1) (stalled + k)) (sym stalls) (made old m all rest c used stalled laws here live fits))
 
 -- by a stall no test ends
-pub still-going : (m new : Running) (c : Choice) (why : Stall) → Laws → IsPossible m → new ≡ machine_after m c → (machine_effect m c).effect.outcome ≡ Stalled why
+pub still-going : (m new : Running) (c : Choice) (why : Stall)
+    → Laws
+    → IsPossible m
+    → new ≡ machine_after m c
+    → (machine_effect m c).effect.outcome ≡ Stalled why
     → has_ended new.test new.state.flat ≡ has_ended m.test m.state.flat
 still-going m new c why laws possible after stalls =
     ap (λ (n : Running). has_ended n.test n.state.flat) after
@@ -135,7 +154,10 @@ end-is bus t depth commits state laws possible over =
       free = laws.so_far.free bus t depth commits state possible over;
     }
 
-end-fits : (bus : Bus) (t : Litmus) (depth : ℕ) (state : BusState) (attempts : List Attempt) → Laws → IsEnd bus t depth state → HitsFit bus t depth state attempts
+end-fits : (bus : Bus) (t : Litmus) (depth : ℕ) (state : BusState) (attempts : List Attempt)
+    → Laws
+    → IsEnd bus t depth state
+    → HitsFit bus t depth state attempts
 end-fits bus t depth state [] laws e = tt
 end-fits bus t depth state (a ∷ rest) laws e =
     let same : after_on bus t depth state a ≡ state =
@@ -172,7 +194,10 @@ driven-to-end old m all left used stalled laws s over =
     }
 
 -- or once no choice is left
-pub driven-through : (old m : Running) (all left : List Choice) (used stalled : ℕ) → SoFar old m all left used stalled → left ≡ [] → Drives old m all used stalled
+pub driven-through : (old m : Running) (all left : List Choice) (used stalled : ℕ)
+    → SoFar old m all left used stalled
+    → left ≡ []
+    → Drives old m all used stalled
 driven-through old m all left used stalled so_far none =
     let s = subst (λ (l : List Choice). SoFar old m all l used stalled) none so_far in
     record {

@@ -1,5 +1,7 @@
 -- What a driven machine is left with, as the answer of a simulation.
-use Rattle.machine_runs.proofs.Vocabulary.{◌≡◌, ◌-◌, ℕ, List, length, is_some, sym, ap, subst, ◌∙◌, Litmus, IsTest, IsWhole, Choice, IsExecution, Table, Configuration, Running, shown_run, run_by, counts_by, AnswersFitBy, IsEndingOf, FitsEnding, HasCounts, IsEndingLeftBy, Ending, Ended, Unfinished}
+use Rattle.machine_runs.proofs.Vocabulary.{◌≡◌, ◌-◌, ℕ, List, length, is_some, sym, ap, subst, ◌∙◌, Litmus, IsTest, IsWhole, Choice}
+use Rattle.machine_runs.proofs.Vocabulary.{IsExecution, Table, Configuration, Running, shown_run, run_by, counts_by, AnswersFitBy}
+use Rattle.machine_runs.proofs.Vocabulary.{IsEndingOf, FitsEnding, HasCounts, IsEndingLeftBy, Ending, Ended, Unfinished}
 use Rattle.tso_laws.specs.inner.Laws.{WholeOrdersHaveEachEntryOnce}
 use Rattle.machine_runs.specs.inner.Runs.{EndsBy}
 use Rattle.machine_runs.proofs.CountLemmas.{counts-each}
@@ -13,21 +15,27 @@ pub record Laws : Type 0 where
   pub once : WholeOrdersHaveEachEntryOnce
 
 -- a new machine was driven through choices, all of them or up to the end, and is left so
-pub record IsLeftOf (table : Table) (config : Configuration) (t : Litmus) (old m : Running) (choices : List Choice) (used stalled unused : ℕ) (ending : Ending) : Type 0 where
+pub record IsLeftOf (table : Table) (config : Configuration) (t : Litmus) (old m : Running) (choices : List Choice)
+    (used stalled unused : ℕ) (ending : Ending) : Type 0 where
   pub driven : IsDriven table config t old m choices used stalled
   pub unused_are : unused ≡ length choices - used
   pub left : IsEndingLeftBy t m used stalled unused ending
 
-pub ending-is : (table : Table) (config : Configuration) (t : Litmus) (old m : Running) (choices : List Choice) (used stalled unused : ℕ) (ending : Ending) → Laws
+pub ending-is : (table : Table) (config : Configuration) (t : Litmus) (old m : Running) (choices : List Choice)
+    (used stalled unused : ℕ) (ending : Ending)
+    → Laws
     → IsLeftOf table config t old m choices used stalled unused ending → IsEndingOf t (run_by config.bus table config t choices) ending
 ending-is table config t old m choices used stalled unused (Ended run) laws is =
     let l = is.left in
-    ended-is table config t old m choices used stalled (shown_run run) laws.runs is.driven l.ended l.order l.registers l.memory l.holds l.used l.stalled (l.unused ∙ is.unused_are)
+    ended-is table config t old m choices used stalled (shown_run run) laws.runs is.driven l.ended l.order l.registers
+    l.memory l.holds l.used l.stalled (l.unused ∙ is.unused_are)
 ending-is table config t old m choices used stalled unused (Unfinished u s) laws is =
     let here = unfinished-is table config t old m choices used stalled laws.runs is.driven is.left.0 in
     (here.0, is.left.1 ∙ here.1, is.left.2 ∙ here.2)
 
-pub ending-fits : (table : Table) (config : Configuration) (t : Litmus) (old m : Running) (choices : List Choice) (used stalled unused : ℕ) (ending : Ending) → Laws
+pub ending-fits : (table : Table) (config : Configuration) (t : Litmus) (old m : Running) (choices : List Choice)
+    (used stalled unused : ℕ) (ending : Ending)
+    → Laws
     → IsTest t → AnswersFitBy table config t choices → m.test ≡ t → IsLeftOf table config t old m choices used stalled unused ending → FitsEnding t ending
 ending-fits table config t old m choices used stalled unused (Unfinished u s) laws valid fit same is = tt
 ending-fits table config t old m choices used stalled unused (Ended run) laws valid fit same is =
@@ -40,7 +48,9 @@ ending-fits table config t old m choices used stalled unused (Ended run) laws va
       locations = locations-known t order (λ e stands. laws.once.fits t order e valid whole stands);
       registers = l.cores ∙ ap (λ (u : Litmus). length u.programs) same;
       memory = l.locations ∙ ap (λ (u : Litmus). length u.locations) same;
-      counts = ap length (counts-are table config t old m choices used stalled (shown_run run).counts is.driven l.counts) ∙ counts-each config.bus table config.shape t config.depth choices;
+      counts =
+          ap length (counts-are table config t old m choices used stalled (shown_run run).counts is.driven l.counts)
+          ∙ counts-each config.bus table config.shape t config.depth choices;
       verdict = ap is_some l.holds ∙ is_some-verdict t (shown_run run).registers (shown_run run).memory;
     }
 

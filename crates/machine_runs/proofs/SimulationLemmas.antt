@@ -1,5 +1,11 @@
 -- From a machine that was driven to the answer of a simulation.
-use Rattle.machine_runs.proofs.Vocabulary.{◌≡◌, ◌<◌, ◌-◌, ◌+◌, ◌*◌, ℕ, zero, suc, Bool, true, false, List, [], ◌∷◌, length, All, slice_get, slice_index_or, Option, Some, None, is_some, arith, ap, sym, ◌∙◌, refl, subst, Litmus, KeepsAllOrder, Condition, truth_of, State, registers_in, Run, has_ended, Attempt, BusState, run_on, choices_in, put_together, together, Bus, Atomic, Choice, Entry, End, EndOn, StopsAtTheEndOn, Table, Counts, Configuration, Statistics, counts_of, Running, new_machine, ShownRun, run_by, AnswersFitBy, Ending, Ended, Unfinished, shown_of, verdict, IsEndingOf, IsCounted, HasAllOrder, HasEnded, drains, Drives}
+use Rattle.machine_runs.proofs.Vocabulary.{◌≡◌, ◌<◌, ◌-◌, ◌+◌, ◌*◌, ℕ, zero, suc, Bool, true, false, List, [], ◌∷◌, length, All, slice_get}
+use Rattle.machine_runs.proofs.Vocabulary.{slice_index_or, Option, Some, None, is_some, arith, ap, sym, ◌∙◌, refl, subst, Litmus}
+use Rattle.machine_runs.proofs.Vocabulary.{KeepsAllOrder, Condition, truth_of, State, registers_in, Run, has_ended, Attempt, BusState}
+use Rattle.machine_runs.proofs.Vocabulary.{run_on, choices_in, put_together, together, Bus, Atomic, Choice, Entry, End, EndOn}
+use Rattle.machine_runs.proofs.Vocabulary.{StopsAtTheEndOn, Table, Counts, Configuration, Statistics, counts_of, Running, new_machine}
+use Rattle.machine_runs.proofs.Vocabulary.{ShownRun, run_by, AnswersFitBy, Ending, Ended, Unfinished, shown_of, verdict, IsEndingOf}
+use Rattle.machine_runs.proofs.Vocabulary.{IsCounted, HasAllOrder, HasEnded, drains, Drives}
 use Rattle.std.specs.Option.{option_map}
 use Rattle.tso_terms.specs.Standing.{StandsIn}
 use Rattle.tso_terms.specs.Runs as flat
@@ -22,7 +28,9 @@ pub record RunLaws : Type 0 where
 abbrev pub IsDriven : Table → Configuration → Litmus → Running → Running → List Choice → ℕ → ℕ → Type 0
 IsDriven table config t old m choices used stalled = (old ≡ new_machine table config t) × Drives old m choices used stalled
 
-pub from-new : (table : Table) (config : Configuration) (t : Litmus) (old m : Running) (choices : List Choice) (used stalled : ℕ) → IsDriven table config t old m choices used stalled
+pub from-new : (table : Table) (config : Configuration) (t : Litmus) (old m : Running) (choices : List Choice)
+    (used stalled : ℕ)
+    → IsDriven table config t old m choices used stalled
     → Drives (new_machine table config t) m choices used stalled
 from-new table config t old m choices used stalled driven = subst (λ (o : Running). Drives o m choices used stalled) driven.0 driven.1
 
@@ -49,9 +57,22 @@ pub unfinished-is : (table : Table) (config : Configuration) (t : Litmus) (old m
     → IsEndingOf t (run_by config.bus table config t choices) (Unfinished used stalled)
 unfinished-is table config t old m choices used stalled laws driven e =
     let d = from-new table config t old m choices used stalled driven in
-    ending-of table config t choices (Unfinished used stalled) laws (ended-as-driven table config t old m choices used stalled false laws driven e, d.used, d.stalled)
+    ending-of table config t choices (Unfinished used stalled) laws (
+      ended-as-driven table config t old m choices used stalled false laws driven e,
+      d.used,
+      d.stalled,
+    )
 
-same-shown : (s u : ShownRun) → s.order ≡ u.order → s.registers ≡ u.registers → s.memory ≡ u.memory → s.counts ≡ u.counts → s.holds ≡ u.holds → s.used ≡ u.used → s.stalled ≡ u.stalled → s.unused ≡ u.unused → s ≡ u
+same-shown : (s u : ShownRun)
+    → s.order ≡ u.order
+    → s.registers ≡ u.registers
+    → s.memory ≡ u.memory
+    → s.counts ≡ u.counts
+    → s.holds ≡ u.holds
+    → s.used ≡ u.used
+    → s.stalled ≡ u.stalled
+    → s.unused ≡ u.unused
+    → s ≡ u
 same-shown s u a b c d e f g h =
     (λ i. record { order = a i; registers = b i; memory = c i; counts = d i; holds = e i; used = f i; stalled = g i; unused = h i })
 
@@ -68,16 +89,23 @@ ended-is table config t old m choices used stalled s laws driven e order registe
     let order_is : s.order ≡ r.commits = order ∙ ap put_together d.commits in
     let registers_are : s.registers ≡ registers_in r.state = registers ∙ ap registers_in state in
     let memory_is : s.memory ≡ r.state.memory = memory ∙ ap (λ (x : State). x.memory) state in
-    let holds_is : s.holds ≡ verdict t (registers_in r.state) r.state.memory = holds ∙ ap (λ x. verdict t x s.memory) registers_are ∙ ap (λ x. verdict t (registers_in r.state) x) memory_is in
-    let count : r.used + r.unused ≡ length choices = (laws.stops.stops config.bus t config.depth (attempts_in table config t choices)).count ∙ length-in table config t choices in
+    let holds_is : s.holds ≡ verdict t (registers_in r.state) r.state.memory =
+    holds ∙ ap (λ x. verdict t x s.memory) registers_are ∙ ap (λ x. verdict t (registers_in r.state) x) memory_is in
+    let count : r.used + r.unused ≡ length choices =
+    (laws.stops.stops config.bus t config.depth (attempts_in table config t choices)).count
+    ∙ length-in table config t choices in
     let used_is : s.used ≡ r.used = u ∙ d.used in
     let stalled_is : s.stalled ≡ r.stalled = st ∙ d.stalled in
     let unused_is : s.unused ≡ r.unused = (let a = d.used in omega arith) in
-    subst (λ (x : Run). (x.ended ≡ true) × (s ≡ shown_of t s.counts x)) (sym (run-is table config t choices laws.atomic))
-    (ended-as-driven table config t old m choices used stalled true laws driven e, same-shown s (shown_of t s.counts r) order_is registers_are memory_is refl holds_is used_is stalled_is unused_is)
+    subst (λ (x : Run). (x.ended ≡ true) × (s ≡ shown_of t s.counts x)) (sym (run-is table config t choices laws.atomic)) (
+      ended-as-driven table config t old m choices used stalled true laws driven e,
+      same-shown s (shown_of t s.counts r) order_is registers_are memory_is refl holds_is used_is stalled_is unused_is,
+    )
 
 -- where the driven machine has ended, so has the run, with the machine's commits put together as its order
-pub ended-order : (table : Table) (config : Configuration) (t : Litmus) (old m : Running) (choices : List Choice) (used stalled : ℕ) (order : List Entry) → RunLaws
+pub ended-order : (table : Table) (config : Configuration) (t : Litmus) (old m : Running) (choices : List Choice)
+    (used stalled : ℕ) (order : List Entry)
+    → RunLaws
     → IsDriven table config t old m choices used stalled → is_ended m ≡ true → order ≡ put_together m.commits
     → ((run_by config.bus table config t choices).ended ≡ true) × (order ≡ (run_by config.bus table config t choices).commits)
 ended-order table config t old m choices used stalled order laws driven e same =
@@ -92,7 +120,9 @@ answers-fit table config t old m choices used stalled driven = (from-new table c
 
 -- what the machine counted is what the run's choices come to
 pub counts-are : (table : Table) (config : Configuration) (t : Litmus) (old m : Running) (choices : List Choice) (used stalled : ℕ) (counts : List Counts)
-    → IsDriven table config t old m choices used stalled → counts ≡ m.statistics.counts → counts ≡ counts_of config.bus table config.shape t config.depth choices
+    → IsDriven table config t old m choices used stalled
+    → counts ≡ m.statistics.counts
+    → counts ≡ counts_of config.bus table config.shape t config.depth choices
 counts-are table config t old m choices used stalled counts driven left =
     left ∙ ap (λ (s : Statistics). s.counts) (from-new table config t old m choices used stalled driven).statistics
 
@@ -122,14 +152,20 @@ is_some-verdict t registers memory = is_some-option_map (λ c. truth_of register
 
 -- by the depth
 pub choices-counted : (t : Litmus) (depth : ℕ) (choices : List Choice)
-    → ((t : Litmus) (depth : ℕ) (choices : List Choice) → 0 < depth → End t depth choices → (flat.run t depth choices).used ≡ (flat.run t depth choices).stalled + (instructions t.programs + stores_of_all t.programs))
+    → ((t : Litmus) (depth : ℕ) (choices : List Choice)
+    → 0 < depth
+    → End t depth choices
+    → (flat.run t depth choices).used
+    ≡ (flat.run t depth choices).stalled + (instructions t.programs + stores_of_all t.programs))
     → ((t : Litmus) (choices : List Choice) → End t 0 choices → (flat.run t 0 choices).used ≡ (flat.run t 0 choices).stalled + instructions t.programs)
     → End t depth choices → (flat.run t depth choices).used ≡ (flat.run t depth choices).stalled + (instructions t.programs + drains t depth)
 choices-counted t zero choices buffered unbuffered over = let count = unbuffered t choices over in omega arith
 choices-counted t (suc n) choices buffered unbuffered over = buffered t (suc n) choices (omega arith) over
 
 pub counted : (table : Table) (c : Configuration) (t : Litmus) (choices : List Choice) (e : Ending) → c.bus ≡ Atomic
-    → ((flat.run t c.depth choices).ended ≡ true → (flat.run t c.depth choices).used ≡ (flat.run t c.depth choices).stalled + (instructions t.programs + drains t c.depth))
+    → ((flat.run t c.depth choices).ended ≡ true
+    → (flat.run t c.depth choices).used
+    ≡ (flat.run t c.depth choices).stalled + (instructions t.programs + drains t c.depth))
     → IsEndingOf t (run_by c.bus table c t choices) e → IsCounted t c.depth e
 counted table c t choices e atomic law is = by_ending e (subst (λ (x : Run). IsEndingOf t x e) (atomic-run table c t choices atomic) is)
   where
@@ -158,5 +194,6 @@ pub ended-on-either : (table : Table) (c : Configuration) (t : Litmus) (choices 
     → CanBeCutIntoRounds (length t.programs) (3 * instructions t.programs) choices → IsEndingOf t (run_by c.bus table c t choices) e → HasEnded e
 ended-on-either table c t choices e laws law cut is =
     let over : EndOn c.bus t c.depth (attempts_in table c t choices) =
-    law (attempts_in table c t choices) (subst (CanBeCutIntoRounds (length t.programs) (3 * instructions t.programs)) (sym (choices-in table c t choices)) cut) in
+    law (attempts_in table c t choices)
+    (subst (CanBeCutIntoRounds (length t.programs) (3 * instructions t.programs)) (sym (choices-in table c t choices)) cut) in
     ended-by t (run_by c.bus table c t choices) e (ap (λ (x : Run). x.ended) (run-is table c t choices laws) ∙ over) is

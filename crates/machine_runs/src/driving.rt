@@ -58,7 +58,9 @@ pub fn simulate_observed<O: Observer>(
 ) -> Result<Ending, NoMemory>
     requires cores { CoresExist (length setup.now.test.now.programs) choices.now }
     requires begins { (table : Table) → O.begins observer.old (new_machine table setup.now.config setup.now.test.now) }
-    ensures watched { OnOk result (IsWatched O.opens O.makes O.ends observer.old (new_machine (table_of setup.now.protocol) setup.now.config setup.now.test.now) choices.now observer.new) }
+    ensures watched { OnOk result
+        (IsWatched O.opens O.makes O.ends observer.old
+        (new_machine (table_of setup.now.protocol) setup.now.config setup.now.test.now) choices.now observer.new) }
     ensures ending { IfOk result (IsEndingOf setup.now.test.now (run_under setup.now.test.now setup.now.protocol setup.now.config choices.now)) }
     ensures fits { IfOk result (FitsEnding setup.now.test.now) }
     ensures answers { OnOk result (AnswersFit setup.now.test.now setup.now.protocol setup.now.config choices.now) }
@@ -82,8 +84,11 @@ fn run_to_the_end<P: Protocol, O: Observer>(
 ) -> Result<Ending, NoMemory>
     requires cores { CoresExist (length setup.now.test.now.programs) choices.now }
     requires begins { (table : Table) → O.begins observer.old (new_machine table setup.now.config setup.now.test.now) }
-    ensures watched { OnOk result (IsWatched O.opens O.makes O.ends observer.old (new_machine (P.table protocol) setup.now.config setup.now.test.now) choices.now observer.new) }
-    ensures ending { IfOk result (IsEndingOf setup.now.test.now (run_by setup.now.config.bus (P.table protocol) setup.now.config setup.now.test.now choices.now)) }
+    ensures watched { OnOk result
+        (IsWatched O.opens O.makes O.ends observer.old
+        (new_machine (P.table protocol) setup.now.config setup.now.test.now) choices.now observer.new) }
+    ensures ending { IfOk result
+        (IsEndingOf setup.now.test.now (run_by setup.now.config.bus (P.table protocol) setup.now.config setup.now.test.now choices.now)) }
     ensures fits { IfOk result (FitsEnding setup.now.test.now) }
     ensures answers { OnOk result (AnswersFitBy (P.table protocol) setup.now.config setup.now.test.now choices.now) }
     ensures counts { IfOk result (HasCounts (counts_by (P.table protocol) setup.now.config setup.now.test.now choices.now)) }

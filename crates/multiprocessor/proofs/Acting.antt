@@ -1,5 +1,7 @@
 -- When an access may be made at once.
-use Rattle.multiprocessor.proofs.Vocabulary.{◌≡◌, ◌||◌, ℕ, Bool, true, false, if◌then◌else◌, List, [], ◌∷◌, map, filter, None, Some, slice_get, refl, sym, ap, list_any, writes_to, NoAccess, Reads, Writes, load_access, locked_access, drain_access, Loc, Entry, Pending, store_of}
+use Rattle.multiprocessor.proofs.Vocabulary.{◌≡◌, ◌||◌, ℕ, Bool, true, false, if◌then◌else◌, List, [], ◌∷◌, map, filter, None, Some}
+use Rattle.multiprocessor.proofs.Vocabulary.{slice_get, refl, sym, ap, list_any, writes_to, NoAccess, Reads, Writes, load_access}
+use Rattle.multiprocessor.proofs.Vocabulary.{locked_access, drain_access, Loc, Entry, Pending, store_of}
 
 pub none-kept : (f : Entry → Bool) (xs : List Entry) → list_any f xs ≡ false → filter f xs ≡ []
 none-kept f [] h = refl
@@ -25,6 +27,8 @@ pub writes-nothing : (core : ℕ) (items : List Pending) → slice_get items 0 �
 writes-nothing core [] h = refl
 writes-nothing core (p ∷ ps) h = (let z : ⊥ = cc in absurd z)
 
-pub writes-oldest : (core : ℕ) (items : List Pending) (store : Pending) → Some store ≡ slice_get items 0 → Writes store.loc ≡ drain_access (map (store_of core) items)
+pub writes-oldest : (core : ℕ) (items : List Pending) (store : Pending)
+    → Some store ≡ slice_get items 0
+    → Writes store.loc ≡ drain_access (map (store_of core) items)
 writes-oldest core [] store h = absurd (let z : ⊥ = cc in z)
 writes-oldest core (p ∷ ps) store h = let e : store ≡ p = cc in ap (λ (s : Pending). Writes s.loc) e

@@ -1,5 +1,10 @@
 -- What a choice has to do with the caches, from what its core did.
-use Rattle.multiprocessor.proofs.Vocabulary.{◌≡◌, ◌||◌, ◌==◌, ℕ, Bool, true, false, if◌then◌else◌, List, [], ◌∷◌, map, filter, Option, None, Some, is_some, slice_get, refl, sym, ap, ◌∙◌, subst, option_map, last_or, list_any, writes_to, CoreState, Reg, Loc, Update, Entry, Pending, newest_for, AccessReport, BusModel, words_of, IsSameMachine, LoadsAt, WritesAt, Processor, CacheUse, Unused, Forwarded, Through, store_of, core_state, pending_in, effect_of_lock, effect_of_drain, Caches, caches_of, not_through, load_after, use_of, HasUsed, drain_with, fenced_with, locked_with, whole_by}
+use Rattle.multiprocessor.proofs.Vocabulary.{◌≡◌, ◌||◌, ◌==◌, ℕ, Bool, true, false, if◌then◌else◌, List, [], ◌∷◌, map, filter, Option, None}
+use Rattle.multiprocessor.proofs.Vocabulary.{Some, is_some, slice_get, refl, sym, ap, ◌∙◌, subst, option_map, last_or, list_any, writes_to}
+use Rattle.multiprocessor.proofs.Vocabulary.{CoreState, Reg, Loc, Update, Entry, Pending, newest_for, AccessReport, BusModel, words_of}
+use Rattle.multiprocessor.proofs.Vocabulary.{IsSameMachine, LoadsAt, WritesAt, Processor, CacheUse, Unused, Forwarded, Through, store_of}
+use Rattle.multiprocessor.proofs.Vocabulary.{core_state, pending_in, effect_of_lock, effect_of_drain, Caches, caches_of, not_through}
+use Rattle.multiprocessor.proofs.Vocabulary.{load_after, use_of, HasUsed, drain_with, fenced_with, locked_with, whole_by}
 
 or_true : (b : Bool) → true ≡ (b || true)
 or_true true = refl
@@ -22,7 +27,9 @@ answered core loc value items h = sym (found-stores core loc None items) ∙ ap 
 pub unanswered : (core loc : ℕ) (items : List Pending) → None ≡ newest_for loc items → list_any (writes_to loc) (map (store_of core) items) ≡ false
 unanswered core loc items h = sym (found-stores core loc None items) ∙ ap is_some (sym h)
 
-pub forwards : (b : BusModel) (pending : List Entry) (core loc : ℕ) → list_any (writes_to loc) pending ≡ true → HasUsed (load_after (caches_of b) pending core loc) b Forwarded
+pub forwards : (b : BusModel) (pending : List Entry) (core loc : ℕ)
+    → list_any (writes_to loc) pending ≡ true
+    → HasUsed (load_after (caches_of b) pending core loc) b Forwarded
 forwards b pending core loc h = rw h (record { how_is = refl; caches = refl })
 
 pub loads : (old new : BusModel) (pending : List Entry) (core loc word : ℕ) (report : AccessReport) → list_any (writes_to loc) pending ≡ false
@@ -39,11 +46,13 @@ writes old new core loc word report done machine =
 pub rests : (b : BusModel) (pending commits : List Entry) → commits ≡ [] → HasUsed (use_of (caches_of b) pending commits) b Unused
 rests b pending commits h = rw h (record { how_is = refl; caches = refl })
 
-fenced-uses : (c : Caches) (pending : List Entry) (core : ℕ) (s : CoreState) (waiting : List Entry) → use_of c pending (fenced_with core s waiting).commits ≡ not_through Unused c
+fenced-uses : (c : Caches) (pending : List Entry) (core : ℕ) (s : CoreState) (waiting : List Entry)
+    → use_of c pending (fenced_with core s waiting).commits ≡ not_through Unused c
 fenced-uses c pending core s [] = refl
 fenced-uses c pending core s (p ∷ ps) = refl
 
-pub fences : (b : BusModel) (pending : List Entry) (core : ℕ) (s : CoreState) (waiting : List Entry) → HasUsed (use_of (caches_of b) pending (fenced_with core s waiting).commits) b Unused
+pub fences : (b : BusModel) (pending : List Entry) (core : ℕ) (s : CoreState) (waiting : List Entry)
+    → HasUsed (use_of (caches_of b) pending (fenced_with core s waiting).commits) b Unused
 fences b pending core s waiting =
     subst (λ u. HasUsed u b Unused) (sym (fenced-uses (caches_of b) pending core s waiting)) (record { how_is = refl; caches = refl })
 
@@ -52,7 +61,9 @@ locked-uses : (c : Caches) (pending : List Entry) (core : ℕ) (s : CoreState) (
 locked-uses c pending core s loc reg word value [] h = refl
 locked-uses c pending core s loc reg word value (p ∷ ps) h = absurd (let z : ⊥ = cc in z)
 
-pub locks : (core : ℕ) (p : Processor) (old new : BusModel) (loc : Loc) (reg : Option Reg) (update : Update) (word : ℕ) (report : AccessReport) → p.stores.items ≡ []
+pub locks : (core : ℕ) (p : Processor) (old new : BusModel) (loc : Loc) (reg : Option Reg) (update : Update) (word : ℕ)
+    (report : AccessReport)
+    → p.stores.items ≡ []
     → WritesAt old new core loc.0 word report → IsSameMachine old new
     → HasUsed (use_of (caches_of old) (pending_in core p) (effect_of_lock loc reg update core p (words_of old)).commits) new (Through report)
 locks core p old new loc reg update word report h done machine =
@@ -65,6 +76,7 @@ drained-uses c pending core s [] store h = absurd (let z : ⊥ = cc in z)
 drained-uses c pending core s (p ∷ ps) store h = let e : store ≡ p = cc in ap (λ q. whole_by c core q.loc.0 true) (sym e)
 
 pub drains : (core : ℕ) (p : Processor) (old new : BusModel) (store : Pending) (how : CacheUse) → Some store ≡ slice_get p.stores.items 0
-    → HasUsed (whole_by (caches_of old) core store.loc.0 true) new how → HasUsed (use_of (caches_of old) (pending_in core p) (effect_of_drain core p (words_of old)).commits) new how
+    → HasUsed (whole_by (caches_of old) core store.loc.0 true) new how
+    → HasUsed (use_of (caches_of old) (pending_in core p) (effect_of_drain core p (words_of old)).commits) new how
 drains core p old new store how h used =
     subst (λ u. HasUsed u new how) (sym (drained-uses (caches_of old) (pending_in core p) core (core_state core p) p.stores.items store h)) used

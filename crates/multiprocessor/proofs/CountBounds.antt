@@ -1,7 +1,16 @@
 -- Why counting never overflows: no count is larger than the number of instructions that the cores are done with.
 use Rattle.tso_terms.specs.Thread.{with_taken}
 use Rattle.snoop_bus.specs.declared.access.Access.{Access}
-use Rattle.multiprocessor.proofs.Vocabulary.{◌≡◌, ◌≢◌, ◌≤◌, ◌<◌, ◌+◌, ◌-◌, ◌⊎◌, inl, inr, ℕ, zero, suc, Bool, true, false, nat_lt, if◌then◌else◌, List, [], ◌∷◌, ◌++◌, length, length-append, length-set, slice_get, slice_index, slice_index_or, Option, Some, None, All, refl, ap, ◌∙◌, arith, All-set, most_instructions, Litmus, IsTest, action_of, entry, value_in, with_value, value_of, updated, CoreState, State, Effect, stalled, stored, effect_by, step_of, effect_of, chosen, core_of, program_of, Reg, Core, Loc, Instr, Action, Store, Load, Fence, Lock, Entry, W, Choice, Step, Drain, Outcome, Committed, Buffered, Stalled, Counts, CacheUse, Unused, Forwarded, Asked, Through, no_counts, with_access, with_write_back, with_forward, with_flush, counts_at_core, flush_counted, with_use_counted, IsAtMost, HasIssuedItsStores, done_by, drain_with, fenced_with, locked_with, All-head, All-tail, All-weaker}
+use Rattle.multiprocessor.proofs.Vocabulary.{◌≡◌, ◌≢◌, ◌≤◌, ◌<◌, ◌+◌, ◌-◌, ◌⊎◌, inl, inr, ℕ, zero, suc, Bool, true, false, nat_lt}
+use Rattle.multiprocessor.proofs.Vocabulary.{if◌then◌else◌, List, [], ◌∷◌, ◌++◌, length, length-append, length-set, slice_get, slice_index}
+use Rattle.multiprocessor.proofs.Vocabulary.{slice_index_or, Option, Some, None, All, refl, ap, ◌∙◌, arith, All-set, most_instructions}
+use Rattle.multiprocessor.proofs.Vocabulary.{Litmus, IsTest, action_of, entry, value_in, with_value, value_of, updated, CoreState, State}
+use Rattle.multiprocessor.proofs.Vocabulary.{Effect, stalled, stored, effect_by, step_of, effect_of, chosen, core_of, program_of, Reg, Core}
+use Rattle.multiprocessor.proofs.Vocabulary.{Loc, Instr, Action, Store, Load, Fence, Lock, Entry, W, Choice, Step, Drain, Outcome}
+use Rattle.multiprocessor.proofs.Vocabulary.{Committed, Buffered, Stalled, Counts, CacheUse, Unused, Forwarded, Asked, Through, no_counts}
+use Rattle.multiprocessor.proofs.Vocabulary.{with_access, with_write_back, with_forward, with_flush, counts_at_core, flush_counted}
+use Rattle.multiprocessor.proofs.Vocabulary.{with_use_counted, IsAtMost, HasIssuedItsStores, done_by, drain_with, fenced_with, locked_with}
+use Rattle.multiprocessor.proofs.Vocabulary.{All-head, All-tail, All-weaker}
 use Rattle.tso_terms.specs.declared.choice.Stall.TheVariants as stall
 use Rattle.tso_terms.specs.declared.action.Action.TheVariants.{Move}
 use Rattle.snoop_bus.specs.declared.access.AccessKind.{AccessKind}
@@ -19,17 +28,38 @@ within h l = omega arith
 
 pub IsAtMost-more : (m n : ℕ) (c : Counts) → m ≤ n → IsAtMost m c → IsAtMost n c
 IsAtMost-more m n c h k =
-    record { hits = within h k.hits; misses = within h k.misses; upgrades = within h k.upgrades; forwards = within h k.forwards; write_backs = within h k.write_backs; flushes = within h k.flushes }
+    record {
+      hits = within h k.hits;
+      misses = within h k.misses;
+      upgrades = within h k.upgrades;
+      forwards = within h k.forwards;
+      write_backs = within h k.write_backs;
+      flushes = within h k.flushes;
+    }
 
 pub none-counted : (n : ℕ) → IsAtMost n no_counts
-none-counted n = record { hits = omega arith; misses = omega arith; upgrades = omega arith; forwards = omega arith; write_backs = omega arith; flushes = omega arith }
+none-counted n = record {
+  hits = omega arith;
+  misses = omega arith;
+  upgrades = omega arith;
+  forwards = omega arith;
+  write_backs = omega arith;
+  flushes = omega arith;
+}
 
 IsAtMost-next : (n : ℕ) (c : Counts) → IsAtMost n c → IsAtMost (n + 1) c
 IsAtMost-next n c k = IsAtMost-more n (n + 1) c (omega arith) k
 
 forward-grows : (n : ℕ) (c : Counts) → IsAtMost n c → IsAtMost (n + 1) (with_forward c)
 forward-grows n c k =
-    record { hits = stays k.hits; misses = stays k.misses; upgrades = stays k.upgrades; forwards = grows k.forwards; write_backs = stays k.write_backs; flushes = stays k.flushes }
+    record {
+      hits = stays k.hits;
+      misses = stays k.misses;
+      upgrades = stays k.upgrades;
+      forwards = grows k.forwards;
+      write_backs = stays k.write_backs;
+      flushes = stays k.flushes;
+    }
 
 -- an access is counted by its kind, then its write-back, then its flush
 abbrev Accessed : ℕ → Counts → Type 0
@@ -39,12 +69,42 @@ abbrev WrittenBack : ℕ → Counts → Type 0
 WrittenBack n c = IsAtMost (n + 1) c × (c.flushes ≤ n)
 
 access-grows : (n : ℕ) (kind : AccessKind) (c : Counts) → IsAtMost n c → Accessed n (with_access kind c)
-access-grows n Hit c k =
-    (record { hits = grows k.hits; misses = stays k.misses; upgrades = stays k.upgrades; forwards = stays k.forwards; write_backs = stays k.write_backs; flushes = stays k.flushes }, k.write_backs, k.flushes)
-access-grows n Miss c k =
-    (record { hits = stays k.hits; misses = grows k.misses; upgrades = stays k.upgrades; forwards = stays k.forwards; write_backs = stays k.write_backs; flushes = stays k.flushes }, k.write_backs, k.flushes)
-access-grows n Upgrade c k =
-    (record { hits = stays k.hits; misses = stays k.misses; upgrades = grows k.upgrades; forwards = stays k.forwards; write_backs = stays k.write_backs; flushes = stays k.flushes }, k.write_backs, k.flushes)
+access-grows n Hit c k = (
+  record {
+    hits = grows k.hits;
+    misses = stays k.misses;
+    upgrades = stays k.upgrades;
+    forwards = stays k.forwards;
+    write_backs = stays k.write_backs;
+    flushes = stays k.flushes;
+  },
+  k.write_backs,
+  k.flushes,
+)
+access-grows n Miss c k = (
+  record {
+    hits = stays k.hits;
+    misses = grows k.misses;
+    upgrades = stays k.upgrades;
+    forwards = stays k.forwards;
+    write_backs = stays k.write_backs;
+    flushes = stays k.flushes;
+  },
+  k.write_backs,
+  k.flushes,
+)
+access-grows n Upgrade c k = (
+  record {
+    hits = stays k.hits;
+    misses = stays k.misses;
+    upgrades = grows k.upgrades;
+    forwards = stays k.forwards;
+    write_backs = stays k.write_backs;
+    flushes = stays k.flushes;
+  },
+  k.write_backs,
+  k.flushes,
+)
 
 write_back-grows : (n : ℕ) (wrote : Bool) (c : Counts) → Accessed n c → WrittenBack n (with_write_back wrote c)
 write_back-grows n true c k =
@@ -52,7 +112,14 @@ write_back-grows n true c k =
 write_back-grows n false c k = (k.0, k.2)
 
 flush-grows : (n : ℕ) (c : Counts) → WrittenBack n c → IsAtMost (n + 1) (with_flush c)
-flush-grows n c k = record { hits = k.0.hits; misses = k.0.misses; upgrades = k.0.upgrades; forwards = k.0.forwards; write_backs = k.0.write_backs; flushes = grows k.1 }
+flush-grows n c k = record {
+  hits = k.0.hits;
+  misses = k.0.misses;
+  upgrades = k.0.upgrades;
+  forwards = k.0.forwards;
+  write_backs = k.0.write_backs;
+  flushes = grows k.1;
+}
 
 no-access : (n : ℕ) (c : Counts) → IsAtMost n c → WrittenBack n c
 no-access n c k = (IsAtMost-next n c k, k.flushes)
@@ -75,13 +142,15 @@ flush-counted n (Some core) cs all =
 
 pub use-counted : (n core : ℕ) (how : CacheUse) (cs : List Counts) → All (IsAtMost n) cs → All (IsAtMost (n + 1)) (with_use_counted core how cs)
 use-counted n core Unused cs all = All-weaker (IsAtMost n) (IsAtMost (n + 1)) (IsAtMost-next n) cs all
-use-counted n core Forwarded cs all = at_core-grows (IsAtMost n) (IsAtMost (n + 1)) core with_forward cs (none-counted n) (IsAtMost-next n) (forward-grows n) all
+use-counted n core Forwarded cs all =
+    at_core-grows (IsAtMost n) (IsAtMost (n + 1)) core with_forward cs (none-counted n) (IsAtMost-next n) (forward-grows n) all
 use-counted n core (Asked request) cs all = All-weaker (IsAtMost n) (IsAtMost (n + 1)) (IsAtMost-next n) cs all
 use-counted n core (Through r) cs all =
     let a : Access = r.access in
     let change : Counts → Counts = λ c. with_write_back a.wrote_back (with_access a.kind c) in
     flush-counted n a.flushed (counts_at_core core change cs)
-    (at_core-grows (IsAtMost n) (WrittenBack n) core change cs (none-counted n) (no-access n) (λ c k. write_back-grows n a.wrote_back (with_access a.kind c) (access-grows n a.kind c k)) all)
+    (at_core-grows (IsAtMost n) (WrittenBack n) core change cs (none-counted n) (no-access n)
+    (λ c k. write_back-grows n a.wrote_back (with_access a.kind c) (access-grows n a.kind c k)) all)
 
 length-flush : (o : Option Core) (cs : List Counts) → length (flush_counted o cs) ≡ length cs
 length-flush None cs = refl
@@ -105,11 +174,19 @@ rests : (s : CoreState) (o : Outcome) → HasIssuedItsStores s → Advances s (r
 rests s o i = record { issued = i; done = (let z : done_by s ≤ done_by s = omega arith in z); more = inl refl; uncommitted = λ _. refl }
 
 goes_on : (s : CoreState) (o : Outcome) (registers : List ℕ) (commits : List Entry) → HasIssuedItsStores s → s.place < most_instructions
-    → (o ≢ Committed → commits ≡ []) → Advances s (record { outcome = o; after = record { place = s.place + 1; registers = registers; pending = s.pending }; commits = commits })
+    → (o ≢ Committed → commits ≡ [])
+    → Advances s (record {
+      outcome = o;
+      after = record { place = s.place + 1; registers = registers; pending = s.pending };
+      commits = commits;
+    })
 goes_on s o registers commits i h none =
     let waiting = i.pending in
     record {
-      issued = record { place = (let z : s.place + 1 ≤ most_instructions = omega arith in z); pending = (let z : length s.pending ≤ s.place + 1 = omega arith in z) };
+      issued = record {
+        place = (let z : s.place + 1 ≤ most_instructions = omega arith in z);
+        pending = (let z : length s.pending ≤ s.place + 1 = omega arith in z);
+      };
       done = (let z : s.place - length s.pending ≤ s.place + 1 - length s.pending = omega arith in z);
       more = inr (let z : s.place - length s.pending + 1 ≤ s.place + 1 - length s.pending = omega arith in z);
       uncommitted = none;
@@ -121,7 +198,10 @@ buffered s o e i h =
     let waiting = i.pending in
     let size : length (s.pending ++ e ∷ []) ≡ length s.pending + 1 = length-append s.pending (e ∷ []) in
     record {
-      issued = record { place = (let z : s.place + 1 ≤ most_instructions = omega arith in z); pending = (let z : length (s.pending ++ e ∷ []) ≤ s.place + 1 = omega arith in z) };
+      issued = record {
+        place = (let z : s.place + 1 ≤ most_instructions = omega arith in z);
+        pending = (let z : length (s.pending ++ e ∷ []) ≤ s.place + 1 = omega arith in z);
+      };
       done = (let z : s.place - length s.pending ≤ s.place + 1 - length (s.pending ++ e ∷ []) = omega arith in z);
       more = inl refl;
       uncommitted = λ _. refl;
@@ -135,11 +215,16 @@ stored-advances (suc n) s e i h =
     else stalled stall.Full s))
     [ true ↦ buffered s Buffered e i h | false ↦ rests s (Stalled stall.Full) i ]
 
-fenced-advances : (core : ℕ) (s : CoreState) (pending : List Entry) → HasIssuedItsStores s → s.place < most_instructions → Advances s (fenced_with core s pending)
+fenced-advances : (core : ℕ) (s : CoreState) (pending : List Entry)
+    → HasIssuedItsStores s
+    → s.place < most_instructions
+    → Advances s (fenced_with core s pending)
 fenced-advances core s [] i h = goes_on s _ s.registers _ i h (λ other. absurd (other refl))
 fenced-advances core s (p ∷ ps) i h = rests s (Stalled stall.Fence) i
 
-locked-advances : (core : ℕ) (s : CoreState) (loc : Loc) (reg : Option Reg) (word value : ℕ) (pending : List Entry) → HasIssuedItsStores s → s.place < most_instructions
+locked-advances : (core : ℕ) (s : CoreState) (loc : Loc) (reg : Option Reg) (word value : ℕ) (pending : List Entry)
+    → HasIssuedItsStores s
+    → s.place < most_instructions
     → Advances s (locked_with core s loc reg word value pending)
 locked-advances core s loc reg word value [] i h = goes_on s _ (with_taken s.registers reg word) _ i h (λ other. absurd (other refl))
 locked-advances core s loc reg word value (p ∷ ps) i h = rests s (Stalled stall.Lock) i
@@ -165,8 +250,11 @@ step-advances depth memory core program (Some instr) s got size i =
     let below = got-below program s.place instr got in
     action-advances depth memory core (action_of instr) s i (let z : s.place < most_instructions = omega arith in z)
 
-drain-advances : (place : ℕ) (registers : List ℕ) (pending waiting : List Entry) → pending ≡ waiting → HasIssuedItsStores (record { place = place; registers = registers; pending = pending })
-    → Advances (record { place = place; registers = registers; pending = pending }) (drain_with (record { place = place; registers = registers; pending = pending }) waiting)
+drain-advances : (place : ℕ) (registers : List ℕ) (pending waiting : List Entry)
+    → pending ≡ waiting
+    → HasIssuedItsStores (record { place = place; registers = registers; pending = pending })
+    → Advances (record { place = place; registers = registers; pending = pending })
+    (drain_with (record { place = place; registers = registers; pending = pending }) waiting)
 drain-advances place registers pending [] h i = rests (record { place = place; registers = registers; pending = pending }) (Stalled stall.Empty) i
 drain-advances place registers pending (p ∷ ps) h i =
     let waiting = i.pending in
@@ -179,7 +267,10 @@ drain-advances place registers pending (p ∷ ps) h i =
       uncommitted = λ other. absurd (other refl);
     }
 
-pub effect-advances : (t : Litmus) (depth : ℕ) (state : State) (choice : Choice) → IsTest t → chosen choice < length t.programs → HasIssuedItsStores (core_of state (chosen choice))
+pub effect-advances : (t : Litmus) (depth : ℕ) (state : State) (choice : Choice)
+    → IsTest t
+    → chosen choice < length t.programs
+    → HasIssuedItsStores (core_of state (chosen choice))
     → Advances (core_of state (chosen choice)) (effect_of t depth state choice)
 effect-advances t depth state (Step core) test h i =
     step-advances depth state.memory core.0 (program_of t core.0) _ (core_of state core.0) refl (test.programs_fit core.0 [] h).size i

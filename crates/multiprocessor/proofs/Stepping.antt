@@ -2,7 +2,12 @@
 use Rattle.std.specs.Prelude.{Option}
 use Rattle.tso_terms.specs.Thread.{changed}
 use Rattle.basic_laws.specs.Types.{Change}
-use Rattle.multiprocessor.proofs.Vocabulary.{◌≡◌, ◌<◌, ℕ, Result, IfOk, List, [], ◌∷◌, length, refl, sym, ap, subst, KnownLocation, action_of, value_of, with_value, NoAccess, store_access, locked_access, Core, Loc, Instr, Reg, Action, Store, Load, Move, Fence, Lock, Update, Entry, Outcome, Moved, NoMemory, Noted, BusModel, words_of, cores_of, Unused, Processor, Way, Whole, Turn, pending_in, own_access, action_by, step_by, effect_of_store, effect_of_fence, effect_of_lock, at_next, ChoiceAnswer, MayMake, MayAccess, whole, Acts, SucceedsUnlessCommitting}
+use Rattle.multiprocessor.proofs.Vocabulary.{◌≡◌, ◌<◌, ℕ, Result, IfOk, List, [], ◌∷◌, length, refl, sym, ap, subst, KnownLocation}
+use Rattle.multiprocessor.proofs.Vocabulary.{action_of, value_of, with_value, NoAccess, store_access, locked_access, Core, Loc, Instr, Reg}
+use Rattle.multiprocessor.proofs.Vocabulary.{Action, Store, Load, Move, Fence, Lock, Update, Entry, Outcome, Moved, NoMemory, Noted}
+use Rattle.multiprocessor.proofs.Vocabulary.{BusModel, words_of, cores_of, Unused, Processor, Way, Whole, Turn, pending_in, own_access}
+use Rattle.multiprocessor.proofs.Vocabulary.{action_by, step_by, effect_of_store, effect_of_fence, effect_of_lock, at_next, ChoiceAnswer}
+use Rattle.multiprocessor.proofs.Vocabulary.{MayMake, MayAccess, whole, Acts, SucceedsUnlessCommitting}
 use Rattle.tso_terms.specs.declared.action.Operand.{Operand}
 use Rattle.multiprocessor.proofs.ActedLemmas.{whole-by, whole-none, acts-waits}
 
@@ -19,24 +24,33 @@ lock-whole turn b loc (p ∷ ps) may = whole-by turn.way b turn.core (locked_acc
 
 module _ (turn : Turn) (instr : Instr) (p : Processor) (b : BusModel) where
   -- what the access of an instruction needs
-  module _ (within : turn.core.0 < cores_of b) (may : MayMake turn b (own_access (action_of instr) turn.core.0 p)) (known : KnownLocation (length (words_of b)) instr) where
+  module _ (within : turn.core.0 < cores_of b)
+      (may : MayMake turn b (own_access (action_of instr) turn.core.0 p))
+      (known : KnownLocation (length (words_of b)) instr) where
     pub access-store : (loc : Loc) (operand : Operand) → action_of instr ≡ Store loc operand → MayAccess turn b loc (store_access p.stores.depth loc)
     access-store loc operand e = record { core = within; free = rw e at may; known = rw e at known }
 
     pub access-load : (reg : Reg) (loc : Loc) → action_of instr ≡ Load reg loc → MayAccess turn b loc (own_access (Load reg loc) turn.core.0 p)
     access-load reg loc e = record { core = within; free = rw e at may; known = rw e at known }
 
-    pub access-lock : (loc : Loc) (reg : Option Reg) (update : Update) → action_of instr ≡ Lock loc reg update → MayAccess (whole turn.core) b loc (locked_access loc (pending_in turn.core.0 p))
+    pub access-lock : (loc : Loc) (reg : Option Reg) (update : Update)
+        → action_of instr ≡ Lock loc reg update
+        → MayAccess (whole turn.core) b loc (locked_access loc (pending_in turn.core.0 p))
     access-lock loc reg update e = record {
       core = within;
-      free = subst (λ (t : Turn). MayMake t b (locked_access loc (pending_in turn.core.0 p))) (sym (turn-is turn (lock-whole turn b loc (pending_in turn.core.0 p) here))) here;
+      free =
+          subst (λ (t : Turn). MayMake t b (locked_access loc (pending_in turn.core.0 p)))
+          (sym (turn-is turn (lock-whole turn b loc (pending_in turn.core.0 p) here))) here;
       known = rw e at known;
     }
       where
         here : MayMake turn b (locked_access loc (pending_in turn.core.0 p))
         here = rw e at may
 
-  pub known-store : (loc : Loc) (operand : Operand) → action_of instr ≡ Store loc operand → KnownLocation (length (words_of b)) instr → loc.0 < length (words_of b)
+  pub known-store : (loc : Loc) (operand : Operand)
+      → action_of instr ≡ Store loc operand
+      → KnownLocation (length (words_of b)) instr
+      → loc.0 < length (words_of b)
   known-store loc operand e known = rw e at known
 
   module _ {E : Type 0} (r : Result ChoiceAnswer E) (q : Processor) (b' : BusModel) (noted noted' : Noted) where
@@ -55,21 +69,29 @@ module _ (turn : Turn) (instr : Instr) (p : Processor) (b : BusModel) where
         → IfOk r (Acts turn (own_access (action_of instr) turn.core.0 p) (step_by instr) p q b b' noted noted')
     acts-fence e may acts =
         let none : own_access (action_of instr) turn.core.0 p ≡ NoAccess = rw e refl in
-        rw e (subst (λ (t : Turn). IfOk r (Acts t NoAccess effect_of_fence p q b b' noted noted')) (turn-is turn (whole-none turn b (own_access (action_of instr) turn.core.0 p) none may)) acts)
+        rw e (subst (λ (t : Turn). IfOk r (Acts t NoAccess effect_of_fence p q b b' noted noted'))
+        (turn-is turn (whole-none turn b (own_access (action_of instr) turn.core.0 p) none may)) acts)
 
-    pub acts-lock : (loc : Loc) (reg : Option Reg) (update : Update) → action_of instr ≡ Lock loc reg update → MayMake turn b (own_access (action_of instr) turn.core.0 p)
+    pub acts-lock : (loc : Loc) (reg : Option Reg) (update : Update)
+        → action_of instr ≡ Lock loc reg update
+        → MayMake turn b (own_access (action_of instr) turn.core.0 p)
         → IfOk r (Acts (whole turn.core) (locked_access loc (pending_in turn.core.0 p)) (effect_of_lock loc reg update) p q b b' noted noted')
         → IfOk r (Acts turn (own_access (action_of instr) turn.core.0 p) (step_by instr) p q b b' noted noted')
     acts-lock loc reg update e may acts = rw e
         (subst (λ (t : Turn). IfOk r (Acts t (locked_access loc (pending_in turn.core.0 p)) (effect_of_lock loc reg update) p q b b' noted noted'))
         (turn-is turn (lock-whole turn b loc (pending_in turn.core.0 p) (rw e at may))) acts)
 
-  pub acts-set : (change : Change) (registers : List ℕ) (q : Processor) (noted : Noted) (answer : Outcome) → action_of instr ≡ Move change → registers ≡ changed change p.registers → MayMake turn b (own_access (action_of instr) turn.core.0 p)
+  pub acts-set : (change : Change) (registers : List ℕ) (q : Processor) (noted : Noted) (answer : Outcome)
+      → action_of instr ≡ Move change
+      → registers ≡ changed change p.registers
+      → MayMake turn b (own_access (action_of instr) turn.core.0 p)
       → answer ≡ Moved → q ≡ at_next p registers
       → Acts turn (own_access (action_of instr) turn.core.0 p) (step_by instr) p q b b noted noted (answer, Unused)
   acts-set change registers q noted answer e v may is next =
       let none : own_access (action_of instr) turn.core.0 p ≡ NoAccess = rw e refl in
-      acts-waits turn.way (own_access (action_of instr) turn.core.0 p) turn.core.0 p q b noted (step_by instr turn.core.0 p (words_of b)) answer (whole-none turn b (own_access (action_of instr) turn.core.0 p) none may)
+      acts-waits turn.way (own_access (action_of instr) turn.core.0 p) turn.core.0 p q b noted
+      (step_by instr turn.core.0 p (words_of b)) answer
+      (whole-none turn b (own_access (action_of instr) turn.core.0 p) none may)
       (record { outcome = rw (e, is) refl; after = rw (e, next, v) refl; commits = rw e refl })
 
   module _ {A : Type 0} (r : Result A NoMemory) (words : List ℕ) where
@@ -81,5 +103,8 @@ module _ (turn : Turn) (instr : Instr) (p : Processor) (b : BusModel) where
     pub succeeds-load : (reg : Reg) (loc : Loc) → action_of instr ≡ Load reg loc → SucceedsUnlessCommitting r (step_by instr turn.core.0 p words)
     succeeds-load reg loc e = λ other. absurd (other (rw e refl))
 
-    pub succeeds-by : (a : Action) → action_of instr ≡ a → SucceedsUnlessCommitting r (action_by a turn.core.0 p words) → SucceedsUnlessCommitting r (step_by instr turn.core.0 p words)
+    pub succeeds-by : (a : Action)
+        → action_of instr ≡ a
+        → SucceedsUnlessCommitting r (action_by a turn.core.0 p words)
+        → SucceedsUnlessCommitting r (step_by instr turn.core.0 p words)
     succeeds-by a e succeeds = rw e succeeds

@@ -1,13 +1,18 @@
 -- The names that the proofs of this crate bring in from definitions and from crates below; each file takes its own from here.
-pub use Rattle.std.proofs.Common.{◌≡◌, ◌<◌, ◌≤◌, ◌+◌, ℕ, zero, suc, nat_lt, List, [], ◌∷◌, length, Option, None, Some, is_some, slice_get, slice_index_or, refl, sym, ap, ◌∙◌, arith, map, slice_set, subst, ◌||◌, ◌==◌, Bool, true, false, if◌then◌else◌, filter, ◌++◌, drop, append-nil, IsTrue, Result, ◌≢◌, IfOk, inr, inl, All, ◌-◌, ◌⊎◌, length-append, length-set, slice_index, ◌*◌, take, unwrap_or, drop-cons, add-one, append_assoc, rules}
+pub use Rattle.std.proofs.Common.{◌≡◌, ◌<◌, ◌≤◌, ◌+◌, ℕ, zero, suc, nat_lt, List, [], ◌∷◌, length, Option, None, Some, is_some, slice_get}
+pub use Rattle.std.proofs.Common.{slice_index_or, refl, sym, ap, ◌∙◌, arith, map, slice_set, subst, ◌||◌, ◌==◌, Bool, true, false}
+pub use Rattle.std.proofs.Common.{if◌then◌else◌, filter, ◌++◌, drop, append-nil, IsTrue, Result, ◌≢◌, IfOk, inr, inl, All, ◌-◌, ◌⊎◌}
+pub use Rattle.std.proofs.Common.{length-append, length-set, slice_index, ◌*◌, take, unwrap_or, drop-cons, add-one, append_assoc, rules}
 pub use Rattle.std.proofs.lemmas.Bool.Decides.{nat_tests}
 pub use Rattle.multiprocessor.specs.declared.processor.Processor.{Processor}
 pub use Rattle.multiprocessor.specs.Cores.{core_state, core_states, store_of}
 pub use Rattle.std.specs.Option.{option_map}
 pub use Rattle.std.specs.List.{last_or, list_any, sum_by}
 pub use Rattle.tso_terms.specs.ProgramOrder.{writes_to}
-pub use Rattle.tso_terms.specs.FlatMachine.{CoreState, Effect, stalled, memory_after, stored, State, chosen, core_of, idle, effect_by, step_of, effect_of, program_of, advanced_with, started, is_none_pending}
-pub use Rattle.basic_laws.specs.Types.{Reg, Loc, Update, Entry, Core, Outcome, Committed, Stalled, Buffered, Moved, W, R, F, LR, LW, NoMemory, Split, Atomic, Choice, Bus, Instr, Action, Step, Drain, Kind}
+pub use Rattle.tso_terms.specs.FlatMachine.{CoreState, Effect, stalled, memory_after, stored, State, chosen, core_of, idle, effect_by}
+pub use Rattle.tso_terms.specs.FlatMachine.{step_of, effect_of, program_of, advanced_with, started, is_none_pending}
+pub use Rattle.basic_laws.specs.Types.{Reg, Loc, Update, Entry, Core, Outcome, Committed, Stalled, Buffered, Moved, W, R, F, LR, LW}
+pub use Rattle.basic_laws.specs.Types.{NoMemory, Split, Atomic, Choice, Bus, Instr, Action, Step, Drain, Kind}
 pub use Rattle.store_buffer.specs.declared.Pending.{Pending}
 pub use Rattle.store_buffer.specs.inner.Newest.{newest_for}
 pub use Rattle.snoop_bus.specs.declared.access.AccessReport.{AccessReport}
@@ -16,11 +21,14 @@ pub use Rattle.snoop_bus.specs.Bus.{BusModel, words_of, IsSameMachine, cores_of,
 pub use Rattle.snoop_bus.specs.Accesses.{LoadsAt, WritesAt, CompletesAt, awaited_of, IsCurrentWord}
 pub use Rattle.multiprocessor.specs.declared.accesses.CacheUse.{CacheUse}
 pub use Rattle.multiprocessor.specs.declared.accesses.CacheUse.TheVariants.{Unused, Forwarded, Asked, Through}
-pub use Rattle.multiprocessor.specs.inner.Cores.{pending_in, effect_of_lock, effect_of_drain, effect_of_store, action_by, both_parts, at_next, word_on_bus, own_access, step_by, effect_of_fence, buffered_entries}
-pub use Rattle.multiprocessor.specs.Caches.{Caches, caches_of, not_through, asking_use, load_after, use_of, Used, at_access, ask_by, is_awaited, used_between, completion_by, use_by_kind, use_with, whole_by, asking_by}
+pub use Rattle.multiprocessor.specs.inner.Cores.{pending_in, effect_of_lock, effect_of_drain, effect_of_store, action_by, both_parts}
+pub use Rattle.multiprocessor.specs.inner.Cores.{at_next, word_on_bus, own_access, step_by, effect_of_fence, buffered_entries}
+pub use Rattle.multiprocessor.specs.Caches.{Caches, caches_of, not_through, asking_use, load_after, use_of, Used, at_access, ask_by}
+pub use Rattle.multiprocessor.specs.Caches.{is_awaited, used_between, completion_by, use_by_kind, use_with, whole_by, asking_by}
 pub use Rattle.multiprocessor.specs.Effects.{HasUsed, ChoiceAnswer}
 pub use Rattle.basic_laws.proofs.WithPending.{drain_with, fenced_with, locked_with}
-pub use Rattle.tso_terms.specs.MemoryAccess.{MemoryAccess, NoAccess, Writes, drain_access, store_access, Reads, load_access, locked_access, Locks, access_of, access_by, step_access}
+pub use Rattle.tso_terms.specs.MemoryAccess.{MemoryAccess, NoAccess, Writes, drain_access, store_access, Reads, load_access, locked_access}
+pub use Rattle.tso_terms.specs.MemoryAccess.{Locks, access_of, access_by, step_access}
 pub use Rattle.commit_order.specs.inner.Noted.{Noted}
 pub use Rattle.multiprocessor.specs.declared.turn.Way.{Way}
 pub use Rattle.multiprocessor.specs.declared.turn.Way.TheVariants.{Whole, Asked}
@@ -45,8 +53,10 @@ pub use Rattle.protocol_tables.specs.Tables.{Table}
 pub use Rattle.snoop_bus.specs.Rows.{table_of_rows}
 pub use Rattle.cache_set.specs.CacheTags.{TagSets, sends_in, flusher_from, tags_at}
 pub use Rattle.multiprocessor.specs.declared.counts.Counts.{Counts}
-pub use Rattle.multiprocessor.specs.Statistics.{no_counts, with_access, with_write_back, with_forward, with_flush, counts_at_core, flush_counted, with_use_counted, Statistics}
-pub use Rattle.multiprocessor.specs.inner.Keeping.{HasIssuedItsStores, IsAmong, IsFlusherAmong, IsUncounted, done_by, IsSenderAmong, IsTallied, done_in, half_done, most_counted}
+pub use Rattle.multiprocessor.specs.Statistics.{no_counts, with_access, with_write_back, with_forward, with_flush, counts_at_core}
+pub use Rattle.multiprocessor.specs.Statistics.{flush_counted, with_use_counted, Statistics}
+pub use Rattle.multiprocessor.specs.inner.Keeping.{HasIssuedItsStores, IsAmong, IsFlusherAmong, IsUncounted, done_by, IsSenderAmong}
+pub use Rattle.multiprocessor.specs.inner.Keeping.{IsTallied, done_in, half_done, most_counted}
 pub use Rattle.store_buffer.specs.inner.Stores.{stores}
 pub use Rattle.snoop_bus.specs.inner.Accesses.{MayGoOn, memory_words_of}
 pub use Rattle.tso_laws.proofs.Ways.{if-by, begins-by, completes-by, split-by}

@@ -3,7 +3,9 @@
 -- copies are sent to memory is this project's profile.)
 use Rattle.std.specs.Prelude.{ℕ, ◌/◌, Bool, true, false, if◌then◌else◌, List, [], ◌∷◌, Option, None, Some}
 use Rattle.std.specs.List.{list_any}
-use Rattle.multiprocessor.specs.Vocabulary.{access_of, after_on, Attempt, awaited_of, BusEffect, BusModel, BusState, chosen, contents_of, core_of, effect_on, Free, Geometry, HeldBetween, HeldBy, Holder, Litmus, Locks, MemoryAccess, NoAccess, Reads, State, table_of_rows, TableColumns, Writes, writes_to}
+use Rattle.multiprocessor.specs.Vocabulary.{access_of, after_on, Attempt, awaited_of, BusEffect, BusModel, BusState, chosen, contents_of}
+use Rattle.multiprocessor.specs.Vocabulary.{core_of, effect_on, Free, Geometry, HeldBetween, HeldBy, Holder, Litmus, Locks, MemoryAccess}
+use Rattle.multiprocessor.specs.Vocabulary.{NoAccess, Reads, State, table_of_rows, TableColumns, Writes, writes_to}
 use Rattle.basic_laws.specs.Types.{Loc, Entry, Kind, R, W, F, LR, LW, Choice}
 use Rattle.snoop_bus.specs.CacheContents.{Accessed}
 use Rattle.snoop_bus.specs.declared.access.BusRequest.{BusRequest}

@@ -1,6 +1,7 @@
 -- The words of the crates below that the definitions of this crate use, in one place: each file takes its own from here.
 pub use Rattle.tso_terms.specs.EitherBus.{after_on, BusState, effect_on, unheld}
-pub use Rattle.tso_terms.specs.FlatMachine.{applied, chosen, core_of, CoreState, drain_of, Effect, effect_by, effect_of, fenced, memory_after, start, State, stored}
+pub use Rattle.tso_terms.specs.FlatMachine.{applied, chosen, core_of, CoreState, drain_of, Effect, effect_by, effect_of, fenced}
+pub use Rattle.tso_terms.specs.FlatMachine.{memory_after, start, State, stored}
 pub use Rattle.tso_terms.specs.Limits.{most_cores, most_depth, most_instructions}
 pub use Rattle.tso_terms.specs.Litmus.{IsTest, Litmus}
 pub use Rattle.tso_terms.specs.MemoryAccess.{access_by, access_of, Locks, MemoryAccess, NoAccess, Reads, Writes}

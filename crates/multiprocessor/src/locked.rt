@@ -45,7 +45,10 @@ pub fn read_and_write<P: Protocol>(
     requires place { processor.old.place < most_instructions }
     requires access { MayAccess (whole core) bus.old locked.loc (locked_access locked.loc (pending_in core.0 processor.old)) }
 
-    ensures acts { IfOk result (Acts (whole core) (locked_access locked.loc (pending_in core.0 processor.old)) (effect_of_lock locked.loc locked.reg locked.update) processor.old processor.new bus.old bus.new commits.old commits.new) }
+    ensures acts { IfOk result
+        (Acts (whole core) (locked_access locked.loc (pending_in core.0 processor.old))
+        (effect_of_lock locked.loc locked.reg locked.update) processor.old processor.new bus.old bus.new commits.old
+        commits.new) }
     ensures succeeds { SucceedsUnlessCommitting result (effect_of_lock locked.loc locked.reg locked.update core.0 processor.old (words_of bus.old)) }
     ensures err { OnErr result (AreUnchanged processor.old processor.new bus.old bus.new commits.old commits.new) }
     ensures sizes { HasSameSizes bus.old bus.new }

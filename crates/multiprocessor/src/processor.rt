@@ -107,7 +107,9 @@ pub fn step<P: Protocol>(
     requires known { KnownLocation (length (words_of bus.old)) instr }
     requires stores { AreKnown (length (words_of bus.old)) processor.old.stores }
 
-    ensures acts { IfOk result (Acts turn (own_access (action_of instr) turn.core.0 processor.old) (step_by instr) processor.old processor.new bus.old bus.new commits.old commits.new) }
+    ensures acts { IfOk result
+        (Acts turn (own_access (action_of instr) turn.core.0 processor.old) (step_by instr) processor.old processor.new
+        bus.old bus.new commits.old commits.new) }
     ensures succeeds { SucceedsUnlessCommitting result (step_by instr turn.core.0 processor.old (words_of bus.old)) }
     ensures err { OnErr result (AreUnchanged processor.old processor.new bus.old bus.new commits.old commits.new) }
     ensures sizes { HasSameSizes bus.old bus.new }
@@ -146,7 +148,9 @@ fn store<P: Protocol>(
     requires place { processor.old.place < most_instructions }
     requires access { MayAccess turn bus.old loc (store_access processor.old.stores.depth loc) }
 
-    ensures acts { IfOk result (Acts turn (store_access processor.old.stores.depth loc) (effect_of_store loc value) processor.old processor.new bus.old bus.new commits.old commits.new) }
+    ensures acts { IfOk result
+        (Acts turn (store_access processor.old.stores.depth loc) (effect_of_store loc value) processor.old processor.new
+        bus.old bus.new commits.old commits.new) }
     ensures succeeds { SucceedsUnlessCommitting result (effect_of_store loc value turn.core.0 processor.old (words_of bus.old)) }
     ensures err { OnErr result (AreUnchanged processor.old processor.new bus.old bus.new commits.old commits.new) }
     ensures sizes { HasSameSizes bus.old bus.new }
@@ -195,7 +199,9 @@ fn load<P: Protocol>(
     requires place { processor.old.place < most_instructions }
     requires access { MayAccess turn bus.old loc (own_access (Action.Load reg loc) turn.core.0 processor.old) }
 
-    ensures acts { IfOk result (Acts turn (own_access (Action.Load reg loc) turn.core.0 processor.old) (effect_of_load reg loc) processor.old processor.new bus.old bus.new commits.old commits.new) }
+    ensures acts { IfOk result
+        (Acts turn (own_access (Action.Load reg loc) turn.core.0 processor.old) (effect_of_load reg loc) processor.old
+        processor.new bus.old bus.new commits.old commits.new) }
     ensures err { OnErr result (AreUnchanged processor.old processor.new bus.old bus.new commits.old commits.new) }
     ensures sizes { HasSameSizes bus.old bus.new }
     ensures stores { processor.new.stores ≡ processor.old.stores }
@@ -221,7 +227,10 @@ fn see<P: Protocol>(
 
     ensures value { result.0 ≡ seen_by turn.core.0 stores.now (words_of bus.old) loc }
     ensures words { words_of bus.new ≡ words_of bus.old }
-    ensures caches { HasUsed (by_way turn.way (load_after (caches_of bus.old) (buffered_entries turn.core.0 stores.now) turn.core.0 loc.0) (completing_by (caches_of bus.old) turn.core.0 (load_access loc (filter (writes_to loc.0) (buffered_entries turn.core.0 stores.now))))) bus.new result.1 }
+    ensures caches { HasUsed
+        (by_way turn.way (load_after (caches_of bus.old) (buffered_entries turn.core.0 stores.now) turn.core.0 loc.0)
+        (completing_by (caches_of bus.old) turn.core.0 (load_access loc (filter (writes_to loc.0) (buffered_entries turn.core.0 stores.now)))))
+        bus.new result.1 }
     ensures holder { holder_of bus.new ≡ by_way turn.way (holder_of bus.old) None }
     ensures cores { cores_of bus.new ≡ cores_of bus.old }
 {
@@ -305,7 +314,9 @@ pub fn drain<P: Protocol>(
     requires free { MayMake turn bus.old (drain_access (pending_in turn.core.0 processor.old)) }
     requires stores { AreKnown (length (words_of bus.old)) processor.old.stores }
 
-    ensures acts { IfOk result (Acts turn (drain_access (pending_in turn.core.0 processor.old)) effect_of_drain processor.old processor.new bus.old bus.new commits.old commits.new) }
+    ensures acts { IfOk result
+        (Acts turn (drain_access (pending_in turn.core.0 processor.old)) effect_of_drain processor.old processor.new
+        bus.old bus.new commits.old commits.new) }
     ensures succeeds { SucceedsUnlessCommitting result (effect_of_drain turn.core.0 processor.old (words_of bus.old)) }
     ensures err { OnErr result (AreUnchanged processor.old processor.new bus.old bus.new commits.old commits.new) }
     ensures sizes { HasSameSizes bus.old bus.new }

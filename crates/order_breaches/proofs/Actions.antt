@@ -1,5 +1,8 @@
 -- Entries of one core, place and kind, and lists in which no two are.
-use Rattle.order_breaches.proofs.Vocabulary.{◌≡◌, ◌<◌, ◌+◌, ℕ, suc, zero, List, [], ◌∷◌, Some, slice_get, Bool, true, false, ◌==◌, ◌&&◌, ◌||◌, if◌then◌else◌, arith, ap, sym, ◌∙◌, ◌⊎◌, inl, inr, subst, refl, cases_order, eq-eqb, eqb-true, and_parts, entry, same_kind, is_read, is_write, rank, part_of, is_read_kind, is_write_kind, is_at, read_value, Entry, Kind, F, same_action, same_but_value}
+use Rattle.order_breaches.proofs.Vocabulary.{◌≡◌, ◌<◌, ◌+◌, ℕ, suc, zero, List, [], ◌∷◌, Some, slice_get, Bool, true, false, ◌==◌, ◌&&◌}
+use Rattle.order_breaches.proofs.Vocabulary.{◌||◌, if◌then◌else◌, arith, ap, sym, ◌∙◌, ◌⊎◌, inl, inr, subst, refl, cases_order, eq-eqb}
+use Rattle.order_breaches.proofs.Vocabulary.{eqb-true, and_parts, entry, same_kind, is_read, is_write, rank, part_of, is_read_kind}
+use Rattle.order_breaches.proofs.Vocabulary.{is_write_kind, is_at, read_value, Entry, Kind, F, same_action, same_but_value}
 use Rattle.order_breaches.proofs.Firsts.{told-test}
 
 same_kind-is : (a b : Kind) → same_kind a b ≡ true → a ≡ b
@@ -9,7 +12,10 @@ same_kind-itself : (a : Kind) → same_kind a a ≡ true
 same_kind-itself a = grind arith
 
 pub kind-or-not : (a b : Kind) → (a ≡ b) ⊎ (a ≡ b → ⊥)
-kind-or-not a b = elim (told-test (same_kind a b)) [ inl t ↦ inl (same_kind-is a b t) | inr n ↦ inr (λ e. n (subst (λ k. same_kind a k ≡ true) e (same_kind-itself a))) ]
+kind-or-not a b = elim (told-test (same_kind a b)) [
+  | inl t ↦ inl (same_kind-is a b t)
+  | inr n ↦ inr (λ e. n (subst (λ k. same_kind a k ≡ true) e (same_kind-itself a)))
+]
 
 pub record SameAction (x y : Entry) : Type 0 where
   pub core : x.core.0 ≡ y.core.0
@@ -24,7 +30,8 @@ same-parts x y h =
 
 pub same-from : (x y : Entry) → SameAction x y → same_action x y ≡ true
 same-from x y s =
-    rw (eq-eqb y.core.0 x.core.0 (sym s.core), eq-eqb y.place x.place (sym s.place)) (subst (λ k. same_kind y.kind k ≡ true) (sym s.kind) (same_kind-itself y.kind))
+    rw (eq-eqb y.core.0 x.core.0 (sym s.core), eq-eqb y.place x.place (sym s.place))
+    (subst (λ k. same_kind y.kind k ≡ true) (sym s.kind) (same_kind-itself y.kind))
 
 pub same-turned : (x y : Entry) → SameAction x y → SameAction y x
 same-turned x y s = record { core = sym s.core; place = sym s.place; kind = sym s.kind }
@@ -88,7 +95,10 @@ one-entry list n i j x y e f s =
     let g : slice_get list i ≡ Some y = subst (λ k. slice_get list k ≡ Some y) (sym q) f in cc
 
 -- the value that is looked up is that of the one entry of this core, place and kind
-value-step : (x : Entry) (y : Entry) (ys : List Entry) (b : Bool) → is_at x.core.0 x.place x.kind y ≡ b → (b ≡ true → y ≡ x) → (b ≡ false → read_value x.core.0 x.place x.kind ys ≡ x.value)
+value-step : (x : Entry) (y : Entry) (ys : List Entry) (b : Bool)
+    → is_at x.core.0 x.place x.kind y ≡ b
+    → (b ≡ true → y ≡ x)
+    → (b ≡ false → read_value x.core.0 x.place x.kind ys ≡ x.value)
     → (if b then y.value else read_value x.core.0 x.place x.kind ys) ≡ x.value
 value-step x y ys true e here later = ap (λ z. z.value) (here refl)
 value-step x y ys false e here later = later refl
@@ -107,4 +117,6 @@ value-at (y ∷ ys) n (suc k) x e =
 -- two entries of one core, place and kind are looked up alike
 pub looked-up : (x y : Entry) (list : List Entry) → SameAction x y → read_value x.core.0 x.place x.kind list ≡ read_value y.core.0 y.place y.kind list
 looked-up x y list s =
-    ap (λ c. read_value c x.place x.kind list) s.core ∙ ap (λ p. read_value y.core.0 p x.kind list) s.place ∙ ap (λ k. read_value y.core.0 y.place k list) s.kind
+    ap (λ c. read_value c x.place x.kind list) s.core
+    ∙ ap (λ p. read_value y.core.0 p x.kind list) s.place
+    ∙ ap (λ k. read_value y.core.0 y.place k list) s.kind

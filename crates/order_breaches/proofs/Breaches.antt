@@ -1,5 +1,9 @@
 -- A first breach is real, and an order has at most one.
-use Rattle.order_breaches.proofs.Vocabulary.{◌≡◌, ◌≢◌, refl, ◌<◌, ℕ, ◌+◌, suc, zero, List, Some, slice_get, arith, ap, sym, ◌∙◌, inl, inr, subst, cases_order, Litmus, entry, made, IsWhole, KeepsProgramOrder, IsAdjacent, HasReadValues, IsTsoExecution, Entry, IsFirst, IsNowhere, IsExtra, IsStray, IsMissing, IsWrongWrite, written_value, Overtakes, IsLate, IsSeparated, IsWrongRead, due_at, IsFirstBreach, Breach, Extra, Twice, Missing, WrongValue, ProgramOrder, NotAdjacent, ReadValue, NoMemory}
+use Rattle.order_breaches.proofs.Vocabulary.{◌≡◌, ◌≢◌, refl, ◌<◌, ℕ, ◌+◌, suc, zero, List, Some, slice_get, arith, ap, sym, ◌∙◌, inl, inr}
+use Rattle.order_breaches.proofs.Vocabulary.{subst, cases_order, Litmus, entry, made, IsWhole, KeepsProgramOrder, IsAdjacent, HasReadValues}
+use Rattle.order_breaches.proofs.Vocabulary.{IsTsoExecution, Entry, IsFirst, IsNowhere, IsExtra, IsStray, IsMissing, IsWrongWrite}
+use Rattle.order_breaches.proofs.Vocabulary.{written_value, Overtakes, IsLate, IsSeparated, IsWrongRead, due_at, IsFirstBreach, Breach}
+use Rattle.order_breaches.proofs.Vocabulary.{Extra, Twice, Missing, WrongValue, ProgramOrder, NotAdjacent, ReadValue, NoMemory}
 use Rattle.order_breaches.proofs.Whole.{whole-clean}
 use Rattle.order_breaches.proofs.Keeps.{none-late, none-separated, none-wrong}
 
@@ -34,7 +38,11 @@ occurs t order (ReadValue x due) f none = none-wrong t order none f.3.0 x f.3.1.
 occurs t order NoMemory f none = f
 
 -- of a whole order, and of one that keeps the next axioms too
-none-whole : (t : Litmus) (order : List Entry) → IsWhole t order → (level : ℕ) → ((m : ℕ) → suc (suc (suc m)) < level → NoneAt t order (suc (suc (suc m)))) → (n : ℕ) → n < level → NoneAt t order n
+none-whole : (t : Litmus) (order : List Entry)
+    → IsWhole t order
+    → (level : ℕ) → ((m : ℕ) → suc (suc (suc m)) < level → NoneAt t order (suc (suc (suc m))))
+    → (n : ℕ) → n < level
+    → NoneAt t order n
 none-whole t order w level rest zero l = (whole-clean t order w).no_stray
 none-whole t order w level rest (suc zero) l = (whole-clean t order w).no_missing
 none-whole t order w level rest (suc (suc zero)) l = (whole-clean t order w).no_wrong
@@ -104,7 +112,8 @@ same-letter t order (ProgramOrder a b) (ProgramOrder a' b') l f g =
 same-letter t order (NotAdjacent x) (NotAdjacent y) l f g = let s = one-first order (IsSeparated order) f.2.0 g.2.0 x y f.2.1 g.2.1 in ap NotAdjacent s.entry
 same-letter t order (ReadValue x due) (ReadValue y due') l f g =
     let s = one-first order (IsWrongRead t order) f.3.0 g.3.0 x y f.3.1 g.3.1 in
-    ap (λ d. ReadValue x d) (f.3.2 ∙ ap (λ at. due_at t order at x) s.place ∙ ap (λ z. due_at t order g.3.0 z) s.entry ∙ sym g.3.2) ∙ ap (λ z. ReadValue z due') s.entry
+    ap (λ d. ReadValue x d) (f.3.2 ∙ ap (λ at. due_at t order at x) s.place ∙ ap (λ z. due_at t order g.3.0 z) s.entry ∙ sym g.3.2)
+    ∙ ap (λ z. ReadValue z due') s.entry
 same-letter t order b c l f g = absurd (omega arith)
 
 pub one-breach : (t : Litmus) (order : List Entry) (b c : Breach) → IsFirstBreach t order b → IsFirstBreach t order c → b ≡ c

@@ -1,5 +1,11 @@
 -- How the programs' entry of an entry of the order is found, and which of the programs' entries came.
-use Rattle.order_breaches.proofs.Vocabulary.{◌≡◌, ◌<◌, ◌≤◌, ℕ, ◌+◌, ◌*◌, suc, zero, List, length, Option, Some, None, slice_get, slice_index, slice_index_or, slice_set, replicate, true, false, arith, ap, sym, ◌∙◌, ◌⊎◌, inl, inr, subst, refl, cases_eq, false_from_ne_true, slice_get_within, slice_get-get_or, slice_get_cases, get_or-set_same, get_or-set_other, is_some, entry, rank, is_at, Entry, IsFirst, IsNowhere, NoneBefore, same_action, same_but_value, IsExtra, IsTwice, IsStray, IsMissing, kept_in, slot_of, Ascends, EntriesAreWithin, IsIndex, HasCome, HasNotCome, slots_of_a_core}
+use Rattle.order_breaches.proofs.Vocabulary.{◌≡◌, ◌<◌, ◌≤◌, ℕ, ◌+◌, ◌*◌, suc, zero, List, length, Option, Some, None, slice_get}
+use Rattle.order_breaches.proofs.Vocabulary.{slice_index, slice_index_or, slice_set, replicate, true, false, arith, ap, sym, ◌∙◌, ◌⊎◌, inl}
+use Rattle.order_breaches.proofs.Vocabulary.{inr, subst, refl, cases_eq, false_from_ne_true, slice_get_within, slice_get-get_or}
+use Rattle.order_breaches.proofs.Vocabulary.{slice_get_cases, get_or-set_same, get_or-set_other, is_some, entry, rank, is_at, Entry}
+use Rattle.order_breaches.proofs.Vocabulary.{IsFirst, IsNowhere, NoneBefore, same_action, same_but_value, IsExtra, IsTwice, IsStray}
+use Rattle.order_breaches.proofs.Vocabulary.{IsMissing, kept_in, slot_of, Ascends, EntriesAreWithin, IsIndex, HasCome, HasNotCome}
+use Rattle.order_breaches.proofs.Vocabulary.{slots_of_a_core}
 use Rattle.order_breaches.proofs.Firsts.{some-is, same_or_below, at-place}
 use Rattle.order_breaches.proofs.Actions.{SameAction, same-parts, same-from, same-turned, same_but_value-parts, entry-is, NoneTwice, same-rank}
 use Rattle.order_breaches.proofs.Shapes.{AreAlike, alike-at}
@@ -22,13 +28,24 @@ pub index-within : (list : List Entry) (slots : List (Option ℕ)) → IsIndex l
 index-within list slots index s k h = let r = index.only s k h in slice_get_within list k r.0 r.1
 
 -- the entry that is the same as x but for its value is where the index says
-pub index-tells : (list : List Entry) (slots : List (Option ℕ)) → IsIndex list slots → (x e : Entry) (k : ℕ) → slice_get list k ≡ Some e → same_but_value e x ≡ true → kept_in slots (slot_of x) ≡ Some k
+pub index-tells : (list : List Entry) (slots : List (Option ℕ))
+    → IsIndex list slots
+    → (x e : Entry) (k : ℕ)
+    → slice_get list k ≡ Some e
+    → same_but_value e x ≡ true
+    → kept_in slots (slot_of x) ≡ Some k
 index-tells list slots index x e k f s = ap (λ n. kept_in slots n) (sym (same-slot e x (same_but_value-parts e x s).action)) ∙ index.has k e f
 
 pub found-none : (list : List Entry) (slots : List (Option ℕ)) → IsIndex list slots → (x : Entry) → kept_in slots (slot_of x) ≡ None → IsExtra list x
 found-none list slots index x h k e f = false_from_ne_true (same_but_value e x) (λ s. let t = index-tells list slots index x e k f s in let z : ⊥ = cc in z)
 
-pub found-other : (list : List Entry) (slots : List (Option ℕ)) → IsIndex list slots → (x d : Entry) (i : ℕ) → kept_in slots (slot_of x) ≡ Some i → slice_get list i ≡ Some d → same_but_value d x ≡ false → IsExtra list x
+pub found-other : (list : List Entry) (slots : List (Option ℕ))
+    → IsIndex list slots
+    → (x d : Entry) (i : ℕ)
+    → kept_in slots (slot_of x) ≡ Some i
+    → slice_get list i ≡ Some d
+    → same_but_value d x ≡ false
+    → IsExtra list x
 found-other list slots index x d i h g n k e f = false_from_ne_true (same_but_value e x) (λ s.
     let t = index-tells list slots index x e k f s in
     let q : i ≡ k = some-is i k (sym h ∙ t) in
@@ -36,7 +53,13 @@ found-other list slots index x d i h g n k e f = false_from_ne_true (same_but_va
     let v : same_but_value e x ≡ false = subst (λ w. same_but_value w x ≡ false) p n in
     let z : ⊥ = cc in z)
 
-pub one-index : (list : List Entry) (slots : List (Option ℕ)) → IsIndex list slots → (i k : ℕ) (d e : Entry) → slice_get list i ≡ Some d → slice_get list k ≡ Some e → SameAction d e → i ≡ k
+pub one-index : (list : List Entry) (slots : List (Option ℕ))
+    → IsIndex list slots
+    → (i k : ℕ) (d e : Entry)
+    → slice_get list i ≡ Some d
+    → slice_get list k ≡ Some e
+    → SameAction d e
+    → i ≡ k
 one-index list slots index i k d e f g s = some-is i k (sym (index.has i d f) ∙ ap (λ n. kept_in slots n) (same-slot d e s) ∙ index.has k e g)
 
 pub index-alike : (xs ys : List Entry) (slots : List (Option ℕ)) → AreAlike xs ys → IsIndex xs slots → IsIndex ys slots
@@ -46,7 +69,11 @@ index-alike xs ys slots alike index = record {
 }
 
 -- an entry that comes
-pub came-before : (shape order : List Entry) (at : ℕ) (came : List (Option ℕ)) → HasCome shape order at came → (i : ℕ) (e x : Entry) (v : ℕ) → slice_get shape i ≡ Some e → same_but_value e x ≡ true
+pub came-before : (shape order : List Entry) (at : ℕ) (came : List (Option ℕ))
+    → HasCome shape order at came
+    → (i : ℕ) (e x : Entry) (v : ℕ)
+    → slice_get shape i ≡ Some e
+    → same_but_value e x ≡ true
     → kept_in came i ≡ Some v → IsTwice order at x
 came-before shape order at came come i e x v f s h =
     let r = come.only i v h in
@@ -55,7 +82,11 @@ came-before shape order at came come i e x v f s h =
     let b : SameAction e x = (same_but_value-parts e x s).action in
     (r.0, r.1, r.3, r.4, same-from x r.1 (same-chained x e r.1 (same-turned e x b) a))
 
-pub came-not : (shape order : List Entry) (slots : List (Option ℕ)) (at : ℕ) (came : List (Option ℕ)) → IsIndex shape slots → HasCome shape order at came → (i : ℕ) (e x : Entry) → slice_get shape i ≡ Some e
+pub came-not : (shape order : List Entry) (slots : List (Option ℕ)) (at : ℕ) (came : List (Option ℕ))
+    → IsIndex shape slots
+    → HasCome shape order at came
+    → (i : ℕ) (e x : Entry)
+    → slice_get shape i ≡ Some e
     → same_but_value e x ≡ true → kept_in came i ≡ None → IsTwice order at x → ⊥
 came-not shape order slots at came index come i e x f s h w =
     let r = come.has w.0 w.1 w.2 w.3 in
@@ -66,7 +97,11 @@ came-not shape order slots at came index come i e x f s h w =
     let g : kept_in came i ≡ Some w.1.value = ap (λ n. kept_in came n) q ∙ r.4 in
     let z : ⊥ = cc in z
 
-pub comes : (shape order : List Entry) (at : ℕ) (came : List (Option ℕ)) → HasCome shape order at came → (i : ℕ) (e x : Entry) → slice_get shape i ≡ Some e → same_but_value e x ≡ true
+pub comes : (shape order : List Entry) (at : ℕ) (came : List (Option ℕ))
+    → HasCome shape order at came
+    → (i : ℕ) (e x : Entry)
+    → slice_get shape i ≡ Some e
+    → same_but_value e x ≡ true
     → slice_get order at ≡ Some x → kept_in came i ≡ None → i < length came → HasCome shape order (at + 1) (slice_set came i (Some x.value))
 comes shape order at came come i e x f s here h within =
     let now : kept_in (slice_set came i (Some x.value)) i ≡ Some x.value = get_or-set_same came i (Some x.value) None within in
@@ -82,8 +117,16 @@ comes shape order at came come i e x f s here h within =
       ];
       only = λ j v g. elim (cases_eq j i) [
         | inl q ↦
-            let p : kept_in (slice_set came i (Some x.value)) i ≡ Some v = ap (λ n. kept_in (slice_set came i (Some x.value)) n) (sym q) ∙ g in
-            (at, x, e, (let l : at < at + 1 = omega arith in l), here, ap (λ n. slice_get shape n) q ∙ f, same-from e x (same_but_value-parts e x s).action, some-is x.value v (sym now ∙ p))
+            let p : kept_in (slice_set came i (Some x.value)) i ≡ Some v = ap (λ n. kept_in (slice_set came i (Some x.value)) n) (sym q) ∙ g in (
+              at,
+              x,
+              e,
+              (let l : at < at + 1 = omega arith in l),
+              here,
+              ap (λ n. slice_get shape n) q ∙ f,
+              same-from e x (same_but_value-parts e x s).action,
+              some-is x.value v (sym now ∙ p),
+            )
         | inr n ↦
             let r = come.only j v (sym (get_or-set_other came i j (Some x.value) None n) ∙ g) in
             (r.0, r.1, r.2, (let l = r.3 in omega arith), r.4, r.5, r.6, r.7)
@@ -91,7 +134,11 @@ comes shape order at came come i e x f s here h within =
     }
 
 -- the entries that didn't come are those that are missing
-pub not-come : (shape order : List Entry) (slots : List (Option ℕ)) (at : ℕ) (came : List (Option ℕ)) → IsIndex shape slots → HasCome shape order at came → length order ≤ at → (i : ℕ) (e : Entry)
+pub not-come : (shape order : List Entry) (slots : List (Option ℕ)) (at : ℕ) (came : List (Option ℕ))
+    → IsIndex shape slots
+    → HasCome shape order at came
+    → length order ≤ at
+    → (i : ℕ) (e : Entry)
     → slice_get shape i ≡ Some e → kept_in came i ≡ None → IsMissing order i e
 not-come shape order slots at came index come all i e f h k x g = false_from_ne_true (same_action e x) (λ s.
     let r = come.has k x (let w = slice_get_within order k x g in omega arith) g in
@@ -100,7 +147,12 @@ not-come shape order slots at came index come all i e f h k x g = false_from_ne_
     let v : kept_in came i ≡ Some x.value = ap (λ n. kept_in came n) q ∙ r.4 in
     let z : ⊥ = cc in z)
 
-pub missing-not-come : (shape order : List Entry) (at : ℕ) (came : List (Option ℕ)) → HasCome shape order at came → (i : ℕ) (e : Entry) → slice_get shape i ≡ Some e → IsMissing order i e → kept_in came i ≡ None
+pub missing-not-come : (shape order : List Entry) (at : ℕ) (came : List (Option ℕ))
+    → HasCome shape order at came
+    → (i : ℕ) (e : Entry)
+    → slice_get shape i ≡ Some e
+    → IsMissing order i e
+    → kept_in came i ≡ None
 missing-not-come shape order at came come i e f m = elim (there-or-not (kept_in came i)) [
   | inl n ↦ n
   | inr s ↦
@@ -114,11 +166,18 @@ missing-not-come shape order at came come i e f m = elim (there-or-not (kept_in 
 missing-alike : (order : List Entry) (i : ℕ) (x y : Entry) → SameAction x y → IsMissing order i x → IsMissing order i y
 missing-alike order i x y s m k z f = sym (same-tested x y z s) ∙ m k z f
 
-pub first-missing : (shape entries order : List Entry) (slots : List (Option ℕ)) (at : ℕ) (came : List (Option ℕ)) → AreAlike shape entries → IsIndex shape slots → HasCome shape order at came → length order ≤ at
+pub first-missing : (shape entries order : List Entry) (slots : List (Option ℕ)) (at : ℕ) (came : List (Option ℕ))
+    → AreAlike shape entries
+    → IsIndex shape slots
+    → HasCome shape order at came
+    → length order ≤ at
     → (e : Entry) (k : ℕ) → IsFirst shape (HasNotCome came) k e → (value : ℕ) × IsFirst entries (IsMissing order) k (entry e.core.0 e.place e.kind e.loc value)
 first-missing shape entries order slots at came alike index come all e k first =
     let m = alike-at shape entries alike k e first.stands in
-    let same : m.0 ≡ entry e.core.0 e.place e.kind e.loc m.0.value = entry-is m.0 (entry e.core.0 e.place e.kind e.loc m.0.value) (record { core = sym m.2.action.core; place = sym m.2.action.place; kind = sym m.2.action.kind }) (sym m.2.loc) refl in (
+    let same : m.0 ≡ entry e.core.0 e.place e.kind e.loc m.0.value =
+    entry-is m.0 (entry e.core.0 e.place e.kind e.loc m.0.value)
+    (record { core = sym m.2.action.core; place = sym m.2.action.place; kind = sym m.2.action.kind }) (sym m.2.loc)
+    refl in (
       m.0.value,
       subst (λ y. IsFirst entries (IsMissing order) k y) same (record {
         stands = m.1;
@@ -160,21 +219,40 @@ index-none-twice list slots index i j x y l e f s = let q = one-index list slots
 module _ (list : List Entry) (cores locations : ℕ) (up : Ascends list) (all : EntriesAreWithin cores locations list) where
   -- the slot of the entry at a place of the list
   pub slot-bound : (i : ℕ) (d : Entry) (n size : ℕ) → i < length list → n ≡ slot_of (slice_index_or list i d) → size ≡ cores * slots_of_a_core → n < size
-  slot-bound i d n size within is fits = let w = all i (slice_index_or list i d) (slice_get-get_or list i d within) in let c = w.core in let r = w.fits in omega arith
+  slot-bound i d n size within is fits =
+      let w = all i (slice_index_or list i d) (slice_get-get_or list i d within) in
+      let c = w.core in
+      let r = w.fits in
+      omega arith
 
   other-slot : (k i : ℕ) (d e : Entry) → k < i → slice_get list k ≡ Some d → slice_get list i ≡ Some e → slot_of d < slot_of e
-  other-slot k i d e l f g = let r = (all k d f).fits in elim (up k i d e l f g) [ inl m ↦ (let z : slot_of d < slot_of e = omega arith in z) | inr p ↦ (let c = p.0 in let m = p.1 in let z : slot_of d < slot_of e = omega arith in z) ]
+  other-slot k i d e l f g =
+      let r = (all k d f).fits in
+      elim (up k i d e l f g) [
+        | inl m ↦ (let z : slot_of d < slot_of e = omega arith in z)
+        | inr p ↦ (let c = p.0 in let m = p.1 in let z : slot_of d < slot_of e = omega arith in z)
+      ]
 
-  pub index-step : (slots : List (Option ℕ)) (i : ℕ) (d : Entry) (n : ℕ) → i < length list → n ≡ slot_of (slice_index_or list i d) → length slots ≡ cores * slots_of_a_core
+  pub index-step : (slots : List (Option ℕ)) (i : ℕ) (d : Entry) (n : ℕ)
+      → i < length list
+      → n ≡ slot_of (slice_index_or list i d)
+      → length slots ≡ cores * slots_of_a_core
       → ((k : ℕ) (e : Entry) → k < i → slice_get list k ≡ Some e → kept_in slots (slot_of e) ≡ Some k) → ((s k : ℕ) → kept_in slots s ≡ Some k → k < i)
-      → ((k : ℕ) (e : Entry) → k < i + 1 → slice_get list k ≡ Some e → kept_in (slice_set slots n (Some i)) (slot_of e) ≡ Some k) × ((s k : ℕ) → kept_in (slice_set slots n (Some i)) s ≡ Some k → k < i + 1)
+      → ((k : ℕ) (e : Entry)
+      → k < i + 1
+      → slice_get list k ≡ Some e
+      → kept_in (slice_set slots n (Some i)) (slot_of e) ≡ Some k)
+      × ((s k : ℕ) → kept_in (slice_set slots n (Some i)) s ≡ Some k → k < i + 1)
   index-step slots i d n inside is fits has only =
       let x = slice_index_or list i d in
       let here = slice_get-get_or list i d inside in
       let within = slot-bound i d n (length slots) inside is fits in (
         λ k e l f. elim (same_or_below k i l) [
           | inl q ↦
-              ap (λ z. kept_in (slice_set slots n (Some i)) (slot_of z)) (at-place list i k x e here f q) ∙ ap (λ m. kept_in (slice_set slots n (Some i)) m) (sym is) ∙ get_or-set_same slots n (Some i) None within ∙ ap Some (sym q)
+              ap (λ z. kept_in (slice_set slots n (Some i)) (slot_of z)) (at-place list i k x e here f q)
+              ∙ ap (λ m. kept_in (slice_set slots n (Some i)) m) (sym is)
+              ∙ get_or-set_same slots n (Some i) None within
+              ∙ ap Some (sym q)
           | inr b ↦
               let r = other-slot k i e x b f here in
               get_or-set_other slots n (slot_of e) (Some i) None (λ q. let u = q ∙ is in omega (arith, u, r)) ∙ has k e b f
@@ -188,7 +266,9 @@ module _ (list : List Entry) (cores locations : ℕ) (up : Ascends list) (all : 
       )
 
 pub index-only : (list : List Entry) (slots : List (Option ℕ)) (i : ℕ) → length list ≤ i → i ≤ length list
-    → ((k : ℕ) (e : Entry) → k < i → slice_get list k ≡ Some e → kept_in slots (slot_of e) ≡ Some k) → ((s k : ℕ) → kept_in slots s ≡ Some k → k < i) → IsIndex list slots
+    → ((k : ℕ) (e : Entry) → k < i → slice_get list k ≡ Some e → kept_in slots (slot_of e) ≡ Some k)
+    → ((s k : ℕ) → kept_in slots s ≡ Some k → k < i)
+    → IsIndex list slots
 index-only list slots i all within has only = record {
   has = λ k e f. has k e (let l = slice_get_within list k e f in omega arith) f;
   only = λ s k h. elim (slice_get_cases list k).1 [
@@ -201,7 +281,10 @@ pub nothing-came : (shape order : List Entry) (came : List (Option ℕ)) → ((i
 nothing-came shape order came none = record { has = λ k x l f. absurd (omega arith); only = λ i v h. let n = none i in absurd (let z : ⊥ = cc in z) }
 
 -- the entry at this place came too
-pub came-too : (shape : List Entry) (came : List (Option ℕ)) (i : ℕ) → NoneBefore shape (HasNotCome came) i → (kept_in came i ≡ None → ⊥) → NoneBefore shape (HasNotCome came) (i + 1)
+pub came-too : (shape : List Entry) (came : List (Option ℕ)) (i : ℕ)
+    → NoneBefore shape (HasNotCome came) i
+    → (kept_in came i ≡ None → ⊥)
+    → NoneBefore shape (HasNotCome came) (i + 1)
 came-too shape came i none here k y l f h = elim (same_or_below k i l) [
   | inl q ↦ here (ap (λ n. kept_in came n) (sym q) ∙ h)
   | inr b ↦ none k y b f h

@@ -1,5 +1,6 @@
 -- The last of the writes that count for a read, found by going over what comes before it and then what comes after it.
-use Rattle.order_breaches.proofs.Vocabulary.{◌≡◌, ℕ, List, [], ◌∷◌, ◌++◌, Bool, true, false, filter, ap, ◌∙◌, refl, cond, writes_to, is_before, last_value, counting, Entry}
+use Rattle.order_breaches.proofs.Vocabulary.{◌≡◌, ℕ, List, [], ◌∷◌, ◌++◌, Bool, true, false, filter, ap, ◌∙◌, refl, cond, writes_to}
+use Rattle.order_breaches.proofs.Vocabulary.{is_before, last_value, counting, Entry}
 
 pub last_value-append : (xs ys : List Entry) (w : ℕ) → last_value (xs ++ ys) w ≡ last_value ys (last_value xs w)
 last_value-append [] ys w = refl

@@ -1,5 +1,7 @@
 -- The earliest entry of a list of which something holds: one entry further, the end, and the search from the front.
-use Rattle.order_breaches.proofs.Vocabulary.{◌≡◌, ◌<◌, ◌≤◌, ℕ, ◌+◌, suc, zero, List, length, Some, slice_get, Bool, true, false, arith, ap, sym, ◌∙◌, ◌⊎◌, inl, inr, subst, cases_Bool, cases_lt, false_from_ne_true, slice_get_within, slice_get_cases, Entry, NoneBefore, IsEarliest, IsNowhere}
+use Rattle.order_breaches.proofs.Vocabulary.{◌≡◌, ◌<◌, ◌≤◌, ℕ, ◌+◌, suc, zero, List, length, Some, slice_get, Bool, true, false, arith, ap}
+use Rattle.order_breaches.proofs.Vocabulary.{sym, ◌∙◌, ◌⊎◌, inl, inr, subst, cases_Bool, cases_lt, false_from_ne_true, slice_get_within}
+use Rattle.order_breaches.proofs.Vocabulary.{slice_get_cases, Entry, NoneBefore, IsEarliest, IsNowhere}
 
 pub same_or_below : (i n : ℕ) → i < n + 1 → (i ≡ n) ⊎ (i < n)
 same_or_below i n h = grind arith
@@ -10,7 +12,11 @@ some-is x y e = cc
 pub at-place : {X : Type 0} (list : List X) (at k : ℕ) (x y : X) → slice_get list at ≡ Some x → slice_get list k ≡ Some y → k ≡ at → y ≡ x
 at-place list at k x y here there q = some-is y x (sym there ∙ ap (λ n. slice_get list n) q ∙ here)
 
-pub one_more : (list : List Entry) (Fact : ℕ → Entry → Type 0) (at : ℕ) (x : Entry) → slice_get list at ≡ Some x → NoneBefore list Fact at → (Fact at x → ⊥) → NoneBefore list Fact (at + 1)
+pub one_more : (list : List Entry) (Fact : ℕ → Entry → Type 0) (at : ℕ) (x : Entry)
+    → slice_get list at ≡ Some x
+    → NoneBefore list Fact at
+    → (Fact at x → ⊥)
+    → NoneBefore list Fact (at + 1)
 one_more list Fact at x here before not k y l e f = elim (same_or_below k at l) [
   | inl q ↦ not (subst (λ z. Fact at z) (at-place list at k x y here e q) (subst (λ z. Fact z y) q f))
   | inr b ↦ before k y b e f
@@ -47,7 +53,9 @@ pub told-test : (b : Bool) → (b ≡ true) ⊎ (b ≡ true → ⊥)
 told-test b = elim (cases_Bool b) [ inl t ↦ inl t | inr f ↦ inr (λ t. let z : ⊥ = cc in z) ]
 
 -- an entry passes a test, or all fail it
-pub passing : (p : Entry → Bool) (list : List Entry) → ((k : ℕ) × (y : Entry) × (slice_get list k ≡ Some y) × (p y ≡ true)) ⊎ ((k : ℕ) (y : Entry) → slice_get list k ≡ Some y → p y ≡ false)
+pub passing : (p : Entry → Bool) (list : List Entry)
+    → ((k : ℕ) × (y : Entry) × (slice_get list k ≡ Some y) × (p y ≡ true))
+    ⊎ ((k : ℕ) (y : Entry) → slice_get list k ≡ Some y → p y ≡ false)
 passing p list = elim (searched list (λ k y. p y ≡ true) (λ k y. told-test (p y))) [
   | inl s ↦ inl (s.1.0, s.0, s.1.1.stands, s.1.1.holds)
   | inr n ↦ inr (λ k y e. false_from_ne_true (p y) (n k y e))

@@ -1,5 +1,10 @@
 -- What is due to a read, by the write that its own program has before it.
-use Rattle.order_breaches.proofs.Vocabulary.{◌≡◌, ◌<◌, ◌≤◌, ℕ, ◌+◌, suc, zero, List, [], ◌∷◌, Option, Some, None, slice_get, slice_index, take, drop, filter, Bool, true, false, not, ◌==◌, cond, if◌then◌else◌, arith, ap, sym, ◌∙◌, inl, inr, subst, refl, cases_order, eq-eqb, eqb-true, and_from, and_parts, not-true, and_right, not_from_false, leb_tells, Litmus, is_before, may_be_passed, is_read, is_load, is_store, is_write, writes_to, rank, is_load_kind, is_read_kind, is_write_kind, made, IsWhole, KeepsProgramOrder, last_value, Entry, Kind, due_at, IsLastOwn, IsSource, due_from}
+use Rattle.order_breaches.proofs.Vocabulary.{◌≡◌, ◌<◌, ◌≤◌, ℕ, ◌+◌, suc, zero, List, [], ◌∷◌, Option, Some, None, slice_get, slice_index}
+use Rattle.order_breaches.proofs.Vocabulary.{take, drop, filter, Bool, true, false, not, ◌==◌, cond, if◌then◌else◌, arith, ap, sym, ◌∙◌}
+use Rattle.order_breaches.proofs.Vocabulary.{inl, inr, subst, refl, cases_order, eq-eqb, eqb-true, and_from, and_parts, not-true, and_right}
+use Rattle.order_breaches.proofs.Vocabulary.{not_from_false, leb_tells, Litmus, is_before, may_be_passed, is_read, is_load, is_store}
+use Rattle.order_breaches.proofs.Vocabulary.{is_write, writes_to, rank, is_load_kind, is_read_kind, is_write_kind, made, IsWhole}
+use Rattle.order_breaches.proofs.Vocabulary.{KeepsProgramOrder, last_value, Entry, Kind, due_at, IsLastOwn, IsSource, due_from}
 use Rattle.order_breaches.proofs.Firsts.{some-is, at-place}
 use Rattle.order_breaches.proofs.OwnReads.{made-read}
 use Rattle.order_breaches.proofs.Actions.{SameAction, one-place}
@@ -10,16 +15,25 @@ use Rattle.order_breaches.proofs.Marking.{IsMark, past_loads}
 use Rattle.order_breaches.proofs.Sooner.{Before, before-from, before-parts}
 
 -- what is due to a read: its source's value where that hasn't come, else the word
-skips : (b c : Bool) (x : Entry) (q : Entry → Bool) (rest : List Entry) → q x ≡ c → (b ≡ true → c ≡ true → ⊥) → filter q rest ≡ [] → filter q (cond b (x ∷ rest) rest) ≡ []
+skips : (b c : Bool) (x : Entry) (q : Entry → Bool) (rest : List Entry)
+    → q x ≡ c
+    → (b ≡ true → c ≡ true → ⊥)
+    → filter q rest ≡ []
+    → filter q (cond b (x ∷ rest) rest) ≡ []
 skips false c x q rest e n h = h
 skips true true x q rest e n h = absurd (n refl refl)
 skips true false x q rest e n h = ap (λ z. cond z (x ∷ filter q rest) (filter q rest)) e ∙ h
 
-none-kept : (p q : Entry → Bool) (list : List Entry) → ((k : ℕ) (e : Entry) → slice_get list k ≡ Some e → p e ≡ true → q e ≡ true → ⊥) → filter q (filter p list) ≡ []
+none-kept : (p q : Entry → Bool) (list : List Entry)
+    → ((k : ℕ) (e : Entry) → slice_get list k ≡ Some e → p e ≡ true → q e ≡ true → ⊥)
+    → filter q (filter p list) ≡ []
 none-kept p q [] h = refl
 none-kept p q (x ∷ xs) h = skips (p x) (q x) x q (filter p xs) refl (λ a b. h 0 x refl a b) (none-kept p q xs (λ k y f. h (suc k) y f))
 
-passes : (b c : Bool) (x : Entry) (q : Entry → Bool) (rest : List Entry) (w v : ℕ) → q x ≡ c → ((u : ℕ) → last_value (filter q rest) u ≡ v) → last_value (filter q (cond b (x ∷ rest) rest)) w ≡ v
+passes : (b c : Bool) (x : Entry) (q : Entry → Bool) (rest : List Entry) (w v : ℕ)
+    → q x ≡ c
+    → ((u : ℕ) → last_value (filter q rest) u ≡ v)
+    → last_value (filter q (cond b (x ∷ rest) rest)) w ≡ v
 passes false c x q rest w v e h = h w
 passes true true x q rest w v e h = ap (λ z. last_value (cond z (x ∷ filter q rest) (filter q rest)) w) e ∙ h x.value
 passes true false x q rest w v e h = ap (λ z. last_value (cond z (x ∷ filter q rest) (filter q rest)) w) e ∙ h w
@@ -32,7 +46,8 @@ last-kept p q (x ∷ xs) zero s w here ps qs h =
     let px : p x ≡ true = ap p same ∙ ps in
     let qx : q x ≡ true = ap q same ∙ qs in
     let none : filter q (filter p xs) ≡ [] = none-kept p q xs (λ k e f. h (suc k) e (omega arith) f) in
-    ap (λ b. last_value (filter q (cond b (x ∷ filter p xs) (filter p xs))) w) px ∙ ap (λ b. last_value (cond b (x ∷ filter q (filter p xs)) (filter q (filter p xs))) w) qx
+    ap (λ b. last_value (filter q (cond b (x ∷ filter p xs) (filter p xs))) w) px
+    ∙ ap (λ b. last_value (cond b (x ∷ filter q (filter p xs)) (filter q (filter p xs))) w) qx
     ∙ ap (λ es. last_value es x.value) none ∙ ap (λ e. e.value) same
 last-kept p q (x ∷ xs) (suc j) s w here ps qs h =
     passes (p x) (q x) x q (filter p xs) w s.value refl (λ v. last-kept p q xs j s v here ps qs (λ k e l f. h (suc k) e (omega arith) f))
@@ -64,7 +79,8 @@ not-passed : (x y : Entry) → is_load y ≡ false → may_be_passed x y ≡ fal
 not-passed x y h = and_right (is_store x) (is_load y) h
 
 -- a read in an order that is whole and keeps program order
-module _ (t : Litmus) (order : List Entry) (at : ℕ) (x : Entry) (here : slice_get order at ≡ Some x) (read : is_read x ≡ true) (whole : IsWhole t order) (keeps : KeepsProgramOrder order) where
+module _ (t : Litmus) (order : List Entry) (at : ℕ) (x : Entry) (here : slice_get order at ≡ Some x)
+    (read : is_read x ≡ true) (whole : IsWhole t order) (keeps : KeepsProgramOrder order) where
   own-made : (k : ℕ) (e : Entry) → slice_get order k ≡ Some e → (j : ℕ) × (slice_get (made t order) j ≡ Some e)
   own-made k e f =
       let m = in-made (made t order) order (made-once t order) (made-read t order) (whole-clean t order whole) k e f in (m.0, m.1)
@@ -85,15 +101,23 @@ module _ (t : Litmus) (order : List Entry) (at : ℕ) (x : Entry) (here : slice_
   follows-of : (j : ℕ) (e : Entry) → slice_get (drop (suc at) order) j ≡ Some e → is_before e x ≡ true → writes_to x.loc.0 e ≡ true → Follows (suc at + j) e
   follows-of j e f b w = ((let l : at < suc at + j = omega arith in l), after-at order (suc at) j e f, before-parts e x b, w)
 
-  none-follow : (word : ℕ) → ((k : ℕ) (e : Entry) → Follows k e → ⊥) → last_value (filter (writes_to x.loc.0) (filter (λ e. is_before e x) (drop (suc at) order))) word ≡ word
+  none-follow : (word : ℕ)
+      → ((k : ℕ) (e : Entry) → Follows k e → ⊥)
+      → last_value (filter (writes_to x.loc.0) (filter (λ e. is_before e x) (drop (suc at) order))) word ≡ word
   none-follow word none =
-      ap (λ es. last_value es word) (none-kept (λ e. is_before e x) (writes_to x.loc.0) (drop (suc at) order) (λ j e f b w. none (suc at + j) e (follows-of j e f b w)))
+      ap (λ es. last_value es word)
+      (none-kept (λ e. is_before e x) (writes_to x.loc.0) (drop (suc at) order) (λ j e f b w. none (suc at + j) e (follows-of j e f b w)))
 
   module _ (mark : ℕ) (marked : IsMark order at (past_loads x.core.0) mark) where
-    due-none : (word : ℕ) → IsSource (made t order) x None → word ≡ last_value (filter (writes_to x.loc.0) (filter (λ e. is_before e x) (drop (suc at) order))) word
+    due-none : (word : ℕ)
+        → IsSource (made t order) x None
+        → word ≡ last_value (filter (writes_to x.loc.0) (filter (λ e. is_before e x) (drop (suc at) order))) word
     due-none word none = sym (none-follow word (λ k e f. let m = own-made k e f.1 in none m.0 e m.1 (before-from e x f.2) f.3))
 
-    due-come : (word : ℕ) (s : Entry) → IsLastOwn (made t order) x s → rank s < mark → word ≡ last_value (filter (writes_to x.loc.0) (filter (λ e. is_before e x) (drop (suc at) order))) word
+    due-come : (word : ℕ) (s : Entry)
+        → IsLastOwn (made t order) x s
+        → rank s < mark
+        → word ≡ last_value (filter (writes_to x.loc.0) (filter (λ e. is_before e x) (drop (suc at) order))) word
     due-come word s own l = sym (none-follow word (λ k e f.
         let m = own-made k e f.1 in
         let up_to = own.last m.0 e m.1 (before-from e x f.2) f.3 in
@@ -109,13 +133,19 @@ module _ (t : Litmus) (order : List Entry) (at : ℕ) (x : Entry) (here : slice_
                 | inl q ↦ let r = (same-entry e b.1 k b.0 f.1 b.3 same q).0 in omega arith
                 | inr w ↦ elim w [
                   | inl n ↦
-                      let r = keeps k b.0 e b.1 f.1 b.3 (before-from e b.1 (record { core = same; sooner = n })) (not-passed e b.1 (not-true (is_load b.1) p.1)) in omega arith
+                      let r =
+                      keeps k b.0 e b.1 f.1 b.3 (before-from e b.1 (record { core = same; sooner = n }))
+                      (not-passed e b.1 (not-true (is_load b.1) p.1)) in
+                      omega arith
                   | inr n ↦ omega arith
                 ]
               ]
         ]))
 
-    due-pending : (word : ℕ) (s : Entry) → IsLastOwn (made t order) x s → mark ≤ rank s → s.value ≡ last_value (filter (writes_to x.loc.0) (filter (λ e. is_before e x) (drop (suc at) order))) word
+    due-pending : (word : ℕ) (s : Entry)
+        → IsLastOwn (made t order) x s
+        → mark ≤ rank s
+        → s.value ≡ last_value (filter (writes_to x.loc.0) (filter (λ e. is_before e x) (drop (suc at) order))) word
     due-pending word s own l =
         let stands = whole.each own.place s own.stands in
         let b = before-parts s x own.before in
@@ -128,7 +158,9 @@ module _ (t : Litmus) (order : List Entry) (at : ℕ) (x : Entry) (here : slice_
           | inr d ↦ elim d [
             | inl m ↦ m
             | inr m ↦
-                let a = marked.above stands.0 s m stands.1 (and_from (s.core.0 == x.core.0) (not (is_load s)) (eq-eqb s.core.0 x.core.0 b.core) (not_from_false (is_load s) no_load)) in
+                let a =
+                marked.above stands.0 s m stands.1
+                (and_from (s.core.0 == x.core.0) (not (is_load s)) (eq-eqb s.core.0 x.core.0 b.core) (not_from_false (is_load s) no_load)) in
                 absurd (omega arith)
           ]
         ] in
@@ -142,24 +174,37 @@ module _ (t : Litmus) (order : List Entry) (at : ℕ) (x : Entry) (here : slice_
         elim (cases_order (rank e) (rank s)) [
           | inl q ↦ let z = (same-entry e s (suc at + j) stands.0 fo.1 stands.1 core q).0 in omega arith
           | inr d ↦ elim d [
-            | inl v ↦ let z = keeps (suc at + j) stands.0 e s fo.1 stands.1 (before-from e s (record { core = core; sooner = v })) (not-passed e s no_load) in omega arith
+            | inl v ↦
+                let z =
+                keeps (suc at + j) stands.0 e s fo.1 stands.1 (before-from e s (record { core = core; sooner = v })) (not-passed e s no_load) in
+                omega arith
             | inr v ↦ omega arith
           ]
         ]))
 
-pub due-right : (t : Litmus) (order : List Entry) (at : ℕ) (x : Entry) → slice_get order at ≡ Some x → is_read x ≡ true → IsWhole t order → KeepsProgramOrder order
-    → (settled words : List ℕ) → IsMark order at (past_loads x.core.0) (slice_index settled x.core.0) → slice_index words x.loc.0 ≡ last_value (filter (writes_to x.loc.0) (take at order)) (slice_index t.words x.loc.0)
+pub due-right : (t : Litmus) (order : List Entry) (at : ℕ) (x : Entry)
+    → slice_get order at ≡ Some x
+    → is_read x ≡ true
+    → IsWhole t order
+    → KeepsProgramOrder order
+    → (settled words : List ℕ) → IsMark order at (past_loads x.core.0) (slice_index settled x.core.0)
+    → slice_index words x.loc.0
+    ≡ last_value (filter (writes_to x.loc.0) (take at order)) (slice_index t.words x.loc.0)
     → (source : Option Entry) → IsSource (made t order) x source → due_from source settled words x ≡ due_at t order at x
 due-right t order at x here read whole keeps settled words marked word None own =
-    word ∙ due-none t order at x here read whole keeps (slice_index settled x.core.0) marked (last_value (filter (writes_to x.loc.0) (take at order)) (slice_index t.words x.loc.0)) own
+    word
+    ∙ due-none t order at x here read whole keeps (slice_index settled x.core.0) marked
+    (last_value (filter (writes_to x.loc.0) (take at order)) (slice_index t.words x.loc.0)) own
     ∙ sym (last_counting x (take at order) (drop (suc at) order) (slice_index t.words x.loc.0))
 due-right t order at x here read whole keeps settled words marked word (Some s) own = elim (leb_tells (slice_index settled x.core.0) (rank s)) [
   | inl p ↦
       ap (λ b. if b then s.value else slice_index words x.loc.0) p.0
-      ∙ due-pending t order at x here read whole keeps (slice_index settled x.core.0) marked (last_value (filter (writes_to x.loc.0) (take at order)) (slice_index t.words x.loc.0)) s own p.1
+      ∙ due-pending t order at x here read whole keeps (slice_index settled x.core.0) marked
+      (last_value (filter (writes_to x.loc.0) (take at order)) (slice_index t.words x.loc.0)) s own p.1
       ∙ sym (last_counting x (take at order) (drop (suc at) order) (slice_index t.words x.loc.0))
   | inr p ↦
       ap (λ b. if b then s.value else slice_index words x.loc.0) p.0 ∙ word
-      ∙ due-come t order at x here read whole keeps (slice_index settled x.core.0) marked (last_value (filter (writes_to x.loc.0) (take at order)) (slice_index t.words x.loc.0)) s own p.1
+      ∙ due-come t order at x here read whole keeps (slice_index settled x.core.0) marked
+      (last_value (filter (writes_to x.loc.0) (take at order)) (slice_index t.words x.loc.0)) s own p.1
       ∙ sym (last_counting x (take at order) (drop (suc at) order) (slice_index t.words x.loc.0))
 ]

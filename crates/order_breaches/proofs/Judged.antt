@@ -1,5 +1,9 @@
 -- Each order is a TSO execution, or has a first breach.
-use Rattle.order_breaches.proofs.Vocabulary.{◌≡◌, ◌≢◌, ℕ, suc, List, slice_get, Bool, true, false, ◌⊎◌, inl, inr, refl, cases_eq, Litmus, is_read, is_write, made, IsTsoExecution, Entry, LR, same_action, same_but_value, IsExtra, IsStray, IsMissing, IsWrongWrite, written_value, must_stand_before, Overtakes, IsLate, IsSeparated, IsWrongRead, due_at, IsFirstBreach, Breach, Extra, Twice, Missing, WrongValue, ProgramOrder, NotAdjacent, ReadValue}
+use Rattle.order_breaches.proofs.Vocabulary.{◌≡◌, ◌≢◌, ℕ, suc, List, slice_get, Bool, true, false, ◌⊎◌, inl, inr, refl, cases_eq, Litmus}
+use Rattle.order_breaches.proofs.Vocabulary.{is_read, is_write, made, IsTsoExecution, Entry, LR, same_action, same_but_value, IsExtra}
+use Rattle.order_breaches.proofs.Vocabulary.{IsStray, IsMissing, IsWrongWrite, written_value, must_stand_before, Overtakes, IsLate}
+use Rattle.order_breaches.proofs.Vocabulary.{IsSeparated, IsWrongRead, due_at, IsFirstBreach, Breach, Extra, Twice, Missing, WrongValue}
+use Rattle.order_breaches.proofs.Vocabulary.{ProgramOrder, NotAdjacent, ReadValue}
 use Rattle.order_breaches.proofs.Firsts.{Told, searched, passing, told-test, told-before}
 use Rattle.order_breaches.proofs.Actions.{kind-or-not}
 use Rattle.order_breaches.proofs.Keeps.{next-of, keeps-order, keeps-pairs, has-values}
@@ -68,7 +72,8 @@ judged t order = let m = made t order in elim (searched order (IsStray m order) 
     | inr missing ↦ elim (searched order (IsWrongWrite m) (λ k x. told-unequal (is_write x) x.value (written_value m x))) [
       | inl s ↦ inr (WrongValue s.0 (written_value m s.0), (stray, missing, s.1, refl))
       | inr wrong ↦
-          let whole = whole-from t order (record { no_stray = stray; no_missing = missing; no_wrong = wrong }) in elim (searched order (IsLate order) (told-late order)) [
+          let whole = whole-from t order (record { no_stray = stray; no_missing = missing; no_wrong = wrong }) in
+          elim (searched order (IsLate order) (told-late order)) [
             | inl s ↦ elim (searched order (Overtakes s.1.0 s.0) (told-overtaking s.1.0 s.0)) [
               | inl o ↦ inr (ProgramOrder s.0 o.0, (whole, (s.1.0, o.1.0, s.1.1, o.1.1)))
               | inr none ↦ let l = s.1.1.holds in absurd (none l.0 l.1 l.2 l.3)
@@ -77,7 +82,13 @@ judged t order = let m = made t order in elim (searched order (IsStray m order) 
               | inl s ↦ inr (NotAdjacent s.0, (whole, keeps-order order late, s.1))
               | inr separated ↦ elim (searched order (IsWrongRead t order) (told-wrong-read t order)) [
                 | inl s ↦ inr (ReadValue s.0 (due_at t order s.1.0 s.0), (whole, keeps-order order late, keeps-pairs order separated, (s.1.0, s.1.1, refl)))
-                | inr read ↦ inl (record { whole = whole; program_order = keeps-order order late; adjacent = keeps-pairs order separated; read_values = has-values t order read })
+                | inr read ↦
+                    inl (record {
+                      whole = whole;
+                      program_order = keeps-order order late;
+                      adjacent = keeps-pairs order separated;
+                      read_values = has-values t order read;
+                    })
               ]
             ]
           ]

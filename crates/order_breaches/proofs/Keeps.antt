@@ -1,5 +1,9 @@
 -- An axiom holds of an order exactly where no entry breaks it.
-use Rattle.order_breaches.proofs.Vocabulary.{◌≡◌, ℕ, suc, zero, List, [], ◌∷◌, ◌++◌, length, Option, Some, None, slice_get, take, drop, true, not, arith, ap, sym, ◌∙◌, ◌⊎◌, inl, inr, subst, refl, cases_order, cases_eq, and_from, and_parts, not_from_false, not-true, Litmus, is_before, may_be_passed, KeepsProgramOrder, IsAdjacent, HasReadValues, due_value, IsStorePart, Entry, LW, not-itself, IsNowhere, IsLate, IsSeparated, IsWrongRead, due_at}
+use Rattle.order_breaches.proofs.Vocabulary.{◌≡◌, ℕ, suc, zero, List, [], ◌∷◌, ◌++◌, length, Option, Some, None, slice_get, take, drop}
+use Rattle.order_breaches.proofs.Vocabulary.{true, not, arith, ap, sym, ◌∙◌, ◌⊎◌, inl, inr, subst, refl, cases_order, cases_eq, and_from}
+use Rattle.order_breaches.proofs.Vocabulary.{and_parts, not_from_false, not-true, Litmus, is_before, may_be_passed, KeepsProgramOrder}
+use Rattle.order_breaches.proofs.Vocabulary.{IsAdjacent, HasReadValues, due_value, IsStorePart, Entry, LW, not-itself, IsNowhere, IsLate}
+use Rattle.order_breaches.proofs.Vocabulary.{IsSeparated, IsWrongRead, due_at}
 use Rattle.order_breaches.proofs.Actions.{kind-or-not}
 
 -- program order
@@ -12,7 +16,16 @@ keeps-order order n i j x y e f before passed = elim (cases_order i j) [
       let u = not-itself x in absurd (let z : ⊥ = cc in z)
   | inr w ↦ elim w [
     | inl l ↦ l
-    | inr l ↦ absurd (n i x e (j, y, f, record { sooner = l; swapped = and_from (is_before x y) (not (may_be_passed x y)) before (not_from_false (may_be_passed x y) passed) }))
+    | inr l ↦
+        absurd (n i x e (
+          j,
+          y,
+          f,
+          record {
+            sooner = l;
+            swapped = and_from (is_before x y) (not (may_be_passed x y)) before (not_from_false (may_be_passed x y) passed);
+          },
+        ))
   ]
 ]
 
@@ -70,7 +83,10 @@ cut-of (y ∷ ys) x back = let c = cut-of ys x back in record { stands = c.stand
 pub has-values : (t : Litmus) (order : List Entry) → IsNowhere order (IsWrongRead t order) → HasReadValues t order
 has-values t order n front x back e r =
     let c : Cut order front x back = subst (λ o. Cut o front x back) (sym e) (cut-of front x back) in
-    let v : x.value ≡ due_at t order (length front) x = elim (cases_eq x.value (due_at t order (length front) x)) [ inl q ↦ q | inr ne ↦ absurd (n (length front) x c.stands (record { read = r; wrong = ne })) ] in
+    let v : x.value ≡ due_at t order (length front) x = elim (cases_eq x.value (due_at t order (length front) x)) [
+      | inl q ↦ q
+      | inr ne ↦ absurd (n (length front) x c.stands (record { read = r; wrong = ne }))
+    ] in
     v ∙ ap (λ f. due_value t x f (drop (suc (length front)) order)) c.front_is ∙ ap (λ b. due_value t x front b) c.back_is
 
 pub none-wrong : (t : Litmus) (order : List Entry) → HasReadValues t order → IsNowhere order (IsWrongRead t order)

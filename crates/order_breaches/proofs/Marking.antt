@@ -1,5 +1,12 @@
 -- How far each core has come in the front of an order, and which entries come late.
-use Rattle.order_breaches.proofs.Vocabulary.{◌≡◌, ◌<◌, ◌≤◌, ℕ, ◌+◌, max, List, [], ◌∷◌, ◌++◌, length, Some, slice_get, slice_index, slice_set, take, filter, Bool, true, false, not, ◌&&◌, ◌==◌, nat_lt, cond, if◌then◌else◌, arith, ap, sym, ◌∙◌, ◌⊎◌, inl, inr, subst, refl, cases_eq, cases_Bool, eq-eqb, eqb-true, ne_eqb, and_from, and_parts, and_left, and_right, not_from_false, not_from_true, not-true, lt-ltb, ltb-true, ltb-false, cases_lt, get_or-set_same, get_or-set_other, take_more, slice_get_within, get_or_from_slice_get, is_before, may_be_passed, is_load, is_store, is_write, writes_to, max-left, max-right, max-first, max-second, by-rank, rank, last_value, Entry, must_stand_before, IsLate, reached, reached_but_for_loads, words_with, is_late}
+use Rattle.order_breaches.proofs.Vocabulary.{◌≡◌, ◌<◌, ◌≤◌, ℕ, ◌+◌, max, List, [], ◌∷◌, ◌++◌, length, Some, slice_get, slice_index}
+use Rattle.order_breaches.proofs.Vocabulary.{slice_set, take, filter, Bool, true, false, not, ◌&&◌, ◌==◌, nat_lt, cond, if◌then◌else◌}
+use Rattle.order_breaches.proofs.Vocabulary.{arith, ap, sym, ◌∙◌, ◌⊎◌, inl, inr, subst, refl, cases_eq, cases_Bool, eq-eqb, eqb-true}
+use Rattle.order_breaches.proofs.Vocabulary.{ne_eqb, and_from, and_parts, and_left, and_right, not_from_false, not_from_true, not-true}
+use Rattle.order_breaches.proofs.Vocabulary.{lt-ltb, ltb-true, ltb-false, cases_lt, get_or-set_same, get_or-set_other, take_more}
+use Rattle.order_breaches.proofs.Vocabulary.{slice_get_within, get_or_from_slice_get, is_before, may_be_passed, is_load, is_store, is_write}
+use Rattle.order_breaches.proofs.Vocabulary.{writes_to, max-left, max-right, max-first, max-second, by-rank, rank, last_value, Entry}
+use Rattle.order_breaches.proofs.Vocabulary.{must_stand_before, IsLate, reached, reached_but_for_loads, words_with, is_late}
 use Rattle.order_breaches.proofs.Firsts.{same_or_below, at-place}
 use Rattle.order_breaches.proofs.Finds.{last_value-append, filter-append}
 
@@ -20,7 +27,11 @@ AreMarks order at counts marks = (c : ℕ) → c < length marks → IsMark order
 pub marks-none : (order : List Entry) (counts : ℕ → Entry → Bool) (marks : List ℕ) → ((c : ℕ) → slice_index marks c ≡ 0) → AreMarks order 0 counts marks
 marks-none order counts marks zeros c l = record { above = λ k e m f g. absurd (omega arith); tight = inl (zeros c) }
 
-mark-more : (order : List Entry) (at : ℕ) (counts : Entry → Bool) (m : ℕ) (x : Entry) → slice_get order at ≡ Some x → counts x ≡ true → IsMark order at counts m → IsMark order (at + 1) counts (max m (rank x + 1))
+mark-more : (order : List Entry) (at : ℕ) (counts : Entry → Bool) (m : ℕ) (x : Entry)
+    → slice_get order at ≡ Some x
+    → counts x ≡ true
+    → IsMark order at counts m
+    → IsMark order (at + 1) counts (max m (rank x + 1))
 mark-more order at counts m x here c mark = record {
   above = λ k e l f g. elim (same_or_below k at l) [
     | inl q ↦ let p = at-place order at k x e here f q in let r = ap rank p in let n = max-right m (rank x + 1) in omega arith
@@ -35,7 +46,11 @@ mark-more order at counts m x here c mark = record {
   ];
 }
 
-mark-same : (order : List Entry) (at : ℕ) (counts : Entry → Bool) (m : ℕ) (x : Entry) → slice_get order at ≡ Some x → counts x ≡ false → IsMark order at counts m → IsMark order (at + 1) counts m
+mark-same : (order : List Entry) (at : ℕ) (counts : Entry → Bool) (m : ℕ) (x : Entry)
+    → slice_get order at ≡ Some x
+    → counts x ≡ false
+    → IsMark order at counts m
+    → IsMark order (at + 1) counts m
 mark-same order at counts m x here c mark = record {
   above = λ k e l f g. elim (same_or_below k at l) [
     | inl q ↦
@@ -49,12 +64,20 @@ mark-same order at counts m x here c mark = record {
   ];
 }
 
-marks-reached : (order : List Entry) (at : ℕ) (counts : ℕ → Entry → Bool) (marks : List ℕ) (x : Entry) → slice_get order at ≡ Some x → x.core.0 < length marks → counts x.core.0 x ≡ true
-    → ((c : ℕ) → (x.core.0 ≡ c → ⊥) → counts c x ≡ false) → length (reached marks x) ≡ length marks → AreMarks order at counts marks → AreMarks order (at + 1) counts (reached marks x)
+marks-reached : (order : List Entry) (at : ℕ) (counts : ℕ → Entry → Bool) (marks : List ℕ) (x : Entry)
+    → slice_get order at ≡ Some x
+    → x.core.0 < length marks
+    → counts x.core.0 x ≡ true
+    → ((c : ℕ) → (x.core.0 ≡ c → ⊥) → counts c x ≡ false)
+    → length (reached marks x) ≡ length marks
+    → AreMarks order at counts marks
+    → AreMarks order (at + 1) counts (reached marks x)
 marks-reached order at counts marks x here within own others size are c l = elim (cases_eq c x.core.0) [
   | inl q ↦
       let e : slice_index (reached marks x) c ≡ max (slice_index marks c) (rank x + 1) =
-      ap (λ n. slice_index (reached marks x) n) q ∙ get_or-set_same marks x.core.0 (max (slice_index marks x.core.0) (rank x + 1)) 0 within ∙ ap (λ n. max (slice_index marks n) (rank x + 1)) (sym q) in
+      ap (λ n. slice_index (reached marks x) n) q
+      ∙ get_or-set_same marks x.core.0 (max (slice_index marks x.core.0) (rank x + 1)) 0 within
+      ∙ ap (λ n. max (slice_index marks n) (rank x + 1)) (sym q) in
       subst (λ m. IsMark order (at + 1) (counts c) m) (sym e)
       (mark-more order at (counts c) (slice_index marks c) x here (subst (λ n. counts n x ≡ true) (sym q) own) (are c (omega arith)))
   | inr n ↦
@@ -62,20 +85,29 @@ marks-reached order at counts marks x here within own others size are c l = elim
       (mark-same order at (counts c) (slice_index marks c) x here (others c (λ q. n (sym q))) (are c (omega arith)))
 ]
 
-pub all-reached : (order : List Entry) (at : ℕ) (marks : List ℕ) (x : Entry) → slice_get order at ≡ Some x → x.core.0 < length marks → length (reached marks x) ≡ length marks
+pub all-reached : (order : List Entry) (at : ℕ) (marks : List ℕ) (x : Entry)
+    → slice_get order at ≡ Some x
+    → x.core.0 < length marks
+    → length (reached marks x) ≡ length marks
     → AreMarks order at of_core marks → AreMarks order (at + 1) of_core (reached marks x)
 all-reached order at marks x here within size are =
     marks-reached order at of_core marks x here within (eq-eqb x.core.0 x.core.0 refl) (λ c n. ne_eqb x.core.0 c n) size are
 
-pub all-settled : (order : List Entry) (at : ℕ) (marks : List ℕ) (x : Entry) → slice_get order at ≡ Some x → x.core.0 < length marks → length (reached marks x) ≡ length marks
+pub all-settled : (order : List Entry) (at : ℕ) (marks : List ℕ) (x : Entry)
+    → slice_get order at ≡ Some x
+    → x.core.0 < length marks
+    → length (reached marks x) ≡ length marks
     → AreMarks order at past_loads marks → AreMarks order (at + 1) past_loads (reached_but_for_loads marks x)
 all-settled order at marks x here within size are = elim (cases_Bool (is_load x)) [
   | inl load ↦
       subst (λ m. AreMarks order (at + 1) past_loads m) (sym (ap (λ b. if b then marks else reached marks x) load))
-      (λ c l. mark-same order at (past_loads c) (slice_index marks c) x here (and_right (x.core.0 == c) (not (is_load x)) (not_from_true (is_load x) load)) (are c l))
+      (λ c l.
+      mark-same order at (past_loads c) (slice_index marks c) x here
+      (and_right (x.core.0 == c) (not (is_load x)) (not_from_true (is_load x) load)) (are c l))
   | inr isnt ↦
       subst (λ m. AreMarks order (at + 1) past_loads m) (sym (ap (λ b. if b then marks else reached marks x) isnt))
-      (marks-reached order at past_loads marks x here within (and_from (x.core.0 == x.core.0) (not (is_load x)) (eq-eqb x.core.0 x.core.0 refl) (not_from_false (is_load x) isnt))
+      (marks-reached order at past_loads marks x here within
+      (and_from (x.core.0 == x.core.0) (not (is_load x)) (eq-eqb x.core.0 x.core.0 refl) (not_from_false (is_load x) isnt))
       (λ c n. and_left (x.core.0 == c) (not (is_load x)) (ne_eqb x.core.0 c n)) size are)
 ]
 
@@ -125,12 +157,17 @@ late-by order at counts m x mark gives takes b t = (
 store-is-no-load : (x : Entry) → is_store x ≡ false → (b : Bool) → is_store x ≡ true → b ≡ false
 store-is-no-load x n b h = absurd (let z : ⊥ = cc in z)
 
-pub late-tells : (order : List Entry) (at : ℕ) (all others : List ℕ) (x : Entry) → AreMarks order at of_core all → AreMarks order at past_loads others → x.core.0 < length all → x.core.0 < length others
+pub late-tells : (order : List Entry) (at : ℕ) (all others : List ℕ) (x : Entry)
+    → AreMarks order at of_core all
+    → AreMarks order at past_loads others
+    → x.core.0 < length all
+    → x.core.0 < length others
     → (is_late all others x ≡ true → IsLate order at x) × (is_late all others x ≡ false → IsLate order at x → ⊥)
 late-tells order at all others x a o l m = elim (cases_Bool (is_store x)) [
   | inl store ↦
       late-by order at (past_loads x.core.0) (slice_index others x.core.0) x (o x.core.0 m)
-      (λ e c r. let p = and_parts (e.core.0 == x.core.0) (not (is_load e)) c in record { core = sym (eqb-true e.core.0 x.core.0 p.0); sooner = r; kept = λ _. not-true (is_load e) p.1 })
+      (λ e c r. let p = and_parts (e.core.0 == x.core.0) (not (is_load e)) c in
+      record { core = sym (eqb-true e.core.0 x.core.0 p.0); sooner = r; kept = λ _. not-true (is_load e) p.1 })
       (λ e s. and_from (e.core.0 == x.core.0) (not (is_load e)) (eq-eqb e.core.0 x.core.0 (sym s.core)) (not_from_false (is_load e) (s.kept store)))
       (is_late all others x) (sym (ap (λ b. nat_lt (rank x + 1) (if b then slice_index others x.core.0 else slice_index all x.core.0)) store))
   | inr isnt ↦
@@ -145,9 +182,12 @@ abbrev pub AreWords : List Entry → ℕ → List ℕ → List ℕ → Type 0
 AreWords order at first words = (loc : ℕ) → slice_index words loc ≡ last_value (filter (writes_to loc) (take at order)) (slice_index first loc)
 
 last-more : (order : List Entry) (at loc : ℕ) (word : ℕ) (x : Entry) → slice_get order at ≡ Some x
-    → last_value (filter (writes_to loc) (take (at + 1) order)) word ≡ (if writes_to loc x then x.value else last_value (filter (writes_to loc) (take at order)) word)
+    → last_value (filter (writes_to loc) (take (at + 1) order)) word
+    ≡ (if writes_to loc x then x.value else last_value (filter (writes_to loc) (take at order)) word)
 last-more order at loc word x here =
-    ap (λ z. last_value (filter (writes_to loc) z) word) (take_more order at x (slice_get_within order at x here) ∙ ap (λ y. take at order ++ y ∷ []) (get_or_from_slice_get order at x x here))
+    ap (λ z. last_value (filter (writes_to loc) z) word)
+    (take_more order at x (slice_get_within order at x here)
+    ∙ ap (λ y. take at order ++ y ∷ []) (get_or_from_slice_get order at x x here))
     ∙ ap (λ z. last_value z word) (filter-append (writes_to loc) (take at order) (x ∷ []))
     ∙ last_value-append (filter (writes_to loc) (take at order)) (filter (writes_to loc) (x ∷ [])) word
     ∙ one (writes_to loc x) (last_value (filter (writes_to loc) (take at order)) word)
@@ -156,22 +196,28 @@ last-more order at loc word x here =
     one true w = refl
     one false w = refl
 
-pub words-written : (order : List Entry) (at : ℕ) (first words : List ℕ) (x : Entry) → slice_get order at ≡ Some x → (is_write x ≡ true → x.loc.0 < length words)
+pub words-written : (order : List Entry) (at : ℕ) (first words : List ℕ) (x : Entry)
+    → slice_get order at ≡ Some x
+    → (is_write x ≡ true → x.loc.0 < length words)
     → AreWords order at first words → AreWords order (at + 1) first (words_with words x)
 words-written order at first words x here within are loc = elim (cases_Bool (is_write x)) [
   | inr isnt ↦
       ap (λ b. slice_index (if b then slice_set words x.loc.0 x.value else words) loc) isnt ∙ are loc
-      ∙ sym (last-more order at loc (slice_index first loc) x here ∙ ap (λ b. if b then x.value else last_value (filter (writes_to loc) (take at order)) (slice_index first loc)) (and_left (is_write x) (x.loc.0 == loc) isnt))
+      ∙ sym (last-more order at loc (slice_index first loc) x here
+      ∙ ap (λ b. if b then x.value else last_value (filter (writes_to loc) (take at order)) (slice_index first loc))
+      (and_left (is_write x) (x.loc.0 == loc) isnt))
   | inl write ↦ elim (cases_eq loc x.loc.0) [
     | inl q ↦
         ap (λ b. slice_index (if b then slice_set words x.loc.0 x.value else words) loc) write
         ∙ ap (λ n. slice_index (slice_set words x.loc.0 x.value) n) q ∙ get_or-set_same words x.loc.0 x.value 0 (within write)
         ∙ sym (last-more order at loc (slice_index first loc) x here
-        ∙ ap (λ b. if b then x.value else last_value (filter (writes_to loc) (take at order)) (slice_index first loc)) (and_from (is_write x) (x.loc.0 == loc) write (eq-eqb x.loc.0 loc (sym q))))
+        ∙ ap (λ b. if b then x.value else last_value (filter (writes_to loc) (take at order)) (slice_index first loc))
+        (and_from (is_write x) (x.loc.0 == loc) write (eq-eqb x.loc.0 loc (sym q))))
     | inr n ↦
         ap (λ b. slice_index (if b then slice_set words x.loc.0 x.value else words) loc) write
         ∙ get_or-set_other words x.loc.0 loc x.value 0 n ∙ are loc
         ∙ sym (last-more order at loc (slice_index first loc) x here
-        ∙ ap (λ b. if b then x.value else last_value (filter (writes_to loc) (take at order)) (slice_index first loc)) (and_right (is_write x) (x.loc.0 == loc) (ne_eqb x.loc.0 loc (λ q. n (sym q)))))
+        ∙ ap (λ b. if b then x.value else last_value (filter (writes_to loc) (take at order)) (slice_index first loc))
+        (and_right (is_write x) (x.loc.0 == loc) (ne_eqb x.loc.0 loc (λ q. n (sym q)))))
   ]
 ]

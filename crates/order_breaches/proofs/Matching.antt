@@ -1,12 +1,20 @@
 -- The breach that is named where an entry is extra, twice there or missing is the first; else each action is there once.
-use Rattle.order_breaches.proofs.Vocabulary.{◌≡◌, ◌≤◌, ℕ, true, inl, List, length, Option, sym, subst, arith, Litmus, IsTest, is_write_kind, made, Entry, IsFirst, IsEarliest, IsNowhere, IsExtra, IsStray, made_reading, reads_that_came, IsIndex, HasCome, HasNotCome, NamesStray, IsMatched, AreOfPrograms, IsFirstBreach, Breach, Extra, Twice, Missing}
+use Rattle.order_breaches.proofs.Vocabulary.{◌≡◌, ◌≤◌, ℕ, true, inl, List, length, Option, sym, subst, arith, Litmus, IsTest, is_write_kind}
+use Rattle.order_breaches.proofs.Vocabulary.{made, Entry, IsFirst, IsEarliest, IsNowhere, IsExtra, IsStray, made_reading, reads_that_came}
+use Rattle.order_breaches.proofs.Vocabulary.{IsIndex, HasCome, HasNotCome, NamesStray, IsMatched, AreOfPrograms, IsFirstBreach, Breach}
+use Rattle.order_breaches.proofs.Vocabulary.{Extra, Twice, Missing}
 use Rattle.order_breaches.proofs.Whole.{made-of}
 use Rattle.order_breaches.proofs.Made.{made-within}
 use Rattle.order_breaches.proofs.Shapes.{AreAlike, extra-alike, shape-alike}
 use Rattle.order_breaches.proofs.Coming.{stray-alike, first-missing, none-missing, index-alike}
 use Rattle.order_breaches.proofs.Reading.{ReadsAll, came-reads}
 
-pub of-programs : (t : Litmus) (order entries : List Entry) (cores words : ℕ) → IsTest t → IsMatched t order → entries ≡ made t order → length t.programs ≤ cores → words ≡ length t.locations
+pub of-programs : (t : Litmus) (order entries : List Entry) (cores words : ℕ)
+    → IsTest t
+    → IsMatched t order
+    → entries ≡ made t order
+    → length t.programs ≤ cores
+    → words ≡ length t.locations
     → AreOfPrograms entries cores words order
 of-programs t order entries cores words valid matched is c w = record {
   made_by_one = λ k x f extra. matched.no_stray k x f (inl (subst (λ es. IsExtra es x) is extra));
@@ -30,9 +38,13 @@ stray-first xs ys order alike x first = (
   },
 )
 
-pub names-first-stray : (t : Litmus) (order shape : List Entry) → AreAlike shape (made t order) → (b : Breach) → NamesStray shape order b → IsFirstBreach t order b
+pub names-first-stray : (t : Litmus) (order shape : List Entry)
+    → AreAlike shape (made t order)
+    → (b : Breach) → NamesStray shape order b
+    → IsFirstBreach t order b
 names-first-stray t order shape alike (Extra x) h = (extra-alike shape (made t order) alike x h.0, stray-first shape (made t order) order alike x h.1)
-names-first-stray t order shape alike (Twice x) h = (λ e. h.0 (extra-alike (made t order) shape (sym alike) x e), stray-first shape (made t order) order alike x h.1)
+names-first-stray t order shape alike (Twice x) h =
+    (λ e. h.0 (extra-alike (made t order) shape (sym alike) x e), stray-first shape (made t order) order alike x h.1)
 names-first-stray t order shape alike _ h = absurd h
 
 -- what the programs make with some reads

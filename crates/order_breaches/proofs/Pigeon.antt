@@ -1,5 +1,6 @@
 -- Distinct members that all are in a list which is no longer leave room for no other.
-use Rattle.order_breaches.proofs.Vocabulary.{◌≡◌, ◌<◌, ◌≤◌, ℕ, ◌+◌, suc, zero, List, [], ◌∷◌, ◌++◌, length, Some, slice_get, arith, ap, sym, ◌∙◌, ◌⊎◌, inl, inr, subst, refl, length-append, Member, member-at, Entry}
+use Rattle.order_breaches.proofs.Vocabulary.{◌≡◌, ◌<◌, ◌≤◌, ℕ, ◌+◌, suc, zero, List, [], ◌∷◌, ◌++◌, length, Some, slice_get, arith, ap, sym}
+use Rattle.order_breaches.proofs.Vocabulary.{◌∙◌, ◌⊎◌, inl, inr, subst, refl, length-append, Member, member-at, Entry}
 
 pub at-member : (xs : List Entry) (i : ℕ) (e : Entry) → slice_get xs i ≡ Some e → Member e xs
 at-member [] i e h = absurd (let z : ⊥ = cc in z)

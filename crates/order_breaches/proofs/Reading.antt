@@ -1,5 +1,9 @@
 -- The values with which the reads came are the order's own read values, and with them the programs make what they make.
-use Rattle.order_breaches.proofs.Vocabulary.{◌≡◌, ◌≤◌, ℕ, ◌+◌, suc, List, [], ◌∷◌, ◌++◌, length, Option, Some, slice_get, slice_index, slice_index_or, take, drop, Bool, true, false, if◌then◌else◌, arith, ap, sym, ◌∙◌, refl, subst, inl, inr, unwrap_or, action_of, entries_by, entries_of, reads_in, Litmus, is_read, read_value, values_by, made, read_values, Instr, Action, Store, Load, Move, Fence, Lock, Entry, IsNowhere, IsStray, reads_of_all, made_reading, kept_in, reads_that_came, HasCome, HasNotCome}
+use Rattle.order_breaches.proofs.Vocabulary.{◌≡◌, ◌≤◌, ℕ, ◌+◌, suc, List, [], ◌∷◌, ◌++◌, length, Option, Some, slice_get, slice_index}
+use Rattle.order_breaches.proofs.Vocabulary.{slice_index_or, take, drop, Bool, true, false, if◌then◌else◌, arith, ap, sym, ◌∙◌, refl, subst}
+use Rattle.order_breaches.proofs.Vocabulary.{inl, inr, unwrap_or, action_of, entries_by, entries_of, reads_in, Litmus, is_read, read_value}
+use Rattle.order_breaches.proofs.Vocabulary.{values_by, made, read_values, Instr, Action, Store, Load, Move, Fence, Lock, Entry, IsNowhere}
+use Rattle.order_breaches.proofs.Vocabulary.{IsStray, reads_of_all, made_reading, kept_in, reads_that_came, HasCome, HasNotCome}
 use Rattle.order_breaches.proofs.Actions.{SameAction, same-parts, same-turned, NoneTwice, value-at, looked-up}
 use Rattle.order_breaches.proofs.Made.{all_reads, all-count, made-by-reads}
 use Rattle.order_breaches.proofs.Whole.{none-twice}
@@ -34,10 +38,12 @@ reads-first core place (Move change) registers word es order = refl
 reads-first core place Fence registers word es order = refl
 reads-first core place (Lock loc reg update) registers word es order = refl
 
-entries-reads : (core place : ℕ) (program : List Instr) (registers values : List ℕ) (order : List Entry) → reads_by (own_value order) (entries_of core place program registers values) ≡ read_values core place program order
+entries-reads : (core place : ℕ) (program : List Instr) (registers values : List ℕ) (order : List Entry)
+    → reads_by (own_value order) (entries_of core place program registers values) ≡ read_values core place program order
 entries-reads core place [] registers values order = refl
 entries-reads core place (i ∷ rest) registers values order =
-    reads-first core place (action_of i) registers (slice_index values 0) _ order ∙ ap (λ z. values_by core place (action_of i) order ++ z) (entries-reads core (place + 1) rest _ _ order)
+    reads-first core place (action_of i) registers (slice_index values 0) _ order
+    ∙ ap (λ z. values_by core place (action_of i) order ++ z) (entries-reads core (place + 1) rest _ _ order)
 
 if-append : (b : Bool) (x : ℕ) (xs ys : List ℕ) → (if b then x ∷ (xs ++ ys) else (xs ++ ys)) ≡ (if b then x ∷ xs else xs) ++ ys
 if-append true x xs ys = refl
@@ -48,7 +54,9 @@ reads-append value [] ys = refl
 reads-append value (x ∷ xs) ys =
     ap (λ z. if is_read x then value x ∷ z else z) (reads-append value xs ys) ∙ if-append (is_read x) (value x) (reads_by value xs) (reads_by value ys)
 
-shape-reads : (core : ℕ) (programs : List (List Instr)) (registers : List (List ℕ)) (reads : List ℕ) (order : List Entry) → reads_by (own_value order) (made_reading core programs registers reads) ≡ all_reads core programs order
+shape-reads : (core : ℕ) (programs : List (List Instr)) (registers : List (List ℕ)) (reads : List ℕ)
+    (order : List Entry)
+    → reads_by (own_value order) (made_reading core programs registers reads) ≡ all_reads core programs order
 shape-reads core [] registers reads order = refl
 shape-reads core (p ∷ ps) registers reads order =
     let rest = made_reading (core + 1) ps registers (drop (reads_in p) reads) in
@@ -72,11 +80,17 @@ pub record ReadsAll (t : Litmus) (order : List Entry) (reads : List ℕ) : Type 
   pub enough : reads_of_all t.programs ≤ length reads
   pub makes : made_reading 0 t.programs t.registers reads ≡ made t order
 
-pub came-reads : (t : Litmus) (order : List Entry) (at : ℕ) (came : List (Option ℕ)) (shape : List Entry) → (reads : List ℕ) × (shape ≡ made_reading 0 t.programs t.registers reads) → IsNowhere order (IsStray shape order) → HasCome shape order at came
+pub came-reads : (t : Litmus) (order : List Entry) (at : ℕ) (came : List (Option ℕ)) (shape : List Entry)
+    → (reads : List ℕ) × (shape ≡ made_reading 0 t.programs t.registers reads)
+    → IsNowhere order (IsStray shape order)
+    → HasCome shape order at came
     → IsNowhere shape (HasNotCome came) → ReadsAll t order (reads_that_came 0 came shape)
 came-reads t order at came shape is stray come all =
     let e : reads_that_came 0 came shape ≡ all_reads 0 t.programs order =
-    came-by order came 0 shape (λ k e f. ap (λ n. unwrap_or (kept_in came n) 0) (let q : 0 + k ≡ k = omega arith in q) ∙ came-own shape order at came (none-twice shape order stray) come all k e f)
+    came-by order came 0 shape
+    (λ k e f.
+    ap (λ n. unwrap_or (kept_in came n) 0) (let q : 0 + k ≡ k = omega arith in q)
+    ∙ came-own shape order at came (none-twice shape order stray) come all k e f)
     ∙ ap (λ s. reads_by (own_value order) s) is.1 ∙ shape-reads 0 t.programs t.registers is.0 order in
     record {
       enough = let n = all-count 0 t.programs order in let m = ap length e in omega arith;

@@ -1,5 +1,9 @@
 -- What the programs make has one shape, whatever their reads return: only values differ.
-use Rattle.order_breaches.proofs.Vocabulary.{◌≡◌, ℕ, ◌+◌, suc, zero, List, [], ◌∷◌, ◌++◌, Some, slice_get, slice_index, slice_index_or, take, drop, map, Bool, true, false, ◌==◌, ◌&&◌, ◌||◌, if◌then◌else◌, ap, sym, ◌∙◌, refl, subst, map-append, action_of, entry, entries_by, entries_of, reads_in, Litmus, same_kind, is_read, is_write, is_read_kind, is_write_kind, made, Instr, Action, Store, Load, Move, Fence, Lock, Entry, Kind, F, same_action, same_but_value, IsExtra, made_reading, arith}
+use Rattle.order_breaches.proofs.Vocabulary.{◌≡◌, ℕ, ◌+◌, suc, zero, List, [], ◌∷◌, ◌++◌, Some, slice_get, slice_index, slice_index_or}
+use Rattle.order_breaches.proofs.Vocabulary.{take, drop, map, Bool, true, false, ◌==◌, ◌&&◌, ◌||◌, if◌then◌else◌, ap, sym, ◌∙◌, refl, subst}
+use Rattle.order_breaches.proofs.Vocabulary.{map-append, action_of, entry, entries_by, entries_of, reads_in, Litmus, same_kind, is_read}
+use Rattle.order_breaches.proofs.Vocabulary.{is_write, is_read_kind, is_write_kind, made, Instr, Action, Store, Load, Move, Fence, Lock}
+use Rattle.order_breaches.proofs.Vocabulary.{Entry, Kind, F, same_action, same_but_value, IsExtra, made_reading, arith}
 use Rattle.order_breaches.proofs.Actions.{SameAction, same-parts}
 use Rattle.order_breaches.proofs.Made.{of-made}
 
@@ -16,7 +20,9 @@ pub record IsAlike (x y : Entry) : Type 0 where
   pub loc : x.loc.0 ≡ y.loc.0
   pub tested : (z : Entry) → same_but_value x z ≡ same_but_value y z
 
-fence-alone : (k : Kind) (v w : ℕ) → (is_read_kind k || is_write_kind k || (v == w)) ≡ (is_read_kind k || is_write_kind k || (v == (if same_kind k F then w else 0)))
+fence-alone : (k : Kind) (v w : ℕ)
+    → (is_read_kind k || is_write_kind k || (v == w))
+    ≡ (is_read_kind k || is_write_kind k || (v == (if same_kind k F then w else 0)))
 fence-alone k v w = grind arith
 
 where-same : (a b c d : Bool) → (a ≡ true → c ≡ d) → (a && b && c) ≡ (a && b && d)
@@ -25,8 +31,12 @@ where-same false b c d h = refl
 
 blank-tested : (x z : Entry) → same_but_value x z ≡ same_but_value (blank x) z
 blank-tested x z =
-    where-same (same_action x z) (z.loc.0 == x.loc.0) (is_read z || is_write z || (z.value == x.value)) (is_read z || is_write z || (z.value == (blank x).value))
-    (λ s. subst (λ k. (is_read_kind z.kind || is_write_kind z.kind || (z.value == x.value)) ≡ (is_read_kind z.kind || is_write_kind z.kind || (z.value == (if same_kind k F then x.value else 0))))
+    where-same (same_action x z) (z.loc.0 == x.loc.0) (is_read z || is_write z || (z.value == x.value))
+    (is_read z || is_write z || (z.value == (blank x).value))
+    (λ s.
+    subst (λ k.
+    (is_read_kind z.kind || is_write_kind z.kind || (z.value == x.value))
+    ≡ (is_read_kind z.kind || is_write_kind z.kind || (z.value == (if same_kind k F then x.value else 0))))
     (sym (same-parts x z s).kind) (fence-alone z.kind z.value x.value))
 
 blank-alike : (x y : Entry) → blank x ≡ blank y → IsAlike x y
@@ -54,9 +64,11 @@ alike-append xs ys zs ws h k = map-append blank xs zs ∙ ap (λ l. l ++ map bla
 
 entries-alike : (core place : ℕ) (program : List Instr) (r s v w : List ℕ) → AreAlike (entries_of core place program r v) (entries_of core place program s w)
 entries-alike core place [] r s v w = refl
-entries-alike core place (i ∷ rest) r s v w = alike-append _ _ _ _ (blank-by core place (action_of i) r s (slice_index v 0) (slice_index w 0)) (entries-alike core (place + 1) rest _ _ _ _)
+entries-alike core place (i ∷ rest) r s v w =
+    alike-append _ _ _ _ (blank-by core place (action_of i) r s (slice_index v 0) (slice_index w 0)) (entries-alike core (place + 1) rest _ _ _ _)
 
-readings-alike : (core : ℕ) (programs : List (List Instr)) (registers : List (List ℕ)) (v w : List ℕ) → AreAlike (made_reading core programs registers v) (made_reading core programs registers w)
+readings-alike : (core : ℕ) (programs : List (List Instr)) (registers : List (List ℕ)) (v w : List ℕ)
+    → AreAlike (made_reading core programs registers v) (made_reading core programs registers w)
 readings-alike core [] registers v w = refl
 readings-alike core (p ∷ ps) registers v w =
     alike-append _ _ _ _

@@ -1,6 +1,11 @@
 -- The names that the proofs of this crate bring in from definitions and from crates below; each file takes its own from here.
-pub use Rattle.std.proofs.Common.{◌≡◌, ◌<◌, ◌≤◌, ℕ, ◌+◌, suc, zero, List, length, Some, slice_get, Bool, true, false, arith, ap, sym, ◌∙◌, ◌⊎◌, inl, inr, subst, [], ◌∷◌, ◌++◌, filter, refl, cond, ◌==◌, ◌&&◌, ◌||◌, if◌then◌else◌, slice_index, slice_index_or, length-append, Option, None, take, drop, not, ◌≢◌, ◌*◌, IfSome, All, map, slice_set, replicate, max, nat_lt, get_or, append_assoc, append-nil, IsNone}
-pub use Rattle.std.proofs.lemmas.Bool.{cases_Bool, cases_lt, false_from_ne_true, cases_order, eq-eqb, eqb-true, and_parts, cases_eq, and_from, not_from_false, not-true, ne_eqb, and_left, and_right, not_from_true, lt-ltb, ltb-true, ltb-false, eqb-false}
+pub use Rattle.std.proofs.Common.{◌≡◌, ◌<◌, ◌≤◌, ℕ, ◌+◌, suc, zero, List, length, Some, slice_get, Bool, true, false, arith, ap, sym, ◌∙◌}
+pub use Rattle.std.proofs.Common.{◌⊎◌, inl, inr, subst, [], ◌∷◌, ◌++◌, filter, refl, cond, ◌==◌, ◌&&◌, ◌||◌, if◌then◌else◌, slice_index}
+pub use Rattle.std.proofs.Common.{slice_index_or, length-append, Option, None, take, drop, not, ◌≢◌, ◌*◌, IfSome, All, map, slice_set}
+pub use Rattle.std.proofs.Common.{replicate, max, nat_lt, get_or, append_assoc, append-nil, IsNone}
+pub use Rattle.std.proofs.lemmas.Bool.{cases_Bool, cases_lt, false_from_ne_true, cases_order, eq-eqb, eqb-true, and_parts, cases_eq}
+pub use Rattle.std.proofs.lemmas.Bool.{and_from, not_from_false, not-true, ne_eqb, and_left, and_right, not_from_true, lt-ltb, ltb-true}
+pub use Rattle.std.proofs.lemmas.Bool.{ltb-false, eqb-false}
 pub use Rattle.std.proofs.lemmas.Option.{slice_get_within, slice_get_cases, slice_get-get_or, get_or_from_slice_get}
 pub use Rattle.basic_laws.specs.Types.{Entry, Kind, R, W, F, LR, LW, Instr, Action}
 pub use Rattle.order_breaches.specs.First.{NoneBefore, IsEarliest, IsNowhere, IsFirst}
@@ -21,8 +26,10 @@ pub use Rattle.order_breaches.specs.FirstBreach.{IsFirstBreach}
 pub use Rattle.order_breaches.specs.declared.breach.Breach.{Breach}
 pub use Rattle.order_breaches.specs.declared.breach.Breach.TheVariants.{Extra, Twice, Missing, WrongValue, ProgramOrder, NotAdjacent, ReadValue, NoMemory}
 pub use Rattle.order_breaches.specs.inner.Programs.{reads_of_all, made_reading, kept_in, reads_that_came}
-pub use Rattle.order_breaches.specs.inner.Slots.{Precedes, Ascends, IsEntryWithin, EntriesAreWithin, slot_of, IsIndex, HasCome, HasNotCome, slots_of_a_core, NamesStray}
-pub use Rattle.std.proofs.lemmas.List.{map-append, get_or-set_same, get_or-set_other, take_more, get_or_push, get_or_append_left, at_drop_more, at_drop_all, length-set}
+pub use Rattle.order_breaches.specs.inner.Slots.{Precedes, Ascends, IsEntryWithin, EntriesAreWithin, slot_of, IsIndex, HasCome, HasNotCome}
+pub use Rattle.order_breaches.specs.inner.Slots.{slots_of_a_core, NamesStray}
+pub use Rattle.std.proofs.lemmas.List.{map-append, get_or-set_same, get_or-set_other, take_more, get_or_push, get_or_append_left}
+pub use Rattle.std.proofs.lemmas.List.{at_drop_more, at_drop_all, length-set}
 pub use Rattle.std.specs.Option.{is_some, unwrap_or}
 pub use Rattle.order_breaches.specs.inner.Progress.{reached, reached_but_for_loads, words_with, is_late}
 pub use Rattle.order_breaches.specs.inner.Sources.{own_write, noted_write, IsSource, IsLastOwn, due_from, IsDueFrom}

@@ -1,10 +1,14 @@
 -- An order is whole exactly where no entry is extra, there twice, missing or a write of a wrong value.
-use Rattle.order_breaches.proofs.Vocabulary.{◌≡◌, ℕ, List, length, Some, slice_get, true, false, arith, ap, sym, ◌∙◌, inl, inr, subst, refl, cases_eq, Litmus, is_read_kind, is_write_kind, made, IsWhole, Entry, Kind, R, W, F, LR, LW, IsNowhere, same_action, same_but_value, IsExtra, IsStray, IsMissing, IsWrongWrite, written_value, Each, each-at, member-at}
+use Rattle.order_breaches.proofs.Vocabulary.{◌≡◌, ℕ, List, length, Some, slice_get, true, false, arith, ap, sym, ◌∙◌, inl, inr, subst, refl}
+use Rattle.order_breaches.proofs.Vocabulary.{cases_eq, Litmus, is_read_kind, is_write_kind, made, IsWhole, Entry, Kind, R, W, F, LR, LW}
+use Rattle.order_breaches.proofs.Vocabulary.{IsNowhere, same_action, same_but_value, IsExtra, IsStray, IsMissing, IsWrongWrite}
+use Rattle.order_breaches.proofs.Vocabulary.{written_value, Each, each-at, member-at}
 use Rattle.tso_terms.specs.Standing.{StandsIn}
 use Rattle.order_breaches.proofs.Firsts.{passing}
 use Rattle.order_breaches.proofs.Made.{made-once}
 use Rattle.order_breaches.proofs.OwnReads.{ReadsOwn, made-read}
-use Rattle.order_breaches.proofs.Actions.{same-parts, same-from, same-turned, same-itself, entry-is, SameButValue, same_but_value-parts, same_but_value-itself, NoneTwice, one-entry, value-at, looked-up}
+use Rattle.order_breaches.proofs.Actions.{same-parts, same-from, same-turned, same-itself, entry-is, SameButValue, same_but_value-parts}
+use Rattle.order_breaches.proofs.Actions.{same_but_value-itself, NoneTwice, one-entry, value-at, looked-up}
 use Rattle.order_breaches.proofs.Pigeon.{at-member, Distinct, distinct-from, distinct-one, no_fewer, pigeon}
 
 -- an order without any of the four
@@ -38,11 +42,21 @@ by-kind LR read write fence = read refl
 by-kind LW read write fence = write refl
 
 module _ (made order : List Entry) (one : NoneTwice made) (own : Each (ReadsOwn order) made) where
-  same-value : NoneTwice order → IsNowhere order (IsWrongWrite made) → (i : ℕ) (x : Entry) → slice_get order i ≡ Some x → (k : ℕ) (e : Entry) → slice_get made k ≡ Some e → SameButValue e x → x.value ≡ e.value
+  same-value : NoneTwice order
+      → IsNowhere order (IsWrongWrite made)
+      → (i : ℕ) (x : Entry)
+      → slice_get order i ≡ Some x
+      → (k : ℕ) (e : Entry)
+      → slice_get made k ≡ Some e
+      → SameButValue e x
+      → x.value ≡ e.value
   same-value once written i x at_i k e at_k s = by-kind x.kind
       (λ r. sym (value-at order once i x at_i) ∙ looked-up x e order (same-turned e x s.action)
       ∙ sym (each-at (ReadsOwn order) made k e own at_k (subst (λ z. is_read_kind z ≡ true) (sym s.action.kind) r)))
-      (λ w. elim (cases_eq x.value (written_value made x)) [ inl e ↦ e | inr ne ↦ absurd (written i x at_i (w, ne)) ] ∙ looked-up x e made (same-turned e x s.action) ∙ value-at made one k e at_k)
+      (λ w.
+      elim (cases_eq x.value (written_value made x)) [ inl e ↦ e | inr ne ↦ absurd (written i x at_i (w, ne)) ]
+      ∙ looked-up x e made (same-turned e x s.action)
+      ∙ value-at made one k e at_k)
       s.fence
 
   -- each entry of the order is one of the programs

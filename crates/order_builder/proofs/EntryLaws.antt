@@ -1,5 +1,10 @@
 -- The lines of entries and of ends: what is printed is read, and what is read is printed so.
-use Rattle.order_builder.proofs.Vocabulary.{is_ascii_digit, ◌≡◌, ℕ, ◌-◌, ◌^◌, ◌<◌, Bool, true, false, cond, eqb, inl, inr, List, [], ◌∷◌, ◌++◌, length, take, drop, get_or, Option, Some, None, refl, sym, ap, subst, ◌∙◌, arith, codes, decimal, bytes_eq, take-append-drop, append_assoc, take_at, drop_at, All-append, All-cons, Litmus, IsTest, Entry, Kind, R, W, F, LR, LW, is_number, number_within, letters_of, printed_access, printed_entry, HasAccess, IsEntryFor, ◌>>=◌, split_once, without_prefix, kind_of, location_named, entry_at, place_in, access_in, action_in, entry_in, numeral, end_in}
+use Rattle.order_builder.proofs.Vocabulary.{is_ascii_digit, ◌≡◌, ℕ, ◌-◌, ◌^◌, ◌<◌, Bool, true, false, cond, eqb, inl, inr, List, [], ◌∷◌}
+use Rattle.order_builder.proofs.Vocabulary.{◌++◌, length, take, drop, get_or, Option, Some, None, refl, sym, ap, subst, ◌∙◌, arith, codes}
+use Rattle.order_builder.proofs.Vocabulary.{decimal, bytes_eq, take-append-drop, append_assoc, take_at, drop_at, All-append, All-cons}
+use Rattle.order_builder.proofs.Vocabulary.{Litmus, IsTest, Entry, Kind, R, W, F, LR, LW, is_number, number_within, letters_of}
+use Rattle.order_builder.proofs.Vocabulary.{printed_access, printed_entry, HasAccess, IsEntryFor, ◌>>=◌, split_once, without_prefix}
+use Rattle.order_builder.proofs.Vocabulary.{kind_of, location_named, entry_at, place_in, access_in, action_in, entry_in, numeral, end_in}
 use Rattle.order_builder.proofs.Choosing.{chosen, same_bytes, bytes_eq-same}
 use Rattle.order_builder.proofs.LineLemmas.{Lacks, split_once-at, split_once-Some}
 use Rattle.order_builder.proofs.NumberLaws.{number_again, number_found}
@@ -47,7 +52,13 @@ lacks-join byte b xs ys differs front back =
 abbrev pub printed_place : ℕ → ℕ → List ℕ
 printed_place core place = codes "P" ++ (decimal core ++ 58 ∷ decimal place)
 
-pub lacks-place : (byte core place : ℕ) → is_ascii_digit byte ≡ false → eqb 80 byte ≡ false → eqb 58 byte ≡ false → core < 2 ^ 64 → place < 2 ^ 64 → Lacks byte (printed_place core place)
+pub lacks-place : (byte core place : ℕ)
+    → is_ascii_digit byte ≡ false
+    → eqb 80 byte ≡ false
+    → eqb 58 byte ≡ false
+    → core < 2 ^ 64
+    → place < 2 ^ 64
+    → Lacks byte (printed_place core place)
 lacks-place byte core place misses letter colon c p =
     All-cons (λ b. eqb b byte ≡ false) 80 (decimal core ++ 58 ∷ decimal place) letter
     (lacks-join byte 58 (decimal core) (decimal place) colon (lacks-decimal byte core misses c) (lacks-decimal byte place misses p))
@@ -55,14 +66,21 @@ lacks-place byte core place misses letter colon c p =
 place_again : (core place : ℕ) → core < 256 → place < 256 → place_in (printed_place core place) ≡ Some (core, place)
 unfolding place_in
 place_again core place c p =
-    let front : without_prefix (codes "P") (printed_place core place) ≡ Some (decimal core ++ 58 ∷ decimal place) = after-again (codes "P") (decimal core ++ 58 ∷ decimal place) in
-    let cut : split_once 58 (decimal core ++ 58 ∷ decimal place) ≡ Some (decimal core, decimal place) = split_once-at 58 (decimal core) (decimal place) (lacks-decimal 58 core refl (omega arith)) in
+    let front : without_prefix (codes "P") (printed_place core place) ≡ Some (decimal core ++ 58 ∷ decimal place) =
+    after-again (codes "P") (decimal core ++ 58 ∷ decimal place) in
+    let cut : split_once 58 (decimal core ++ 58 ∷ decimal place) ≡ Some (decimal core, decimal place) =
+    split_once-at 58 (decimal core) (decimal place) (lacks-decimal 58 core refl (omega arith)) in
     rw (front, cut, number_again 255 core (omega arith) (omega arith), number_again 255 place (omega arith) (omega arith)) refl
 
 place_found : (text : List ℕ) (at : ℕ × ℕ) → place_in text ≡ Some at → (text ≡ printed_place at.0 at.1) × (at.0 < 256) × (at.1 < 256)
 unfolding place_in
 place_found text at e =
-    let a = bound (without_prefix (codes "P") text) (λ numbers. split_once 58 numbers >>= λ halves. number_within 255 halves.0 >>= λ core. number_within 255 halves.1 >>= λ place. Some (core, place)) at e in
+    let a =
+    bound (without_prefix (codes "P") text)
+    (λ numbers.
+    split_once 58 numbers
+    >>= λ halves. number_within 255 halves.0 >>= λ core. number_within 255 halves.1 >>= λ place. Some (core, place))
+    at e in
     let b = bound (split_once 58 a.0) (λ halves. number_within 255 halves.0 >>= λ core. number_within 255 halves.1 >>= λ place. Some (core, place)) at a.2 in
     let c = bound (number_within 255 b.0.0) (λ core. number_within 255 b.0.1 >>= λ place. Some (core, place)) at b.2 in
     let d = bound (number_within 255 b.0.1) (λ place. Some (c.0, place)) at c.2 in
@@ -82,13 +100,20 @@ printed_word t loc value = get_or t.locations loc [] ++ 61 ∷ decimal value
 access_again : (t : Litmus) (loc value : ℕ) → IsTest t → loc < length t.locations → value < 2 ^ 32 → access_in t (printed_word t loc value) ≡ Some (loc, value)
 unfolding access_in
 access_again t loc value test known small =
-    let cut : split_once 61 (printed_word t loc value) ≡ Some (get_or t.locations loc [], decimal value) = split_once-at 61 (get_or t.locations loc []) (decimal value) (lacks-name 61 t loc refl test known) in
+    let cut : split_once 61 (printed_word t loc value) ≡ Some (get_or t.locations loc [], decimal value) =
+    split_once-at 61 (get_or t.locations loc []) (decimal value) (lacks-name 61 t loc refl test known) in
     rw (cut, location_again t loc test known, number_again (2 ^ 32 - 1) value (omega arith) (omega arith)) refl
 
-access_found : (t : Litmus) (text : List ℕ) (access : ℕ × ℕ) → access_in t text ≡ Some access → (text ≡ printed_word t access.0 access.1) × (access.0 < length t.locations) × (access.1 < 2 ^ 32)
+access_found : (t : Litmus) (text : List ℕ) (access : ℕ × ℕ)
+    → access_in t text ≡ Some access
+    → (text ≡ printed_word t access.0 access.1) × (access.0 < length t.locations) × (access.1 < 2 ^ 32)
 unfolding access_in
 access_found t text access e =
-    let a = bound (split_once 61 text) (λ halves. location_named t halves.0 >>= λ loc. number_within (2 ^ 32 - 1) halves.1 >>= λ value. Some (loc, value)) access e in
+    let a =
+    bound (split_once 61 text)
+    (λ halves.
+    location_named t halves.0 >>= λ loc. number_within (2 ^ 32 - 1) halves.1 >>= λ value. Some (loc, value))
+    access e in
     let b = bound (location_named t a.0.0) (λ loc. number_within (2 ^ 32 - 1) a.0.1 >>= λ value. Some (loc, value)) access a.2 in
     let c = bound (number_within (2 ^ 32 - 1) a.0.1) (λ value. Some (b.0, value)) access b.2 in
     let loc = location_found t a.0.0 b.0 b.1 in
@@ -114,18 +139,23 @@ kind_again kind is = refl
 kind_found : (text : List ℕ) (kind : Kind) → kind_of text ≡ Some kind → (text ≡ letters_of kind) × IsAccess kind
 unfolding kind_of
 kind_found text kind e =
-    elim (chosen (bytes_eq text (codes "R")) (Some R) (cond (bytes_eq text (codes "W")) (Some W) (cond (bytes_eq text (codes "LR")) (Some LR) (cond (bytes_eq text (codes "LW")) (Some LW) None))) (Some kind) e) [
+    elim (chosen (bytes_eq text (codes "R")) (Some R)
+    (cond (bytes_eq text (codes "W")) (Some W) (cond (bytes_eq text (codes "LR")) (Some LR) (cond (bytes_eq text (codes "LW")) (Some LW) None)))
+    (Some kind) e) [
       | inl hit ↦ let same : R ≡ kind = cc in subst (λ (k : Kind). (text ≡ letters_of k) × IsAccess k) same (same_bytes _ _ hit.0, tt)
-      | inr first ↦ elim (chosen (bytes_eq text (codes "W")) (Some W) (cond (bytes_eq text (codes "LR")) (Some LR) (cond (bytes_eq text (codes "LW")) (Some LW) None)) (Some kind) first.1) [
-        | inl hit ↦ let same : W ≡ kind = cc in subst (λ (k : Kind). (text ≡ letters_of k) × IsAccess k) same (same_bytes _ _ hit.0, tt)
-        | inr second ↦ elim (chosen (bytes_eq text (codes "LR")) (Some LR) (cond (bytes_eq text (codes "LW")) (Some LW) None) (Some kind) second.1) [
-          | inl hit ↦ let same : LR ≡ kind = cc in subst (λ (k : Kind). (text ≡ letters_of k) × IsAccess k) same (same_bytes _ _ hit.0, tt)
-          | inr third ↦ elim (chosen (bytes_eq text (codes "LW")) (Some LW) None (Some kind) third.1) [
-            | inl hit ↦ let same : LW ≡ kind = cc in subst (λ (k : Kind). (text ≡ letters_of k) × IsAccess k) same (same_bytes _ _ hit.0, tt)
-            | inr fourth ↦ absurd cc
+      | inr first ↦
+          elim (chosen (bytes_eq text (codes "W")) (Some W)
+          (cond (bytes_eq text (codes "LR")) (Some LR) (cond (bytes_eq text (codes "LW")) (Some LW) None)) (Some kind)
+          first.1) [
+            | inl hit ↦ let same : W ≡ kind = cc in subst (λ (k : Kind). (text ≡ letters_of k) × IsAccess k) same (same_bytes _ _ hit.0, tt)
+            | inr second ↦ elim (chosen (bytes_eq text (codes "LR")) (Some LR) (cond (bytes_eq text (codes "LW")) (Some LW) None) (Some kind) second.1) [
+              | inl hit ↦ let same : LR ≡ kind = cc in subst (λ (k : Kind). (text ≡ letters_of k) × IsAccess k) same (same_bytes _ _ hit.0, tt)
+              | inr third ↦ elim (chosen (bytes_eq text (codes "LW")) (Some LW) None (Some kind) third.1) [
+                | inl hit ↦ let same : LW ≡ kind = cc in subst (λ (k : Kind). (text ≡ letters_of k) × IsAccess k) same (same_bytes _ _ hit.0, tt)
+                | inr fourth ↦ absurd cc
+              ]
+            ]
           ]
-        ]
-      ]
     ]
 
 no_fence : (kind : Kind) (rest : List ℕ) → bytes_eq (letters_of kind ++ 32 ∷ rest) (codes "F") ≡ false
@@ -144,7 +174,9 @@ word_again : (t : Litmus) (at : ℕ × ℕ) (kind : Kind) (loc value : ℕ) → 
     → action_in t at (letters_of kind ++ 32 ∷ printed_word t loc value) ≡ Some (entry_at at kind loc value)
 unfolding action_in
 word_again t at kind loc value is test known small =
-    let cut : split_once 32 (letters_of kind ++ 32 ∷ printed_word t loc value) ≡ Some (letters_of kind, printed_word t loc value) = split_once-at 32 (letters_of kind) (printed_word t loc value) (lacks-letters kind) in
+    let cut : split_once 32 (letters_of kind ++ 32 ∷ printed_word t loc value)
+    ≡ Some (letters_of kind, printed_word t loc value) =
+    split_once-at 32 (letters_of kind) (printed_word t loc value) (lacks-letters kind) in
     rw (no_fence kind (printed_word t loc value), cut, kind_again kind is, access_again t loc value test known small) refl
 
 action_again : (t : Litmus) (at : ℕ × ℕ) (kind : Kind) (loc value : ℕ) → IsTest t → HasAccess t kind loc value
@@ -171,12 +203,20 @@ record IsActionOf (t : Litmus) (at : ℕ × ℕ) (text : List ℕ) (e : Entry) :
 action_found : (t : Litmus) (at : ℕ × ℕ) (text : List ℕ) (e : Entry) → action_in t at text ≡ Some e → IsActionOf t at text e
 unfolding action_in
 action_found t at text e read =
-    elim (chosen (bytes_eq text (codes "F")) (Some (entry_at at F 0 0)) (split_once 32 text >>= λ halves. kind_of halves.0 >>= λ kind. access_in t halves.1 >>= λ access. Some (entry_at at kind access.0 access.1)) (Some e) read) [
+    elim (chosen (bytes_eq text (codes "F")) (Some (entry_at at F 0 0))
+    (split_once 32 text
+    >>= λ halves.
+    kind_of halves.0 >>= λ kind. access_in t halves.1 >>= λ access. Some (entry_at at kind access.0 access.1))
+    (Some e) read) [
       | inl hit ↦
           let same : entry_at at F 0 0 ≡ e = cc in
           subst (IsActionOf t at text) same (record { core = refl; place = refl; access = (refl, refl); printed = same_bytes _ _ hit.0 })
       | inr miss ↦
-          let a = bound (split_once 32 text) (λ halves. kind_of halves.0 >>= λ kind. access_in t halves.1 >>= λ access. Some (entry_at at kind access.0 access.1)) e miss.1 in
+          let a =
+          bound (split_once 32 text)
+          (λ halves.
+          kind_of halves.0 >>= λ kind. access_in t halves.1 >>= λ access. Some (entry_at at kind access.0 access.1))
+          e miss.1 in
           let b = bound (kind_of a.0.0) (λ kind. access_in t a.0.1 >>= λ access. Some (entry_at at kind access.0 access.1)) e a.2 in
           let c = bound (access_in t a.0.1) (λ access. Some (entry_at at b.0 access.0 access.1)) e b.2 in
           let same : entry_at at b.0 c.0.0 c.0.1 ≡ e = cc in
@@ -197,14 +237,16 @@ action_found t at text e read =
 
 grouped : (t : Litmus) (e : Entry) → printed_entry t e ≡ printed_place e.core.0 e.place ++ 32 ∷ (letters_of e.kind ++ printed_access t e.kind e.loc.0 e.value)
 grouped t e =
-    ap (λ (l : List ℕ). 80 ∷ l) (sym (append_assoc (decimal e.core.0) (58 ∷ decimal e.place) (32 ∷ (letters_of e.kind ++ printed_access t e.kind e.loc.0 e.value))))
+    ap (λ (l : List ℕ). 80 ∷ l)
+    (sym (append_assoc (decimal e.core.0) (58 ∷ decimal e.place) (32 ∷ (letters_of e.kind ++ printed_access t e.kind e.loc.0 e.value))))
 
 pub entry_again : (t : Litmus) (e : Entry) → IsTest t → IsEntryFor t e → entry_in t (printed_entry t e) ≡ Some e
 unfolding entry_in
 entry_again t e test is =
     let action = letters_of e.kind ++ printed_access t e.kind e.loc.0 e.value in
     let cut : split_once 32 (printed_place e.core.0 e.place ++ 32 ∷ action) ≡ Some (printed_place e.core.0 e.place, action) =
-    split_once-at 32 (printed_place e.core.0 e.place) action (lacks-place 32 e.core.0 e.place refl refl refl (omega (arith, is.core)) (omega (arith, is.place))) in
+    split_once-at 32 (printed_place e.core.0 e.place) action
+    (lacks-place 32 e.core.0 e.place refl refl refl (omega (arith, is.core)) (omega (arith, is.place))) in
     rw (grouped t e, cut, place_again e.core.0 e.place is.core is.place) (action_again t (e.core.0, e.place) e.kind e.loc.0 e.value test is.access)
 
 pub entry_found : (t : Litmus) (line : List ℕ) (e : Entry) → entry_in t line ≡ Some e → IsEntryFor t e × (line ≡ printed_entry t e)
@@ -218,7 +260,9 @@ entry_found t line e read =
     let front : a.0.0 ≡ printed_place e.core.0 e.place =
     place.0 ∙ ap (λ (c : ℕ). printed_place c b.0.1) action.core ∙ ap (λ (p : ℕ). printed_place e.core.0 p) action.place in (
       record { core = omega (arith, place.1, action.core); place = omega (arith, place.2, action.place); access = action.access },
-      rejoined 32 line a.0.0 a.0.1 (printed_place e.core.0 e.place) (letters_of e.kind ++ printed_access t e.kind e.loc.0 e.value) cut.0 front action.printed ∙ sym (grouped t e),
+      rejoined 32 line a.0.0 a.0.1 (printed_place e.core.0 e.place)
+          (letters_of e.kind ++ printed_access t e.kind e.loc.0 e.value) cut.0 front action.printed
+          ∙ sym (grouped t e),
     )
 
 -- ---- the end
@@ -239,7 +283,9 @@ end_found line digits e =
     let a = bound (without_prefix (codes "Endorder ") line) numeral digits e in
     elim (chosen (is_number a.0) (Some a.0) None (Some digits) a.2) [
       | inl hit ↦
-          let same : a.0 ≡ digits = cc in
-          (after-found (codes "Endorder ") line a.0 a.1 ∙ ap (λ (l : List ℕ). codes "Endorder " ++ l) same, subst (λ (l : List ℕ). is_number l ≡ true) same hit.0)
+          let same : a.0 ≡ digits = cc in (
+            after-found (codes "Endorder ") line a.0 a.1 ∙ ap (λ (l : List ℕ). codes "Endorder " ++ l) same,
+            subst (λ (l : List ℕ). is_number l ≡ true) same hit.0,
+          )
       | inr miss ↦ absurd cc
     ]

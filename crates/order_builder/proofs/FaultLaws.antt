@@ -1,8 +1,13 @@
 -- The fault of a text that spells no order: it is the one that reading meets first.
-use Rattle.order_builder.proofs.Vocabulary.{◌≡◌, ◌≢◌, ℕ, suc, ◌+◌, false, eqb, inl, inr, List, [], ◌∷◌, ◌++◌, length, map, Some, None, Result, Ok, Err, refl, ap, subst, ◌∙◌, arith, codes, eqb-false, nat_tests, All-cons, All-nil, Litmus, IsTest, Entry, lines_of, decimal_value, printed_entry, IsEntryFor, IsOrderFor, BeginsOrder, IsNoEntry, IsNoEnd, HasNoCount, HasFault, entries_in, entry_in, end_in, order_start, order_of, OrderFault, NoOrder, BadLine, BadCount, NoMemory}
+use Rattle.order_builder.proofs.Vocabulary.{◌≡◌, ◌≢◌, ℕ, suc, ◌+◌, false, eqb, inl, inr, List, [], ◌∷◌, ◌++◌, length, map, Some, None}
+use Rattle.order_builder.proofs.Vocabulary.{Result, Ok, Err, refl, ap, subst, ◌∙◌, arith, codes, eqb-false, nat_tests, All-cons, All-nil}
+use Rattle.order_builder.proofs.Vocabulary.{Litmus, IsTest, Entry, lines_of, decimal_value, printed_entry, IsEntryFor, IsOrderFor}
+use Rattle.order_builder.proofs.Vocabulary.{BeginsOrder, IsNoEntry, IsNoEnd, HasNoCount, HasFault, entries_in, entry_in, end_in}
+use Rattle.order_builder.proofs.Vocabulary.{order_start, order_of, OrderFault, NoOrder, BadLine, BadCount, NoMemory}
 use Rattle.order_builder.proofs.Choosing.{chosen}
 use Rattle.order_builder.proofs.EntryLaws.{entry_again, entry_found, end_again, end_found}
-use Rattle.order_builder.proofs.SpellingLaws.{start_again, none_again, StartsAt, start_found, none_found, after_entries, entries_again, after-Err, onto-Err, two_ways}
+use Rattle.order_builder.proofs.SpellingLaws.{start_again, none_again, StartsAt, start_found, none_found, after_entries, entries_again}
+use Rattle.order_builder.proofs.SpellingLaws.{after-Err, onto-Err, two_ways}
 
 -- ---- faults
 
@@ -29,7 +34,9 @@ FaultAfter t start count lines (BadLine number) = BadLineAfter t start count lin
 FaultAfter t start count lines BadCount = BadCountAfter t count lines
 FaultAfter t start count lines NoMemory = ⊥
 
-fault_further : (t : Litmus) (start count : ℕ) (line : List ℕ) (lines : List (List ℕ)) (e : Entry) (fault : OrderFault) → IsEntryFor t e → line ≡ printed_entry t e
+fault_further : (t : Litmus) (start count : ℕ) (line : List ℕ) (lines : List (List ℕ)) (e : Entry) (fault : OrderFault)
+    → IsEntryFor t e
+    → line ≡ printed_entry t e
     → FaultAfter t start (count + 1) lines fault → FaultAfter t start count (line ∷ lines) fault
 fault_further t start count line lines e NoOrder is line-is more = more
 fault_further t start count line lines e (BadLine number) is line-is more = record {
@@ -66,10 +73,19 @@ not_end line none digits is same =
 same_fault : (a b : OrderFault) → (let read : Result (List Entry) OrderFault = Err a in read) ≡ Err b → a ≡ b
 same_fault a b e = cc
 
-fault_found : (t : Litmus) (start count : ℕ) (lines : List (List ℕ)) (fault : OrderFault) → IsTest t → entries_in t start count lines ≡ Err fault → FaultAfter t start count lines fault
+fault_found : (t : Litmus) (start count : ℕ) (lines : List (List ℕ)) (fault : OrderFault)
+    → IsTest t
+    → entries_in t start count lines ≡ Err fault
+    → FaultAfter t start count lines fault
 unfolding entries_in
 fault_found t start count [] fault test e =
-    subst (FaultAfter t start count []) (same_fault BadCount fault e) (record { order = []; rest = []; whole = refl; entries = All-nil (IsEntryFor t); no_count = tt })
+    subst (FaultAfter t start count []) (same_fault BadCount fault e) (record {
+      order = [];
+      rest = [];
+      whole = refl;
+      entries = All-nil (IsEntryFor t);
+      no_count = tt;
+    })
 fault_found t start count (line ∷ lines) fault test e =
     elim (two_ways (end_in line)) [
       | inl end ↦
@@ -85,7 +101,8 @@ fault_found t start count (line ∷ lines) fault test e =
       | inr no_end ↦ elim (two_ways (entry_in t line)) [
         | inl entry ↦
             let is = entry_found t line entry.0 entry.1 in
-            let rest : entries_in t start (count + 1) lines ≡ Err fault = onto-Err entry.0 (entries_in t start (count + 1) lines) fault (rw (no_end, entry.1) at e) in
+            let rest : entries_in t start (count + 1) lines ≡ Err fault =
+            onto-Err entry.0 (entries_in t start (count + 1) lines) fault (rw (no_end, entry.1) at e) in
             fault_further t start count line lines entry.0 fault is.0 is.1 (fault_found t start (count + 1) lines fault test rest)
         | inr no_entry ↦
             let bad : Err (BadLine (start + count + 1)) ≡ Err fault = rw (no_end, no_entry) at e in
@@ -103,7 +120,10 @@ fault_found t start count (line ∷ lines) fault test e =
       ]
     ]
 
-fault_after : (t : Litmus) (text : List ℕ) (start : ℕ × List (List ℕ)) (fault : OrderFault) → StartsAt (lines_of text) 0 start → FaultAfter t start.0 0 start.1 fault → HasFault t text fault
+fault_after : (t : Litmus) (text : List ℕ) (start : ℕ × List (List ℕ)) (fault : OrderFault)
+    → StartsAt (lines_of text) 0 start
+    → FaultAfter t start.0 0 start.1 fault
+    → HasFault t text fault
 fault_after t text start NoOrder at more = absurd more
 fault_after t text start (BadLine number) at more = record {
   before = at.before;
@@ -151,7 +171,8 @@ begun t text before order rest test begins =
     let start : 0 + length before + 1 ≡ length before + 1 = omega arith in
     let count : 0 + length order ≡ length order = omega arith in
     rw (begins.lines, starts)
-    (entries_again t (0 + length before + 1) 0 order rest test begins.entries ∙ ap (λ (k : ℕ). after_entries order (entries_in t k (0 + length order) rest)) start
+    (entries_again t (0 + length before + 1) 0 order rest test begins.entries
+    ∙ ap (λ (k : ℕ). after_entries order (entries_in t k (0 + length order) rest)) start
     ∙ ap (λ (k : ℕ). after_entries order (entries_in t (length before + 1) k rest)) count)
 
 no_entry_read : (t : Litmus) (line : List ℕ) → IsNoEntry t line → entry_in t line ≡ None
@@ -168,7 +189,10 @@ no_end_read line none =
       | inr read ↦ read
     ]
 
-bad_line_read : (t : Litmus) (start count : ℕ) (line : List ℕ) (after : List (List ℕ)) → IsNoEntry t line → IsNoEnd line → entries_in t start count (line ∷ after) ≡ Err (BadLine (start + count + 1))
+bad_line_read : (t : Litmus) (start count : ℕ) (line : List ℕ) (after : List (List ℕ))
+    → IsNoEntry t line
+    → IsNoEnd line
+    → entries_in t start count (line ∷ after) ≡ Err (BadLine (start + count + 1))
 unfolding entries_in
 bad_line_read t start count line after no_entry no_end = rw (no_end_read line no_end, no_entry_read t line no_entry) refl
 
@@ -185,7 +209,9 @@ pub order_fault_again : (t : Litmus) (text : List ℕ) (fault : OrderFault) → 
 unfolding order_of
 order_fault_again t text NoOrder test has = rw (none_again (lines_of text) 0 has) refl
 order_fault_again t text (BadLine number) test has =
-    let place : length has.before + 1 + length has.order + 1 ≡ number = let numbered : number ≡ length has.before + length has.order + 2 = has.numbered in omega (arith, numbered) in
+    let place : length has.before + 1 + length has.order + 1 ≡ number =
+    let numbered : number ≡ length has.before + length has.order + 2 = has.numbered in
+    omega (arith, numbered) in
     begun t text has.before has.order (has.line ∷ has.after) test has.begins
     ∙ ap (after_entries has.order) (bad_line_read t (length has.before + 1) (length has.order) has.line has.after has.no_entry has.no_end)
     ∙ after-Err has.order (BadLine (length has.before + 1 + length has.order + 1)) ∙ ap (λ (k : ℕ). Err (BadLine k)) place

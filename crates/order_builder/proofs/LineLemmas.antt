@@ -1,5 +1,12 @@
 -- Texts that are split_once at a byte, and their lines.
-use Rattle.order_builder.proofs.Vocabulary.{◌≡◌, ℕ, ◌+◌, ◌-◌, ◌<◌, ◌≤◌, Bool, true, false, ltb, eqb, List, [], ◌∷◌, ◌++◌, length, get_or, take, take_all, drop, Option, Some, None, All, refl, sym, ap, subst, ◌∙◌, inl, inr, arith, position, position_or_len, slice_split, option_map, strip_carriage_return, lt-ltb, le-ltb, ltb-false, eqb-true, nat_tests, take_at, drop_at, append_assoc, length-append, length-drop, length-take, get_or-take, get_or_at, get_or_append_left, length_push, take-append-drop, drop_more, nil_from_length, All-get_or, All-from_get_or, position-Some, position_or_len_is, fails_before_first, count_by-le-length, slice_split_none, slice_split_at, length-slice_split, lines_in, lines_of, is_line_feed, split_once, halves_at}
+use Rattle.order_builder.proofs.Vocabulary.{◌≡◌, ℕ, ◌+◌, ◌-◌, ◌<◌, ◌≤◌, Bool, true, false, ltb, eqb, List, [], ◌∷◌, ◌++◌, length, get_or}
+use Rattle.order_builder.proofs.Vocabulary.{take, take_all, drop, Option, Some, None, All, refl, sym, ap, subst, ◌∙◌, inl, inr, arith}
+use Rattle.order_builder.proofs.Vocabulary.{position, position_or_len, slice_split, option_map, strip_carriage_return, lt-ltb, le-ltb}
+use Rattle.order_builder.proofs.Vocabulary.{ltb-false, eqb-true, nat_tests, take_at, drop_at, append_assoc, length-append, length-drop}
+use Rattle.order_builder.proofs.Vocabulary.{length-take, get_or-take, get_or_at, get_or_append_left, length_push, take-append-drop}
+use Rattle.order_builder.proofs.Vocabulary.{drop_more, nil_from_length, All-get_or, All-from_get_or, position-Some, position_or_len_is}
+use Rattle.order_builder.proofs.Vocabulary.{fails_before_first, count_by-le-length, slice_split_none, slice_split_at, length-slice_split}
+use Rattle.order_builder.proofs.Vocabulary.{lines_in, lines_of, is_line_feed, split_once, halves_at}
 use Rattle.order_builder.proofs.Choosing.{chosen}
 
 -- no byte of the text is this one
@@ -24,7 +31,9 @@ first_none p xs i d all before =
 
 -- ---- texts that are split
 
-halved : (text : List ℕ) (o : Option ℕ) (xs ys : List ℕ) → option_map (halves_at text) o ≡ Some (xs, ys) → (i : ℕ) × (o ≡ Some i) × (take i text ≡ xs) × (drop (i + 1) text ≡ ys)
+halved : (text : List ℕ) (o : Option ℕ) (xs ys : List ℕ)
+    → option_map (halves_at text) o ≡ Some (xs, ys)
+    → (i : ℕ) × (o ≡ Some i) × (take i text ≡ xs) × (drop (i + 1) text ≡ ys)
 halved text None xs ys e = absurd cc
 halved text (Some i) xs ys e =
     let same : (take i text, drop (i + 1) text) ≡ (xs, ys) = cc in
@@ -117,7 +126,9 @@ lines_of-split_once text line rest e =
 
 -- the one line of a text without a line feed
 pub lines_of-alone : (text : List ℕ) → None ≡ split_once 10 text → 0 < length text → lines_of text ≡ strip_carriage_return text ∷ lines_of []
-lines_of-alone text e some = lines_of-last text (split_once-None 10 text (sym e)) some ∙ ap (λ (l : List (List ℕ)). strip_carriage_return text ∷ l) (sym (lines_of-nil [] refl))
+lines_of-alone text e some =
+    lines_of-last text (split_once-None 10 text (sym e)) some
+    ∙ ap (λ (l : List (List ℕ)). strip_carriage_return text ∷ l) (sym (lines_of-nil [] refl))
 
 lines_in-length : (parts : List (List ℕ)) → length (lines_in parts) ≤ length parts
 lines_in-length [] = omega arith
@@ -130,4 +141,10 @@ lines_in-length (part ∷ next ∷ parts) = let more = lines_in-length (next ∷
 
 pub lines_of-length : (text : List ℕ) → length (lines_of text) ≤ length text + 1
 unfolding lines_of
-lines_of-length text = omega (arith, lines_in-length (slice_split is_line_feed text), length-slice_split is_line_feed text, count_by-le-length is_line_feed text)
+lines_of-length text =
+    omega (
+      arith,
+      lines_in-length (slice_split is_line_feed text),
+      length-slice_split is_line_feed text,
+      count_by-le-length is_line_feed text,
+    )

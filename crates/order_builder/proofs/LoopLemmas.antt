@@ -1,5 +1,7 @@
 -- Lines one after the other, as loops read them.
-use Rattle.order_builder.proofs.Vocabulary.{◌≡◌, ℕ, ◌+◌, true, false, eqb, List, [], ◌∷◌, ◌++◌, length, Some, None, Result, Ok, Err, refl, sym, ap, ◌∙◌, append-nil, length-append, Litmus, Entry, lines_of, decimal_value, onto, entries_in, entry_in, end_in, OrderFault, BadLine, BadCount}
+use Rattle.order_builder.proofs.Vocabulary.{◌≡◌, ℕ, ◌+◌, true, false, eqb, List, [], ◌∷◌, ◌++◌, length, Some, None, Result, Ok, Err, refl}
+use Rattle.order_builder.proofs.Vocabulary.{sym, ap, ◌∙◌, append-nil, length-append, Litmus, Entry, lines_of, decimal_value, onto}
+use Rattle.order_builder.proofs.Vocabulary.{entries_in, entry_in, end_in, OrderFault, BadLine, BadCount}
 use Rattle.std.proofs.Common.{append_assoc}
 
 -- what was read before, and what is still read
@@ -19,7 +21,8 @@ pub goes_on : (t : Litmus) (start : ℕ) (front : List Entry) (rest line after :
 unfolding entries_in
 goes_on t start front rest line after e total lines no_end entry so_far =
     let more : length (front ++ e ∷ []) ≡ length front + 1 = length-append front (e ∷ []) in
-    let one : with_front front (entries_in t start (length front) (lines_of rest)) ≡ with_front front (onto e (entries_in t start (length front + 1) (lines_of after))) =
+    let one : with_front front (entries_in t start (length front) (lines_of rest))
+    ≡ with_front front (onto e (entries_in t start (length front + 1) (lines_of after))) =
     rw (lines, ← no_end, ← entry) refl in
     rw more (sym (regroup front e (entries_in t start (length front + 1) (lines_of after))) ∙ sym one ∙ so_far)
 
@@ -28,7 +31,9 @@ pub ends_bad : (t : Litmus) (start n : ℕ) (front : List Entry) (rest line afte
     → with_front front (entries_in t start (length front) (lines_of rest)) ≡ total → n ≡ length front → total ≡ Err (BadLine (start + n + 1))
 unfolding entries_in
 ends_bad t start n front rest line after total lines no_end no_entry so_far n-is =
-    let one : with_front front (entries_in t start (length front) (lines_of rest)) ≡ Err (BadLine (start + length front + 1)) = rw (lines, ← no_end, ← no_entry) refl in
+    let one : with_front front (entries_in t start (length front) (lines_of rest))
+    ≡ Err (BadLine (start + length front + 1)) =
+    rw (lines, ← no_end, ← no_entry) refl in
     rw n-is (sym so_far ∙ one)
 
 pub ends_good : (t : Litmus) (start n : ℕ) (front : List Entry) (rest line after digits : List ℕ) (total : Result (List Entry) OrderFault)
@@ -36,7 +41,8 @@ pub ends_good : (t : Litmus) (start n : ℕ) (front : List Entry) (rest line aft
     → with_front front (entries_in t start (length front) (lines_of rest)) ≡ total → n ≡ length front → total ≡ Ok front
 unfolding entries_in
 ends_good t start n front rest line after digits total lines end count so_far n-is =
-    let one : with_front front (entries_in t start (length front) (lines_of rest)) ≡ Ok front = rw (lines, ← end, ← n-is, ← count) (ap (λ (l : List Entry). Ok l) (append-nil front)) in
+    let one : with_front front (entries_in t start (length front) (lines_of rest)) ≡ Ok front =
+    rw (lines, ← end, ← n-is, ← count) (ap (λ (l : List Entry). Ok l) (append-nil front)) in
     sym so_far ∙ one
 
 pub ends_miscounted : (t : Litmus) (start n : ℕ) (front : List Entry) (rest line after digits : List ℕ) (total : Result (List Entry) OrderFault)

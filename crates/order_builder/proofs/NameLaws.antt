@@ -1,5 +1,9 @@
 -- Bytes that are in no number and in no name, and the numbers of locations.
-use Rattle.order_builder.proofs.Vocabulary.{is_ascii_digit, ◌≡◌, ◌≢◌, ℕ, zero, suc, ◌^◌, ◌<◌, Bool, true, false, not, ◌||◌, eqb, ◌⊎◌, inl, inr, List, [], ◌∷◌, length, get_or, Some, refl, sym, subst, arith, decimal, list_all, list_any, bytes_eq, and_parts, and_from, eqb-true, nat_tests, position-Some, All-cons, All-nil, Litmus, IsTest, are_distinct, is_name, is_location_name, begins_name, continues_name, is_among, location_named}
+use Rattle.order_builder.proofs.Vocabulary.{is_ascii_digit, ◌≡◌, ◌≢◌, ℕ, zero, suc, ◌^◌, ◌<◌, Bool, true, false, not, ◌||◌, eqb, ◌⊎◌, inl}
+use Rattle.order_builder.proofs.Vocabulary.{inr, List, [], ◌∷◌, length, get_or, Some, refl, sym, subst, arith, decimal, list_all, list_any}
+use Rattle.order_builder.proofs.Vocabulary.{bytes_eq, and_parts, and_from, eqb-true, nat_tests, position-Some, All-cons, All-nil, Litmus}
+use Rattle.order_builder.proofs.Vocabulary.{IsTest, are_distinct, is_name, is_location_name, begins_name, continues_name, is_among}
+use Rattle.order_builder.proofs.Vocabulary.{location_named}
 use Rattle.order_builder.proofs.Choosing.{same_bytes, bytes_eq-same, bytes_eq-other}
 use Rattle.order_builder.proofs.LineLemmas.{Lacks, first_at}
 use Rattle.order_builder.proofs.NumberLaws.{is_digits-decimal}

@@ -1,5 +1,9 @@
 -- A number without leading zeros is what is printed of what its digits say.
-use Rattle.order_builder.proofs.Vocabulary.{is_ascii_digit, ◌≡◌, ℕ, zero, suc, ◌^◌, ◌<◌, ◌≤◌, true, leb, inl, inr, List, length, get_or, Some, None, refl, sym, ap, ◌∙◌, arith, rules, decimal, list_all, le-leb, leb-true, nat_tests, digits_decimal, digits_value-decimal, decimal_nonempty, first_decimal, decimal_digit, decimal-digits_value, IsNumeralModel, numerals_by_fold, decimal_from, decimal_value, number_up_to, is_number, number_within}
+use Rattle.order_builder.proofs.Vocabulary.{is_ascii_digit, ◌≡◌, ℕ, zero, suc, ◌^◌, ◌<◌, ◌≤◌, true, leb, inl, inr, List, length, get_or}
+use Rattle.order_builder.proofs.Vocabulary.{Some, None, refl, sym, ap, ◌∙◌, arith, rules, decimal, list_all, le-leb, leb-true, nat_tests}
+use Rattle.order_builder.proofs.Vocabulary.{digits_decimal, digits_value-decimal, decimal_nonempty, first_decimal, decimal_digit}
+use Rattle.order_builder.proofs.Vocabulary.{decimal-digits_value, IsNumeralModel, numerals_by_fold, decimal_from, decimal_value}
+use Rattle.order_builder.proofs.Vocabulary.{number_up_to, is_number, number_within}
 use Rattle.order_builder.proofs.Choosing.{chosen}
 
 own : IsNumeralModel (λ ds. list_all is_ascii_digit ds ≡ true) (decimal_from 0)
@@ -7,7 +11,9 @@ unfolding decimal_from
 own = numerals_by_fold _ (search rules) decimal_from (search rules)
 
 -- the parts of a number
-pub is_number-parts : (text : List ℕ) → is_number text ≡ true → (0 < length text) × (list_all is_ascii_digit text ≡ true) × (get_or text 0 0 ≡ 48 → length text ≡ 1)
+pub is_number-parts : (text : List ℕ)
+    → is_number text ≡ true
+    → (0 < length text) × (list_all is_ascii_digit text ≡ true) × (get_or text 0 0 ≡ 48 → length text ≡ 1)
 is_number-parts text h = grind (arith, nat_tests)
 
 is_number-from : (text : List ℕ) → 0 < length text → list_all is_ascii_digit text ≡ true → (get_or text 0 0 ≡ 48 → length text ≡ 1) → is_number text ≡ true

@@ -1,9 +1,12 @@
 -- Printed lines.
-use Rattle.order_builder.proofs.Vocabulary.{◌≡◌, ℕ, List, [], ◌∷◌, ◌++◌, length, map, refl, sym, ap, ◌∙◌, codes, append_assoc, Litmus, Entry, printed_entry, printed_end, printed_lines, printed_order}
+use Rattle.order_builder.proofs.Vocabulary.{◌≡◌, ℕ, List, [], ◌∷◌, ◌++◌, length, map, refl, sym, ap, ◌∙◌, codes, append_assoc, Litmus}
+use Rattle.order_builder.proofs.Vocabulary.{Entry, printed_entry, printed_end, printed_lines, printed_order}
 
 pub printed_lines-append : (xs ys : List (List ℕ)) → printed_lines (xs ++ ys) ≡ printed_lines xs ++ printed_lines ys
 printed_lines-append [] ys = refl
-printed_lines-append (x ∷ xs) ys = ap (λ (l : List ℕ). x ++ 10 ∷ l) (printed_lines-append xs ys) ∙ sym (append_assoc x (10 ∷ printed_lines xs) (printed_lines ys))
+printed_lines-append (x ∷ xs) ys =
+    ap (λ (l : List ℕ). x ++ 10 ∷ l) (printed_lines-append xs ys)
+    ∙ sym (append_assoc x (10 ∷ printed_lines xs) (printed_lines ys))
 
 -- the order's text, as it is written part by part after what is there before
 pub written_order : (t : Litmus) (order : List Entry) (before a b c : List ℕ) → a ≡ before ++ codes "Order\n"

@@ -1,5 +1,10 @@
 -- What a text spells is read, and what is read it spells.
-use Rattle.order_builder.proofs.Vocabulary.{◌≡◌, ℕ, suc, ◌+◌, ◌^◌, ◌<◌, true, false, eqb, ◌⊎◌, inl, inr, List, [], ◌∷◌, ◌++◌, length, map, All, Option, Some, None, Result, Ok, Err, refl, sym, ap, subst, ◌∙◌, arith, codes, decimal, bytes_eq, eqb-true, nat_tests, append_assoc, length-append, length-map, All-cons, All-nil, All-head, All-tail, Litmus, IsTest, Entry, lines_of, decimal_value, printed_entry, printed_end, order_lines, IsEntryFor, IsOrderFor, IsNotOrderLine, SpellsOrder, onto, entries_in, entry_in, end_in, order_start, order_of, OrderFault, NoOrder, BadLine, BadCount}
+use Rattle.order_builder.proofs.Vocabulary.{◌≡◌, ℕ, suc, ◌+◌, ◌^◌, ◌<◌, true, false, eqb, ◌⊎◌, inl, inr, List, [], ◌∷◌, ◌++◌, length, map}
+use Rattle.order_builder.proofs.Vocabulary.{All, Option, Some, None, Result, Ok, Err, refl, sym, ap, subst, ◌∙◌, arith, codes, decimal}
+use Rattle.order_builder.proofs.Vocabulary.{bytes_eq, eqb-true, nat_tests, append_assoc, length-append, length-map, All-cons, All-nil}
+use Rattle.order_builder.proofs.Vocabulary.{All-head, All-tail, Litmus, IsTest, Entry, lines_of, decimal_value, printed_entry, printed_end}
+use Rattle.order_builder.proofs.Vocabulary.{order_lines, IsEntryFor, IsOrderFor, IsNotOrderLine, SpellsOrder, onto, entries_in, entry_in}
+use Rattle.order_builder.proofs.Vocabulary.{end_in, order_start, order_of, OrderFault, NoOrder, BadLine, BadCount}
 use Rattle.order_builder.proofs.Choosing.{chosen, same_bytes, bytes_eq-same, bytes_eq-other}
 use Rattle.order_builder.proofs.NumberLaws.{is_number-decimal, value-decimal, decimal-value}
 use Rattle.order_builder.proofs.LineLemmas.{lines_of-length}
@@ -7,7 +12,9 @@ use Rattle.order_builder.proofs.EntryLaws.{entry_again, entry_found, no_end_in_e
 
 -- ---- up to the line `Order`
 
-pub start_again : (before : List (List ℕ)) (n : ℕ) (lines : List (List ℕ)) → All IsNotOrderLine before → order_start n (before ++ (codes "Order" ∷ lines)) ≡ Some (n + length before + 1, lines)
+pub start_again : (before : List (List ℕ)) (n : ℕ) (lines : List (List ℕ))
+    → All IsNotOrderLine before
+    → order_start n (before ++ (codes "Order" ∷ lines)) ≡ Some (n + length before + 1, lines)
 unfolding order_start
 start_again [] n lines others = ap (λ (k : ℕ). Some (k + 1, lines)) (omega arith)
 start_again (line ∷ before) n lines others =
@@ -100,12 +107,15 @@ pub order_again : (t : Litmus) (text : List ℕ) (order : List Entry) → IsTest
 unfolding order_of
 order_again t text order test small spells =
     let lines : lines_of text ≡ spells.before ++ (codes "Order" ∷ (map (printed_entry t) order ++ (printed_end (length order) ∷ spells.after))) =
-    spells.lines ∙ ap (λ (l : List (List ℕ)). spells.before ++ (codes "Order" ∷ l)) (append_assoc (map (printed_entry t) order) (printed_end (length order) ∷ []) spells.after) in
+    spells.lines
+    ∙ ap (λ (l : List (List ℕ)). spells.before ++ (codes "Order" ∷ l))
+    (append_assoc (map (printed_entry t) order) (printed_end (length order) ∷ []) spells.after) in
     let starts = start_again spells.before 0 (map (printed_entry t) order ++ (printed_end (length order) ∷ spells.after)) spells.first in
     let start = 0 + length spells.before + 1 in
     let read = entries_again t start 0 order (printed_end (length order) ∷ spells.after) test spells.entries in
     let count : 0 + length order ≡ length order = omega arith in
-    let last : entries_in t start (0 + length order) (printed_end (length order) ∷ spells.after) ≡ Ok [] = rw count (end_again' t start (length order) spells.after small) in
+    let last : entries_in t start (0 + length order) (printed_end (length order) ∷ spells.after) ≡ Ok [] =
+    rw count (end_again' t start (length order) spells.after small) in
     rw (lines, starts) (read ∙ ap (after_entries order) last ∙ after-Ok order)
 
 -- what is read of some lines after so many entries
@@ -114,7 +124,9 @@ record EndsAfter (t : Litmus) (count : ℕ) (lines : List (List ℕ)) (order : L
   whole : lines ≡ map (printed_entry t) order ++ (printed_end (count + length order) ∷ after)
   entries : IsOrderFor t order
 
-onto-Ok : (e : Entry) (read : Result (List Entry) OrderFault) (order : List Entry) → onto e read ≡ Ok order → (es : List Entry) × (read ≡ Ok es) × (e ∷ es ≡ order)
+onto-Ok : (e : Entry) (read : Result (List Entry) OrderFault) (order : List Entry)
+    → onto e read ≡ Ok order
+    → (es : List Entry) × (read ≡ Ok es) × (e ∷ es ≡ order)
 onto-Ok e (Ok es) order same = let equal : e ∷ es ≡ order = cc in (es, refl, equal)
 onto-Ok e (Err fault) order same = absurd cc
 
@@ -138,7 +150,11 @@ one_more t count line lines e es is line-is more =
       entries = All-cons (IsEntryFor t) e es is more.entries;
     }
 
-end_here : (t : Litmus) (count : ℕ) (line digits : List ℕ) (lines : List (List ℕ)) → count < 2 ^ 64 → end_in line ≡ Some digits → decimal_value digits ≡ count → EndsAfter t count (line ∷ lines) []
+end_here : (t : Litmus) (count : ℕ) (line digits : List ℕ) (lines : List (List ℕ))
+    → count < 2 ^ 64
+    → end_in line ≡ Some digits
+    → decimal_value digits ≡ count
+    → EndsAfter t count (line ∷ lines) []
 end_here t count line digits lines small e equal =
     let end = end_found line digits e in
     let digits-is : decimal (decimal_value digits) ≡ digits = decimal-value digits end.1 (omega (arith, equal)) in
@@ -149,7 +165,10 @@ end_here t count line digits lines small e equal =
       entries = All-nil (IsEntryFor t);
     }
 
-entries_found : (t : Litmus) (start count : ℕ) (lines : List (List ℕ)) (order : List Entry) → count + length order < 2 ^ 64 → entries_in t start count lines ≡ Ok order → EndsAfter t count lines order
+entries_found : (t : Litmus) (start count : ℕ) (lines : List (List ℕ)) (order : List Entry)
+    → count + length order < 2 ^ 64
+    → entries_in t start count lines ≡ Ok order
+    → EndsAfter t count lines order
 unfolding entries_in
 entries_found t start count [] order small e = absurd cc
 entries_found t start count (line ∷ lines) order small e =
@@ -188,7 +207,9 @@ order_found t text order small e =
             after = ends.after;
             lines =
                 at.whole
-                ∙ ap (λ (l : List (List ℕ)). at.before ++ (codes "Order" ∷ l)) (tail ∙ sym (append_assoc (map (printed_entry t) order) (printed_end (length order) ∷ []) ends.after));
+                ∙ ap (λ (l : List (List ℕ)). at.before ++ (codes "Order" ∷ l))
+                (tail
+                ∙ sym (append_assoc (map (printed_entry t) order) (printed_end (length order) ∷ []) ends.after));
             first = at.others;
             entries = ends.entries;
           }
@@ -197,7 +218,9 @@ order_found t text order small e =
 
 -- ---- how long an order is
 
-entries_length : (t : Litmus) (start count : ℕ) (lines : List (List ℕ)) (order : List Entry) → entries_in t start count lines ≡ Ok order → length order < length lines
+entries_length : (t : Litmus) (start count : ℕ) (lines : List (List ℕ)) (order : List Entry)
+    → entries_in t start count lines ≡ Ok order
+    → length order < length lines
 unfolding entries_in
 entries_length t start count [] order e = absurd cc
 entries_length t start count (line ∷ lines) order e =
@@ -224,7 +247,8 @@ order_length t text order small e =
           let at = start_found (lines_of text) 0 start.0 start.1 in
           let read : entries_in t start.0.0 0 start.0.1 ≡ Ok order = rw start.1 at e in
           let more = entries_length t start.0.0 0 start.0.1 order read in
-          let whole : length (lines_of text) ≡ length at.before + length (codes "Order" ∷ start.0.1) = ap (λ (l : List (List ℕ)). length l) at.whole ∙ length-append at.before (codes "Order" ∷ start.0.1) in
+          let whole : length (lines_of text) ≡ length at.before + length (codes "Order" ∷ start.0.1) =
+          ap (λ (l : List (List ℕ)). length l) at.whole ∙ length-append at.before (codes "Order" ∷ start.0.1) in
           omega (arith, small, more, whole, lines_of-length text)
       | inr none ↦ let bad : Err NoOrder ≡ Ok order = rw none at e in absurd cc
     ]
@@ -233,13 +257,20 @@ spelled_length : (t : Litmus) (text : List ℕ) (order : List Entry) → length 
 spelled_length t text order small spells =
     let whole : length (lines_of text) ≡ length spells.before + length (order_lines t order ++ spells.after) =
     ap (λ (l : List (List ℕ)). length l) spells.lines ∙ length-append spells.before (order_lines t order ++ spells.after) in
-    let last : length (order_lines t order ++ spells.after) ≡ length (order_lines t order) + length spells.after = length-append (order_lines t order) spells.after in
-    let entries : length (map (printed_entry t) order ++ (printed_end (length order) ∷ [])) ≡ length (map (printed_entry t) order) + 1 = length-append (map (printed_entry t) order) (printed_end (length order) ∷ []) in
+    let last : length (order_lines t order ++ spells.after) ≡ length (order_lines t order) + length spells.after =
+    length-append (order_lines t order) spells.after in
+    let entries : length (map (printed_entry t) order ++ (printed_end (length order) ∷ []))
+    ≡ length (map (printed_entry t) order) + 1 =
+    length-append (map (printed_entry t) order) (printed_end (length order) ∷ []) in
     let count : length (map (printed_entry t) order) ≡ length order = length-map order (printed_entry t) in
     omega (arith, small, whole, last, entries, count, lines_of-length text)
 
 pub spelled_from_read : (t : Litmus) (text : List ℕ) (order : List Entry) → length text < 2 ^ 64 → order_of t text ≡ Ok order → SpellsOrder t text order
 spelled_from_read t text order small e = order_found t text order (order_length t text order small e) e
 
-pub read_from_spelled : (t : Litmus) (text : List ℕ) (order : List Entry) → IsTest t → length text < 2 ^ 64 → SpellsOrder t text order → order_of t text ≡ Ok order
+pub read_from_spelled : (t : Litmus) (text : List ℕ) (order : List Entry)
+    → IsTest t
+    → length text < 2 ^ 64
+    → SpellsOrder t text order
+    → order_of t text ≡ Ok order
 read_from_spelled t text order test small spells = order_again t text order test (spelled_length t text order small spells) spells

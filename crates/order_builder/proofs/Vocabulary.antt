@@ -1,14 +1,19 @@
 -- The names that the proofs of this crate bring in from definitions and from crates below; each file takes its own from here.
-pub use Rattle.std.proofs.Common.{◌≡◌, ◌≢◌, ℕ, ◌^◌, ◌<◌, List, length, Some, None, Result, Ok, Err, All, ◌⊎◌, inl, inr, refl, subst, suc, ◌+◌, false, eqb, [], ◌∷◌, ◌++◌, map, ap, ◌∙◌, arith, zero, Bool, true, not, ◌||◌, get_or, sym, ◌≤◌, leb, rules, Option, ◌-◌, ◌/◌, ◌%◌, ltb, take, cond, drop, slice_index_or, string_bytes}
+pub use Rattle.std.proofs.Common.{◌≡◌, ◌≢◌, ℕ, ◌^◌, ◌<◌, List, length, Some, None, Result, Ok, Err, All, ◌⊎◌, inl, inr, refl, subst, suc}
+pub use Rattle.std.proofs.Common.{◌+◌, false, eqb, [], ◌∷◌, ◌++◌, map, ap, ◌∙◌, arith, zero, Bool, true, not, ◌||◌, get_or, sym, ◌≤◌, leb}
+pub use Rattle.std.proofs.Common.{rules, Option, ◌-◌, ◌/◌, ◌%◌, ltb, take, cond, drop, slice_index_or, string_bytes}
 pub use Rattle.std.specs.Prelude.{IfOk, IfErr, codes}
 pub use Rattle.tso_terms.specs.Litmus.{Litmus, IsTest, are_distinct}
 pub use Rattle.basic_laws.specs.Types.{Entry, Execution, Kind, R, W, F, LR, LW}
-pub use Rattle.order_builder.specs.Spelling.{HasAccess, IsEntryFor, IsOrderFor, SpellsOrder, HasFault, BeginsOrder, IsNoEntry, IsNoEnd, HasNoCount, IsNotOrderLine, IsLineBeforeOrder}
-pub use Rattle.order_builder.specs.PrintedOrder.{IsLocationFor, HasLocation, printed_entry, printed_end, order_lines, letters_of, printed_access, printed_lines, printed_order, HasWord}
+pub use Rattle.order_builder.specs.Spelling.{HasAccess, IsEntryFor, IsOrderFor, SpellsOrder, HasFault, BeginsOrder, IsNoEntry, IsNoEnd}
+pub use Rattle.order_builder.specs.Spelling.{HasNoCount, IsNotOrderLine, IsLineBeforeOrder}
+pub use Rattle.order_builder.specs.PrintedOrder.{IsLocationFor, HasLocation, printed_entry, printed_end, order_lines, letters_of}
+pub use Rattle.order_builder.specs.PrintedOrder.{printed_access, printed_lines, printed_order, HasWord}
 pub use Rattle.std.proofs.lemmas.List.Elements.{All-weaker, All-cons, All-nil, All-head, All-tail, All-get_or, All-append, All-from_get_or}
 pub use Rattle.order_builder.specs.Reading.{entries_of_order, Gives}
 pub use Rattle.order_builder.specs.inner.Reading.{onto, ◌>>=◌, entry_at, numeral, halves_at}
-unfoldable pub use Rattle.order_builder.specs.inner.Reading.{order_of, order_start, entries_in, entry_in, end_in, location_named, split_once, without_prefix, kind_of, place_in, access_in, action_in}
+unfoldable pub use Rattle.order_builder.specs.inner.Reading.{order_of, order_start, entries_in, entry_in, end_in, location_named}
+unfoldable pub use Rattle.order_builder.specs.inner.Reading.{split_once, without_prefix, kind_of, place_in, access_in, action_in}
 pub use Rattle.order_builder.specs.Lines.{lines_in, is_line_feed}
 unfoldable pub use Rattle.order_builder.specs.Lines.{lines_of}
 pub use Rattle.order_builder.specs.declared.fault.OrderFault.{OrderFault}
@@ -29,7 +34,9 @@ pub use Rattle.std.proofs.lemmas.Str.Parse.{IsNumeralModel, numerals_by_fold}
 unfoldable pub use Rattle.tso_terms.specs.inner.Decimals.{number_up_to}
 pub use Rattle.order_builder.specs.Numbers.{is_number}
 unfoldable pub use Rattle.order_builder.specs.inner.Numbers.{number_within}
-pub use Rattle.std.proofs.lemmas.List.{append_assoc, append-nil, length-append, length-map, take_all, take_more, take-append-drop, take_at, drop_at, length-drop, length-take, get_or-take, get_or_at, get_or_append_left, length_push, drop_more, nil_from_length}
+pub use Rattle.std.proofs.lemmas.List.{append_assoc, append-nil, length-append, length-map, take_all, take_more, take-append-drop, take_at}
+pub use Rattle.std.proofs.lemmas.List.{drop_at, length-drop, length-take, get_or-take, get_or_at, get_or_append_left, length_push}
+pub use Rattle.std.proofs.lemmas.List.{drop_more, nil_from_length}
 pub use Rattle.std.specs.Str.Lines.{strip_carriage_return}
 pub use Rattle.std.proofs.lemmas.List.Folds.{list_all-append}
 pub use Rattle.std.specs.Option.{option_map}

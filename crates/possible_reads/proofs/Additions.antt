@@ -1,6 +1,10 @@
 -- Where only locked additions and subtractions of numbers write to a location, each adds its number to what its own load part finds, and the last word
 -- is the initial one and all of these.
-use Rattle.possible_reads.proofs.Vocabulary.{◌≡◌, ◌&&◌, ◌+◌, ℕ, Bool, true, false, if◌then◌else◌, List, [], ◌∷◌, Some, None, arith, refl, sym, ap, ◌∙◌, inl, inr, subst, map, filter, list_any, list_all, slice_index, Entry, LR, LW, Litmus, entry, sum_of, IsIn, in-case, in-none, bare, events_of, same_event, Stands, Candidate, events, is_write, writes_to, same_kind, Sound, and-both, equal-kinds, part_of, writes-at, IsAllowed, ArePair, filter-in}
+use Rattle.possible_reads.proofs.Vocabulary.{◌≡◌, ◌&&◌, ◌+◌, ℕ, Bool, true, false, if◌then◌else◌, List, [], ◌∷◌, Some, None, arith, refl}
+use Rattle.possible_reads.proofs.Vocabulary.{sym, ap, ◌∙◌, inl, inr, subst, map, filter, list_any, list_all, slice_index, Entry, LR, LW}
+use Rattle.possible_reads.proofs.Vocabulary.{Litmus, entry, sum_of, IsIn, in-case, in-none, bare, events_of, same_event, Stands, Candidate}
+use Rattle.possible_reads.proofs.Vocabulary.{events, is_write, writes_to, same_kind, Sound, and-both, equal-kinds, part_of, writes-at}
+use Rattle.possible_reads.proofs.Vocabulary.{IsAllowed, ArePair, filter-in}
 use Rattle.std.specs.Prelude.{◌-◌, ◌%◌, ◌^◌}
 use Rattle.std.proofs.Math.Nat.{mod-add-mod}
 use Rattle.tso_terms.specs.Thread.{difference_of}

@@ -1,5 +1,6 @@
 -- A proposition's truth gives its facts, and those of one of its cases.
-use Rattle.possible_reads.proofs.Vocabulary.{◌≡◌, ◌&&◌, ◌||◌, ◌==◌, ℕ, Bool, true, false, not, List, [], ◌∷◌, ◌++◌, refl, ap, ◌∙◌, ◌⊎◌, inl, inr, subst, Litmus, Candidate, IsCandidate, Sound, sound, and-both, or-either}
+use Rattle.possible_reads.proofs.Vocabulary.{◌≡◌, ◌&&◌, ◌||◌, ◌==◌, ℕ, Bool, true, false, not, List, [], ◌∷◌, ◌++◌, refl, ap, ◌∙◌, ◌⊎◌, inl}
+use Rattle.possible_reads.proofs.Vocabulary.{inr, subst, Litmus, Candidate, IsCandidate, Sound, sound, and-both, or-either}
 use Rattle.tso_terms.specs.Condition.{Claim, TruthClaim, RegClaim, LocClaim, NotClaim, AndClaim, OrClaim}
 use Rattle.possible_reads.specs.Expressions.{Expression, Constant, Returned, Combined, Negated, Exchanged, register_left}
 use Rattle.possible_reads.proofs.Values.{value_of}

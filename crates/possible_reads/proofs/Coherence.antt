@@ -1,5 +1,10 @@
 -- Program order in an allowed candidate: its writes to a location go on in coherence, and a read reads what it has left in force.
-use Rattle.possible_reads.proofs.Vocabulary.{◌≡◌, ◌&&◌, ℕ, Bool, true, not, List, Option, Some, None, refl, sym, ap, ◌⊎◌, inl, inr, subst, list_any, Entry, Litmus, IsIn, bare, events_of, Stands, IsSameSource, Candidate, events, is_read, is_write, writes_to, is_before, Sound, and-both, IsEarlier, Precedes, from-precedes, last-last, last_in, never-itself, never-back, stand-once, one-way, location, share, is-false, IsAcyclic, at_once, onward, IsBefore, StandsAfter, IsBeforeOnLocation, po_loc, rf, co, fr, writes-at}
+use Rattle.possible_reads.proofs.Vocabulary.{◌≡◌, ◌&&◌, ℕ, Bool, true, not, List, Option, Some, None, refl, sym, ap, ◌⊎◌, inl, inr, subst}
+use Rattle.possible_reads.proofs.Vocabulary.{list_any, Entry, Litmus, IsIn, bare, events_of, Stands, IsSameSource, Candidate, events}
+use Rattle.possible_reads.proofs.Vocabulary.{is_read, is_write, writes_to, is_before, Sound, and-both, IsEarlier, Precedes, from-precedes}
+use Rattle.possible_reads.proofs.Vocabulary.{last-last, last_in, never-itself, never-back, stand-once, one-way, location, share, is-false}
+use Rattle.possible_reads.proofs.Vocabulary.{IsAcyclic, at_once, onward, IsBefore, StandsAfter, IsBeforeOnLocation, po_loc, rf, co, fr}
+use Rattle.possible_reads.proofs.Vocabulary.{writes-at}
 use Rattle.relational_model.proofs.Ranks.{before-irreflexive}
 use Rattle.relational_model.proofs.KindFacts.{writes}
 use Rattle.relational_model.proofs.Fences.{true-or}

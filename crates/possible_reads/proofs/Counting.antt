@@ -1,6 +1,11 @@
 -- What the load part of an addition finds is the initial word and the numbers of the additions before its own, in whatever order they
 -- are added.
-use Rattle.possible_reads.proofs.Vocabulary.{◌≡◌, ◌&&◌, ◌||◌, ◌+◌, ◌≤◌, ℕ, suc, Bool, true, false, if◌then◌else◌, List, [], ◌∷◌, ◌++◌, Some, None, arith, refl, sym, ap, ◌∙◌, ◌⊎◌, inl, inr, subst, map, filter, list_any, length, slice_index, Entry, LR, LW, Litmus, entry, sum_of, IsIn, in-case, in-first, in-later, in-left, in-right, in-append, in-filter, filter-in, bare, events_of, same_event, Stands, Candidate, events, is_write, writes_to, same_kind, Sound, sound, and-both, or-either, equal-kinds, location, IsAllowed, IsEarlier, IsBefore, is-false, never-itself, never-back, stand-once}
+use Rattle.possible_reads.proofs.Vocabulary.{◌≡◌, ◌&&◌, ◌||◌, ◌+◌, ◌≤◌, ℕ, suc, Bool, true, false, if◌then◌else◌, List, [], ◌∷◌, ◌++◌, Some}
+use Rattle.possible_reads.proofs.Vocabulary.{None, arith, refl, sym, ap, ◌∙◌, ◌⊎◌, inl, inr, subst, map, filter, list_any, length}
+use Rattle.possible_reads.proofs.Vocabulary.{slice_index, Entry, LR, LW, Litmus, entry, sum_of, IsIn, in-case, in-first, in-later, in-left}
+use Rattle.possible_reads.proofs.Vocabulary.{in-right, in-append, in-filter, filter-in, bare, events_of, same_event, Stands, Candidate}
+use Rattle.possible_reads.proofs.Vocabulary.{events, is_write, writes_to, same_kind, Sound, sound, and-both, or-either, equal-kinds}
+use Rattle.possible_reads.proofs.Vocabulary.{location, IsAllowed, IsEarlier, IsBefore, is-false, never-itself, never-back, stand-once}
 use Rattle.std.specs.Prelude.{◌%◌, ◌^◌}
 use Rattle.std.proofs.Math.Nat.{mod-add-mod}
 use Rattle.relational_model.specs.inner.Rows.{Once}
@@ -241,7 +246,9 @@ module _ (reads : ReadsAddUp) (t : Litmus) (c : Candidate) (a : IsAllowed t c) (
           picked-in in
           omega arith
 
-  pub sum-is-possible : IsPossible (added_up t facts table (store_part read) (filter (writes_to loc) (events_of t)) (Some (slice_index t.words loc ∷ []))) r.value
+  pub sum-is-possible : IsPossible
+      (added_up t facts table (store_part read) (filter (writes_to loc) (events_of t)) (Some (slice_index t.words loc ∷ [])))
+      r.value
   sum-is-possible =
       subst (IsPossible (added_up t facts table (store_part read) (filter (writes_to loc) (events_of t)) (Some (slice_index t.words loc ∷ [])))) (sym found)
       (added-up (filter (writes_to loc) (events_of t)) (λ x i. i) (Some (slice_index t.words loc ∷ [])) (slice_index t.words loc)

@@ -1,6 +1,10 @@
 -- The end of a candidate: its last words and registers are among what is possible, and where names exist its truths are those of the
 -- state that it leaves.
-use Rattle.possible_reads.proofs.Vocabulary.{◌≡◌, ◌<◌, ◌&&◌, ◌||◌, ◌==◌, ◌+◌, ℕ, zero, suc, Bool, true, false, not, if◌then◌else◌, List, [], ◌∷◌, arith, Some, refl, sym, ap, ◌∙◌, ◌⊎◌, inl, inr, subst, map, list_any, length, slice_index, slice_index_or, Entry, Reg, Instr, Litmus, index_of, entries_of, registers_after, IsIn, in-none, in-left, in-right, bare, events_of, Candidate, events_from, writes_to, Sound, sound, IsAllowed, last-is-in}
+use Rattle.possible_reads.proofs.Vocabulary.{◌≡◌, ◌<◌, ◌&&◌, ◌||◌, ◌==◌, ◌+◌, ℕ, zero, suc, Bool, true, false, not, if◌then◌else◌, List, []}
+use Rattle.possible_reads.proofs.Vocabulary.{◌∷◌, arith, Some, refl, sym, ap, ◌∙◌, ◌⊎◌, inl, inr, subst, map, list_any, length, slice_index}
+use Rattle.possible_reads.proofs.Vocabulary.{slice_index_or, Entry, Reg, Instr, Litmus, index_of, entries_of, registers_after, IsIn}
+use Rattle.possible_reads.proofs.Vocabulary.{in-none, in-left, in-right, bare, events_of, Candidate, events_from, writes_to, Sound, sound}
+use Rattle.possible_reads.proofs.Vocabulary.{IsAllowed, last-is-in}
 use Rattle.tso_terms.specs.Thread.{registers_with}
 use Rattle.tso_terms.specs.Condition.{Claim, TruthClaim, RegClaim, LocClaim, NotClaim, AndClaim, OrClaim, truth_of, NamesExist}
 use Rattle.relational_model.specs.Candidates.{registers_left, registers_left_from, words_left as words_of}
@@ -12,7 +16,8 @@ use Rattle.refutation_laws.proofs.Standing.{of-event, event-in}
 use Rattle.refutation_laws.proofs.ClaimFacts.{words-at, Last, Empty, ends}
 use Rattle.possible_reads.specs.Expressions.{register_left, first_registers, registers_at_end}
 use Rattle.possible_reads.specs.Facts.{Fact}
-use Rattle.possible_reads.specs.Possible.{any_of, values_of, values_read, values_written, readings_after, last_writes, is_counter, counted, may_be_left, both_of, told_word, last_words, words_left}
+use Rattle.possible_reads.specs.Possible.{any_of, values_of, values_read, values_written, readings_after, last_writes, is_counter, counted}
+use Rattle.possible_reads.specs.Possible.{may_be_left, both_of, told_word, last_words, words_left}
 use Rattle.possible_reads.specs.Laws.{AreMet, IsPossible, register_in, word_in, holds_in}
 use Rattle.possible_reads.proofs.Values.{value_of, itself-possible, both-possible, any-possible, kept-possible, value-possible}
 use Rattle.possible_reads.proofs.Programs.{Given, returned_in, given, left-of, held-at-end}
@@ -68,7 +73,9 @@ module _ (no_two : NoTwoReadOneSource) (words : WordsAddUp) (reads : ReadsAddUp)
   last-word loc = go (is_counter t loc) refl (list_any (writes_to loc) (events_of t)) refl
     where
       written : list_any (writes_to loc) (events_of t) ≡ true
-          → IsPossible (any_of (map (values_written t (readings_after t facts rounds)) (last_writes t facts (readings_after t facts rounds) loc))) (word_in t c loc)
+          → IsPossible
+          (any_of (map (values_written t (readings_after t facts rounds)) (last_writes t facts (readings_after t facts rounds) loc)))
+          (word_in t c loc)
       written q =
           let m = any-holds (writes_to loc) (events_of t) q in
           let o = of-event t c m.entry m.inside in

@@ -1,5 +1,6 @@
 -- Where members of a list are in what is made of it.
-use Rattle.possible_reads.proofs.Vocabulary.{◌≡◌, ℕ, zero, suc, Bool, true, false, if◌then◌else◌, List, [], ◌∷◌, ◌++◌, Some, refl, ap, subst, map, filter, list_any, list_all, slice_get, and-both, or-either, inl, inr}
+use Rattle.possible_reads.proofs.Vocabulary.{◌≡◌, ℕ, zero, suc, Bool, true, false, if◌then◌else◌, List, [], ◌∷◌, ◌++◌, Some, refl, ap}
+use Rattle.possible_reads.proofs.Vocabulary.{subst, map, filter, list_any, list_all, slice_get, and-both, or-either, inl, inr}
 
 -- x is in this list
 abbrev pub Among : {A : Type 0} → List A → A → Type 0

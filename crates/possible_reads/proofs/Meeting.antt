@@ -1,12 +1,15 @@
 -- What a candidate that meets facts returns, reads from and orders, as the tests on facts ask it.
-use Rattle.possible_reads.proofs.Vocabulary.{◌≡◌, ◌==◌, ℕ, Bool, true, false, not, if◌then◌else◌, List, [], ◌∷◌, Option, Some, None, refl, sym, ap, ◌∙◌, inl, inr, subst, list_any, list_all, Entry, Litmus, bare, same_event, Stands, IsSameSource, Candidate, and-both, or-either, same-number, IsBefore, is-false, last_in}
+use Rattle.possible_reads.proofs.Vocabulary.{◌≡◌, ◌==◌, ℕ, Bool, true, false, not, if◌then◌else◌, List, [], ◌∷◌, Option, Some, None, refl}
+use Rattle.possible_reads.proofs.Vocabulary.{sym, ap, ◌∙◌, inl, inr, subst, list_any, list_all, Entry, Litmus, bare, same_event, Stands}
+use Rattle.possible_reads.proofs.Vocabulary.{IsSameSource, Candidate, and-both, or-either, same-number, IsBefore, is-false, last_in}
 use Rattle.refutation_laws.proofs.Tests.{and-of}
 use Rattle.refutation_laws.proofs.Standing.{same-bare}
 use Rattle.refutation_laws.proofs.Soundness.{bare-same}
 use Rattle.refutation_laws.proofs.Agreeing.{stands-for}
 use Rattle.tso_terms.specs.Condition.{TruthClaim, RegClaim, LocClaim, NotClaim, AndClaim, OrClaim}
 use Rattle.possible_reads.specs.Facts.{Fact, From, Before, Last, Returns, Holds}
-use Rattle.possible_reads.specs.Possible.{same_source, same_number, fits_word, may_be_left, fits_last, told_word, is_told_before, fits_value, may_return, told_value, fits_source}
+use Rattle.possible_reads.specs.Possible.{same_source, same_number, fits_word, may_be_left, fits_last, told_word, is_told_before}
+use Rattle.possible_reads.specs.Possible.{fits_value, may_return, told_value, fits_source}
 use Rattle.possible_reads.specs.Laws.{IsMet, AreMet, IsPossible, word_in}
 use Rattle.possible_reads.proofs.Values.{itself-possible}
 

@@ -1,12 +1,20 @@
 -- What a candidate's programs write, and leave in their registers, is what its reads return, put into their expressions.
-use Rattle.possible_reads.proofs.Vocabulary.{◌≡◌, ℕ, zero, suc, ◌+◌, Bool, true, false, if◌then◌else◌, List, [], ◌∷◌, ◌++◌, refl, sym, ap, ◌∙◌, ◌⊎◌, inl, inr, subst, ◌==◌, Option, Some, None, map, filter, map-append, filter-append, slice_index, slice_index_or, slice_set, Entry, LR, LW, R, W, Reg, Instr, Operand, Number, Held, Update, Action, Store, Load, Move, Fence, Lock, Litmus, action_of, index_of, entry, value_in, updated, entries_by, registers_by, values_after, entries_of, registers_after, IsIn, in-case, in-none, in-first, in-later, in-filter, filter-in, in-left, in-right, bare, same_event, Stands, Candidate, events, events_from, is_read, is_write, Sound}
+use Rattle.possible_reads.proofs.Vocabulary.{◌≡◌, ℕ, zero, suc, ◌+◌, Bool, true, false, if◌then◌else◌, List, [], ◌∷◌, ◌++◌, refl, sym, ap}
+use Rattle.possible_reads.proofs.Vocabulary.{◌∙◌, ◌⊎◌, inl, inr, subst, ◌==◌, Option, Some, None, map, filter, map-append, filter-append}
+use Rattle.possible_reads.proofs.Vocabulary.{slice_index, slice_index_or, slice_set, Entry, LR, LW, R, W, Reg, Instr, Operand, Number, Held}
+use Rattle.possible_reads.proofs.Vocabulary.{Update, Action, Store, Load, Move, Fence, Lock, Litmus, action_of, index_of, entry, value_in}
+use Rattle.possible_reads.proofs.Vocabulary.{updated, entries_by, registers_by, values_after, entries_of, registers_after, IsIn, in-case}
+use Rattle.possible_reads.proofs.Vocabulary.{in-none, in-first, in-later, in-filter, filter-in, in-left, in-right, bare, same_event, Stands}
+use Rattle.possible_reads.proofs.Vocabulary.{Candidate, events, events_from, is_read, is_write, Sound}
 use Rattle.tso_terms.specs.Thread as thread
 use Rattle.tso_terms.specs.Thread.{combined, difference_of, changed, with_taken}
 use Rattle.basic_laws.specs.Types.{Eax, Replace, Negate, CompareExchange, Change, Keep, Set, Swap}
 use Rattle.tso_terms.specs.declared.action.Update.TheVariants.{Combine}
 use Rattle.refutation_laws.proofs.Standing.{same-bare, one-entry}
 use Rattle.refutation_laws.proofs.Soundness.{bare-same}
-use Rattle.possible_reads.specs.Expressions.{Expression, Constant, Returned, Written, held_in, operand_in, updated_by, changed_by, taken_by, written_by, registers_after_action, written_in, registers_at_end, first_registers, written_from, written, expression_among, expression_of}
+use Rattle.possible_reads.specs.Expressions.{Expression, Constant, Returned, Written, held_in, operand_in, updated_by, changed_by, taken_by}
+use Rattle.possible_reads.specs.Expressions.{written_by, registers_after_action, written_in, registers_at_end, first_registers}
+use Rattle.possible_reads.specs.Expressions.{written_from, written, expression_among, expression_of}
 use Rattle.possible_reads.proofs.Values.{value_of}
 
 -- ---- lists

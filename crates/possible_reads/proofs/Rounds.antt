@@ -1,6 +1,11 @@
 -- After each round what each read reads from and returns is among what is possible: so is what writes write, the order that is known
 -- is right, and the last write is among those that can be it.
-use Rattle.possible_reads.proofs.Vocabulary.{◌≡◌, ◌&&◌, ◌==◌, ℕ, zero, suc, Bool, true, false, not, if◌then◌else◌, List, [], ◌∷◌, Option, Some, None, refl, sym, ap, ◌∙◌, inl, inr, subst, map, filter, list_any, list_all, slice_get, slice_index, Entry, LR, Litmus, IsIn, in-first, in-later, in-filter, filter-in, bare, events_of, same_event, Stands, IsSameSource, Candidate, events, is_read, is_write, writes_to, is_before, same_kind, Sound, sound, and-both, or-either, same-number, equal-kinds, location, writes-at, IsAllowed, IsEarlier, IsBefore, last_in, last-is-in, is-false, last_word}
+use Rattle.possible_reads.proofs.Vocabulary.{◌≡◌, ◌&&◌, ◌==◌, ℕ, zero, suc, Bool, true, false, not, if◌then◌else◌, List, [], ◌∷◌, Option}
+use Rattle.possible_reads.proofs.Vocabulary.{Some, None, refl, sym, ap, ◌∙◌, inl, inr, subst, map, filter, list_any, list_all, slice_get}
+use Rattle.possible_reads.proofs.Vocabulary.{slice_index, Entry, LR, Litmus, IsIn, in-first, in-later, in-filter, filter-in, bare}
+use Rattle.possible_reads.proofs.Vocabulary.{events_of, same_event, Stands, IsSameSource, Candidate, events, is_read, is_write, writes_to}
+use Rattle.possible_reads.proofs.Vocabulary.{is_before, same_kind, Sound, sound, and-both, or-either, same-number, equal-kinds, location}
+use Rattle.possible_reads.proofs.Vocabulary.{writes-at, IsAllowed, IsEarlier, IsBefore, last_in, last-is-in, is-false, last_word}
 use Rattle.relational_model.specs.Candidates.{Returns as ReturnsFrom}
 use Rattle.relational_model.proofs.KindFacts.{writes}
 use Rattle.relational_model.proofs.Lists.{last-none}
@@ -15,7 +20,10 @@ use Rattle.refutation_laws.proofs.Agreeing.{source-in}
 use Rattle.refutation_laws.proofs.Cycles.{carried, carried-one}
 use Rattle.possible_reads.specs.Expressions.{expression_of}
 use Rattle.possible_reads.specs.Facts.{Fact}
-use Rattle.possible_reads.specs.Possible.{Reading, any_of, values_read, sources_read, same_source, values_written, values_from, may_be_left, fits_last, is_told_before, is_put_before, can_be_last, last_writes, is_last, told_value, may_return, fits_source, is_in_order, takes, is_taken, can_read_from, sources_after, values_after, kept, reading_after, readings_after, counts}
+use Rattle.possible_reads.specs.Possible.{Reading, any_of, values_read, sources_read, same_source, values_written, values_from, may_be_left}
+use Rattle.possible_reads.specs.Possible.{fits_last, is_told_before, is_put_before, can_be_last, last_writes, is_last, told_value}
+use Rattle.possible_reads.specs.Possible.{may_return, fits_source, is_in_order, takes, is_taken, can_read_from, sources_after, values_after}
+use Rattle.possible_reads.specs.Possible.{kept, reading_after, readings_after, counts}
 use Rattle.possible_reads.specs.Laws.{AreMet, IsPossible, HasSourceAmong, HasLastWrite, ReadIsPossible}
 use Rattle.possible_reads.proofs.Lists.{at-filter, at-map, all-at, of-map, any-passes}
 use Rattle.possible_reads.proofs.Values.{possible-test, itself-possible, both-possible, any-possible, kept-possible, value-possible}
@@ -166,7 +174,9 @@ module _ (no_two : NoTwoReadOneSource) (reads : ReadsAddUp) (t : Litmus) (c : Ca
             let b = and-both (same_kind read.kind LR) (list_any (takes read s) table) q in
             let m = any-passes (takes read s) table b.1 in
             let x : Reading = m.member in
-            let n = and-both (same_kind x.read.kind LR && (x.read.loc.0 == read.loc.0) && not (same_event x.read read)) (list_all (same_source s) x.sources) m.passes in
+            let n =
+            and-both (same_kind x.read.kind LR && (x.read.loc.0 == read.loc.0) && not (same_event x.read read))
+            (list_all (same_source s) x.sources) m.passes in
             let k = and-both (same_kind x.read.kind LR && (x.read.loc.0 == read.loc.0)) (not (same_event x.read read)) n.0 in
             let l = and-both (same_kind x.read.kind LR) (x.read.loc.0 == read.loc.0) k.0 in
             let row = h.rows m.number x m.stands in
@@ -304,4 +314,8 @@ module _ (no_two : NoTwoReadOneSource) (reads : ReadsAddUp) (t : Litmus) (c : Ca
       → ReadIsPossible t c (readings_after t facts rounds) read r
   read-possible rounds read r at p =
       let k = possible rounds in
-      record { source = k.sources read r at p; value = subst (IsPossible (values_read (readings_after t facts rounds) read)) (returns t c d read r at) (k.values read) }
+      record {
+        source = k.sources read r at p;
+        value =
+            subst (IsPossible (values_read (readings_after t facts rounds) read)) (returns t c d read r at) (k.values read);
+      }

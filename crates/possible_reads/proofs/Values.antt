@@ -1,10 +1,13 @@
 -- Values that are possible, put together: what is among some stays among what is made of them.
-use Rattle.possible_reads.proofs.Vocabulary.{◌≡◌, ◌==◌, ℕ, zero, suc, Bool, true, false, if◌then◌else◌, List, [], ◌∷◌, Some, None, refl, sym, ap, ◌∙◌, ◌⊎◌, inl, inr, subst, map, filter, list_any, length, nat_lt, slice_get, sum_of, Entry, or-either, same-number, number-same, is-false, not}
+use Rattle.possible_reads.proofs.Vocabulary.{◌≡◌, ◌==◌, ℕ, zero, suc, Bool, true, false, if◌then◌else◌, List, [], ◌∷◌, Some, None, refl}
+use Rattle.possible_reads.proofs.Vocabulary.{sym, ap, ◌∙◌, ◌⊎◌, inl, inr, subst, map, filter, list_any, length, nat_lt, slice_get, sum_of}
+use Rattle.possible_reads.proofs.Vocabulary.{Entry, or-either, same-number, number-same, is-false, not}
 use Rattle.refutation_laws.proofs.Tests.{or-first, or-second}
 use Rattle.tso_terms.specs.Thread.{combined, difference_of}
 use Rattle.basic_laws.specs.Types.{Operator}
 use Rattle.possible_reads.specs.Expressions.{Expression, Constant, Returned, Combined, Negated, Exchanged}
-use Rattle.possible_reads.specs.Possible.{Values, is_among, at_most_64, union, either_of, both_of, any_of, combined_values, negated_values, only_where, same_number, exchanged_word, exchanged_values, values_of, can_be, kept}
+use Rattle.possible_reads.specs.Possible.{Values, is_among, at_most_64, union, either_of, both_of, any_of, combined_values, negated_values}
+use Rattle.possible_reads.specs.Possible.{only_where, same_number, exchanged_word, exchanged_values, values_of, can_be, kept}
 use Rattle.possible_reads.specs.Laws.{IsPossible}
 
 -- ---- lists of numbers

@@ -5,7 +5,8 @@ use Rattle.tso_terms.specs.Litmus.{Litmus}
 use Rattle.tso_terms.specs.Registers.{index_of}
 use Rattle.tso_terms.specs.Actions.{action_of}
 use Rattle.tso_terms.specs.Thread.{entry}
-use Rattle.basic_laws.specs.Types.{Reg, Eax, Instr, Operand, Number, Held, Operator, Update, Replace, Negate, CompareExchange, Change, Keep, Set, Swap, Action, Entry, R, W, LR, LW}
+use Rattle.basic_laws.specs.Types.{Reg, Eax, Instr, Operand, Number, Held, Operator, Update, Replace, Negate, CompareExchange, Change, Keep}
+use Rattle.basic_laws.specs.Types.{Set, Swap, Action, Entry, R, W, LR, LW}
 use Rattle.tso_terms.specs.declared.action.Update.TheVariants.{Combine}
 use Rattle.tso_terms.specs.declared.action.Action.TheVariants.{Store, Load, Move, Lock}
 use Rattle.refutation_laws.specs.Known.{same_event}

@@ -14,7 +14,8 @@ use Rattle.refutation_laws.specs.Known.{bare}
 use Rattle.refutation_laws.specs.Agreement.{Stands, IsSameSource}
 use Rattle.possible_reads.specs.Expressions.{register_left}
 use Rattle.possible_reads.specs.Facts.{Fact, From, Before, Last, Returns, Holds, given_by, cases_of}
-use Rattle.possible_reads.specs.Possible.{Values, Reading, can_be, values_of, values_read, sources_read, values_written, readings_after, last_writes, comes_before, words_left}
+use Rattle.possible_reads.specs.Possible.{Values, Reading, can_be, values_of, values_read, sources_read, values_written, readings_after}
+use Rattle.possible_reads.specs.Possible.{last_writes, comes_before, words_left}
 
 -- ---- the end of a candidate, one register and one word at a time
 

@@ -4,10 +4,13 @@
 //! Nothing here computes. Each public function has no code of its own, and its contract is a law on the definitions.
 #![tactic(auto)]
 
-ghost use Rattle.possible_reads.specs.Laws.{ReadingsArePossible, WrittenValuesArePossible, KnownOrderIsRight, SomeWriteComesLast, LastWordsArePossible, LastRegistersArePossible, TruthsAreThoseLeft, ClaimsGiveFacts, SomeCaseIsMet};
+ghost use Rattle.possible_reads.specs.Laws.{ReadingsArePossible, WrittenValuesArePossible, KnownOrderIsRight, SomeWriteComesLast};
+ghost use Rattle.possible_reads.specs.Laws.{LastWordsArePossible, LastRegistersArePossible, TruthsAreThoseLeft, ClaimsGiveFacts};
+ghost use Rattle.possible_reads.specs.Laws.{SomeCaseIsMet};
 ghost use Rattle.possible_reads.specs.Facts.{given_by};
 ghost use Rattle.possible_reads.specs.Possible.{readings, values_read, sources_read, words_left};
-ghost use Rattle.possible_reads.specs.Worked.{both_zero, load_part, store_part, taken, counter_of_three, adds_last, one_lost, load_of_y, load_of_x, load_then_store, compared_lock, references, sum_stored};
+ghost use Rattle.possible_reads.specs.Worked.{both_zero, load_part, store_part, taken, counter_of_three, adds_last, one_lost, load_of_y};
+ghost use Rattle.possible_reads.specs.Worked.{load_of_x, load_then_store, compared_lock, references, sum_stored};
 ghost use Rattle.std.specs.Prelude.{◌≡◌, true, [], ◌∷◌, Some, None};
 ghost use Rattle.tso_terms.specs.Thread.{entry};
 ghost use Rattle.tso_terms.specs.Examples.{sb, loc_x};

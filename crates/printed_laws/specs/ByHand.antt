@@ -33,7 +33,8 @@ answer_shown t facts answer = shown_facts t (known_from t (answer ++ facts)) ans
 -- ---- the cases of a question
 
 -- a line has this answer, perhaps beside others, and what closes it
-pub record HasClosedCase (model : Model) (t : Litmus) (lemmas : List Lemma) (facts : List Fact) (question : List ℕ) (lines : List Line) (answer : List Fact) : Type 0 where
+pub record HasClosedCase (model : Model) (t : Litmus) (lemmas : List Lemma) (facts : List Fact) (question : List ℕ)
+    (lines : List Line) (answer : List Fact) : Type 0 where
   pub beside : List (List ShownFact)
   pub among : ListHas beside (answer_shown t facts answer)
   pub closing : Closing
@@ -41,7 +42,8 @@ pub record HasClosedCase (model : Model) (t : Litmus) (lemmas : List Lemma) (fac
   pub closes : ClosesBranch model t lemmas (answer ++ facts) closing
 
 -- a line has this answer, and its part follows: one step deeper, or at the same depth up to the end
-pub record HasOpenCase (Refute : List Fact → List Line → Type 0) (t : Litmus) (facts : List Fact) (question : List ℕ) (lines : List Line) (answer : List Fact) : Type 0 where
+pub record HasOpenCase (Refute : List Fact → List Line → Type 0) (t : Litmus) (facts : List Fact) (question : List ℕ)
+    (lines : List Line) (answer : List Fact) : Type 0 where
   pub before : List Line
   pub part : List Line
   pub after : List Line
@@ -65,7 +67,8 @@ pub record IsLeafLine (model : Model) (t : Litmus) (lemmas : List Lemma) (facts 
   pub closes : ClosesBranch model t lemmas facts closing
 
 -- a question that may be asked, with a case for each answer
-pub record AreCasesOf (Refute : List Fact → List Line → Type 0) (model : Model) (t : Litmus) (lemmas : List Lemma) (facts : List Fact) (lines : List Line) : Type 0 where
+pub record AreCasesOf (Refute : List Fact → List Line → Type 0) (model : Model) (t : Litmus) (lemmas : List Lemma)
+    (facts : List Fact) (lines : List Line) : Type 0 where
   pub question : Node
   pub stands : is_node model t lemmas (known_from t facts) question ≡ true
   pub answered : 0 < length (answers t (known_from t facts) question)
@@ -87,7 +90,8 @@ abbrev pub lemma_line : Litmus → List Fact → ℕ → Lemma → Line
 lemma_line t given number l = Never number (map (shown_at t (known_from t (l.facts ++ given))) l.facts)
 
 -- the line of the first lemma, its part, and other lines
-pub record HasLemmaFirst (Others : List Line → Type 0) (model : Model) (t : Litmus) (given : List Fact) (shown : List Lemma) (number : ℕ) (l : Lemma) (lines : List Line) : Type 0 where
+pub record HasLemmaFirst (Others : List Line → Type 0) (model : Model) (t : Litmus) (given : List Fact)
+    (shown : List Lemma) (number : ℕ) (l : Lemma) (lines : List Line) : Type 0 where
   pub part : List Line
   pub rest : List Line
   pub line : lines ≡ lemma_line t given number l ∷ (map deeper part ++ rest)

@@ -3,7 +3,8 @@
 use Rattle.litmus_tokens.specs.declared.instructions.Instructions.{Instructions}
 use Rattle.std.specs.Prelude.{ℕ, ◌≡◌, ◌<◌, ◌≤◌, Bool, true, false, List, ◌++◌, length, Some, codes}
 use Rattle.std.specs.Fmt.{decimal}
-use Rattle.printed_laws.specs.Vocabulary.{Claim, Condition, InputHeadline, line, Litmus, longest_input, parts_of, printed_numbers, registers_in, Search, SpellsTest, truth_of, verdict_word}
+use Rattle.printed_laws.specs.Vocabulary.{Claim, Condition, InputHeadline, line, Litmus, longest_input, parts_of, printed_numbers}
+use Rattle.printed_laws.specs.Vocabulary.{registers_in, Search, SpellsTest, truth_of, verdict_word}
 use Rattle.tso_terms.specs.Axioms.{IsTsoExecution}
 use Rattle.tso_terms.specs.FinalState.{final_words, final_registers}
 use Rattle.tso_terms.specs.Runs.{run, CoresExist}

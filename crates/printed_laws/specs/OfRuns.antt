@@ -1,6 +1,7 @@
 -- The runs of a machine, and what is printed of them: where the same is printed of two, the same is shown of both.
 use Rattle.std.specs.Prelude.{◌≡◌, ◌≤◌, Bool, true, false, List, length}
-use Rattle.printed_laws.specs.Vocabulary.{AnswersFit, Configuration, IsConfigurationWithinLimits, IsTest, Litmus, most_choices, ProtocolKind, run_under, shown_under}
+use Rattle.printed_laws.specs.Vocabulary.{AnswersFit, Configuration, IsConfigurationWithinLimits, IsTest, Litmus, most_choices}
+use Rattle.printed_laws.specs.Vocabulary.{ProtocolKind, run_under, shown_under}
 use Rattle.tso_terms.specs.declared.choice.Choice.{Choice}
 use Rattle.tso_cli.specs.CommandAnswers.{text_under}
 

@@ -2,7 +2,8 @@
 use Rattle.std.specs.Prelude.{ℕ, zero, suc, ◌+◌, ◌/◌, ◌≡◌, ◌<◌, List, [], ◌∷◌, map, length, take, All, Option}
 use Rattle.std.specs.Fmt.{decimal}
 use Rattle.std.specs.Option.{option_map}
-use Rattle.printed_laws.specs.Vocabulary.{compact_text, Configuration, core_of, CoresExist, IsTest, IsWord, line_name, line_state, Litmus, names_in_line, ProtocolKind}
+use Rattle.printed_laws.specs.Vocabulary.{compact_text, Configuration, core_of, CoresExist, IsTest, IsWord, line_name, line_state, Litmus}
+use Rattle.printed_laws.specs.Vocabulary.{names_in_line, ProtocolKind}
 use Rattle.tso_terms.specs.Thread.{value_in}
 use Rattle.basic_laws.specs.Types.{Choice, Reg}
 use Rattle.protocol_tables.specs.Tables.{table_of}

@@ -3,7 +3,9 @@ use Rattle.std.specs.Prelude.{ℕ, ◌≡◌, ◌<◌, ◌≤◌, Bool, true, Li
 use Rattle.std.specs.Option.{option_map}
 use Rattle.json.specs.Tree.{depth, HasNumbers}
 use Rattle.serde_json.specs.Data.{Data}
-use Rattle.printed_laws.specs.Vocabulary.{AnswersFit, chosen, compact_text, Configuration, CoresExist, IsConfigurationWithinLimits, IsOrderFor, IsTest, IsWord, Litmus, most_choices, outline, ProtocolKind, run_under, trace_text, trace_under}
+use Rattle.printed_laws.specs.Vocabulary.{AnswersFit, chosen, compact_text, Configuration, CoresExist, IsConfigurationWithinLimits}
+use Rattle.printed_laws.specs.Vocabulary.{IsOrderFor, IsTest, IsWord, Litmus, most_choices, outline, ProtocolKind, run_under, trace_text}
+use Rattle.printed_laws.specs.Vocabulary.{trace_under}
 use Rattle.basic_laws.specs.Types.{Choice, Entry, W}
 use Rattle.order_builder.specs.PrintedOrder.{HasWord}
 use Rattle.trace_report.specs.Known.{StepNamesExist}

@@ -3,7 +3,9 @@
 use Rattle.litmus_tokens.specs.declared.instructions.Instructions.{Instructions}
 use Rattle.command_line.specs.Instructions.{instructions_of}
 use Rattle.std.specs.Prelude.{ℕ, ◌+◌, ◌≡◌, ◌⊎◌, ◌<◌, ◌≤◌, ◌↔◌, Bool, true, false, List, ◌++◌, length, Some, Contains, slice_get, codes}
-use Rattle.printed_laws.specs.Vocabulary.{Claim, Condition, Exists, Forall, InputHeadline, IsTest, line, Litmus, longest_input, Named, names_shown, NotExists, Outcome, parts_of, printed_numbers, Quantifier, Search, shown_values, SpellsTest, truth_of, values_at, verdict_word}
+use Rattle.printed_laws.specs.Vocabulary.{Claim, Condition, Exists, Forall, InputHeadline, IsTest, line, Litmus, longest_input, Named}
+use Rattle.printed_laws.specs.Vocabulary.{names_shown, NotExists, Outcome, parts_of, printed_numbers, Quantifier, Search, shown_values}
+use Rattle.printed_laws.specs.Vocabulary.{SpellsTest, truth_of, values_at, verdict_word}
 use Rattle.refutation_laws.specs.Models.{depth_of}
 use Rattle.search_report.specs.OutcomesJson.{holds_in}
 use Rattle.command_line.specs.Explanation.{Explanation}
@@ -56,7 +58,8 @@ VerdictMeans word Meant =
 -- of one input `why` under a model prints the verdict that `outcomes` prints at that model's depth, in whichever form
 abbrev pub VerdictsAgree : Type 0
 VerdictsAgree =
-    (search : Search) (plan : Explanation) (set : Instructions) (json again assert asserted : Bool) (input out other : List ℕ) (t : Litmus) (condition : Condition)
+    (search : Search) (plan : Explanation) (set : Instructions) (json again assert asserted : Bool)
+    (input out other : List ℕ) (t : Litmus) (condition : Condition)
     (verdict other_verdict : Bool)
     → length input ≤ longest_input → SpellsTest set (parts_of input).test t → t.condition ≡ Some condition → search.depth ≡ depth_of plan.model
     → InputHeadline (settings.Outcomes search set json assert) input out → PrintsVerdict json (verdict_word verdict) out

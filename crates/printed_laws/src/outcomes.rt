@@ -52,7 +52,8 @@ pub fn both_commands_print_one_verdict()
 /// Where it is asserted that the condition is as it claims, the status of an answer with `Verdict No` tells that it isn't, and with
 /// `Verdict Ok` it is that of success. Where nothing is asserted, it is that of success too, unless a search met its limit.
 pub fn statuses_tell_the_verdict()
-    ensures outcomes_no { (search : Search) (set : Instructions) (json : Bool) → StatusTells (Settings.Outcomes search set json true) json (codes "No") NotAsClaimed }
+    ensures outcomes_no { (search : Search) (set : Instructions) (json : Bool)
+        → StatusTells (Settings.Outcomes search set json true) json (codes "No") NotAsClaimed }
     ensures outcomes_ok { (search : Search) (set : Instructions) (json : Bool) → StatusTells (Settings.Outcomes search set json true) json (codes "Ok") Good }
     ensures outcomes_unasserted { (search : Search) (set : Instructions) (json verdict : Bool)
         → StatusTellsNoVerdict (Settings.Outcomes search set json false) json (verdict_word verdict) }

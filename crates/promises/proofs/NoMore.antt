@@ -1,5 +1,6 @@
 -- What a search finds with store buffers, and what it hides.
-use Rattle.promises.proofs.Vocabulary.{◌≡◌, ◌∙◌, ◌<◌, ℕ, Bool, false, ◌||◌, List, length, IfOk, Ok, Err, Result, Some, None, Vec, ap, Litmus, IsTest, EndsAreWhatTsoAllows, IsAllowedAtDepth, AreReached, HaveEveryEnd, AreWhat}
+use Rattle.promises.proofs.Vocabulary.{◌≡◌, ◌∙◌, ◌<◌, ℕ, Bool, false, ◌||◌, List, length, IfOk, Ok, Err, Result, Some, None, Vec, ap}
+use Rattle.promises.proofs.Vocabulary.{Litmus, IsTest, EndsAreWhatTsoAllows, IsAllowedAtDepth, AreReached, HaveEveryEnd, AreWhat}
 use Rattle.std.specs.declared.alloc.Global.{Global}
 use Rattle.tso_terms.specs.Condition as conditions
 use Rattle.tso_report.specs.declared.show.Show.TheVariants.{Condition}
@@ -24,7 +25,12 @@ or-false : (b : Bool) → b ≡ false → b || false ≡ false
 or-false b is = ap (λ c. c || false) is
 
 pub unnamed-hidden : {E : Type 0} (r : Result (Vec (List Bool) Global) E) (t : Litmus) → IfOk r (λ hidden. AreAllNotShown Condition t hidden.items)
-    → IfOk r (λ hidden. (c : conditions.Condition) (core : ℕ) (reg : Reg) → t.condition ≡ Some c → core < length t.programs → claim_names_register c.claim core reg ≡ false → IsHidden hidden.items core reg)
+    → IfOk r (λ hidden.
+    (c : conditions.Condition) (core : ℕ) (reg : Reg)
+    → t.condition ≡ Some c
+    → core < length t.programs
+    → claim_names_register c.claim core reg ≡ false
+    → IsHidden hidden.items core reg)
 unnamed-hidden (Ok hidden) t all = λ c core reg is there unnamed.
     all core reg there (or-false (is_looked_at t.condition (named_register core reg)) (ap (λ o. is_looked_at o (named_register core reg)) is ∙ unnamed))
 unnamed-hidden (Err e) t all = tt

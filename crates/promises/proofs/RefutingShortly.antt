@@ -8,7 +8,10 @@ use Rattle.short_refutations.specs.Laws.{IsRefuted}
 use Rattle.short_refutations.specs.Refutations.{Lemma, Node, refutes}
 use Rattle.refutation_laws.specs.declared.model.Model.{Model}
 
-refuted-by : (model : Model) (t : Litmus) (claim : Claim) → IsRefuted model t claim → ((lemmas : List Lemma) (tree : List Node) → refutes model t claim lemmas tree ≡ true → ⊥) → ⊥
+refuted-by : (model : Model) (t : Litmus) (claim : Claim)
+    → IsRefuted model t claim
+    → ((lemmas : List Lemma) (tree : List Node) → refutes model t claim lemmas tree ≡ true → ⊥)
+    → ⊥
 refuted-by model t claim is none = none is.lemmas is.tree is.refuted
 
 -- what is refuted or met is met, where nothing refutes it

@@ -1,5 +1,7 @@
 -- The names that the proofs of this crate bring in from definitions and from crates below; each file takes its own from here.
-pub use Rattle.std.proofs.Common.{◌≡◌, ◌≤◌, ◌<◌, ℕ, Bool, true, false, refl, List, length, Result, Ok, Err, IfOk, Some, string_bytes, ◌∙◌, [], ap, sym, subst, ◌∷◌, ◌++◌, ◌||◌, None, Vec, arith, ◌≢◌, ◌==◌, not, if◌then◌else◌, OnOk, ◌⊎◌, inl, inr, All}
+pub use Rattle.std.proofs.Common.{◌≡◌, ◌≤◌, ◌<◌, ℕ, Bool, true, false, refl, List, length, Result, Ok, Err, IfOk, Some, string_bytes, ◌∙◌}
+pub use Rattle.std.proofs.Common.{[], ap, sym, subst, ◌∷◌, ◌++◌, ◌||◌, None, Vec, arith, ◌≢◌, ◌==◌, not, if◌then◌else◌, OnOk, ◌⊎◌, inl, inr}
+pub use Rattle.std.proofs.Common.{All}
 pub use Rattle.tso_terms.specs.Litmus.{Litmus, IsTest}
 pub use Rattle.tso_terms.specs.Runs.{Run, run, CoresExist}
 pub use Rattle.basic_laws.specs.Types.{Atomic, Split, Choice, Step, Drain, Entry, Bus, Stalled}

@@ -1,5 +1,6 @@
 -- What the code finds that a write adds is what its expression adds.
-use Rattle.reading_tables.proofs.Vocabulary.{◌≡◌, ◌<◌, ◌≤◌, ◌+◌, ℕ, zero, suc, Bool, true, false, if◌then◌else◌, List, [], ◌∷◌, ◌++◌, Option, None, length, slice_index_or, get_or, arith, refl, ap, ◌∙◌, Entry}
+use Rattle.reading_tables.proofs.Vocabulary.{◌≡◌, ◌<◌, ◌≤◌, ◌+◌, ℕ, zero, suc, Bool, true, false, if◌then◌else◌, List, [], ◌∷◌, ◌++◌}
+use Rattle.reading_tables.proofs.Vocabulary.{Option, None, length, slice_index_or, get_or, arith, refl, ap, ◌∙◌, Entry}
 use Rattle.basic_laws.specs.Types.{Operator, Add, And, Or, Subtract, Xor}
 use Rattle.refutation_laws.specs.Known.{same_event}
 use Rattle.possible_reads.specs.Expressions.{Expression, Constant, Returned, Combined, Negated, Exchanged}
@@ -159,4 +160,5 @@ computed-silent (Constant n) value truth h = absurd h
 computed-silent (Returned read) value truth h = absurd h
 
 pub no_facts : (makings : List Making) (k value : ℕ) (truth : Bool) → value_facts (held_of (all_made makings) (Made k)) value truth ≡ []
-no_facts makings k value truth = computed-silent (held_of (all_made makings) (Made k)) value truth (computed-at (all_made makings) k (all-computed [] makings tt))
+no_facts makings k value truth =
+    computed-silent (held_of (all_made makings) (Made k)) value truth (computed-at (all_made makings) k (all-computed [] makings tt))

@@ -1,5 +1,7 @@
 -- Looking up what a write can write.
-use Rattle.reading_tables.proofs.Vocabulary.{◌≡◌, ◌<◌, ◌+◌, ℕ, zero, suc, Bool, true, false, if◌then◌else◌, List, [], ◌∷◌, ◌++◌, Option, Some, arith, refl, sym, ap, ◌∙◌, map, length, drop, get_or, slice_index_or, at_drop_more, Entry, Litmus}
+use Rattle.reading_tables.proofs.Vocabulary.{◌≡◌, ◌<◌, ◌+◌, ℕ, zero, suc, Bool, true, false, if◌then◌else◌, List, [], ◌∷◌, ◌++◌, Option}
+use Rattle.reading_tables.proofs.Vocabulary.{Some, arith, refl, sym, ap, ◌∙◌, map, length, drop, get_or, slice_index_or, at_drop_more}
+use Rattle.reading_tables.proofs.Vocabulary.{Entry, Litmus}
 use Rattle.std.specs.Prelude.{Vec}
 use Rattle.std.specs.Global.{Global}
 use Rattle.refutation_laws.specs.Known.{same_event}
@@ -18,7 +20,8 @@ value-at g (w ∷ ws) (v ∷ vs) z zero d x e l = let q : known_of v ≡ g w = c
 value-at g (w ∷ ws) (v ∷ vs) z (suc i) d x e l =
     value-at g ws vs z i d x (let q : map known_of vs ≡ map g ws ++ (z ∷ []) = cc in q) (omega (arith, l))
 
-pub found : (t : Litmus) (table : List spec.Reading) (made : List Expression) (ws : List Written) (vs : List (Option (Vec ℕ Global))) (i : ℕ) (d : Option (Vec ℕ Global))
+pub found : (t : Litmus) (table : List spec.Reading) (made : List Expression) (ws : List Written)
+    (vs : List (Option (Vec ℕ Global))) (i : ℕ) (d : Option (Vec ℕ Global))
     (x : Written) (w : Entry) → AreValues table made ws vs → i < length ws
     → expression_of t w ≡ expression_among (map (written_of made) (drop i ws)) w → same_event (get_or ws i x).write w ≡ true
     → known_of (slice_index_or vs i d) ≡ spec.values_written t table w

@@ -1,5 +1,6 @@
 -- What all that was made can be, one after the other.
-use Rattle.reading_tables.proofs.Vocabulary.{◌≡◌, ◌<◌, ◌+◌, ℕ, zero, suc, List, [], ◌∷◌, ◌++◌, Option, length, slice_index_or, get_or, arith, sym, ap, ◌∙◌, map, map-append}
+use Rattle.reading_tables.proofs.Vocabulary.{◌≡◌, ◌<◌, ◌+◌, ℕ, zero, suc, List, [], ◌∷◌, ◌++◌, Option, length, slice_index_or, get_or}
+use Rattle.reading_tables.proofs.Vocabulary.{arith, sym, ap, ◌∙◌, map, map-append}
 use Rattle.std.specs.Prelude.{Vec, take}
 use Rattle.std.specs.Global.{Global}
 use Rattle.possible_reads.specs.Expressions.{Expression}
@@ -9,7 +10,8 @@ use Rattle.reading_tables.specs.inner.Told.{making_of, all_made, known_of}
 use Rattle.reading_tables.specs.inner.Tables.{AreMadeValues}
 use Rattle.reading_tables.proofs.Makings.{take-more, made-more}
 
-pub made-value-at : (f : Expression → spec.Values) (es : List Expression) (vs : List (Option (Vec ℕ Global))) (i : ℕ) (d : Option (Vec ℕ Global)) (e : Expression)
+pub made-value-at : (f : Expression → spec.Values) (es : List Expression) (vs : List (Option (Vec ℕ Global))) (i : ℕ)
+    (d : Option (Vec ℕ Global)) (e : Expression)
     → map known_of vs ≡ map f es → i < length vs → known_of (slice_index_or vs i d) ≡ f (slice_index_or es i e)
 made-value-at f es [] i d e are l = absurd (omega arith)
 made-value-at f [] (v ∷ vs) i d e are l = let z : ⊥ = cc in absurd z
@@ -17,7 +19,9 @@ made-value-at f (x ∷ es) (v ∷ vs) zero d e are l = let q : known_of v ≡ f 
 made-value-at f (x ∷ es) (v ∷ vs) (suc i) d e are l =
     made-value-at f es vs i d e (let q : map known_of vs ≡ map f es = cc in q) (omega (arith, l))
 
-pub one-value-more : (table : List spec.Reading) (ms : List Making) (i : ℕ) (d : Making) (vs : List (Option (Vec ℕ Global))) (v : Option (Vec ℕ Global)) → i < length ms
+pub one-value-more : (table : List spec.Reading) (ms : List Making) (i : ℕ) (d : Making)
+    (vs : List (Option (Vec ℕ Global))) (v : Option (Vec ℕ Global))
+    → i < length ms
     → AreMadeValues table (all_made (take i ms)) vs
     → known_of v ≡ spec.values_of (spec.values_read table) (making_of (all_made (take i ms)) (get_or ms i d))
     → AreMadeValues table (all_made (take (i + 1) ms)) (vs ++ (v ∷ []))

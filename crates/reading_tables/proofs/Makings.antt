@@ -1,5 +1,6 @@
 -- What is made, one after the other: more that is made leaves what was made before as it is.
-use Rattle.reading_tables.proofs.Vocabulary.{◌≡◌, ◌<◌, ◌≤◌, ◌+◌, ℕ, zero, suc, List, [], ◌∷◌, ◌++◌, length, slice_index_or, get_or, arith, refl, sym, ap, ◌∙◌, subst, map, map-append}
+use Rattle.reading_tables.proofs.Vocabulary.{◌≡◌, ◌<◌, ◌≤◌, ◌+◌, ℕ, zero, suc, List, [], ◌∷◌, ◌++◌, length, slice_index_or, get_or, arith}
+use Rattle.reading_tables.proofs.Vocabulary.{refl, sym, ap, ◌∙◌, subst, map, map-append}
 use Rattle.std.specs.Prelude.{slice_set, take, Vec}
 use Rattle.std.specs.Global.{Global}
 use Rattle.possible_reads.specs.Expressions.{Expression}
@@ -8,7 +9,8 @@ use Rattle.reading_tables.specs.declared.expressions.Making.{Making}
 use Rattle.reading_tables.specs.declared.expressions.Written.{Written}
 use Rattle.reading_tables.specs.declared.expressions.Walk.{Walk}
 use Rattle.reading_tables.specs.declared.expressions.Held.TheVariants.{Number, Returned as Read, Made}
-use Rattle.reading_tables.specs.inner.Told.{unmade, held_of, making_of, made_after, all_made, written_of, HasBeenMade, HaveBeenMade, IsMore, IsWalk, made_in, held_registers, told_writes}
+use Rattle.reading_tables.specs.inner.Told.{unmade, held_of, making_of, made_after, all_made, written_of, HasBeenMade, HaveBeenMade, IsMore}
+use Rattle.reading_tables.specs.inner.Told.{IsWalk, made_in, held_registers, told_writes}
 
 -- ---- lists
 

@@ -1,5 +1,6 @@
 -- Where a round changes nothing, no later one does.
-use Rattle.reading_tables.proofs.Vocabulary.{◌≡◌, ◌<◌, ◌≤◌, ◌+◌, ℕ, zero, suc, List, arith, sym, ap, ◌∙◌, ◌⊎◌, inl, inr, subst, length, map, filter, Litmus, Entry}
+use Rattle.reading_tables.proofs.Vocabulary.{◌≡◌, ◌<◌, ◌≤◌, ◌+◌, ℕ, zero, suc, List, arith, sym, ap, ◌∙◌, ◌⊎◌, inl, inr, subst, length, map}
+use Rattle.reading_tables.proofs.Vocabulary.{filter, Litmus, Entry}
 use Rattle.tso_terms.specs.ProgramOrder.{is_read}
 use Rattle.refutation_laws.specs.Known.{events_of}
 use Rattle.possible_reads.specs.Facts.{Fact}

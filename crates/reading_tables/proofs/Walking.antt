@@ -1,12 +1,14 @@
 -- One instruction more, and one core more: what it writes comes behind what those before it write, and their registers stay as they are.
-use Rattle.reading_tables.proofs.Vocabulary.{◌≡◌, ◌<◌, ◌+◌, ℕ, List, [], ◌∷◌, ◌++◌, ◌⊎◌, inl, inr, length, drop, slice_index_or, get_or, arith, subst, sym, ap, ◌∙◌, append_assoc, at_drop_more, Instr, map}
+use Rattle.reading_tables.proofs.Vocabulary.{◌≡◌, ◌<◌, ◌+◌, ℕ, List, [], ◌∷◌, ◌++◌, ◌⊎◌, inl, inr, length, drop, slice_index_or, get_or}
+use Rattle.reading_tables.proofs.Vocabulary.{arith, subst, sym, ap, ◌∙◌, append_assoc, at_drop_more, Instr, map}
 use Rattle.tso_terms.specs.Actions.{action_of}
 use Rattle.basic_laws.specs.Types.{Action}
 use Rattle.reading_tables.specs.declared.expressions.Held.{Held}
 use Rattle.reading_tables.specs.declared.expressions.Making.{Making}
 use Rattle.reading_tables.specs.inner.Told.{held_of, all_made, HaveBeenMade, IsMore}
 use Rattle.reading_tables.proofs.Makings.{at-front, at-end, all-in-more, held-kept}
-use Rattle.possible_reads.specs.Expressions.{Expression, Written, written_by, registers_after_action, written_in, registers_at_end, written_from, first_registers}
+use Rattle.possible_reads.specs.Expressions.{Expression, Written, written_by, registers_after_action, written_in, registers_at_end}
+use Rattle.possible_reads.specs.Expressions.{written_from, first_registers}
 
 -- one instruction: what it writes comes behind what those before it wrote
 pub write-step : (core place : ℕ) (instr : Instr) (action : Action) (rest : List Instr) (old new : List Written) (registers after : List Expression)

@@ -4,7 +4,8 @@ ghost use Rattle.tso_terms.specs.Registers.{index_of};
 ghost use Rattle.tso_terms.specs.Thread.{entry};
 ghost use Rattle.tso_terms.specs.declared.instruction.Instr.{Instr};
 ghost use Rattle.possible_reads.specs.Expressions as spec;
-ghost use Rattle.reading_tables.specs.inner.Told.{held_of, making_of, all_made, written_of, AreExpressions, HasBeenMade, HaveBeenMade, IsMakingOfMade, IsMore, IsWalk, made_in, held_registers, told_writes};
+ghost use Rattle.reading_tables.specs.inner.Told.{held_of, making_of, all_made, written_of, AreExpressions, HasBeenMade, HaveBeenMade};
+ghost use Rattle.reading_tables.specs.inner.Told.{IsMakingOfMade, IsMore, IsWalk, made_in, held_registers, told_writes};
 
 use std::alloc::Global;
 use tso_terms::{

@@ -51,7 +51,12 @@ fn is_hidden(events: &[Entry], read: &Entry) -> bool
 
 /// Whether another write to the read's location comes between w and the read in their program.
 fn is_overwritten(events: &[Entry], read: &Entry, w: &Entry) -> bool
-    ensures { result ≡ list_any (λ v. program_order.writes_to read.now.loc.0 v && program_order.is_before w.now v && program_order.is_before v read.now) events.now }
+    ensures { result ≡ list_any
+        (λ v.
+        program_order.writes_to read.now.loc.0 v
+        && program_order.is_before w.now v
+        && program_order.is_before v read.now)
+        events.now }
 {
     for v in events {
         if writes_to(read.loc.0, v) && is_before(w, v) && is_before(v, read) {
@@ -169,7 +174,8 @@ pub fn sources_after(
     read: &Entry,
 ) -> Result<Vec<Option<Entry>>, NoMemory>
     requires { IsTold told }
-    ensures { IfOk result (λ ss. ss.items ≡ spec.sources_after told.entry.test.now (facts_of told.entry.facts.now) (readings_of told.entry.readings.now) read.now) }
+    ensures { IfOk result (λ ss.
+        ss.items ≡ spec.sources_after told.entry.test.now (facts_of told.entry.facts.now) (readings_of told.entry.readings.now) read.now) }
 {
     match reading_for(told.readings, read) {
         Some(x) => kept_sources(alloc, told, read, &x.sources),

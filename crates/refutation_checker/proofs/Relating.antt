@@ -1,5 +1,6 @@
 -- Some relation leads from x to y just where a first one does.
-use Rattle.refutation_checker.proofs.Vocabulary.{◌≡◌, ◌||◌, cond, Bool, true, false, List, [], ◌∷◌, Some, refl, Litmus, Entry, Knowledge, relates, is_edge, first_that_relates, Relation}
+use Rattle.refutation_checker.proofs.Vocabulary.{◌≡◌, ◌||◌, cond, Bool, true, false, List, [], ◌∷◌, Some, refl, Litmus, Entry, Knowledge}
+use Rattle.refutation_checker.proofs.Vocabulary.{relates, is_edge, first_that_relates, Relation}
 pub use Rattle.refutations.proofs.Relating.{is_found, leads-on, leads-off, begun}
 
 pub found : (t : Litmus) (k : Knowledge) (relations : List Relation) (x y : Entry)

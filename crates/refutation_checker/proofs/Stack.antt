@@ -1,6 +1,7 @@
 -- The stack of branches: what is pushed comes first.
 use Rattle.refutation_checker.proofs.Vocabulary.{◌≡◌, List, [], ◌∷◌, ◌++◌, refl, ap, ◌∙◌, map, facts_of, branches_of}
-use Rattle.refutation_checker.proofs.Vocabulary.{◌<◌, ◌≤◌, ℕ, suc, arith, ◌+◌, ◌==◌, ◌&&◌, Bool, true, false, length, get_or, drop, sym, at_drop_more, at_drop_all, nat_tests, Litmus, Model, node_of}
+use Rattle.refutation_checker.proofs.Vocabulary.{◌<◌, ◌≤◌, ℕ, suc, arith, ◌+◌, ◌==◌, ◌&&◌, Bool, true, false, length, get_or, drop, sym}
+use Rattle.refutation_checker.proofs.Vocabulary.{at_drop_more, at_drop_all, nat_tests, Litmus, Model, node_of}
 use Rattle.possible_reads.specs.Facts as spec
 use Rattle.short_refutations.specs.Refutations as refutations
 use Rattle.short_refutations.specs.Refutations.{Lemma, is_node, known_from, answers, close, hold}
@@ -18,7 +19,9 @@ branches-push [] a = refl
 branches-push (b ∷ old) a = ap (λ ks. ks ++ (facts_of b.items ∷ [])) (branches-push old a)
 
 -- one more branch
-pub pushed : (before after : List (Vec Fact Global)) (a : Vec Fact Global) → after ≡ before ++ (a ∷ []) → branches_of after ≡ facts_of a.items ∷ branches_of before
+pub pushed : (before after : List (Vec Fact Global)) (a : Vec Fact Global)
+    → after ≡ before ++ (a ∷ [])
+    → branches_of after ≡ facts_of a.items ∷ branches_of before
 pushed before after a e = ap branches_of e ∙ branches-push before a
 
 -- what two lists give, before others
@@ -33,7 +36,8 @@ below t facts n = map (λ answer. answer ++ facts) (answers t (known_from t fact
 -- ---- the nodes, one by one
 
 module _ (model : Model) (t : Litmus) (lemmas : List Lemma) (nodes : List Node) (i : ℕ) (s : Node) (within : i < length nodes) (is : s ≡ get_or nodes i s)
-    (old new : List (Vec Fact Global)) (a : Vec Fact Global) (popped : old ≡ new ++ (a ∷ [])) (whole b : Bool) (judged : b ≡ is_node model t lemmas (known_from t (facts_of a.items)) (node_of s))
+    (old new : List (Vec Fact Global)) (a : Vec Fact Global) (popped : old ≡ new ++ (a ∷ [])) (whole b : Bool)
+    (judged : b ≡ is_node model t lemmas (known_from t (facts_of a.items)) (node_of s))
     (so : whole ≡ close model t lemmas (branches_of old) (map node_of (drop i nodes))) where
   next : whole
       ≡ (is_node model t lemmas (known_from t (facts_of a.items)) (node_of s)
@@ -59,7 +63,9 @@ module _ (model : Model) (t : Litmus) (lemmas : List Lemma) (nodes : List Node) 
       ∙ ap (λ ks. close model t lemmas ks (map node_of (drop (i + 1) nodes))) (sym e))
 
 -- no node is left
-pub ended : (model : Model) (t : Litmus) (lemmas : List Lemma) (nodes : List Node) (i : ℕ) → length nodes ≤ i → (cases : List (Vec Fact Global)) (whole empty : Bool)
+pub ended : (model : Model) (t : Litmus) (lemmas : List Lemma) (nodes : List Node) (i : ℕ)
+    → length nodes ≤ i
+    → (cases : List (Vec Fact Global)) (whole empty : Bool)
     → whole ≡ close model t lemmas (branches_of cases) (map node_of (drop i nodes)) → (n : ℕ) → n ≡ length cases → empty ≡ (n == 0) → empty ≡ whole
 ended model t lemmas nodes i all cases whole empty so n size is =
     is ∙ (ap (λ m. m == 0) size ∙ go cases ∙ sym (so ∙ at_drop_all (λ ss. close model t lemmas (branches_of cases) (map node_of ss)) nodes i all))

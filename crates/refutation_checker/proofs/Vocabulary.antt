@@ -1,5 +1,9 @@
 -- The names that the proofs of this crate bring in from definitions and from crates below; each file takes its own from here.
-pub use Rattle.refutations.proofs.Vocabulary.{◌≡◌, ◌<◌, ◌≤◌, ◌+◌, ◌==◌, ◌&&◌, ◌||◌, ℕ, zero, suc, Bool, true, false, cond, if◌then◌else◌, List, [], ◌∷◌, ◌++◌, length, drop, get_or, Option, Some, None, refl, sym, ap, ◌∙◌, subst, map, filter, list_any, list_all, arith, rules, append_assoc, append-nil, at_drop_more, at_drop_all, nat_tests, Litmus, Entry, is_event, writes_to, is_cycle, leads_back, relations_of, Claim, events_of}
+pub use Rattle.refutations.proofs.Vocabulary.{◌≡◌, ◌<◌, ◌≤◌, ◌+◌, ◌==◌, ◌&&◌, ◌||◌, ℕ, zero, suc, Bool, true, false, cond, if◌then◌else◌}
+pub use Rattle.refutations.proofs.Vocabulary.{List, [], ◌∷◌, ◌++◌, length, drop, get_or, Option, Some, None, refl, sym, ap, ◌∙◌, subst, map}
+pub use Rattle.refutations.proofs.Vocabulary.{filter, list_any, list_all, arith, rules, append_assoc, append-nil, at_drop_more, at_drop_all}
+pub use Rattle.refutations.proofs.Vocabulary.{nat_tests, Litmus, Entry, is_event, writes_to, is_cycle, leads_back, relations_of, Claim}
+pub use Rattle.refutations.proofs.Vocabulary.{events_of}
 pub use Rattle.refutation_laws.specs.declared.model.Relation.{Relation}
 pub use Rattle.refutation_laws.specs.declared.model.Model.{Model}
 pub use Rattle.short_refutations.specs.Edges.{Knowledge, overwrites, relates, is_edge}

@@ -167,7 +167,8 @@ pub fn add_unread<'t>(
 ) -> Result<(), NoMemory>
     requires { IsTold told }
     ensures { IfOk result (λ _. branches_of branches.new.items
-        ≡ map (λ answer. answer ++ facts_of facts.now) (spec.unread told.entry.test.now (knowledge_of told.entry) loc word.now) ++ branches_of branches.old.items) }
+        ≡ map (λ answer. answer ++ facts_of facts.now) (spec.unread told.entry.test.now (knowledge_of told.entry) loc word.now)
+        ++ branches_of branches.old.items) }
 {
     match word {
         None => Ok(()),
@@ -288,7 +289,8 @@ fn add_cases_of<'t>(
 ) -> Result<(), NoMemory>
     requires { IsProblem problem.now.test.now problem.now }
     ensures { IfOk result (λ _. branches_of branches.new.items
-        ≡ map (λ answer. answer ++ facts_of facts.now) (spec.answers_of_cases problem.now.test.now (slice_get (facts_of facts.now) number)) ++ branches_of branches.old.items) }
+        ≡ map (λ answer. answer ++ facts_of facts.now) (spec.answers_of_cases problem.now.test.now (slice_get (facts_of facts.now) number))
+        ++ branches_of branches.old.items) }
 {
     match facts.get(number) {
         Some(Fact::Holds(prop, truth)) => add_cases(alloc, branches, problem, facts, prop, *truth),
@@ -322,7 +324,8 @@ fn add_values_of<'t>(
 ) -> Result<(), NoMemory>
     requires { IsTold told }
     ensures { IfOk result (λ _. branches_of branches.new.items
-        ≡ map (λ answer. answer ++ facts_of facts.now) (spec.answers told.entry.test.now (knowledge_of told.entry) (spec.ReadsValue read)) ++ branches_of branches.old.items) }
+        ≡ map (λ answer. answer ++ facts_of facts.now) (spec.answers told.entry.test.now (knowledge_of told.entry) (spec.ReadsValue read))
+        ++ branches_of branches.old.items) }
 {
     match reading_for(told.readings, &read) {
         Some(x) => add_known_values(alloc, branches, facts, read, &x.values),
@@ -339,7 +342,8 @@ fn add_sources_of<'t>(
 ) -> Result<(), NoMemory>
     requires { IsTold told }
     ensures { IfOk result (λ _. branches_of branches.new.items
-        ≡ map (λ answer. answer ++ facts_of facts.now) (spec.answers told.entry.test.now (knowledge_of told.entry) (spec.ReadsFrom read)) ++ branches_of branches.old.items) }
+        ≡ map (λ answer. answer ++ facts_of facts.now) (spec.answers told.entry.test.now (knowledge_of told.entry) (spec.ReadsFrom read))
+        ++ branches_of branches.old.items) }
 {
     let sources = sources_for(alloc, told, &read)?;
     add_sources(alloc, branches, facts, read, &sources)
@@ -356,7 +360,8 @@ fn add_readers_of<'t>(
 ) -> Result<(), NoMemory>
     requires { IsTold told }
     ensures { IfOk result (λ _. branches_of branches.new.items
-        ≡ map (λ answer. answer ++ facts_of facts.now) (spec.answers told.entry.test.now (knowledge_of told.entry) (spec.IsReadBy loc word)) ++ branches_of branches.old.items) }
+        ≡ map (λ answer. answer ++ facts_of facts.now) (spec.answers told.entry.test.now (knowledge_of told.entry) (spec.IsReadBy loc word))
+        ++ branches_of branches.old.items) }
 {
     add_unread(alloc, branches, told, facts, loc, &word)?;
     add_readers(alloc, branches, told, facts, loc, word)
@@ -401,7 +406,8 @@ pub fn add_branches<'t>(
     requires told { IsCase problem.now told }
     requires facts { facts_of facts.now ≡ facts_of told.facts.now }
     ensures { IfOk result (λ _. branches_of branches.new.items
-        ≡ map (λ answer. answer ++ facts_of facts.now) (spec.answers told.entry.test.now (knowledge_of told.entry) (node_of node.now)) ++ branches_of branches.old.items) }
+        ≡ map (λ answer. answer ++ facts_of facts.now) (spec.answers told.entry.test.now (knowledge_of told.entry) (node_of node.now))
+        ++ branches_of branches.old.items) }
 {
     match node {
         Node::ReadsFrom(r) => add_sources_of(alloc, branches, told, facts, *r),

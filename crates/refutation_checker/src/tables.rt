@@ -83,7 +83,9 @@ pub fn values_left(
     reg: Reg,
 ) -> Result<Option<Vec<u32>>, NoMemory>
     requires { IsCase problem.now told }
-    ensures { IfOk result (λ v. known_of v ≡ possible.values_of (possible.values_read (readings_of told.entry.readings.now)) (expressions.register_left told.entry.test.now core.0 reg)) }
+    ensures { IfOk result (λ v.
+        known_of v ≡ possible.values_of (possible.values_read (readings_of told.entry.readings.now))
+        (expressions.register_left told.entry.test.now core.0 reg)) }
 {
     held_values(
         alloc,

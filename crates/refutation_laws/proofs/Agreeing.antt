@@ -1,5 +1,9 @@
 -- The edges that a candidate has which agrees with what is known.
-use Rattle.refutation_laws.proofs.Vocabulary.{◌≡◌, ◌&&◌, true, List, [], ◌∷◌, Option, Some, None, refl, sym, ap, ◌∙◌, inl, inr, subst, list_any, Litmus, is_read, writes_to, Entry, IsIn, IsEarlier, Candidate, Returns, IsCandidate, events, ReadsFrom, IsBefore, StandsAfter, FromReads, and-both, or-either, location, Sound, Known, same_event, is_write_of, comes_before, is_overwritten, from_reads, Source, Pair, Stands, IsSameSource, HasSources, HasPairs, Agrees}
+use Rattle.refutation_laws.proofs.Vocabulary.{◌≡◌, ◌&&◌, true, List, [], ◌∷◌, Option, Some, None, refl, sym, ap, ◌∙◌, inl, inr, subst}
+use Rattle.refutation_laws.proofs.Vocabulary.{list_any, Litmus, is_read, writes_to, Entry, IsIn, IsEarlier, Candidate, Returns, IsCandidate}
+use Rattle.refutation_laws.proofs.Vocabulary.{events, ReadsFrom, IsBefore, StandsAfter, FromReads, and-both, or-either, location, Sound}
+use Rattle.refutation_laws.proofs.Vocabulary.{Known, same_event, is_write_of, comes_before, is_overwritten, from_reads, Source, Pair}
+use Rattle.refutation_laws.proofs.Vocabulary.{Stands, IsSameSource, HasSources, HasPairs, Agrees}
 use Rattle.refutation_laws.proofs.Standing.{same-bare, one-entry}
 
 pub stands-for : (t : Litmus) (c : Candidate) (d e x : Entry) → same_event d e ≡ true → Stands t c e x → Stands t c d x

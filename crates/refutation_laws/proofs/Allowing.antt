@@ -1,11 +1,22 @@
 -- The candidate of a full case with no cycle, and with no write between two parts, is allowed: each of its edges is known.
-use Rattle.refutation_laws.proofs.Vocabulary.{◌≡◌, ℕ, ◌==◌, ◌&&◌, ◌||◌, Bool, true, false, not, if◌then◌else◌, List, [], ◌∷◌, Option, Some, None, refl, sym, ap, ◌∙◌, ◌⊎◌, inl, inr, subst, list_all, Litmus, is_before, is_read, is_write, writes_to, same_kind, Entry, F, LR, LW, IsIn, IsEarlier, LeadsTo, at_once, onward, IsAcyclic, Candidate, IsCandidate, events, is_access, share_location, ReadsFrom, IsBefore, StandsAfter, FromReads, IsBeforeOnLocation, po_loc, rf, co, fr, HappensBefore, write_before_write, read_before_access, mfence, implied, rfe, IsAtomic, is_locked, in-filter, filter-in, and-both, or-either, number-same, kind-itself, never-itself, stand-once, location, starts-in, Ordered, Sound, sound, IsBeforeSequentially, Known, bare, events_of, same_event, is_event, is_write_of, reads_from, comes_before, is_overwritten, from_reads, Source, relates, on_location, global_in, is_edge, are_parts, IsAllowedBy, Model, Tso, Sequential, Relation, Mfence, IsPossibleSource, NoneBetween}
+use Rattle.refutation_laws.proofs.Vocabulary.{◌≡◌, ℕ, ◌==◌, ◌&&◌, ◌||◌, Bool, true, false, not, if◌then◌else◌, List, [], ◌∷◌, Option, Some}
+use Rattle.refutation_laws.proofs.Vocabulary.{None, refl, sym, ap, ◌∙◌, ◌⊎◌, inl, inr, subst, list_all, Litmus, is_before, is_read}
+use Rattle.refutation_laws.proofs.Vocabulary.{is_write, writes_to, same_kind, Entry, F, LR, LW, IsIn, IsEarlier, LeadsTo, at_once, onward}
+use Rattle.refutation_laws.proofs.Vocabulary.{IsAcyclic, Candidate, IsCandidate, events, is_access, share_location, ReadsFrom, IsBefore}
+use Rattle.refutation_laws.proofs.Vocabulary.{StandsAfter, FromReads, IsBeforeOnLocation, po_loc, rf, co, fr, HappensBefore}
+use Rattle.refutation_laws.proofs.Vocabulary.{write_before_write, read_before_access, mfence, implied, rfe, IsAtomic, is_locked, in-filter}
+use Rattle.refutation_laws.proofs.Vocabulary.{filter-in, and-both, or-either, number-same, kind-itself, never-itself, stand-once, location}
+use Rattle.refutation_laws.proofs.Vocabulary.{starts-in, Ordered, Sound, sound, IsBeforeSequentially, Known, bare, events_of, same_event}
+use Rattle.refutation_laws.proofs.Vocabulary.{is_event, is_write_of, reads_from, comes_before, is_overwritten, from_reads, Source, relates}
+use Rattle.refutation_laws.proofs.Vocabulary.{on_location, global_in, is_edge, are_parts, IsAllowedBy, Model, Tso, Sequential, Relation}
+use Rattle.refutation_laws.proofs.Vocabulary.{Mfence, IsPossibleSource, NoneBetween}
 use Rattle.relational_model.specs.SequentialModel as sc
 use Rattle.refutation_laws.proofs.Standing.{Of, of-event, same-bare}
 use Rattle.refutation_laws.proofs.Tests.{and-of, or-first, or-second, any-in, different}
 use Rattle.refutation_laws.proofs.Relating.{OneOf, edge-by, of-bare, fr-bare}
 use Rattle.refutation_laws.proofs.Rows.{Edge, ordered-acyclic, never-back-at}
-use Rattle.refutation_laws.proofs.Settling.{First, IsOpen, entry_among, entry_of, found, is-event, own_events, own_candidate, writes-row, own-in, place, one-own, first-source, settled}
+use Rattle.refutation_laws.proofs.Settling.{First, IsOpen, entry_among, entry_of, found, is-event, own_events, own_candidate, writes-row}
+use Rattle.refutation_laws.proofs.Settling.{own-in, place, one-own, first-source, settled}
 
 matched : (xs : List Entry) (w y : Entry) → entry_among xs w ≡ Some y → same_event w y ≡ true
 matched [] w y h = let z : ⊥ = cc in absurd z

@@ -1,6 +1,11 @@
 -- All questions asked: each case in which every read has a source and every two writes of a location are ordered has an answer, so
 -- the whole has one.
-use Rattle.refutation_laws.proofs.Vocabulary.{◌≡◌, ◌&&◌, ◌||◌, Bool, true, false, List, [], ◌∷◌, ◌++◌, Option, Some, None, refl, sym, ap, ◌⊎◌, inl, inr, subst, map, filter, Litmus, Claim, writes_to, Entry, Member, IsIn, in-case, in-none, in-first, in-later, in-filter, Known, events_of, same_event, nothing, with_source, with_pair, comes_before, Model, Node, ComesFirst, OnLocation, Globally, Between, FalseClaim, is_node, branches, IsPossibleSource, ArePossible, has_source, are_ordered, may_ask, is_answered, IsFull}
+use Rattle.refutation_laws.proofs.Vocabulary.{◌≡◌, ◌&&◌, ◌||◌, Bool, true, false, List, [], ◌∷◌, ◌++◌, Option, Some, None, refl, sym, ap}
+use Rattle.refutation_laws.proofs.Vocabulary.{◌⊎◌, inl, inr, subst, map, filter, Litmus, Claim, writes_to, Entry, Member, IsIn, in-case}
+use Rattle.refutation_laws.proofs.Vocabulary.{in-none, in-first, in-later, in-filter, Known, events_of, same_event, nothing, with_source}
+use Rattle.refutation_laws.proofs.Vocabulary.{with_pair, comes_before, Model, Node, ComesFirst, OnLocation, Globally, Between, FalseClaim}
+use Rattle.refutation_laws.proofs.Vocabulary.{is_node, branches, IsPossibleSource, ArePossible, has_source, are_ordered, may_ask}
+use Rattle.refutation_laws.proofs.Vocabulary.{is_answered, IsFull}
 use Rattle.refutation_laws.specs.Refutations.{ReadsFrom}
 use Rattle.refutation_laws.proofs.Soundness.{itself}
 use Rattle.refutation_laws.proofs.Tests.{or-first, or-second}

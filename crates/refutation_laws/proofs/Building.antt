@@ -1,5 +1,10 @@
 -- The events of a test whose reads return what is given; each event is there once, and so a known write has one value.
-use Rattle.refutation_laws.proofs.Vocabulary.{◌≡◌, ℕ, zero, suc, ◌+◌, Bool, true, false, if◌then◌else◌, List, [], ◌∷◌, ◌++◌, Option, Some, None, slice_get, slice_index, slice_index_or, arith, refl, sym, ap, ◌∙◌, ◌⊎◌, inl, inr, subst, Litmus, action_of, entry, value_in, value_of, updated, entries_by, registers_by, values_after, entries_of, is_read, is_write, Instr, Action, Store, Load, Move, Fence, Lock, Entry, R, W, LR, LW, part_of, IsIn, events_from, in-case, in-none, in-first, in-later, in-append, only, same-events-from, bare, same_event, writes_from, value_among}
+use Rattle.refutation_laws.proofs.Vocabulary.{◌≡◌, ℕ, zero, suc, ◌+◌, Bool, true, false, if◌then◌else◌, List, [], ◌∷◌, ◌++◌, Option, Some}
+use Rattle.refutation_laws.proofs.Vocabulary.{None, slice_get, slice_index, slice_index_or, arith, refl, sym, ap, ◌∙◌, ◌⊎◌, inl, inr, subst}
+use Rattle.refutation_laws.proofs.Vocabulary.{Litmus, action_of, entry, value_in, value_of, updated, entries_by, registers_by, values_after}
+use Rattle.refutation_laws.proofs.Vocabulary.{entries_of, is_read, is_write, Instr, Action, Store, Load, Move, Fence, Lock, Entry, R, W, LR}
+use Rattle.refutation_laws.proofs.Vocabulary.{LW, part_of, IsIn, events_from, in-case, in-none, in-first, in-later, in-append, only}
+use Rattle.refutation_laws.proofs.Vocabulary.{same-events-from, bare, same_event, writes_from, value_among}
 use Rattle.refutation_laws.proofs.Standing.{same-bare}
 use Rattle.refutation_laws.proofs.Soundness.{bare-same}
 use Rattle.refutation_laws.proofs.Knowing.{Tells, Given, all-writes-in}

@@ -1,5 +1,14 @@
 -- What a claim can be, where this much is known: no state of an agreeing candidate gives it another truth.
-use Rattle.refutation_laws.proofs.Vocabulary.{◌≡◌, ◌<◌, ℕ, zero, suc, ◌+◌, ◌==◌, ◌&&◌, ◌||◌, Bool, true, false, not, if◌then◌else◌, List, [], ◌∷◌, length, Option, Some, None, slice_index, slice_index_or, arith, refl, sym, ap, ◌⊎◌, inl, inr, subst, map, filter, list_any, Litmus, entries_of, registers_after, writes_to, Claim, TruthClaim, RegClaim, LocClaim, NotClaim, AndClaim, OrClaim, truth_of, NamesExist, Instr, Entry, IsIn, IsEarlier, Candidate, events_from, events, last_word, words_left_from, words_left, registers_left_from, registers_left, last_in, in-none, in-left, in-right, last-is-in, last-last, Precedes, from-precedes, and-both, never-itself, never-back, stand-once, location, Sound, Known, bare, events_of, comes_before, left_of, known_first_registers, value_among, all_known, value_read, can_be, can_be_last, words_at_end, register_at_end, allows, Stands, Agrees}
+use Rattle.refutation_laws.proofs.Vocabulary.{◌≡◌, ◌<◌, ℕ, zero, suc, ◌+◌, ◌==◌, ◌&&◌, ◌||◌, Bool, true, false, not, if◌then◌else◌, List}
+use Rattle.refutation_laws.proofs.Vocabulary.{[], ◌∷◌, length, Option, Some, None, slice_index, slice_index_or, arith, refl, sym, ap, ◌⊎◌}
+use Rattle.refutation_laws.proofs.Vocabulary.{inl, inr, subst, map, filter, list_any, Litmus, entries_of, registers_after, writes_to, Claim}
+use Rattle.refutation_laws.proofs.Vocabulary.{TruthClaim, RegClaim, LocClaim, NotClaim, AndClaim, OrClaim, truth_of, NamesExist, Instr}
+use Rattle.refutation_laws.proofs.Vocabulary.{Entry, IsIn, IsEarlier, Candidate, events_from, events, last_word, words_left_from}
+use Rattle.refutation_laws.proofs.Vocabulary.{words_left, registers_left_from, registers_left, last_in, in-none, in-left, in-right}
+use Rattle.refutation_laws.proofs.Vocabulary.{last-is-in, last-last, Precedes, from-precedes, and-both, never-itself, never-back}
+use Rattle.refutation_laws.proofs.Vocabulary.{stand-once, location, Sound, Known, bare, events_of, comes_before, left_of}
+use Rattle.refutation_laws.proofs.Vocabulary.{known_first_registers, value_among, all_known, value_read, can_be, can_be_last, words_at_end}
+use Rattle.refutation_laws.proofs.Vocabulary.{register_at_end, allows, Stands, Agrees}
 use Rattle.refutation_laws.proofs.Tests.{and-of, or-first, or-second, any-in, any-holds, any-picked}
 use Rattle.refutation_laws.proofs.Standing.{event-in, of-event}
 use Rattle.refutation_laws.proofs.Agreeing.{has-co}

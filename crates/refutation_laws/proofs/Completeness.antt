@@ -1,5 +1,9 @@
 -- Each claim has a refutation, or an allowed candidate makes it true.
-use Rattle.refutation_laws.proofs.Vocabulary.{◌≡◌, ◌≤◌, ◌+◌, Bool, true, false, not, List, [], ◌∷◌, length, slice_index_or, arith, refl, sym, ap, ◌⊎◌, inl, inr, subst, list_any, Litmus, IsTest, AreRegisters, Claim, NamesExist, Entry, IsIn, Known, events_of, on_location, global_in, is_edge, is_between, Model, allows, Node, OnLocation, Globally, Between, FalseClaim, is_node, branches, IsRefuted, HasCandidate, Ordered, IsFull, NoneBetween}
+use Rattle.refutation_laws.proofs.Vocabulary.{◌≡◌, ◌≤◌, ◌+◌, Bool, true, false, not, List, [], ◌∷◌, length, slice_index_or, arith, refl}
+use Rattle.refutation_laws.proofs.Vocabulary.{sym, ap, ◌⊎◌, inl, inr, subst, list_any, Litmus, IsTest, AreRegisters, Claim, NamesExist}
+use Rattle.refutation_laws.proofs.Vocabulary.{Entry, IsIn, Known, events_of, on_location, global_in, is_edge, is_between, Model, allows}
+use Rattle.refutation_laws.proofs.Vocabulary.{Node, OnLocation, Globally, Between, FalseClaim, is_node, branches, IsRefuted, HasCandidate}
+use Rattle.refutation_laws.proofs.Vocabulary.{Ordered, IsFull, NoneBetween}
 use Rattle.refutation_laws.proofs.Tests.{any-in, any-holds}
 use Rattle.refutation_laws.proofs.Composing.{HasTrees, EachHasOne, has-tree}
 use Rattle.refutation_laws.proofs.Rows.{HasCycle, Edge, cycle-or-row}
@@ -52,7 +56,8 @@ module _ (model : Model) (t : Litmus) (claim : Claim) (names : NamesExist (lengt
   by-parts k o (inr none) = by-claim k o none (allows t k claim true) refl
 
   by-ghb : (k : Known) → IsFull t k → Ordered (Edge (is_edge t k on_location)) (events_of t)
-      → HasCycle t (is_edge t k (global_in model)) ⊎ Ordered (Edge (is_edge t k (global_in model))) (events_of t) → Answer model t claim (HasCandidate model t claim) k
+      → HasCycle t (is_edge t k (global_in model)) ⊎ Ordered (Edge (is_edge t k (global_in model))) (events_of t)
+      → Answer model t claim (HasCandidate model t claim) k
   by-ghb k f l (inl c) = inl (leaf k (Globally c.cycle) refl c.is_cycle)
   by-ghb k f l (inr g) =
       by-parts k (record { full = f; six = six; within_locations = l; globally = g }) (between-or-none t k)

@@ -1,5 +1,6 @@
 -- Trees are put together: a question whose branches all have a tree has one.
-use Rattle.refutation_laws.proofs.Vocabulary.{◌≡◌, true, List, [], ◌∷◌, ◌++◌, append-nil, append_assoc, refl, sym, subst, Litmus, Claim, and-both, Known, Model, Node, is_node, branches, close}
+use Rattle.refutation_laws.proofs.Vocabulary.{◌≡◌, true, List, [], ◌∷◌, ◌++◌, append-nil, append_assoc, refl, sym, subst, Litmus, Claim}
+use Rattle.refutation_laws.proofs.Vocabulary.{and-both, Known, Model, Node, is_node, branches, close}
 use Rattle.refutation_laws.proofs.Tests.{and-of}
 
 module _ (model : Model) (t : Litmus) (claim : Claim) where

@@ -1,5 +1,12 @@
 -- The three leaves of relations: an allowed candidate that agrees with what is known has none of them.
-use Rattle.refutation_laws.proofs.Vocabulary.{◌≡◌, ◌≢◌, ℕ, ◌==◌, ◌&&◌, ◌||◌, Bool, true, not, List, [], ◌∷◌, refl, sym, ap, ◌∙◌, ◌⊎◌, inl, inr, subst, list_all, Litmus, is_before, is_read, is_write, same_kind, Entry, F, LR, LW, LeadsTo, at_once, onward, Candidate, events, is_access, share_location, ReadsFrom, IsBeforeOnLocation, po_loc, rf, co, fr, HappensBefore, write_before_write, read_before_access, mfence, implied, rfe, IsAtomic, IsAllowed, is_locked, IsBeforeSequentially, and-both, or-either, same-number, number-same, equal-kinds, Sound, Known, bare, events_of, is_event, reads_from, comes_before, from_reads, relates, on_location, global_in, is_edge, leads_back, is_cycle, are_parts, is_between, Stands, Agrees, IsAllowedBy, Model, Tso, Sequential, Mfence}
+use Rattle.refutation_laws.proofs.Vocabulary.{◌≡◌, ◌≢◌, ℕ, ◌==◌, ◌&&◌, ◌||◌, Bool, true, not, List, [], ◌∷◌, refl, sym, ap, ◌∙◌, ◌⊎◌, inl}
+use Rattle.refutation_laws.proofs.Vocabulary.{inr, subst, list_all, Litmus, is_before, is_read, is_write, same_kind, Entry, F, LR, LW}
+use Rattle.refutation_laws.proofs.Vocabulary.{LeadsTo, at_once, onward, Candidate, events, is_access, share_location, ReadsFrom}
+use Rattle.refutation_laws.proofs.Vocabulary.{IsBeforeOnLocation, po_loc, rf, co, fr, HappensBefore, write_before_write, read_before_access}
+use Rattle.refutation_laws.proofs.Vocabulary.{mfence, implied, rfe, IsAtomic, IsAllowed, is_locked, IsBeforeSequentially, and-both}
+use Rattle.refutation_laws.proofs.Vocabulary.{or-either, same-number, number-same, equal-kinds, Sound, Known, bare, events_of, is_event}
+use Rattle.refutation_laws.proofs.Vocabulary.{reads_from, comes_before, from_reads, relates, on_location, global_in, is_edge, leads_back}
+use Rattle.refutation_laws.proofs.Vocabulary.{is_cycle, are_parts, is_between, Stands, Agrees, IsAllowedBy, Model, Tso, Sequential, Mfence}
 use Rattle.relational_model.specs.SequentialModel as sc
 use Rattle.refutation_laws.proofs.Tests.{any-holds}
 use Rattle.refutation_laws.proofs.Standing.{standing, of-event}

@@ -4,7 +4,15 @@ use Rattle.tso_terms.specs.Thread.{with_taken, changed, combined}
 use Rattle.refutation_laws.specs.Values.{known_changed, known_combined, known_negated, known_exchanged, known_taken}
 use Rattle.basic_laws.specs.Types.{Operator, Replace, Negate, CompareExchange, Change, Keep, Set, Swap}
 use Rattle.tso_terms.specs.declared.action.Update.TheVariants.{Combine}
-use Rattle.refutation_laws.proofs.Vocabulary.{◌≡◌, ◌<◌, ◌≤◌, ℕ, zero, suc, ◌+◌, true, List, [], ◌∷◌, length, Option, Some, None, slice_index, slice_index_or, arith, refl, sym, ap, ◌∙◌, inl, inr, subst, map, slice_set, Litmus, index_of, action_of, entry, value_in, value_of, updated, entries_by, registers_by, values_after, entries_of, registers_after, is_before, is_read, is_write, Reg, Eax, Ebx, Ecx, Edx, Esi, Edi, Loc, Instr, Operand, Number, Held, Update, Action, Store, Load, Move, Fence, Lock, Entry, Kind, R, W, LR, LW, rank, part-small, IsIn, events_from, in-case, in-none, in-first, in-append, in-left, in-right, rank-before, only, here-by, from-place, bare, known_in, known_operand, known_update, write_with, word_given, writes_by, registers_left_by, writes_of, left_of, known_first_registers, writes_from, length-set}
+use Rattle.refutation_laws.proofs.Vocabulary.{◌≡◌, ◌<◌, ◌≤◌, ℕ, zero, suc, ◌+◌, true, List, [], ◌∷◌, length, Option, Some, None}
+use Rattle.refutation_laws.proofs.Vocabulary.{slice_index, slice_index_or, arith, refl, sym, ap, ◌∙◌, inl, inr, subst, map, slice_set}
+use Rattle.refutation_laws.proofs.Vocabulary.{Litmus, index_of, action_of, entry, value_in, value_of, updated, entries_by, registers_by}
+use Rattle.refutation_laws.proofs.Vocabulary.{values_after, entries_of, registers_after, is_before, is_read, is_write, Reg, Eax, Ebx, Ecx}
+use Rattle.refutation_laws.proofs.Vocabulary.{Edx, Esi, Edi, Loc, Instr, Operand, Number, Held, Update, Action, Store, Load, Move, Fence}
+use Rattle.refutation_laws.proofs.Vocabulary.{Lock, Entry, Kind, R, W, LR, LW, rank, part-small, IsIn, events_from, in-case, in-none}
+use Rattle.refutation_laws.proofs.Vocabulary.{in-first, in-append, in-left, in-right, rank-before, only, here-by, from-place, bare}
+use Rattle.refutation_laws.proofs.Vocabulary.{known_in, known_operand, known_update, write_with, word_given, writes_by, registers_left_by}
+use Rattle.refutation_laws.proofs.Vocabulary.{writes_of, left_of, known_first_registers, writes_from, length-set}
 use Rattle.refutation_laws.proofs.Building.{unwritten}
 
 -- ---- registers that are all known

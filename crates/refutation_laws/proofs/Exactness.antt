@@ -1,5 +1,14 @@
 -- In a full case with no cycle nothing is open: what a claim can be, it is in the state that the case's candidate leaves.
-use Rattle.refutation_laws.proofs.Vocabulary.{◌≡◌, ◌<◌, ◌≤◌, ℕ, zero, suc, ◌+◌, ◌==◌, ◌&&◌, ◌||◌, Bool, true, false, not, if◌then◌else◌, List, [], ◌∷◌, length, Option, Some, None, slice_index, slice_index_or, arith, refl, sym, ap, ◌∙◌, ◌⊎◌, inl, inr, subst, map, filter, list_any, Litmus, value_in, entries_of, registers_after, is_write, writes_to, Claim, TruthClaim, RegClaim, LocClaim, NotClaim, AndClaim, OrClaim, truth_of, NamesExist, Instr, Entry, IsIn, IsEarlier, Candidate, events_from, last_word, registers_left_from, registers_left, words_left, last_in, in-none, in-left, in-right, filter-in, last-is-in, last-last, Precedes, from-precedes, and-both, or-either, location, Known, bare, events_of, comes_before, known_in, left_of, known_first_registers, value_among, all_known, can_be, can_be_last, words_at_end, register_at_end, allows, Model, true-or}
+use Rattle.refutation_laws.proofs.Vocabulary.{◌≡◌, ◌<◌, ◌≤◌, ℕ, zero, suc, ◌+◌, ◌==◌, ◌&&◌, ◌||◌, Bool, true, false, not, if◌then◌else◌}
+use Rattle.refutation_laws.proofs.Vocabulary.{List, [], ◌∷◌, length, Option, Some, None, slice_index, slice_index_or, arith, refl, sym, ap}
+use Rattle.refutation_laws.proofs.Vocabulary.{◌∙◌, ◌⊎◌, inl, inr, subst, map, filter, list_any, Litmus, value_in, entries_of}
+use Rattle.refutation_laws.proofs.Vocabulary.{registers_after, is_write, writes_to, Claim, TruthClaim, RegClaim, LocClaim, NotClaim}
+use Rattle.refutation_laws.proofs.Vocabulary.{AndClaim, OrClaim, truth_of, NamesExist, Instr, Entry, IsIn, IsEarlier, Candidate}
+use Rattle.refutation_laws.proofs.Vocabulary.{events_from, last_word, registers_left_from, registers_left, words_left, last_in, in-none}
+use Rattle.refutation_laws.proofs.Vocabulary.{in-left, in-right, filter-in, last-is-in, last-last, Precedes, from-precedes, and-both}
+use Rattle.refutation_laws.proofs.Vocabulary.{or-either, location, Known, bare, events_of, comes_before, known_in, left_of}
+use Rattle.refutation_laws.proofs.Vocabulary.{known_first_registers, value_among, all_known, can_be, can_be_last, words_at_end}
+use Rattle.refutation_laws.proofs.Vocabulary.{register_at_end, allows, Model, true-or}
 use Rattle.refutation_laws.proofs.Tests.{from-not, any-in, picked-of, and-of}
 use Rattle.refutation_laws.proofs.Standing.{Of, of-event}
 use Rattle.refutation_laws.proofs.ClaimFacts.{words-at, ends, Empty, Last}
@@ -133,7 +142,9 @@ module _ (model : Model) (t : Litmus) (k : Known) (o : IsOpen model t k) where
   claim-exact (TruthClaim x) n true h = h
   claim-exact (TruthClaim x) n false h = from-not x h
   claim-exact (RegClaim core reg value) n b h =
-      let r = left-known (given_after model t k o (rounds model t k o)) 0 t.programs t.registers (own_reads model t k o) core core (omega arith) n o.six (all-given model t k o) in
+      let r =
+      left-known (given_after model t k o (rounds model t k o)) 0 t.programs t.registers (own_reads model t k o)
+      core core (omega arith) n o.six (all-given model t k o) in
       exactly (register_at_end t k core reg) (value_in (slice_index_or (registers_left t c) core []) reg) value b
       (ap (λ os. known_in os reg) r.known ∙ in-all (slice_index_or (registers_left t c) core []) reg r.six) h
   claim-exact (LocClaim loc value) n b h =

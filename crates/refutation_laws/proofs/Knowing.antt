@@ -4,7 +4,16 @@ use Rattle.tso_terms.specs.Thread.{with_taken, changed, combined, difference_of}
 use Rattle.refutation_laws.specs.Values.{known_changed, known_combined, known_negated, known_exchanged, known_taken}
 use Rattle.basic_laws.specs.Types.{Eax, Operator, Replace, Negate, CompareExchange, Change, Keep, Set, Swap}
 use Rattle.tso_terms.specs.declared.action.Update.TheVariants.{Combine}
-use Rattle.refutation_laws.proofs.Vocabulary.{◌≡◌, ℕ, zero, suc, ◌+◌, Bool, true, false, if◌then◌else◌, List, [], ◌∷◌, ◌++◌, Option, Some, None, slice_index, slice_index_or, refl, sym, ap, ◌∙◌, ◌⊎◌, inl, inr, subst, map, slice_set, Litmus, index_of, action_of, entry, value_in, value_of, updated, entries_by, registers_by, values_after, entries_of, registers_after, is_read, Reg, Loc, Instr, Operand, Number, Held, Update, Action, Store, Load, Move, Fence, Lock, Entry, Kind, R, W, LR, LW, IsIn, Candidate, Returns, events_from, events, in-none, in-first, in-later, in-append, in-left, in-right, only, Sound, Known, bare, same_event, Source, known_in, known_operand, known_update, write_with, word_given, writes_by, registers_left_by, writes_of, left_of, known_first_registers, writes_from, value_among, returned_from, returned, known_writes, Stands, IsSameSource, HasSources, Agrees}
+use Rattle.refutation_laws.proofs.Vocabulary.{◌≡◌, ℕ, zero, suc, ◌+◌, Bool, true, false, if◌then◌else◌, List, [], ◌∷◌, ◌++◌, Option, Some}
+use Rattle.refutation_laws.proofs.Vocabulary.{None, slice_index, slice_index_or, refl, sym, ap, ◌∙◌, ◌⊎◌, inl, inr, subst, map, slice_set}
+use Rattle.refutation_laws.proofs.Vocabulary.{Litmus, index_of, action_of, entry, value_in, value_of, updated, entries_by, registers_by}
+use Rattle.refutation_laws.proofs.Vocabulary.{values_after, entries_of, registers_after, is_read, Reg, Loc, Instr, Operand, Number, Held}
+use Rattle.refutation_laws.proofs.Vocabulary.{Update, Action, Store, Load, Move, Fence, Lock, Entry, Kind, R, W, LR, LW, IsIn, Candidate}
+use Rattle.refutation_laws.proofs.Vocabulary.{Returns, events_from, events, in-none, in-first, in-later, in-append, in-left, in-right, only}
+use Rattle.refutation_laws.proofs.Vocabulary.{Sound, Known, bare, same_event, Source, known_in, known_operand, known_update, write_with}
+use Rattle.refutation_laws.proofs.Vocabulary.{word_given, writes_by, registers_left_by, writes_of, left_of, known_first_registers}
+use Rattle.refutation_laws.proofs.Vocabulary.{writes_from, value_among, returned_from, returned, known_writes, Stands, IsSameSource}
+use Rattle.refutation_laws.proofs.Vocabulary.{HasSources, Agrees}
 use Rattle.refutation_laws.proofs.Standing.{same-bare, one-entry}
 
 -- ---- registers
@@ -65,7 +74,10 @@ tells-exchanged (Some x) (Some y) v word eax value a b c = rw (a, b) (go (word =
     go true = c
     go false = refl
 
-tells-update : (u : Update) (os : List (Option ℕ)) (ns : List ℕ) (w : Option ℕ) (word : ℕ) → Fits os ns → Tells w word → Tells (known_update u os w) (updated u ns word)
+tells-update : (u : Update) (os : List (Option ℕ)) (ns : List ℕ) (w : Option ℕ) (word : ℕ)
+    → Fits os ns
+    → Tells w word
+    → Tells (known_update u os w) (updated u ns word)
 tells-update (Replace operand) os ns w word f a = tells-operand os ns operand f
 tells-update (Combine operator operand) os ns w word f a =
     tells-combined operator w (known_operand os operand) word (value_of ns operand) a (tells-operand os ns operand f)
@@ -73,16 +85,21 @@ tells-update Negate os ns w word f a = tells-negated w word a
 tells-update (CompareExchange reg) os ns w word f a =
     tells-exchanged w (known_in os Eax) (known_in os reg) word (value_in ns Eax) (value_in ns reg) a (tells-in os ns Eax f) (tells-in os ns reg f)
 
-fits-taken : (os : List (Option ℕ)) (ns : List ℕ) (target : Option Reg) (o : Option ℕ) (n : ℕ) → Fits os ns → Tells o n → Fits (known_taken os target o) (with_taken ns target n)
+fits-taken : (os : List (Option ℕ)) (ns : List ℕ) (target : Option Reg) (o : Option ℕ) (n : ℕ)
+    → Fits os ns
+    → Tells o n
+    → Fits (known_taken os target o) (with_taken ns target n)
 fits-taken os ns None o n f t = f
 fits-taken os ns (Some reg) o n f t = fits-set os ns (index_of reg) o n f t
 
 fits-changed : (change : Change) (os : List (Option ℕ)) (ns : List ℕ) → Fits os ns → Fits (known_changed change os) (changed change ns)
 fits-changed Keep os ns f = f
 fits-changed (Set reg update) os ns f =
-    fits-set os ns (index_of reg) _ (updated update ns (value_in ns reg)) f (tells-update update os ns (known_in os reg) (value_in ns reg) f (tells-in os ns reg f))
+    fits-set os ns (index_of reg) _ (updated update ns (value_in ns reg)) f
+    (tells-update update os ns (known_in os reg) (value_in ns reg) f (tells-in os ns reg f))
 fits-changed (Swap reg other) os ns f =
-    fits-set (slice_set os (index_of reg) (known_in os other)) (slice_set ns (index_of reg) (value_in ns other)) (index_of other) (known_in os reg) (value_in ns reg)
+    fits-set (slice_set os (index_of reg) (known_in os other)) (slice_set ns (index_of reg) (value_in ns other))
+    (index_of other) (known_in os reg) (value_in ns reg)
     (fits-set os ns (index_of reg) (known_in os other) (value_in ns other) f (tells-in os ns other f)) (tells-in os ns reg f)
 
 -- ---- programs

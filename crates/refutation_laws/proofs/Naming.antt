@@ -1,5 +1,6 @@
 -- The first relation of an edge.
-use Rattle.refutation_laws.proofs.Vocabulary.{◌≡◌, ◌||◌, Bool, true, false, if◌then◌else◌, List, [], ◌∷◌, Some, refl, ap, ◌∙◌, sym, Litmus, Entry, Known, relates, is_edge, first_that_relates, Relation}
+use Rattle.refutation_laws.proofs.Vocabulary.{◌≡◌, ◌||◌, Bool, true, false, if◌then◌else◌, List, [], ◌∷◌, Some, refl, ap, ◌∙◌, sym, Litmus}
+use Rattle.refutation_laws.proofs.Vocabulary.{Entry, Known, relates, is_edge, first_that_relates, Relation}
 use Rattle.refutation_laws.proofs.Tests.{or-first, or-second}
 
 pub has-first : (t : Litmus) (k : Known) (rs : List Relation) (x y : Entry) → is_edge t k rs x y ≡ true

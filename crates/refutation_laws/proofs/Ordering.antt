@@ -1,6 +1,19 @@
 -- The order of a full case that no leaf closes: a row of its events in which each edge goes forward, with the values that are known and each
 -- load part put before its store part, is an execution of the model, and what is asked is true in its final state.
-use Rattle.refutation_laws.proofs.Vocabulary.{◌≡◌, ◌+◌, ◌==◌, ◌&&◌, ◌||◌, ℕ, Bool, true, false, not, if◌then◌else◌, List, [], ◌∷◌, ◌++◌, length, slice_index, slice_index_or, refl, sym, ap, ◌∙◌, ◌⊎◌, inl, inr, subst, map, filter, Litmus, action_of, entry, fence, value_in, updated, entries_by, registers_by, values_after, entries_of, is_before, is_read, is_write, may_be_passed, same_kind, Claim, NamesExist, truth_of, final_words, final_registers, Instr, Action, Store, Load, Move, Fence, Lock, Entry, R, W, F, LR, LW, IsIn, Candidate, events_from, registers_left, words_left, LeaveTheSame, ArePair, IsAllowed, is_access, in-case, in-none, in-first, in-later, in-append, and-both, same-number, number-same, write-is-no-read, equal-kinds, kind-itself, parts, only, GoesForward, Once, Goes, Toward, pair, answer, load-of, put, in-put, sound, CanBeKept, IsKeptIn, in-order, goes-kept, Step, keeps, step-kept, tso-allows, Known, bare, events_of, reads_from, comes_before, are_parts, all_known, value_among, value_read, allows, IsMet, Model, Tso, Sequential, is_kept_by, must_precede, comes_toward, is_load_part, IsLinearExtension, value_or_zero, value_in_order, valued, with_loads, order_along, NoneBetween, is-false, map-append}
+use Rattle.refutation_laws.proofs.Vocabulary.{◌≡◌, ◌+◌, ◌==◌, ◌&&◌, ◌||◌, ℕ, Bool, true, false, not, if◌then◌else◌, List, [], ◌∷◌, ◌++◌}
+use Rattle.refutation_laws.proofs.Vocabulary.{length, slice_index, slice_index_or, refl, sym, ap, ◌∙◌, ◌⊎◌, inl, inr, subst, map, filter}
+use Rattle.refutation_laws.proofs.Vocabulary.{Litmus, action_of, entry, fence, value_in, updated, entries_by, registers_by, values_after}
+use Rattle.refutation_laws.proofs.Vocabulary.{entries_of, is_before, is_read, is_write, may_be_passed, same_kind, Claim, NamesExist}
+use Rattle.refutation_laws.proofs.Vocabulary.{truth_of, final_words, final_registers, Instr, Action, Store, Load, Move, Fence, Lock, Entry}
+use Rattle.refutation_laws.proofs.Vocabulary.{R, W, F, LR, LW, IsIn, Candidate, events_from, registers_left, words_left, LeaveTheSame}
+use Rattle.refutation_laws.proofs.Vocabulary.{ArePair, IsAllowed, is_access, in-case, in-none, in-first, in-later, in-append, and-both}
+use Rattle.refutation_laws.proofs.Vocabulary.{same-number, number-same, write-is-no-read, equal-kinds, kind-itself, parts, only}
+use Rattle.refutation_laws.proofs.Vocabulary.{GoesForward, Once, Goes, Toward, pair, answer, load-of, put, in-put, sound, CanBeKept}
+use Rattle.refutation_laws.proofs.Vocabulary.{IsKeptIn, in-order, goes-kept, Step, keeps, step-kept, tso-allows, Known, bare, events_of}
+use Rattle.refutation_laws.proofs.Vocabulary.{reads_from, comes_before, are_parts, all_known, value_among, value_read, allows, IsMet, Model}
+use Rattle.refutation_laws.proofs.Vocabulary.{Tso, Sequential, is_kept_by, must_precede, comes_toward, is_load_part, IsLinearExtension}
+use Rattle.refutation_laws.proofs.Vocabulary.{value_or_zero, value_in_order, valued, with_loads, order_along, NoneBetween, is-false}
+use Rattle.refutation_laws.proofs.Vocabulary.{map-append}
 use Rattle.refutation_laws.proofs.Tests.{and-of, or-first, or-second, any-in, different, pick, pass}
 use Rattle.refutation_laws.proofs.Standing.{Of, of-event, bare-events, in-map}
 use Rattle.refutation_laws.proofs.Relating.{rf-bare, fr-bare}
@@ -43,10 +56,11 @@ fence-in-program core place (s ∷ p) registers values x i f = elim (in-append (
 fence-value : (core : ℕ) (ps : List (List Instr)) (registers reads : List (List ℕ)) (x : Entry)
     → IsIn (events_from core ps registers reads) x → x.kind ≡ F → x.value ≡ 0
 fence-value core [] registers reads x i f = absurd (in-none x i)
-fence-value core (p ∷ ps) registers reads x i f = elim (in-append (entries_of core 0 p (slice_index_or registers core []) (slice_index_or reads core [])) _ x i) [
-  | inl j ↦ fence-in-program core 0 p (slice_index_or registers core []) (slice_index_or reads core []) x j f
-  | inr j ↦ fence-value (core + 1) ps registers reads x j f
-]
+fence-value core (p ∷ ps) registers reads x i f =
+    elim (in-append (entries_of core 0 p (slice_index_or registers core []) (slice_index_or reads core [])) _ x i) [
+      | inl j ↦ fence-in-program core 0 p (slice_index_or registers core []) (slice_index_or reads core []) x j f
+      | inr j ↦ fence-value (core + 1) ps registers reads x j f
+    ]
 
 -- ---- lists
 
@@ -88,7 +102,12 @@ load-bare : (es : List Entry) (w : Entry) → filter (λ r. are_parts r (bare w)
 load-bare [] w = refl
 load-bare (x ∷ xs) w = go (answer (pair x w)) (are_parts x w) (parts-answer x w) (load-bare xs w)
   where
-    go : (b d : Bool) → d ≡ b → filter (λ r. are_parts r (bare w)) (map bare xs) ≡ map bare (load-of xs w) → (if d then bare x ∷ filter (λ r. are_parts r (bare w)) (map bare xs) else filter (λ r. are_parts r (bare w)) (map bare xs))
+    go : (b d : Bool)
+        → d ≡ b
+        → filter (λ r. are_parts r (bare w)) (map bare xs) ≡ map bare (load-of xs w)
+        → (if d
+        then bare x ∷ filter (λ r. are_parts r (bare w)) (map bare xs)
+        else filter (λ r. are_parts r (bare w)) (map bare xs))
         ≡ map bare (if b then x ∷ load-of xs w else load-of xs w)
     go true true e later = ap (λ zs. bare x ∷ zs) later
     go false false e later = later
@@ -148,7 +167,9 @@ module _ (model : Model) (t : Litmus) (k : Known) (o : IsOpen model t k) where
       ∙ ap value_or_zero (pick (is_read x) (value_read t k (bare x)) _ r ∙ all-given model t k o x i r)
   value-own x i (inr (inl w)) =
       pick (is_access x) _ 0 (or-second (is_read x) (is_write x) w)
-      ∙ ap value_or_zero (pass (is_read x) _ (value_among (all_known t k) (bare x)) (is-false (is_read x) (write-is-no-read x w)) ∙ all-known-values model t k o x i w)
+      ∙ ap value_or_zero
+      (pass (is_read x) _ (value_among (all_known t k) (bare x)) (is-false (is_read x) (write-is-no-read x w))
+      ∙ all-known-values model t k o x i w)
   value-own x i (inr (inr f)) =
       pass (is_access x) _ 0 (subst (λ q. ((same_kind q R || same_kind q LR) || (same_kind q W || same_kind q LW)) ≡ false) (sym f) refl)
       ∙ sym (fence-value 0 t.programs t.registers c.reads x i f)

@@ -1,6 +1,15 @@
 -- In a full case that no leaf closes, some event of those that are left can come next: the candidate of the case gives all answers, and
 -- its edges never go round.
-use Rattle.refutation_laws.proofs.Vocabulary.{◌≡◌, ◌==◌, ◌&&◌, ◌||◌, ℕ, true, false, not, List, [], ◌∷◌, Option, Some, None, refl, sym, ap, ◌∙◌, inl, inr, subst, map, list_any, Litmus, is_before, is_read, is_write, writes_to, may_be_passed, Entry, IsIn, at_once, IsAcyclic, Candidate, IsBefore, IsAllowed, in-case, in-none, in-first, in-later, filter-in, and-both, or-either, number-same, Goes, member, GoesForward, LinearExtension, in-a-row, Toward, toward, pair-goes, way, others, is-other, other-is, Sound, sound, CanBeKept, goes-kept, step-kept, tso-allows, Known, bare, events_of, same_event, reads_from, comes_before, from_reads, are_parts, Stands, IsSameSource, HasSources, HasPairs, Agrees, Source, Pair, Model, Tso, Sequential, IsPossibleSource, ArePossible, AreSingle, AreOfReads, ArePairsOfWrites, IsSound, NoneBetween, is_kept_by, must_precede, comes_toward, is_load_part, valued, is-false, order-of, at-one}
+use Rattle.refutation_laws.proofs.Vocabulary.{◌≡◌, ◌==◌, ◌&&◌, ◌||◌, ℕ, true, false, not, List, [], ◌∷◌, Option, Some, None, refl, sym, ap}
+use Rattle.refutation_laws.proofs.Vocabulary.{◌∙◌, inl, inr, subst, map, list_any, Litmus, is_before, is_read, is_write, writes_to}
+use Rattle.refutation_laws.proofs.Vocabulary.{may_be_passed, Entry, IsIn, at_once, IsAcyclic, Candidate, IsBefore, IsAllowed, in-case}
+use Rattle.refutation_laws.proofs.Vocabulary.{in-none, in-first, in-later, filter-in, and-both, or-either, number-same, Goes, member}
+use Rattle.refutation_laws.proofs.Vocabulary.{GoesForward, LinearExtension, in-a-row, Toward, toward, pair-goes, way, others, is-other}
+use Rattle.refutation_laws.proofs.Vocabulary.{other-is, Sound, sound, CanBeKept, goes-kept, step-kept, tso-allows, Known, bare, events_of}
+use Rattle.refutation_laws.proofs.Vocabulary.{same_event, reads_from, comes_before, from_reads, are_parts, Stands, IsSameSource, HasSources}
+use Rattle.refutation_laws.proofs.Vocabulary.{HasPairs, Agrees, Source, Pair, Model, Tso, Sequential, IsPossibleSource, ArePossible}
+use Rattle.refutation_laws.proofs.Vocabulary.{AreSingle, AreOfReads, ArePairsOfWrites, IsSound, NoneBetween, is_kept_by, must_precede}
+use Rattle.refutation_laws.proofs.Vocabulary.{comes_toward, is_load_part, valued, is-false, order-of, at-one}
 use Rattle.refutation_laws.proofs.Tests.{and-of, or-first, or-second, any-holds, clash, pick, pass, from-not}
 use Rattle.refutation_laws.proofs.Standing.{Of, of-event, same-bare, in-map}
 use Rattle.refutation_laws.proofs.Soundness.{bare-same}

@@ -1,5 +1,8 @@
 -- An edge is one of a model's relations, and the values of its events have no part in it.
-use Rattle.refutation_laws.proofs.Vocabulary.{◌≡◌, ◌==◌, ◌&&◌, ◌||◌, Bool, true, not, List, [], ◌∷◌, Option, Some, None, refl, sym, ap, ◌∙◌, ◌⊎◌, inl, inr, list_any, Litmus, Entry, or-either, Known, bare, same_event, is_write_of, reads_from, is_overwritten, from_reads, relates, is_edge, Source, Relation, Po, PoLoc, PoGhb, Mfence, Implied, Rf, Rfe, Co, Fr}
+use Rattle.refutation_laws.proofs.Vocabulary.{◌≡◌, ◌==◌, ◌&&◌, ◌||◌, Bool, true, not, List, [], ◌∷◌, Option, Some, None, refl, sym, ap, ◌∙◌}
+use Rattle.refutation_laws.proofs.Vocabulary.{◌⊎◌, inl, inr, list_any, Litmus, Entry, or-either, Known, bare, same_event, is_write_of}
+use Rattle.refutation_laws.proofs.Vocabulary.{reads_from, is_overwritten, from_reads, relates, is_edge, Source, Relation, Po, PoLoc, PoGhb}
+use Rattle.refutation_laws.proofs.Vocabulary.{Mfence, Implied, Rf, Rfe, Co, Fr}
 use Rattle.refutation_laws.proofs.Tests.{or-first, or-second}
 
 -- ---- one of some relations

@@ -1,5 +1,8 @@
 -- The events of a test have a cycle of some edges, as a list, or are in a row in which each edge goes forward.
-use Rattle.refutation_laws.proofs.Vocabulary.{◌≡◌, ◌<◌, ℕ, zero, suc, Bool, true, List, [], ◌∷◌, Some, slice_get, arith, refl, sym, ◌⊎◌, inl, inr, subst, list_all, Litmus, Entry, IsIn, LeadsTo, at_once, onward, IsAcyclic, is-true, starts-in, GoesForward, Ordered, Decided, ordered-or-round, events_of, is_event, leads_back, is_cycle, order-of, at-one}
+use Rattle.refutation_laws.proofs.Vocabulary.{◌≡◌, ◌<◌, ℕ, zero, suc, Bool, true, List, [], ◌∷◌, Some, slice_get, arith, refl, sym, ◌⊎◌}
+use Rattle.refutation_laws.proofs.Vocabulary.{inl, inr, subst, list_all, Litmus, Entry, IsIn, LeadsTo, at_once, onward, IsAcyclic, is-true}
+use Rattle.refutation_laws.proofs.Vocabulary.{starts-in, GoesForward, Ordered, Decided, ordered-or-round, events_of, is_event, leads_back}
+use Rattle.refutation_laws.proofs.Vocabulary.{is_cycle, order-of, at-one}
 use Rattle.refutation_laws.proofs.Tests.{and-of}
 
 -- ---- places in the row

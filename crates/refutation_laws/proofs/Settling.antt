@@ -1,6 +1,14 @@
 -- In a full case with no cycle all values are known: a read is given after so many rounds as its place in a row of the model's global relation says. The
 -- candidate of the case has those values.
-use Rattle.refutation_laws.proofs.Vocabulary.{◌≡◌, ◌<◌, ◌≤◌, ℕ, zero, suc, ◌==◌, ◌&&◌, ◌||◌, Bool, true, false, if◌then◌else◌, List, [], ◌∷◌, length, Option, Some, None, slice_get, slice_index, arith, refl, sym, ap, ◌∙◌, ◌⊎◌, inl, inr, subst, filter, list_any, Litmus, is_before, is_read, is_write, writes_to, Entry, rank, part_of, part-small, IsIn, LeadsTo, at_once, onward, Candidate, Returns, is_access, share_location, in-case, in-none, in-first, in-later, in-filter, and-both, write-is-no-read, rank-before, before-trans, number, location, share, LinearExtension, Ordered, in-a-row, Known, bare, events_of, same_event, is_event, is_write_of, reads_from, comes_before, Source, on_location, global_in, is_edge, Model, Tso, Sequential, value_among, returned_from, returned, known_writes, all_known, IsPossibleSource, ArePossible, IsFull, order-of, halves, writes}
+use Rattle.refutation_laws.proofs.Vocabulary.{◌≡◌, ◌<◌, ◌≤◌, ℕ, zero, suc, ◌==◌, ◌&&◌, ◌||◌, Bool, true, false, if◌then◌else◌, List, []}
+use Rattle.refutation_laws.proofs.Vocabulary.{◌∷◌, length, Option, Some, None, slice_get, slice_index, arith, refl, sym, ap, ◌∙◌, ◌⊎◌, inl}
+use Rattle.refutation_laws.proofs.Vocabulary.{inr, subst, filter, list_any, Litmus, is_before, is_read, is_write, writes_to, Entry, rank}
+use Rattle.refutation_laws.proofs.Vocabulary.{part_of, part-small, IsIn, LeadsTo, at_once, onward, Candidate, Returns, is_access}
+use Rattle.refutation_laws.proofs.Vocabulary.{share_location, in-case, in-none, in-first, in-later, in-filter, and-both, write-is-no-read}
+use Rattle.refutation_laws.proofs.Vocabulary.{rank-before, before-trans, number, location, share, LinearExtension, Ordered, in-a-row, Known}
+use Rattle.refutation_laws.proofs.Vocabulary.{bare, events_of, same_event, is_event, is_write_of, reads_from, comes_before, Source}
+use Rattle.refutation_laws.proofs.Vocabulary.{on_location, global_in, is_edge, Model, Tso, Sequential, value_among, returned_from, returned}
+use Rattle.refutation_laws.proofs.Vocabulary.{known_writes, all_known, IsPossibleSource, ArePossible, IsFull, order-of, halves, writes}
 use Rattle.refutation_laws.proofs.Standing.{Of, event-in, of-event, same-bare}
 use Rattle.refutation_laws.proofs.Soundness.{itself, bare-same}
 use Rattle.refutation_laws.proofs.Tests.{and-of, or-first, or-second, any-in, pick, pass, different}
@@ -144,7 +152,8 @@ module _ (model : Model) (t : Litmus) (k : Known) (o : IsOpen model t k) where
   carried-way : (p : Entry → Bool) (a b : Entry) → LeadsTo (filter p own_events) (Edge (comes_before k)) a b
       → LeadsTo (events_of t) (Edge (is_edge t k on_location)) (bare a) (bare b)
   carried-way p _ _ (at_once a b i j h) =
-      at_once (bare a) (bare b) (own-in a (in-filter p own_events a i).0) (own-in b (in-filter p own_events b j).0) (of-bare t k on_location a b (co-edge t k a b h))
+      at_once (bare a) (bare b) (own-in a (in-filter p own_events a i).0) (own-in b (in-filter p own_events b j).0)
+      (of-bare t k on_location a b (co-edge t k a b h))
   carried-way p _ _ (onward a b d i h rest) =
       onward (bare a) (bare b) (bare d) (own-in a (in-filter p own_events a i).0) (of-bare t k on_location a b (co-edge t k a b h)) (carried-way p b d rest)
 
@@ -176,7 +185,8 @@ module _ (model : Model) (t : Litmus) (k : Known) (o : IsOpen model t k) where
 
   pub edge-places : (x y : Entry) (i j : ℕ) → slice_get o.globally.in_a_row.row i ≡ Some (bare x)
       → slice_get o.globally.in_a_row.row j ≡ Some (bare y) → is_edge t k (global_in model) x y ≡ true → i < j
-  edge-places x y i j p q h = edge-forward (Edge (is_edge t k (global_in model))) (events_of t) o.globally i j (bare x) (bare y) p q (of-bare t k (global_in model) x y h)
+  edge-places x y i j p q h =
+      edge-forward (Edge (is_edge t k (global_in model))) (events_of t) o.globally i j (bare x) (bare y) p q (of-bare t k (global_in model) x y h)
 
   pub one-own : (x y : Entry) → IsIn own_events x → IsIn own_events y → bare x ≡ bare y → x ≡ y
   one-own x y i j h = one-event t own_reads x y i j h
@@ -198,7 +208,8 @@ module _ (model : Model) (t : Litmus) (k : Known) (o : IsOpen model t k) where
     | inr (inr l) ↦
         absurd (ordered-acyclic (Edge (is_edge t k on_location)) (events_of t) o.within_locations (bare x)
         (onward (bare x) (bare y) (bare x) (own-in x i)
-        (of-bare t k on_location x y (po-edge t k x y (rank-before x y (sym e) l) (share x y (read-access x r) (write-access y is-write) (sym (location x.loc.0 y w)))))
+        (of-bare t k on_location x y
+        (po-edge t k x y (rank-before x y (sym e) l) (share x y (read-access x r) (write-access y is-write) (sym (location x.loc.0 y w)))))
         (at_once (bare y) (bare x) (own-in y j) (own-in x i) (of-bare t k on_location y x (rf-edge t k y x f)))))
   ]
     where

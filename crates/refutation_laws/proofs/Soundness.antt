@@ -1,5 +1,12 @@
 -- A refuted claim is false of each allowed candidate: at each node, the candidate has one of the answers.
-use Rattle.refutation_laws.proofs.Vocabulary.{◌≡◌, ◌==◌, ◌&&◌, Bool, true, false, not, List, [], ◌∷◌, ◌++◌, length, Option, Some, None, refl, sym, ap, ◌∙◌, ◌⊎◌, inl, inr, subst, map, filter, Litmus, Claim, truth_of, NamesExist, is_read, is_write, writes_to, Entry, IsIn, IsEarlier, Candidate, words_left, registers_left, IsBefore, IsAllowed, in-case, in-none, filter-in, and-both, number-same, at-itself, location, writes-at, one-way, Sound, sound, tso-allows, Known, bare, events_of, same_event, is_event, nothing, with_source, with_pair, allows, Stands, IsSameSource, Agrees, IsAllowedBy, Model, Tso, Sequential, Node, ComesFirst, OnLocation, Globally, Between, FalseClaim, sources_of, is_node, branches, close, refutes}
+use Rattle.refutation_laws.proofs.Vocabulary.{◌≡◌, ◌==◌, ◌&&◌, Bool, true, false, not, List, [], ◌∷◌, ◌++◌, length, Option, Some, None}
+use Rattle.refutation_laws.proofs.Vocabulary.{refl, sym, ap, ◌∙◌, ◌⊎◌, inl, inr, subst, map, filter, Litmus, Claim, truth_of, NamesExist}
+use Rattle.refutation_laws.proofs.Vocabulary.{is_read, is_write, writes_to, Entry, IsIn, IsEarlier, Candidate, words_left, registers_left}
+use Rattle.refutation_laws.proofs.Vocabulary.{IsBefore, IsAllowed, in-case, in-none, filter-in, and-both, number-same, at-itself, location}
+use Rattle.refutation_laws.proofs.Vocabulary.{writes-at, one-way, Sound, sound, tso-allows, Known, bare, events_of, same_event, is_event}
+use Rattle.refutation_laws.proofs.Vocabulary.{nothing, with_source, with_pair, allows, Stands, IsSameSource, Agrees, IsAllowedBy, Model}
+use Rattle.refutation_laws.proofs.Vocabulary.{Tso, Sequential, Node, ComesFirst, OnLocation, Globally, Between, FalseClaim, sources_of}
+use Rattle.refutation_laws.proofs.Vocabulary.{is_node, branches, close, refutes}
 use Rattle.refutation_laws.specs.Refutations.{ReadsFrom}
 use Rattle.refutation_laws.proofs.Standing.{standing, event-in, one-stands}
 use Rattle.refutation_laws.proofs.Agreeing.{source-in}
@@ -94,7 +101,8 @@ module _ (model : Model) (t : Litmus) (c : Candidate) (allowed : IsAllowedBy mod
 
   by-order : (k : Known) (w v : Entry) → is_event t w ≡ true → is_event t v ≡ true → is_write w ≡ true → writes_to w.loc.0 v ≡ true
       → not (same_event w v) ≡ true → Shut (with_pair k w v ∷ (with_pair k v w ∷ [])) → Agrees t c k → Fails
-  by-order k w v e f write to far s a = go (one-way (c.coherence w.loc.0) x y (tso.candidate.writes w.loc.0 x at.inside atx) (tso.candidate.writes w.loc.0 y by.inside toy))
+  by-order k w v e f write to far s a =
+      go (one-way (c.coherence w.loc.0) x y (tso.candidate.writes w.loc.0 x at.inside atx) (tso.candidate.writes w.loc.0 y by.inside toy))
     where
       x : Entry
       x = (standing t c w e).entry

@@ -1,5 +1,10 @@
 -- The events of a test are those of each of its candidates, without their values.
-use Rattle.refutation_laws.proofs.Vocabulary.{◌≡◌, ℕ, ◌+◌, ◌==◌, true, List, [], ◌∷◌, ◌++◌, slice_index, slice_index_or, refl, sym, ap, ◌∙◌, inl, inr, subst, map, Litmus, action_of, entry, entries_by, registers_by, values_after, entries_of, same_kind, is_at, Instr, Action, Store, Load, Move, Fence, Lock, Entry, part_of, IsIn, Candidate, events_from, events, in-case, in-none, in-first, in-later, equal-kinds, apart-three, and-both, same-number, Sound, bare, events_of, same_event, is_event, Stands, map-append}
+use Rattle.refutation_laws.proofs.Vocabulary.{◌≡◌, ℕ, ◌+◌, ◌==◌, true, List, [], ◌∷◌, ◌++◌, slice_index, slice_index_or, refl, sym, ap, ◌∙◌}
+use Rattle.refutation_laws.proofs.Vocabulary.{inl, inr, subst, map, Litmus, action_of, entry, entries_by, registers_by, values_after}
+use Rattle.refutation_laws.proofs.Vocabulary.{entries_of, same_kind, is_at, Instr, Action, Store, Load, Move, Fence, Lock, Entry, part_of}
+use Rattle.refutation_laws.proofs.Vocabulary.{IsIn, Candidate, events_from, events, in-case, in-none, in-first, in-later, equal-kinds}
+use Rattle.refutation_laws.proofs.Vocabulary.{apart-three, and-both, same-number, Sound, bare, events_of, same_event, is_event, Stands}
+use Rattle.refutation_laws.proofs.Vocabulary.{map-append}
 use Rattle.refutation_laws.proofs.Tests.{any-holds}
 
 -- ---- one event

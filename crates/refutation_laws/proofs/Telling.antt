@@ -1,5 +1,9 @@
 -- What the answers of a branch tell of values, said of a candidate that gives them.
-use Rattle.refutation_laws.proofs.Vocabulary.{◌≡◌, ◌<◌, ℕ, Bool, true, false, if◌then◌else◌, [], length, Option, Some, None, slice_index, slice_index_or, arith, refl, sym, ◌∙◌, list_any, Litmus, value_in, is_read, Reg, Entry, IsIn, Candidate, IsCandidate, events, last_word, registers_left, words_left, number-same, Sound, sound, Known, bare, events_of, value_among, all_known, value_read, can_be, words_at_end, register_at_end, value_known, Agrees}
+use Rattle.refutation_laws.proofs.Vocabulary.{◌≡◌, ◌<◌, ℕ, Bool, true, false, if◌then◌else◌, [], length, Option, Some, None, slice_index}
+use Rattle.refutation_laws.proofs.Vocabulary.{slice_index_or, arith, refl, sym, ◌∙◌, list_any, Litmus, value_in, is_read, Reg, Entry, IsIn}
+use Rattle.refutation_laws.proofs.Vocabulary.{Candidate, IsCandidate, events, last_word, registers_left, words_left, number-same, Sound}
+use Rattle.refutation_laws.proofs.Vocabulary.{sound, Known, bare, events_of, value_among, all_known, value_read, can_be, words_at_end}
+use Rattle.refutation_laws.proofs.Vocabulary.{register_at_end, value_known, Agrees}
 use Rattle.refutation_laws.proofs.Knowing.{Tells, tells-in, tells-among, known-in, given-known}
 use Rattle.refutation_laws.proofs.ClaimFacts.{left-at, words-at, word-allowed}
 

@@ -1,5 +1,7 @@
 -- Tests put together and taken apart: conjunctions, disjunctions, and that a test holds of a member of a list.
-use Rattle.refutation_laws.proofs.Vocabulary.{◌≡◌, ◌&&◌, ◌||◌, Bool, true, false, not, List, [], ◌∷◌, refl, sym, ap, inl, inr, subst, map, filter, list_any, Entry, IsIn, in-case, in-none, in-first, in-later, in-filter, filter-in, ◌==◌, ◌≢◌, ℕ, if◌then◌else◌, is-false, same-number, arith}
+use Rattle.refutation_laws.proofs.Vocabulary.{◌≡◌, ◌&&◌, ◌||◌, Bool, true, false, not, List, [], ◌∷◌, refl, sym, ap, inl, inr, subst, map}
+use Rattle.refutation_laws.proofs.Vocabulary.{filter, list_any, Entry, IsIn, in-case, in-none, in-first, in-later, in-filter, filter-in}
+use Rattle.refutation_laws.proofs.Vocabulary.{◌==◌, ◌≢◌, ℕ, if◌then◌else◌, is-false, same-number, arith}
 
 pub and-of : (a b : Bool) → a ≡ true → b ≡ true → (a && b) ≡ true
 and-of a b p q = rw p q

@@ -9,7 +9,8 @@ use Rattle.tso_terms.specs.Actions.{action_of}
 use Rattle.tso_terms.specs.Thread.{entry, combined, difference_of}
 use Rattle.tso_terms.specs.ProgramOrder.{writes_to}
 use Rattle.tso_terms.specs.Condition.{Claim, TruthClaim, RegClaim, LocClaim, NotClaim, AndClaim, OrClaim}
-use Rattle.basic_laws.specs.Types.{Reg, Eax, Loc, Instr, Operand, Number, Held, Operator, Update, Replace, Negate, CompareExchange, Change, Keep, Set, Swap, Action, Entry, Kind, R, W, LR, LW}
+use Rattle.basic_laws.specs.Types.{Reg, Eax, Loc, Instr, Operand, Number, Held, Operator, Update, Replace, Negate, CompareExchange, Change}
+use Rattle.basic_laws.specs.Types.{Keep, Set, Swap, Action, Entry, Kind, R, W, LR, LW}
 use Rattle.tso_terms.specs.declared.action.Action.TheVariants.{Store, Load, Move, Lock}
 use Rattle.tso_terms.specs.declared.action.Update.TheVariants.{Combine}
 use Rattle.refutation_laws.specs.Known.{Known, events_of, same_event, comes_before}

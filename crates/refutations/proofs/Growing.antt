@@ -1,5 +1,6 @@
 -- The events of a test are made core by core.
-use Rattle.refutations.proofs.Vocabulary.{◌≡◌, ◌<◌, ◌+◌, ℕ, List, [], ◌++◌, length, slice_index_or, drop, append_assoc, sym, ap, ◌∙◌, at_drop_more, entries_of, Instr, Entry, events_from, bare, map-append, by-program}
+use Rattle.refutations.proofs.Vocabulary.{◌≡◌, ◌<◌, ◌+◌, ℕ, List, [], ◌++◌, length, slice_index_or, drop, append_assoc, sym, ap, ◌∙◌}
+use Rattle.refutations.proofs.Vocabulary.{at_drop_more, entries_of, Instr, Entry, events_from, bare, map-append, by-program}
 use Rattle.std.specs.Prelude.{map}
 
 -- the events of one more core

@@ -1,5 +1,8 @@
 -- Last writes: which writes an answer puts before another one, and the words that the others leave.
-use Rattle.refutations.proofs.Vocabulary.{◌≡◌, ◌&&◌, ◌||◌, cond, Bool, true, false, List, [], ◌∷◌, Option, map, if◌then◌else◌, refl, sym, ap, ◌∙◌, ℕ, filter, list_any, Entry, Known, same_event, comes_before, Litmus, writes_to, events_of, all_known, value_among, can_be_last, words_at_end, Pair, ◌<◌, ◌≤◌, ◌+◌, ◌++◌, length, get_or, drop, Some, append-nil, slice_index}
+use Rattle.refutations.proofs.Vocabulary.{◌≡◌, ◌&&◌, ◌||◌, cond, Bool, true, false, List, [], ◌∷◌, Option, map, if◌then◌else◌, refl, sym}
+use Rattle.refutations.proofs.Vocabulary.{ap, ◌∙◌, ℕ, filter, list_any, Entry, Known, same_event, comes_before, Litmus, writes_to}
+use Rattle.refutations.proofs.Vocabulary.{events_of, all_known, value_among, can_be_last, words_at_end, Pair, ◌<◌, ◌≤◌, ◌+◌, ◌++◌, length}
+use Rattle.refutations.proofs.Vocabulary.{get_or, drop, Some, append-nil, slice_index}
 use Rattle.refutations.proofs.Walking.{appended, all-appended}
 
 any-none : (xs : List Entry) → list_any (λ (v : Entry). false) xs ≡ false
@@ -80,7 +83,8 @@ module _ (q : Entry → Bool) (writes : List Entry) (events : List Entry) (i : �
 -- all of them, where writes go to the location
 pub all-kept : (t : Litmus) (k : Known) (loc : ℕ) (events : List Entry) → events ≡ events_of t → list_any (writes_to loc) events ≡ true
     → (i : ℕ) (words : List (Option ℕ)) → length events ≤ i
-    → map (value_among (all_known t k)) (filter (can_be_last t k loc) events) ≡ words ++ map (value_among (all_known t k)) (filter (can_be_last t k loc) (drop i events))
+    → map (value_among (all_known t k)) (filter (can_be_last t k loc) events)
+    ≡ words ++ map (value_among (all_known t k)) (filter (can_be_last t k loc) (drop i events))
     → words ≡ words_at_end t k loc
 all-kept t k loc events e h i words all so =
     let kept : List Entry → List (Option ℕ) = λ es. map (value_among (all_known t k)) (filter (can_be_last t k loc) es) in

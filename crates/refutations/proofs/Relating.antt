@@ -1,5 +1,7 @@
 -- Some relation leads from x to y just where a first one does.
-use Rattle.refutations.proofs.Vocabulary.{◌≡◌, ◌<◌, ◌+◌, ◌&&◌, ◌||◌, ℕ, cond, Bool, true, false, List, [], ◌∷◌, Option, Some, None, length, get_or, drop, at_drop_more, refl, sym, ap, ◌∙◌, Litmus, Entry, Known, relates, is_edge, is_event, is_cycle, leads_back, list_all, first_that_relates, Relation}
+use Rattle.refutations.proofs.Vocabulary.{◌≡◌, ◌<◌, ◌+◌, ◌&&◌, ◌||◌, ℕ, cond, Bool, true, false, List, [], ◌∷◌, Option, Some, None, length}
+use Rattle.refutations.proofs.Vocabulary.{get_or, drop, at_drop_more, refl, sym, ap, ◌∙◌, Litmus, Entry, Known, relates, is_edge, is_event}
+use Rattle.refutations.proofs.Vocabulary.{is_cycle, leads_back, list_all, first_that_relates, Relation}
 
 abbrev pub is_found : Option Relation → Bool
 is_found None = false
@@ -23,7 +25,10 @@ module _ (edge : Entry → Entry → Bool) (first last : Entry) (rest : List Ent
   leads-on h = so ∙ (at_drop_more (leads_back edge first last) rest i d within ∙ ap (λ b. b && leads_back edge first (get_or rest i d) (drop (i + 1) rest)) h)
 
   pub leads-off : edge last (get_or rest i d) ≡ false → false ≡ whole
-  leads-off h = sym (so ∙ (at_drop_more (leads_back edge first last) rest i d within ∙ ap (λ b. b && leads_back edge first (get_or rest i d) (drop (i + 1) rest)) h))
+  leads-off h =
+      sym (so
+      ∙ (at_drop_more (leads_back edge first last) rest i d within
+      ∙ ap (λ b. b && leads_back edge first (get_or rest i d) (drop (i + 1) rest)) h))
 
 pub begun : (t : Litmus) (edge : Entry → Entry → Bool) (cycle : List Entry) (first : Entry) (rest : List Entry) (b : Bool) → cycle ≡ first ∷ rest
     → list_all (is_event t) cycle ≡ b → is_cycle t edge cycle ≡ (b && leads_back edge first first rest)

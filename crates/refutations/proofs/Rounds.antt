@@ -1,5 +1,7 @@
 -- The rounds of known writes: where one knows no more than the one before, no later one does.
-use Rattle.refutations.proofs.Vocabulary.{◌≡◌, ◌<◌, ◌≤◌, ◌+◌, ℕ, zero, suc, Bool, true, List, [], ◌∷◌, arith, refl, sym, ap, ◌∙◌, ◌⊎◌, inl, inr, subst, length, pointwise, Litmus, Entry, Source, and-both, Known, events_of, known_writes, all_known, writes_from, returned, Option, slice_index_or, left_of, known_first_registers}
+use Rattle.refutations.proofs.Vocabulary.{◌≡◌, ◌<◌, ◌≤◌, ◌+◌, ℕ, zero, suc, Bool, true, List, [], ◌∷◌, arith, refl, sym, ap, ◌∙◌, ◌⊎◌, inl}
+use Rattle.refutations.proofs.Vocabulary.{inr, subst, length, pointwise, Litmus, Entry, Source, and-both, Known, events_of, known_writes}
+use Rattle.refutations.proofs.Vocabulary.{all_known, writes_from, returned, Option, slice_index_or, left_of, known_first_registers}
 
 pub settled : (t : Litmus) (k : Known) (n all : ℕ) → n ≤ all → known_writes t k (suc n) ≡ known_writes t k n
     → known_writes t k all ≡ known_writes t k n

@@ -1,5 +1,7 @@
 -- The stack of cases: what is pushed comes first.
-use Rattle.refutations.proofs.Vocabulary.{◌≡◌, ◌<◌, ◌≤◌, ℕ, suc, arith, ◌+◌, ◌==◌, ◌&&◌, Bool, true, false, List, [], ◌∷◌, ◌++◌, length, get_or, drop, map, refl, ap, sym, ◌∙◌, at_drop_more, at_drop_all, nat_tests, Litmus, Claim, is_node, branches, close, Model, Known, node_of, known_of, cases_of, Answers, Node}
+use Rattle.refutations.proofs.Vocabulary.{◌≡◌, ◌<◌, ◌≤◌, ℕ, suc, arith, ◌+◌, ◌==◌, ◌&&◌, Bool, true, false, List, [], ◌∷◌, ◌++◌, length}
+use Rattle.refutations.proofs.Vocabulary.{get_or, drop, map, refl, ap, sym, ◌∙◌, at_drop_more, at_drop_all, nat_tests, Litmus, Claim}
+use Rattle.refutations.proofs.Vocabulary.{is_node, branches, close, Model, Known, node_of, known_of, cases_of, Answers, Node}
 
 pub cases-push : (old : List Answers) (a : Answers) → cases_of (old ++ (a ∷ [])) ≡ known_of a ∷ cases_of old
 cases-push [] a = refl

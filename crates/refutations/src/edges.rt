@@ -112,7 +112,8 @@ pub fn leads_to(branch: Branch<'_>, acyclic: Acyclic, x: &Entry, y: &Entry) -> b
 /// Whether each of these is one of the test's events and leads to the next one, and the last one to the first.
 pub fn is_cycle(branch: Branch<'_>, acyclic: Acyclic, cycle: &[Entry]) -> bool
     requires { branch.events.now ≡ events_of branch.test.now }
-    ensures { result ≡ spec.is_cycle branch.entry.test.now (spec.is_edge branch.entry.test.now (known_of branch.entry.answers.now) (relations_of acyclic)) cycle.now }
+    ensures { result ≡ spec.is_cycle branch.entry.test.now
+        (spec.is_edge branch.entry.test.now (known_of branch.entry.answers.now) (relations_of acyclic)) cycle.now }
 {
     let Some((first, rest)) = cycle.split_first() else {
         return false;

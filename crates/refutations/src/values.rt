@@ -190,8 +190,14 @@ fn run_instruction(
     instr: Instr,
 ) -> Result<(), NoMemory>
     ensures writes { IfOk result (λ _. (rest : List Instr)
-        → walk.old.writes.items ++ spec.writes_of (spec.returned reads.entry.test.now reads.entry.writes.now reads.entry.sources.now) core.0 place (instr ∷ rest) walk.old.registers
-        ≡ walk.new.writes.items ++ spec.writes_of (spec.returned reads.entry.test.now reads.entry.writes.now reads.entry.sources.now) core.0 (place + 1) rest walk.new.registers) }
+        → walk.old.writes.items
+        ++ spec.writes_of
+        (spec.returned reads.entry.test.now reads.entry.writes.now reads.entry.sources.now) core.0 place
+        (instr ∷ rest) walk.old.registers
+        ≡ walk.new.writes.items
+        ++ spec.writes_of
+        (spec.returned reads.entry.test.now reads.entry.writes.now reads.entry.sources.now) core.0 (place + 1) rest
+        walk.new.registers) }
     ensures registers { IfOk result (λ _. (rest : List Instr)
         → spec.left_of (spec.returned reads.entry.test.now reads.entry.writes.now reads.entry.sources.now) core.0 place (instr ∷ rest) walk.old.registers
         ≡ spec.left_of (spec.returned reads.entry.test.now reads.entry.writes.now reads.entry.sources.now) core.0 (place + 1) rest walk.new.registers) }

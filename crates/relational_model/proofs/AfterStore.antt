@@ -1,5 +1,8 @@
 -- What must come after the load part of a locked instruction must come after its store part.
-use Rattle.relational_model.proofs.Vocabulary.{◌≡◌, ◌<◌, ℕ, ◌+◌, ◌||◌, true, arith, sym, ap, ◌∙◌, ◌⊎◌, inl, inr, subst, Litmus, is_before, is_read, is_write, writes_to, same_kind, Entry, R, W, LR, LW, IsIn, IsEarlier, at_once, onward, Candidate, events, IsBefore, ArePair, IsAllowed, is_locked, is_locked_kind, po_loc, fr, write_before_write, co, rank, part_of}
+use Rattle.relational_model.proofs.Vocabulary.{◌≡◌, ◌<◌, ℕ, ◌+◌, ◌||◌, true, arith, sym, ap, ◌∙◌, ◌⊎◌, inl, inr, subst, Litmus, is_before}
+use Rattle.relational_model.proofs.Vocabulary.{is_read, is_write, writes_to, same_kind, Entry, R, W, LR, LW, IsIn, IsEarlier, at_once}
+use Rattle.relational_model.proofs.Vocabulary.{onward, Candidate, events, IsBefore, ArePair, IsAllowed, is_locked, is_locked_kind, po_loc}
+use Rattle.relational_model.proofs.Vocabulary.{fr, write_before_write, co, rank, part_of}
 use Rattle.relational_model.proofs.Ranks.{before-rank, rank-before, order-of}
 use Rattle.relational_model.proofs.KindFacts.{write-is-no-read, kept-with-locked, writes}
 use Rattle.relational_model.proofs.Sources.{one-way}

@@ -1,5 +1,8 @@
 -- The candidate of a TSO execution is one of the test, and the relational model allows it.
-use Rattle.relational_model.proofs.Vocabulary.{◌≡◌, ◌<◌, ℕ, suc, true, List, [], ◌∷◌, Option, Some, None, slice_get, slice_index, arith, refl, sym, ap, ◌∙◌, subst, length, filter, Litmus, is_read, writes_to, made, counting, last_value, IsTsoExecution, Entry, IsIn, IsEarlier, Candidate, Returns, IsCandidate, events, last_in, IsCandidateOf, IsAtomic, IsAllowed}
+use Rattle.relational_model.proofs.Vocabulary.{◌≡◌, ◌<◌, ℕ, suc, true, List, [], ◌∷◌, Option, Some, None, slice_get, slice_index, arith}
+use Rattle.relational_model.proofs.Vocabulary.{refl, sym, ap, ◌∙◌, subst, length, filter, Litmus, is_read, writes_to, made, counting}
+use Rattle.relational_model.proofs.Vocabulary.{last_value, IsTsoExecution, Entry, IsIn, IsEarlier, Candidate, Returns, IsCandidate, events}
+use Rattle.relational_model.proofs.Vocabulary.{last_in, IsCandidateOf, IsAtomic, IsAllowed}
 use Rattle.relational_model.proofs.Lists.{Cut, cut, filter-in}
 use Rattle.relational_model.proofs.Sources.{StandOnce, Known, source-counts, coherence-earlier, event-in}
 use Rattle.relational_model.proofs.Forward.{overwritten-later, global-acyclic}

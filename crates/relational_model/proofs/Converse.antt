@@ -1,6 +1,9 @@
 -- Edges that can be kept are kept by an order of the candidate that is a TSO execution: the events without the load parts of locked
 -- instructions go into a row, and each load part directly before its store part.
-use Rattle.relational_model.proofs.Vocabulary.{◌≡◌, ◌≤◌, zero, suc, List, [], ◌∷◌, ◌++◌, arith, refl, sym, ap, ◌∙◌, ◌⊎◌, inl, inr, subst, length, Litmus, IsAdjacent, IsTsoExecution, Entry, LR, LW, IsIn, at_once, onward, IsAcyclic, Candidate, events, IsCandidateOf, LeaveTheSame, IsOfAnExecution, ArePair, IsAllowed, part_of, GoesForward, LinearExtension, Once}
+use Rattle.relational_model.proofs.Vocabulary.{◌≡◌, ◌≤◌, zero, suc, List, [], ◌∷◌, ◌++◌, arith, refl, sym, ap, ◌∙◌, ◌⊎◌, inl, inr, subst}
+use Rattle.relational_model.proofs.Vocabulary.{length, Litmus, IsAdjacent, IsTsoExecution, Entry, LR, LW, IsIn, at_once, onward, IsAcyclic}
+use Rattle.relational_model.proofs.Vocabulary.{Candidate, events, IsCandidateOf, LeaveTheSame, IsOfAnExecution, ArePair, IsAllowed, part_of}
+use Rattle.relational_model.proofs.Vocabulary.{GoesForward, LinearExtension, Once}
 use Rattle.relational_model.proofs.Lists.{in-case, in-first, in-later, in-append}
 use Rattle.relational_model.proofs.Sizes.{once-filter, no-more}
 use Rattle.relational_model.proofs.Decisions.{Decision, kinds, Goes, goes}

@@ -1,5 +1,7 @@
 -- The edges between events can be decided.
-use Rattle.relational_model.proofs.Vocabulary.{◌≡◌, ◌≢◌, ℕ, ◌==◌, Bool, true, false, List, [], ◌∷◌, Option, Some, None, refl, ap, ◌∙◌, ◌⊎◌, inl, inr, subst, entry, is_before, is_read, same_kind, may_be_passed, Entry, Kind, IsIn, IsEarlier, Candidate, ReadsFrom, IsBefore, StandsAfter, FromReads}
+use Rattle.relational_model.proofs.Vocabulary.{◌≡◌, ◌≢◌, ℕ, ◌==◌, Bool, true, false, List, [], ◌∷◌, Option, Some, None, refl, ap, ◌∙◌, ◌⊎◌}
+use Rattle.relational_model.proofs.Vocabulary.{inl, inr, subst, entry, is_before, is_read, same_kind, may_be_passed, Entry, Kind, IsIn}
+use Rattle.relational_model.proofs.Vocabulary.{IsEarlier, Candidate, ReadsFrom, IsBefore, StandsAfter, FromReads}
 use Rattle.relational_model.proofs.Lists.{in-case, in-none, in-first, in-later, Precedes, to-precedes, from-precedes}
 use Rattle.relational_model.proofs.KindFacts.{same-number, number-same}
 use Rattle.relational_model.proofs.Found.{equal-kinds, kind-itself}

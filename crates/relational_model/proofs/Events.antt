@@ -1,5 +1,10 @@
 -- The events of a candidate come once each, and so do the writes in its coherence orders.
-use Rattle.relational_model.proofs.Vocabulary.{◌≡◌, ◌≤◌, ℕ, ◌+◌, suc, true, List, [], ◌∷◌, ◌++◌, slice_index, slice_index_or, arith, refl, sym, ap, ◌∙◌, ◌⊎◌, inl, inr, subst, length, filter, action_of, entry, fence, value_in, value_of, updated, entries_by, registers_by, values_after, entries_of, writes_to, Litmus, Instr, Action, Store, Load, Move, Fence, Lock, Entry, R, W, LR, LW, IsIn, Candidate, IsCandidate, events_from, events, part_of, Once, part-small, rank, made, made_by, made_from, read_values, zero, slice_get, Some}
+use Rattle.relational_model.proofs.Vocabulary.{◌≡◌, ◌≤◌, ℕ, ◌+◌, suc, true, List, [], ◌∷◌, ◌++◌, slice_index, slice_index_or, arith, refl}
+use Rattle.relational_model.proofs.Vocabulary.{sym, ap, ◌∙◌, ◌⊎◌, inl, inr, subst, length, filter, action_of, entry, fence, value_in}
+use Rattle.relational_model.proofs.Vocabulary.{value_of, updated, entries_by, registers_by, values_after, entries_of, writes_to, Litmus}
+use Rattle.relational_model.proofs.Vocabulary.{Instr, Action, Store, Load, Move, Fence, Lock, Entry, R, W, LR, LW, IsIn, Candidate}
+use Rattle.relational_model.proofs.Vocabulary.{IsCandidate, events_from, events, part_of, Once, part-small, rank, made, made_by, made_from}
+use Rattle.relational_model.proofs.Vocabulary.{read_values, zero, slice_get, Some}
 use Rattle.relational_model.proofs.Lists.{Cut, cut, in-case, in-none, in-first, in-later, in-append, in-left, in-right, in-filter}
 use Rattle.relational_model.proofs.Same.{here-by, from-place, same-of}
 use Rattle.relational_model.proofs.Sizes.{once-filter, length-middle}

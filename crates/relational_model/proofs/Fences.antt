@@ -1,5 +1,9 @@
 -- Where what happens before is acyclic, so it is together with the program order to and from fences.
-use Rattle.relational_model.proofs.Vocabulary.{◌≡◌, ◌||◌, Bool, true, false, List, Option, Some, None, refl, sym, ◌∙◌, ◌⊎◌, inl, inr, subst, Litmus, is_before, is_read, is_write, writes_to, Entry, F, IsIn, LeadsTo, at_once, onward, IsAcyclic, Candidate, Returns, events, ReadsFrom, StandsAfter, FromReads, HappensBefore, write_before_write, read_before_access, mfence, implied, rfe, co, fr, arith, may_be_passed, is_locked}
+use Rattle.relational_model.proofs.Vocabulary.{◌≡◌, ◌||◌, Bool, true, false, List, Option, Some, None, refl, sym, ◌∙◌, ◌⊎◌, inl, inr, subst}
+use Rattle.relational_model.proofs.Vocabulary.{Litmus, is_before, is_read, is_write, writes_to, Entry, F, IsIn, LeadsTo, at_once, onward}
+use Rattle.relational_model.proofs.Vocabulary.{IsAcyclic, Candidate, Returns, events, ReadsFrom, StandsAfter, FromReads, HappensBefore}
+use Rattle.relational_model.proofs.Vocabulary.{write_before_write, read_before_access, mfence, implied, rfe, co, fr, arith, may_be_passed}
+use Rattle.relational_model.proofs.Vocabulary.{is_locked}
 use Rattle.relational_model.proofs.Ranks.{before-trans, before-irreflexive}
 use Rattle.relational_model.proofs.KindFacts.{writes}
 use Rattle.relational_model.proofs.Forward.{starts-in}

@@ -1,5 +1,11 @@
 -- Worked candidates that the model forbids: each is a candidate of its test, and a cycle or a write in between shows that it isn't allowed.
-use Rattle.relational_model.proofs.Vocabulary.{◌≡◌, ◌<◌, ℕ, ◌==◌, zero, suc, Bool, true, false, List, [], ◌∷◌, refl, sym, ap, ◌∙◌, inl, inr, subst, length, arith, filter, Litmus, entry, fence, loc_x, loc_y, is_read, is_write, writes_to, Entry, R, W, LR, LW, IsIn, at_once, onward, Candidate, Returns, IsCandidate, events, IsAllowed, IsForbidden, write_before_write, read_before_access, mfence, implied, rfe, fr, of_x_and_y, fenced, fenced_candidate, exchanged, exchanged_candidate, passing, passing_candidate, buffering, buffering_candidate, independent, independent_candidate, between, between_candidate}
+use Rattle.relational_model.proofs.Vocabulary.{◌≡◌, ◌<◌, ℕ, ◌==◌, zero, suc, Bool, true, false, List, [], ◌∷◌, refl, sym, ap, ◌∙◌, inl, inr}
+use Rattle.relational_model.proofs.Vocabulary.{subst, length, arith, filter, Litmus, entry, fence, loc_x, loc_y, is_read, is_write}
+use Rattle.relational_model.proofs.Vocabulary.{writes_to, Entry, R, W, LR, LW, IsIn, at_once, onward, Candidate, Returns, IsCandidate}
+use Rattle.relational_model.proofs.Vocabulary.{events, IsAllowed, IsForbidden, write_before_write, read_before_access, mfence, implied, rfe}
+use Rattle.relational_model.proofs.Vocabulary.{fr, of_x_and_y, fenced, fenced_candidate, exchanged, exchanged_candidate, passing}
+use Rattle.relational_model.proofs.Vocabulary.{passing_candidate, buffering, buffering_candidate, independent, independent_candidate}
+use Rattle.relational_model.proofs.Vocabulary.{between, between_candidate}
 use Rattle.relational_model.proofs.Lists.{in-case, in-none}
 use Rattle.relational_model.proofs.Worked.{Without, filter-none, not-first, not-second}
 use Rattle.relational_model.proofs.Independent.{no-opposite-registers}

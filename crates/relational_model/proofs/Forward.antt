@@ -1,9 +1,14 @@
 -- Of a TSO execution, what happens before comes before in the order; and no write comes between the parts of a locked
 -- instruction.
-use Rattle.relational_model.proofs.Vocabulary.{◌≡◌, true, false, List, Option, Some, None, refl, ◌⊎◌, inl, inr, subst, Litmus, is_before, is_read, is_write, writes_to, may_be_passed, Entry, IsIn, IsEarlier, LeadsTo, at_once, onward, IsAcyclic, Candidate, events, StandsAfter, FromReads, HappensBefore, write_before_write, read_before_access, mfence, implied, rfe, co, fr}
+use Rattle.relational_model.proofs.Vocabulary.{◌≡◌, true, false, List, Option, Some, None, refl, ◌⊎◌, inl, inr, subst, Litmus, is_before}
+use Rattle.relational_model.proofs.Vocabulary.{is_read, is_write, writes_to, may_be_passed, Entry, IsIn, IsEarlier, LeadsTo, at_once}
+use Rattle.relational_model.proofs.Vocabulary.{onward, IsAcyclic, Candidate, events, StandsAfter, FromReads, HappensBefore}
+use Rattle.relational_model.proofs.Vocabulary.{write_before_write, read_before_access, mfence, implied, rfe, co, fr}
 use Rattle.relational_model.proofs.Ranks.{before-rank}
-use Rattle.relational_model.proofs.KindFacts.{write-is-no-read, before-write-kept, read-kept-before, kept-before-fence, kept-after-fence, kept-with-locked, and-both}
-use Rattle.relational_model.proofs.Sources.{Known, Counts, earlier-trans, never-itself, never-back, one-way, source-counts, source-last, source-none, coherence-in, coherence-earlier, event-in}
+use Rattle.relational_model.proofs.KindFacts.{write-is-no-read, before-write-kept, read-kept-before, kept-before-fence, kept-after-fence}
+use Rattle.relational_model.proofs.KindFacts.{kept-with-locked, and-both}
+use Rattle.relational_model.proofs.Sources.{Known, Counts, earlier-trans, never-itself, never-back, one-way, source-counts, source-last}
+use Rattle.relational_model.proofs.Sources.{source-none, coherence-in, coherence-earlier, event-in}
 
 -- program order that may not be passed is kept
 pub kept : (t : Litmus) (order : List Entry) (c : Candidate) → Known t order c → (x y : Entry) → IsIn order x → IsIn order y

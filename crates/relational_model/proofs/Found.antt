@@ -1,5 +1,7 @@
 -- Each TSO execution has a candidate.
-use Rattle.relational_model.proofs.Vocabulary.{◌≡◌, ◌==◌, ◌&&◌, Bool, true, false, if◌then◌else◌, List, [], ◌∷◌, ◌++◌, Option, None, arith, refl, sym, ap, ◌∙◌, subst, append_assoc, filter, Litmus, same_kind, writes_to, is_at, counting, Entry, Kind, IsIn, Candidate, last_in, IsCandidateOf, append-nil}
+use Rattle.relational_model.proofs.Vocabulary.{◌≡◌, ◌==◌, ◌&&◌, Bool, true, false, if◌then◌else◌, List, [], ◌∷◌, ◌++◌, Option, None, arith}
+use Rattle.relational_model.proofs.Vocabulary.{refl, sym, ap, ◌∙◌, subst, append_assoc, filter, Litmus, same_kind, writes_to, is_at}
+use Rattle.relational_model.proofs.Vocabulary.{counting, Entry, Kind, IsIn, Candidate, last_in, IsCandidateOf, append-nil}
 use Rattle.relational_model.proofs.Lists.{in-first, in-later, in-left, in-right, precedes-across, from-precedes, Precedes}
 use Rattle.relational_model.proofs.KindFacts.{same-number, number-same, and-both}
 use Rattle.relational_model.proofs.Sources.{never-itself}

@@ -1,5 +1,9 @@
 -- Independent reads of independent writes: no candidate that the model allows has two readers that see the writes in opposite orders.
-use Rattle.relational_model.proofs.Vocabulary.{◌≡◌, ℕ, zero, suc, true, false, List, [], ◌∷◌, Option, Some, None, slice_index, slice_index_or, drop, refl, sym, ap, ◌∙◌, ◌⊎◌, inl, inr, subst, entry, loc_x, loc_y, zeros, is_read, is_write, writes_to, Entry, R, W, IsIn, at_once, onward, Candidate, Returns, events, registers_left, ReadsFrom, StandsAfter, FromReads, IsAllowed, read_before_access, rfe, fr, independent, opposite_registers}
+use Rattle.relational_model.proofs.Vocabulary.{◌≡◌, ℕ, zero, suc, true, false, List, [], ◌∷◌, Option, Some, None, slice_index}
+use Rattle.relational_model.proofs.Vocabulary.{slice_index_or, drop, refl, sym, ap, ◌∙◌, ◌⊎◌, inl, inr, subst, entry, loc_x, loc_y, zeros}
+use Rattle.relational_model.proofs.Vocabulary.{is_read, is_write, writes_to, Entry, R, W, IsIn, at_once, onward, Candidate, Returns, events}
+use Rattle.relational_model.proofs.Vocabulary.{registers_left, ReadsFrom, StandsAfter, FromReads, IsAllowed, read_before_access, rfe, fr}
+use Rattle.relational_model.proofs.Vocabulary.{independent, opposite_registers}
 use Rattle.relational_model.proofs.KindFacts.{writes}
 
 abbrev write-x : Entry

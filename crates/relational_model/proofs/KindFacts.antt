@@ -1,5 +1,6 @@
 -- Facts on kinds of entries.
-use Rattle.relational_model.proofs.Vocabulary.{◌≡◌, ℕ, Bool, true, false, ◌==◌, ◌&&◌, ◌||◌, arith, refl, ◌⊎◌, inl, inr, nat_tests, is_read, is_write, may_be_passed, Entry, F, is_locked, writes_to}
+use Rattle.relational_model.proofs.Vocabulary.{◌≡◌, ℕ, Bool, true, false, ◌==◌, ◌&&◌, ◌||◌, arith, refl, ◌⊎◌, inl, inr, nat_tests, is_read}
+use Rattle.relational_model.proofs.Vocabulary.{is_write, may_be_passed, Entry, F, is_locked, writes_to}
 
 -- no write is a read
 pub write-is-no-read : (x : Entry) → is_write x ≡ true → is_read x ≡ true → ⊥

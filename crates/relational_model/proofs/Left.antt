@@ -1,6 +1,11 @@
 -- What a candidate leaves is what its order leaves.
 use Rattle.tso_terms.specs.Thread.{with_taken}
-use Rattle.relational_model.proofs.Vocabulary.{◌≡◌, ℕ, ◌+◌, suc, List, [], ◌∷◌, ◌++◌, slice_index, slice_index_or, arith, refl, ap, ◌∙◌, subst, length, filter, action_of, entry, entries_by, registers_by, values_after, entries_of, registers_after, with_value, writes_to, last_value, read_values, made_by, made_from, word_after, words_from, registers_of, registers_from, Litmus, Instr, Action, Store, Load, Move, Fence, Lock, Entry, R, LR, Candidate, events_from, last_word, words_left_from, registers_left_from, IsCandidateOf, LeaveTheSame}
+use Rattle.relational_model.proofs.Vocabulary.{◌≡◌, ℕ, ◌+◌, suc, List, [], ◌∷◌, ◌++◌, slice_index, slice_index_or, arith, refl, ap, ◌∙◌}
+use Rattle.relational_model.proofs.Vocabulary.{subst, length, filter, action_of, entry, entries_by, registers_by, values_after, entries_of}
+use Rattle.relational_model.proofs.Vocabulary.{registers_after, with_value, writes_to, last_value, read_values, made_by, made_from}
+use Rattle.relational_model.proofs.Vocabulary.{word_after, words_from, registers_of, registers_from, Litmus, Instr, Action, Store, Load}
+use Rattle.relational_model.proofs.Vocabulary.{Move, Fence, Lock, Entry, R, LR, Candidate, events_from, last_word, words_left_from}
+use Rattle.relational_model.proofs.Vocabulary.{registers_left_from, IsCandidateOf, LeaveTheSame}
 
 -- ---- memory
 

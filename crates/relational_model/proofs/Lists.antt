@@ -1,5 +1,7 @@
 -- Facts on places in lists of entries.
-use Rattle.relational_model.proofs.Vocabulary.{◌≡◌, ◌<◌, ℕ, zero, suc, Bool, true, false, if◌then◌else◌, List, [], ◌∷◌, ◌++◌, Some, None, slice_get, arith, refl, sym, ap, ◌∙◌, ◌⊎◌, inl, inr, subst, filter, Entry, IsIn, IsEarlier, last_in}
+use Rattle.relational_model.proofs.Vocabulary.{◌≡◌, ◌<◌, ℕ, zero, suc, Bool, true, false, if◌then◌else◌, List, [], ◌∷◌, ◌++◌, Some, None}
+use Rattle.relational_model.proofs.Vocabulary.{slice_get, arith, refl, sym, ap, ◌∙◌, ◌⊎◌, inl, inr, subst, filter, Entry, IsIn, IsEarlier}
+use Rattle.relational_model.proofs.Vocabulary.{last_in}
 
 -- ---- members
 

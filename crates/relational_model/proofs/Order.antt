@@ -1,7 +1,12 @@
 -- A row of a candidate's events in which no edge goes back is an order of that candidate.
-use Rattle.relational_model.proofs.Vocabulary.{◌≡◌, ◌<◌, ℕ, ◌==◌, ◌&&◌, zero, suc, Bool, true, false, if◌then◌else◌, List, [], ◌∷◌, ◌++◌, Option, Some, None, arith, refl, sym, ap, ◌∙◌, ◌⊎◌, inl, inr, subst, length, filter, Litmus, is_before, is_read, is_write, writes_to, counting, KeepsProgramOrder, Entry, IsIn, IsEarlier, at_once, onward, Candidate, events, last_in, is_access, share_location, ReadsFrom, IsBefore, StandsAfter, FromReads, IsAllowed, po_loc, fr, rank, GoesForward, Once}
+use Rattle.relational_model.proofs.Vocabulary.{◌≡◌, ◌<◌, ℕ, ◌==◌, ◌&&◌, zero, suc, Bool, true, false, if◌then◌else◌, List, [], ◌∷◌, ◌++◌}
+use Rattle.relational_model.proofs.Vocabulary.{Option, Some, None, arith, refl, sym, ap, ◌∙◌, ◌⊎◌, inl, inr, subst, length, filter, Litmus}
+use Rattle.relational_model.proofs.Vocabulary.{is_before, is_read, is_write, writes_to, counting, KeepsProgramOrder, Entry, IsIn, IsEarlier}
+use Rattle.relational_model.proofs.Vocabulary.{at_once, onward, Candidate, events, last_in, is_access, share_location, ReadsFrom, IsBefore}
+use Rattle.relational_model.proofs.Vocabulary.{StandsAfter, FromReads, IsAllowed, po_loc, fr, rank, GoesForward, Once}
 use Rattle.relational_model.specs.Model.{rf}
-use Rattle.relational_model.proofs.Lists.{in-case, in-none, in-first, in-later, in-filter, filter-in, in-right, Precedes, to-precedes, from-precedes, precedes-second, last-is-in, last-none, last-last, precedes-first}
+use Rattle.relational_model.proofs.Lists.{in-case, in-none, in-first, in-later, in-filter, filter-in, in-right, Precedes, to-precedes}
+use Rattle.relational_model.proofs.Lists.{from-precedes, precedes-second, last-is-in, last-none, last-last, precedes-first}
 use Rattle.relational_model.proofs.Ranks.{rank-before, order-of}
 use Rattle.relational_model.proofs.KindFacts.{same-number, number-same, write-is-no-read, writes}
 use Rattle.relational_model.proofs.Sources.{StandOnce, Counts, never-back, one-way, counts-in, in-counts, counting-earlier}

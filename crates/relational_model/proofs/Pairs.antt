@@ -1,5 +1,8 @@
 -- The two parts of a locked instruction: each has the other.
-use Rattle.relational_model.proofs.Vocabulary.{◌≡◌, ℕ, ◌+◌, List, [], ◌∷◌, ◌++◌, slice_index, slice_index_or, refl, sym, ap, ◌∙◌, ◌⊎◌, inl, inr, subst, action_of, entry, fence, value_in, value_of, updated, entries_by, registers_by, values_after, entries_of, Litmus, Instr, Action, Store, Load, Move, Fence, Lock, Entry, R, W, LR, LW, IsIn, Candidate, events_from, events, ArePair}
+use Rattle.relational_model.proofs.Vocabulary.{◌≡◌, ℕ, ◌+◌, List, [], ◌∷◌, ◌++◌, slice_index, slice_index_or, refl, sym, ap, ◌∙◌, ◌⊎◌, inl}
+use Rattle.relational_model.proofs.Vocabulary.{inr, subst, action_of, entry, fence, value_in, value_of, updated, entries_by, registers_by}
+use Rattle.relational_model.proofs.Vocabulary.{values_after, entries_of, Litmus, Instr, Action, Store, Load, Move, Fence, Lock, Entry, R, W}
+use Rattle.relational_model.proofs.Vocabulary.{LR, LW, IsIn, Candidate, events_from, events, ArePair}
 use Rattle.relational_model.proofs.Lists.{in-case, in-none, in-append, in-left, in-right}
 use Rattle.relational_model.proofs.Same.{only}
 

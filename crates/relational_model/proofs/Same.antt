@@ -1,5 +1,8 @@
 -- Entries that the programs make at one core and place, and of one kind, are one entry.
-use Rattle.relational_model.proofs.Vocabulary.{◌≡◌, ◌≤◌, ℕ, ◌+◌, List, [], ◌∷◌, slice_index, arith, refl, sym, ap, ◌∙◌, ◌⊎◌, inl, inr, subst, action_of, entry, fence, value_in, value_of, updated, entries_by, registers_by, values_after, entries_of, Instr, Action, Store, Load, Move, Fence, Lock, Entry, R, W, LR, LW, IsIn, part_of}
+use Rattle.relational_model.proofs.Vocabulary.{◌≡◌, ◌≤◌, ℕ, ◌+◌, List, [], ◌∷◌, slice_index, arith, refl, sym, ap, ◌∙◌, ◌⊎◌, inl, inr}
+use Rattle.relational_model.proofs.Vocabulary.{subst, action_of, entry, fence, value_in, value_of, updated, entries_by, registers_by}
+use Rattle.relational_model.proofs.Vocabulary.{values_after, entries_of, Instr, Action, Store, Load, Move, Fence, Lock, Entry, R, W, LR, LW}
+use Rattle.relational_model.proofs.Vocabulary.{IsIn, part_of}
 use Rattle.relational_model.proofs.Lists.{in-case, in-none, in-append}
 
 -- the one entry of a list

@@ -1,5 +1,7 @@
 -- Sequential consistency: the candidate of an order that keeps all of program order is sequential, and what is sequential x86-TSO allows.
-use Rattle.relational_model.proofs.Vocabulary.{◌≡◌, true, List, inl, inr, Litmus, IsTsoExecution, is_before, KeepsAllOrder, Entry, IsIn, IsEarlier, LeadsTo, at_once, onward, IsAcyclic, Candidate, events, IsCandidateOf, IsAllowed, IsBeforeOnLocation, HappensBefore, IsBeforeSequentially, po, rf, IsSequential}
+use Rattle.relational_model.proofs.Vocabulary.{◌≡◌, true, List, inl, inr, Litmus, IsTsoExecution, is_before, KeepsAllOrder, Entry, IsIn}
+use Rattle.relational_model.proofs.Vocabulary.{IsEarlier, LeadsTo, at_once, onward, IsAcyclic, Candidate, events, IsCandidateOf, IsAllowed}
+use Rattle.relational_model.proofs.Vocabulary.{IsBeforeOnLocation, HappensBefore, IsBeforeSequentially, po, rf, IsSequential}
 use Rattle.relational_model.specs.Model as model
 use Rattle.relational_model.specs.SequentialModel.{co, fr}
 use Rattle.relational_model.proofs.Ranks.{before-trans}

@@ -1,5 +1,7 @@
 -- Each sequential candidate has an order that keeps all of program order: `Converse`, with program order among the edges that are kept.
-use Rattle.relational_model.proofs.Vocabulary.{◌≡◌, true, List, sym, ◌⊎◌, inl, inr, subst, Litmus, is_before, KeepsAllOrder, Entry, IsIn, LeadsTo, at_once, onward, Candidate, events, IsOfASequentialExecution, ArePair, IsBeforeSequentially, po, rf, IsSequential, GoesForward}
+use Rattle.relational_model.proofs.Vocabulary.{◌≡◌, true, List, sym, ◌⊎◌, inl, inr, subst, Litmus, is_before, KeepsAllOrder, Entry, IsIn}
+use Rattle.relational_model.proofs.Vocabulary.{LeadsTo, at_once, onward, Candidate, events, IsOfASequentialExecution, ArePair}
+use Rattle.relational_model.proofs.Vocabulary.{IsBeforeSequentially, po, rf, IsSequential, GoesForward}
 use Rattle.relational_model.specs.SequentialModel.{co, fr}
 use Rattle.relational_model.proofs.Lists.{to-precedes, at-one}
 use Rattle.relational_model.proofs.Ranks.{before-irreflexive, order-of}

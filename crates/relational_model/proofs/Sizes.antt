@@ -1,5 +1,6 @@
 -- Two lists with the same members, each once in the first, and of one length: the members that a test picks are as many.
-use Rattle.relational_model.proofs.Vocabulary.{◌≡◌, ◌≤◌, ◌+◌, suc, Bool, true, false, not, if◌then◌else◌, List, [], ◌∷◌, ◌++◌, arith, refl, ap, ◌∙◌, inl, inr, subst, length, filter, Entry, IsIn, Once}
+use Rattle.relational_model.proofs.Vocabulary.{◌≡◌, ◌≤◌, ◌+◌, suc, Bool, true, false, not, if◌then◌else◌, List, [], ◌∷◌, ◌++◌, arith, refl}
+use Rattle.relational_model.proofs.Vocabulary.{ap, ◌∙◌, inl, inr, subst, length, filter, Entry, IsIn, Once}
 use Rattle.relational_model.proofs.Lists.{Cut, cut, in-case, in-first, in-later, in-append, in-left, in-right, in-filter, filter-in}
 use Rattle.relational_model.proofs.Sources.{StandOnce}
 

@@ -1,5 +1,6 @@
 -- Events can be put in a row in which no edge goes back, or some edges lead round: a finite acyclic relation extends to a total order.
-use Rattle.relational_model.proofs.Vocabulary.{◌≡◌, suc, List, [], ◌∷◌, refl, ap, ◌∙◌, ◌⊎◌, inl, inr, subst, Entry, IsIn, LeadsTo, at_once, onward, IsAcyclic, NonePrecedes, GoesForward, LinearExtension, Ordered}
+use Rattle.relational_model.proofs.Vocabulary.{◌≡◌, suc, List, [], ◌∷◌, refl, ap, ◌∙◌, ◌⊎◌, inl, inr, subst, Entry, IsIn, LeadsTo, at_once}
+use Rattle.relational_model.proofs.Vocabulary.{onward, IsAcyclic, NonePrecedes, GoesForward, LinearExtension, Ordered}
 use Rattle.relational_model.proofs.Lists.{in-case, in-none, in-first, in-later}
 
 -- a relation that can be decided
@@ -60,7 +61,9 @@ placed Before d x once [] twice h = record {
 placed Before d x once (y ∷ ys) twice h =
     go (any-before Before d x (y ∷ ys)) (placed Before d x once ys (λ z i. twice z (in-later y ys z i)) h.1)
   where
-    go : ((z : Entry) × (IsIn (y ∷ ys) z × Before z x)) ⊎ NonePrecedes Before x (y ∷ ys) → LinearExtension Before (x ∷ ys) → LinearExtension Before (x ∷ (y ∷ ys))
+    go : ((z : Entry) × (IsIn (y ∷ ys) z × Before z x)) ⊎ NonePrecedes Before x (y ∷ ys)
+        → LinearExtension Before (x ∷ ys)
+        → LinearExtension Before (x ∷ (y ∷ ys))
     go (inr none) rest = record {
       row = x ∷ (y ∷ ys);
       forward = (none, weaker x Before (y ∷ ys) h);

@@ -1,6 +1,10 @@
 -- What is known of an order that is a TSO execution, and of its candidate: where the source of a read stands.
-use Rattle.relational_model.proofs.Vocabulary.{◌≡◌, ◌<◌, ℕ, true, List, ◌∷◌, ◌++◌, Some, None, slice_get, arith, refl, sym, ◌∙◌, ◌⊎◌, inl, inr, subst, filter, Litmus, is_before, is_read, writes_to, made, counting, IsTsoExecution, Entry, IsIn, IsEarlier, Candidate, events, last_in, IsCandidateOf}
-use Rattle.relational_model.proofs.Lists.{Cut, cut, Precedes, to-precedes, from-precedes, precedes-filter, precedes-left, precedes-right, precedes-across, precedes-parts, in-first, in-later, in-left, in-right, in-append, in-case, in-filter, filter-in, last-is-in, last-none, last-last, precedes-second, at-one}
+use Rattle.relational_model.proofs.Vocabulary.{◌≡◌, ◌<◌, ℕ, true, List, ◌∷◌, ◌++◌, Some, None, slice_get, arith, refl, sym, ◌∙◌, ◌⊎◌, inl}
+use Rattle.relational_model.proofs.Vocabulary.{inr, subst, filter, Litmus, is_before, is_read, writes_to, made, counting, IsTsoExecution}
+use Rattle.relational_model.proofs.Vocabulary.{Entry, IsIn, IsEarlier, Candidate, events, last_in, IsCandidateOf}
+use Rattle.relational_model.proofs.Lists.{Cut, cut, Precedes, to-precedes, from-precedes, precedes-filter, precedes-left, precedes-right}
+use Rattle.relational_model.proofs.Lists.{precedes-across, precedes-parts, in-first, in-later, in-left, in-right, in-append, in-case}
+use Rattle.relational_model.proofs.Lists.{in-filter, filter-in, last-is-in, last-none, last-last, precedes-second, at-one}
 use Rattle.relational_model.proofs.Ranks.{before-irreflexive, order-of}
 
 -- each entry is in the list at one place

@@ -1,5 +1,7 @@
 -- A row of the events in which each load part of a locked instruction comes directly before its store part.
-use Rattle.relational_model.proofs.Vocabulary.{◌≡◌, Bool, true, false, List, [], ◌∷◌, ◌++◌, arith, refl, ap, ◌⊎◌, inl, inr, subst, filter, Entry, LR, LW, IsIn, LeadsTo, at_once, onward, Candidate, ArePair, is_locked, is_locked_kind, part_of}
+use Rattle.relational_model.proofs.Vocabulary.{◌≡◌, Bool, true, false, List, [], ◌∷◌, ◌++◌, arith, refl, ap, ◌⊎◌, inl, inr, subst, filter}
+use Rattle.relational_model.proofs.Vocabulary.{Entry, LR, LW, IsIn, LeadsTo, at_once, onward, Candidate, ArePair, is_locked, is_locked_kind}
+use Rattle.relational_model.proofs.Vocabulary.{part_of}
 use Rattle.std.specs.Prelude.{not}
 use Rattle.relational_model.proofs.Lists.{in-case, in-none, in-first, in-later, in-append, in-left, in-right, in-filter, filter-in}
 use Rattle.relational_model.proofs.Ranks.{rank-before}

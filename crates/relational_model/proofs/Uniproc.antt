@@ -1,6 +1,9 @@
 -- Of a TSO execution, the accesses of one location are acyclic: each step goes up from the place of a write, or of the write
 -- that a read reads from; and of reads of one write, in program order.
-use Rattle.relational_model.proofs.Vocabulary.{◌≡◌, ◌<◌, ◌+◌, ◌==◌, ◌&&◌, ℕ, true, List, Option, Some, None, slice_get, arith, refl, sym, ◌∙◌, ◌⊎◌, inl, inr, subst, Litmus, is_before, is_read, is_write, writes_to, Entry, IsIn, IsEarlier, LeadsTo, at_once, onward, IsAcyclic, Candidate, events, is_access, share_location, StandsAfter, IsBeforeOnLocation, po_loc, co, fr, rank}
+use Rattle.relational_model.proofs.Vocabulary.{◌≡◌, ◌<◌, ◌+◌, ◌==◌, ◌&&◌, ℕ, true, List, Option, Some, None, slice_get, arith, refl, sym}
+use Rattle.relational_model.proofs.Vocabulary.{◌∙◌, ◌⊎◌, inl, inr, subst, Litmus, is_before, is_read, is_write, writes_to, Entry, IsIn}
+use Rattle.relational_model.proofs.Vocabulary.{IsEarlier, LeadsTo, at_once, onward, IsAcyclic, Candidate, events, is_access, share_location}
+use Rattle.relational_model.proofs.Vocabulary.{StandsAfter, IsBeforeOnLocation, po_loc, co, fr, rank}
 use Rattle.relational_model.specs.Model.{rf}
 use Rattle.relational_model.proofs.Ranks.{before-rank, before-trans}
 use Rattle.relational_model.proofs.KindFacts.{write-is-no-read, before-write-kept, read-kept-before, and-both, or-either, same-number, number-same, writes}

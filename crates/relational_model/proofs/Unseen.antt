@@ -1,5 +1,8 @@
 -- The candidate that uniproc alone forbids: a load reads the initial word after its own core's store to the location.
-use Rattle.relational_model.proofs.Vocabulary.{◌≡◌, List, [], ◌∷◌, refl, ap, ◌∙◌, sym, ◌⊎◌, inl, inr, subst, entry, loc_x, Entry, R, W, F, LR, IsIn, IsEarlier, LeadsTo, at_once, onward, IsCandidate, IsForbidden, IsForbiddenByUniproc, IsBeforeOnLocation, po_loc, HappensBefore, write_before_write, read_before_access, mfence, implied, rfe, co, fr, unseen, unseen_candidate}
+use Rattle.relational_model.proofs.Vocabulary.{◌≡◌, List, [], ◌∷◌, refl, ap, ◌∙◌, sym, ◌⊎◌, inl, inr, subst, entry, loc_x, Entry, R, W, F}
+use Rattle.relational_model.proofs.Vocabulary.{LR, IsIn, IsEarlier, LeadsTo, at_once, onward, IsCandidate, IsForbidden}
+use Rattle.relational_model.proofs.Vocabulary.{IsForbiddenByUniproc, IsBeforeOnLocation, po_loc, HappensBefore, write_before_write}
+use Rattle.relational_model.proofs.Vocabulary.{read_before_access, mfence, implied, rfe, co, fr, unseen, unseen_candidate}
 use Rattle.relational_model.proofs.Forward.{starts-in}
 use Rattle.relational_model.proofs.Lists.{in-case, in-none, to-precedes}
 use Rattle.relational_model.proofs.Worked.{not-first}

@@ -1,5 +1,11 @@
 -- An order of a candidate's events gives its reads the values that the candidate gives them: it is a TSO execution.
-use Rattle.relational_model.proofs.Vocabulary.{◌≡◌, ℕ, ◌+◌, ◌==◌, suc, Bool, true, false, if◌then◌else◌, List, [], ◌∷◌, ◌++◌, Option, Some, None, slice_index, slice_index_or, refl, sym, ap, ◌∙◌, ◌⊎◌, inl, inr, subst, length, action_of, entry, entries_by, registers_by, values_after, entries_of, same_kind, is_at, read_value, values_by, made_by, made_from, made, counting, due_value, HasReadValues, IsAdjacent, IsTsoExecution, read_values, Litmus, Instr, Action, Store, Load, Move, Fence, Lock, Entry, R, LR, IsIn, Candidate, Returns, events_from, events, last_in, IsCandidateOf, part_of}
+use Rattle.relational_model.proofs.Vocabulary.{◌≡◌, ℕ, ◌+◌, ◌==◌, suc, Bool, true, false, if◌then◌else◌, List, [], ◌∷◌, ◌++◌, Option, Some}
+use Rattle.relational_model.proofs.Vocabulary.{None, slice_index, slice_index_or, refl, sym, ap, ◌∙◌, ◌⊎◌, inl, inr, subst, length}
+use Rattle.relational_model.proofs.Vocabulary.{action_of, entry, entries_by, registers_by, values_after, entries_of, same_kind, is_at}
+use Rattle.relational_model.proofs.Vocabulary.{read_value, values_by, made_by, made_from, made, counting, due_value, HasReadValues}
+use Rattle.relational_model.proofs.Vocabulary.{IsAdjacent, IsTsoExecution, read_values, Litmus, Instr, Action, Store, Load, Move, Fence}
+use Rattle.relational_model.proofs.Vocabulary.{Lock, Entry, R, LR, IsIn, Candidate, Returns, events_from, events, last_in, IsCandidateOf}
+use Rattle.relational_model.proofs.Vocabulary.{part_of}
 use Rattle.relational_model.proofs.Lists.{in-case, in-none, in-first, in-left, in-right}
 use Rattle.relational_model.proofs.KindFacts.{same-number}
 use Rattle.relational_model.proofs.Allowed.{value-none, value-some}

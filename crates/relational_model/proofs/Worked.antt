@@ -1,5 +1,6 @@
 -- The sources of a candidate's reads, told entry by entry; and lists in which nothing is picked.
-use Rattle.relational_model.proofs.Vocabulary.{◌≡◌, ℕ, suc, Bool, true, false, ◌==◌, arith, List, [], ◌∷◌, ◌++◌, refl, sym, ap, ◌∙◌, subst, append_assoc, filter, nat_tests, is_read, counting, Entry, Candidate, last_in, append-nil}
+use Rattle.relational_model.proofs.Vocabulary.{◌≡◌, ℕ, suc, Bool, true, false, ◌==◌, arith, List, [], ◌∷◌, ◌++◌, refl, sym, ap, ◌∙◌, subst}
+use Rattle.relational_model.proofs.Vocabulary.{append_assoc, filter, nat_tests, is_read, counting, Entry, Candidate, last_in, append-nil}
 
 -- each read of the list, which comes after `front`, has its source
 abbrev pub SourcesFrom : Candidate → List Entry → List Entry → Type 0

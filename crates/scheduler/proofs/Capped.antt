@@ -1,5 +1,7 @@
 -- A number that is read digit by digit, and not past a greatest one.
-use Rattle.scheduler.proofs.Vocabulary.{◌≡◌, ℕ, ◌+◌, ◌-◌, ◌*◌, ◌<◌, true, false, List, [], ◌∷◌, ◌++◌, length, take, get_or, min, refl, ap, ◌∙◌, arith, is_ascii_digit, list_all, nat_lt, take_more, list_all_at, lt-ltb, decimal_from, decimal_value, is_numeral}
+use Rattle.scheduler.proofs.Vocabulary.{◌≡◌, ℕ, ◌+◌, ◌-◌, ◌*◌, ◌<◌, true, false, List, [], ◌∷◌, ◌++◌, length, take, get_or, min, refl, ap}
+use Rattle.scheduler.proofs.Vocabulary.{◌∙◌, arith, is_ascii_digit, list_all, nat_lt, take_more, list_all_at, lt-ltb, decimal_from}
+use Rattle.scheduler.proofs.Vocabulary.{decimal_value, is_numeral}
 
 from_append : (n digit : ℕ) (digits : List ℕ) → decimal_from n (digits ++ digit ∷ []) ≡ decimal_from n digits * 10 + (digit - 48)
 unfolding decimal_from

@@ -1,5 +1,7 @@
 -- The choices that a text spells are of cores that are there.
-use Rattle.scheduler.proofs.Vocabulary.{◌≡◌, ◌<◌, ℕ, ◌*◌, ◌/◌, ◌%◌, ◌==◌, Bool, true, false, cond, List, [], ◌∷◌, ◌++◌, map, arith, refl, subst, sym, lit<, div-lt_iff_lt-mul, chosen, CoresExist, Choice, Step, Drain, choice_of_word, IsItem, one, seeded, AreItems, none, more, SpellsChoices}
+use Rattle.scheduler.proofs.Vocabulary.{◌≡◌, ◌<◌, ℕ, ◌*◌, ◌/◌, ◌%◌, ◌==◌, Bool, true, false, cond, List, [], ◌∷◌, ◌++◌, map, arith, refl}
+use Rattle.scheduler.proofs.Vocabulary.{subst, sym, lit<, div-lt_iff_lt-mul, chosen, CoresExist, Choice, Step, Drain, choice_of_word}
+use Rattle.scheduler.proofs.Vocabulary.{IsItem, one, seeded, AreItems, none, more, SpellsChoices}
 
 CoresExist-append : (cores : ℕ) (xs ys : List Choice) → CoresExist cores xs → CoresExist cores ys → CoresExist cores (xs ++ ys)
 CoresExist-append cores [] ys h k = k

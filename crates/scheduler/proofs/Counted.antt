@@ -1,5 +1,10 @@
 -- One entry more at the front of those that are passed, in the counts of plain stores.
-use Rattle.scheduler.proofs.Vocabulary.{◌≡◌, ◌≢◌, ℕ, ◌+◌, ◌-◌, ◌<◌, ◌≤◌, ◌==◌, ◌&&◌, zero, suc, Bool, true, false, if◌then◌else◌, List, [], ◌∷◌, ◌++◌, length, get_or, take, replicate, drop, filter, sum, refl, ap, sym, ◌∙◌, ◌||◌, not, arith, drop-cons, subst, max, All, ◌⊎◌, inl, inr, set, length-set, drop_all, length_push, length-replicate, take-set-le, get_or-take, get_or-set_same, get_or-set_other, length-take, get_or_default, take-set-lt, All-get_or, sum_by-set, get_or-le-sum_by, ord_max, nat_cmp, same_kind, is_store, is_load, is_before, needed, asked, HaveCounted, stores_below, Entry, Kind, R, W, F, LR, LW}
+use Rattle.scheduler.proofs.Vocabulary.{◌≡◌, ◌≢◌, ℕ, ◌+◌, ◌-◌, ◌<◌, ◌≤◌, ◌==◌, ◌&&◌, zero, suc, Bool, true, false, if◌then◌else◌, List, []}
+use Rattle.scheduler.proofs.Vocabulary.{◌∷◌, ◌++◌, length, get_or, take, replicate, drop, filter, sum, refl, ap, sym, ◌∙◌, ◌||◌, not, arith}
+use Rattle.scheduler.proofs.Vocabulary.{drop-cons, subst, max, All, ◌⊎◌, inl, inr, set, length-set, drop_all, length_push, length-replicate}
+use Rattle.scheduler.proofs.Vocabulary.{take-set-le, get_or-take, get_or-set_same, get_or-set_other, length-take, get_or_default}
+use Rattle.scheduler.proofs.Vocabulary.{take-set-lt, All-get_or, sum_by-set, get_or-le-sum_by, ord_max, nat_cmp, same_kind, is_store}
+use Rattle.scheduler.proofs.Vocabulary.{is_load, is_before, needed, asked, HaveCounted, stores_below, Entry, Kind, R, W, F, LR, LW}
 use Rattle.std.proofs.Common.{nat_lt, length-drop}
 use Rattle.std.proofs.lemmas.List.{take_all}
 use borrow.Author.Tests.{tests}
@@ -13,7 +18,11 @@ passed-more xs i d h =
     rw (a, b) (drop-cons xs (length xs - 1 - i) d (omega arith))
 
 -- one row more, and a fact of each row
-row-pushed : (P : List ℕ → Type 0) (rows : List (List ℕ)) (row : List ℕ) (i : ℕ) → i < length rows + 1 → (i < length rows → P (get_or rows i [])) → P row → P (get_or (rows ++ row ∷ []) i [])
+row-pushed : (P : List ℕ → Type 0) (rows : List (List ℕ)) (row : List ℕ) (i : ℕ)
+    → i < length rows + 1
+    → (i < length rows → P (get_or rows i []))
+    → P row
+    → P (get_or (rows ++ row ∷ []) i [])
 row-pushed P [] row zero m h k = k
 row-pushed P [] row (suc i) m h k = absurd (let q : ⊥ = omega arith in q)
 row-pushed P (r ∷ rs) row zero m h k = h (omega arith)
@@ -32,8 +41,12 @@ nothing-counted n rows new e h =
     let few : length rows ≡ n = h.cores_are in
     rw e (record {
       cores_are = omega (arith, length_push rows (replicate 32 0));
-      places_are = λ core k. row-pushed (λ row. length row ≡ 32) rows (replicate 32 0) core (omega arith) (λ l. h.places_are core (omega arith)) (length-replicate {A = ℕ} 32 0);
-      below = λ core place k m. row-pushed (λ row. sum (take place row) ≡ 0) rows (replicate 32 0) core (omega arith) (λ l. h.below core place (omega arith) m) (no-sum 32 place);
+      places_are = λ core k.
+          row-pushed (λ row. length row ≡ 32) rows (replicate 32 0) core (omega arith)
+          (λ l. h.places_are core (omega arith)) (length-replicate {A = ℕ} 32 0);
+      below = λ core place k m.
+          row-pushed (λ row. sum (take place row) ≡ 0) rows (replicate 32 0) core (omega arith)
+          (λ l. h.below core place (omega arith) m) (no-sum 32 place);
     })
 
 few-step : (b : Bool) (y : Entry) (zs : List Entry) (n : ℕ) → length zs ≤ n → length (if b then y ∷ zs else zs) ≤ suc n
@@ -68,7 +81,8 @@ row-more row q place n x zs false b below e =
 
 counted-here : (cores : ℕ) (rows : List (List ℕ)) (x : Entry) (ys : List Entry) (place : ℕ) → (x.core.0 == x.core.0) ≡ true → is_store x ≡ true →
     x.core.0 < cores → x.place < 32 → HaveCounted cores rows ys → place ≤ 32 →
-    sum (take place (get_or (set rows x.core.0 (set (get_or rows x.core.0 []) x.place (get_or (get_or rows x.core.0 []) x.place 0 + 1))) x.core.0 [])) ≡ stores_below x.core.0 place (x ∷ ys)
+    sum (take place (get_or (set rows x.core.0 (set (get_or rows x.core.0 []) x.place (get_or (get_or rows x.core.0 []) x.place 0 + 1))) x.core.0 []))
+    ≡ stores_below x.core.0 place (x ∷ ys)
 counted-here cores rows x ys place same e i p h m =
     let long : length (get_or rows x.core.0 []) ≡ 32 = h.places_are x.core.0 i in
     let inside : x.place < length (get_or rows x.core.0 []) = omega arith in
@@ -79,10 +93,13 @@ counted-here cores rows x ys place same e i p h m =
 -- a plain store counts at its place
 counted-at : (cores : ℕ) (rows : List (List ℕ)) (x : Entry) (ys : List Entry) (core place : ℕ) (b : Bool) → (x.core.0 == core) ≡ b → is_store x ≡ true →
     x.core.0 < cores → x.place < 32 → HaveCounted cores rows ys → core < cores → place ≤ 32 →
-    sum (take place (get_or (set rows x.core.0 (set (get_or rows x.core.0 []) x.place (get_or (get_or rows x.core.0 []) x.place 0 + 1))) core [])) ≡ stores_below core place (x ∷ ys)
+    sum (take place (get_or (set rows x.core.0 (set (get_or rows x.core.0 []) x.place (get_or (get_or rows x.core.0 []) x.place 0 + 1))) core []))
+    ≡ stores_below core place (x ∷ ys)
 counted-at cores rows x ys core place true b e i p h k m =
     let q : x.core.0 ≡ core = search (tests, b) in
-    subst (λ (c : ℕ). sum (take place (get_or (set rows x.core.0 (set (get_or rows x.core.0 []) x.place (get_or (get_or rows x.core.0 []) x.place 0 + 1))) c [])) ≡ stores_below c place (x ∷ ys))
+    subst (λ (c : ℕ).
+    sum (take place (get_or (set rows x.core.0 (set (get_or rows x.core.0 []) x.place (get_or (get_or rows x.core.0 []) x.place 0 + 1))) c []))
+    ≡ stores_below c place (x ∷ ys))
     q (counted-here cores rows x ys place (rw (sym q) at b) e i p h m)
 counted-at cores rows x ys core place false b e i _ h k m =
     let p : x.core.0 ≢ core = search (tests, b) in
@@ -139,7 +156,11 @@ Counted cores rows most order i = record {
   most : most ≡ needed (drop (length order - i) order);
 }
 
-row-is : (cores : ℕ) (rows : List (List ℕ)) (ys : List Entry) (core : ℕ) (row : List ℕ) → HaveCounted cores rows ys → core < cores → row ≡ get_or rows core row → row ≡ get_or rows core []
+row-is : (cores : ℕ) (rows : List (List ℕ)) (ys : List Entry) (core : ℕ) (row : List ℕ)
+    → HaveCounted cores rows ys
+    → core < cores
+    → row ≡ get_or rows core row
+    → row ≡ get_or rows core []
 row-is cores rows ys core row h k e = e ∙ get_or_default rows core row [] (rw h.cores_are k)
 
 passed-few : (order : List Entry) (i : ℕ) → length (drop (length order - i) order) ≤ i

@@ -1,5 +1,7 @@
 -- The first word of a text, and the words after it.
-use Rattle.scheduler.proofs.Vocabulary.{◌≡◌, ℕ, ◌+◌, ◌<◌, suc, Bool, cond, true, false, not, List, [], ◌∷◌, length, take, drop, filter, refl, sym, ap, subst, ◌∙◌, inl, inr, eqb, arith, get_or, prefix_len, slice_split, onto_first, nat_tests, length-drop, is_space, words_of_text}
+use Rattle.scheduler.proofs.Vocabulary.{◌≡◌, ℕ, ◌+◌, ◌<◌, suc, Bool, cond, true, false, not, List, [], ◌∷◌, length, take, drop, filter}
+use Rattle.scheduler.proofs.Vocabulary.{refl, sym, ap, subst, ◌∙◌, inl, inr, eqb, arith, get_or, prefix_len, slice_split, onto_first}
+use Rattle.scheduler.proofs.Vocabulary.{nat_tests, length-drop, is_space, words_of_text}
 use Rattle.std.proofs.Math.Bool.{beq}
 use Rattle.std.proofs.lemmas.List.{drop_more, drop_all}
 use Rattle.scheduler.proofs.ChoiceWords.{either}

@@ -13,7 +13,11 @@ unfolding drawn_words
 none-drawn f n g none = rw none refl
 
 -- where one is left
-pub one-drawn : {X : Type 0} (f : ℕ → X) (n : ℕ) (g after : Lcg) (word : ℕ) (x : X) → n ≢ 0 → (word, after) ≡ pcg32 g → x ≡ f word → map f (drawn_words n g) ≡ x ∷ map f (drawn_words (n - 1) after)
+pub one-drawn : {X : Type 0} (f : ℕ → X) (n : ℕ) (g after : Lcg) (word : ℕ) (x : X)
+    → n ≢ 0
+    → (word, after) ≡ pcg32 g
+    → x ≡ f word
+    → map f (drawn_words n g) ≡ x ∷ map f (drawn_words (n - 1) after)
 unfolding drawn_words
 one-drawn f zero g after word x some drawn is = absurd (some refl)
 one-drawn f (suc n) g after word x some drawn is =

@@ -1,5 +1,11 @@
 -- What is printed of choices spells them.
-use Rattle.scheduler.proofs.Vocabulary.{◌≡◌, ◌<◌, ◌≤◌, ◌^◌, ℕ, Bool, true, false, IsTrue, All, not, eqb, List, [], ◌∷◌, ◌++◌, length, map, filter, arith, rules, refl, sym, ap, subst, ◌∙◌, append_assoc, is_ascii_digit, slice_split, list_all, and_parts, nat_tests, digits_decimal, digits_value-decimal, decimal_nonempty, All-nil, All-cons, All-append, slice_split_none, slice_split_at, slice_split-cons_yes, IsNumeralModel, numerals_by_fold, chosen, CoresExist, Choice, Step, Drain, most_choices, decimal_from, decimal_value, is_space, is_numeral, words_of_text, IsChoiceWord, step, drain, one, AreItems, none, more, SpellsChoices, printed_choice, printed_after, printed_choices}
+use Rattle.scheduler.proofs.Vocabulary.{◌≡◌, ◌<◌, ◌≤◌, ◌^◌, ℕ, Bool, true, false, IsTrue, All, not, eqb, List, [], ◌∷◌, ◌++◌, length, map}
+use Rattle.scheduler.proofs.Vocabulary.{filter, arith, rules, refl, sym, ap, subst, ◌∙◌, append_assoc, is_ascii_digit, slice_split}
+use Rattle.scheduler.proofs.Vocabulary.{list_all, and_parts, nat_tests, digits_decimal, digits_value-decimal, decimal_nonempty, All-nil}
+use Rattle.scheduler.proofs.Vocabulary.{All-cons, All-append, slice_split_none, slice_split_at, slice_split-cons_yes, IsNumeralModel}
+use Rattle.scheduler.proofs.Vocabulary.{numerals_by_fold, chosen, CoresExist, Choice, Step, Drain, most_choices, decimal_from}
+use Rattle.scheduler.proofs.Vocabulary.{decimal_value, is_space, is_numeral, words_of_text, IsChoiceWord, step, drain, one, AreItems, none}
+use Rattle.scheduler.proofs.Vocabulary.{more, SpellsChoices, printed_choice, printed_after, printed_choices}
 use Rattle.std.proofs.Common.{codes, append-nil, length-append}
 use Rattle.std.specs.Fmt as fmt
 
@@ -26,9 +32,11 @@ is-numeral n small =
 
 word-is : (c : Choice) → chosen c < 2 ^ 64 → IsChoiceWord (printed_choice c) c
 word-is (Step core) small =
-    subst (λ n. IsChoiceWord (fmt.decimal core.0 ++ codes "s") (Step (record { 0 = n }))) (number-is core.0 small) (step (fmt.decimal core.0) (is-numeral core.0 small))
+    subst (λ n. IsChoiceWord (fmt.decimal core.0 ++ codes "s") (Step (record { 0 = n }))) (number-is core.0 small)
+    (step (fmt.decimal core.0) (is-numeral core.0 small))
 word-is (Drain core) small =
-    subst (λ n. IsChoiceWord (fmt.decimal core.0 ++ codes "d") (Drain (record { 0 = n }))) (number-is core.0 small) (drain (fmt.decimal core.0) (is-numeral core.0 small))
+    subst (λ n. IsChoiceWord (fmt.decimal core.0 ++ codes "d") (Drain (record { 0 = n }))) (number-is core.0 small)
+    (drain (fmt.decimal core.0) (is-numeral core.0 small))
 
 some-byte : (c : Choice) → 0 < length (printed_choice c)
 some-byte (Step core) = omega (arith, length-append (fmt.decimal core.0) (codes "s"))
@@ -81,7 +89,9 @@ words-after : (word : List ℕ) (cs : List Choice) (white : List ℕ) → IsSoli
     → words_of_text (word ++ (printed_after cs ++ white)) ≡ word ∷ map printed_choice cs
 unfolding is_space
 words-after word [] [] solid some small blank =
-    ap (λ (t : List ℕ). words_of_text t) (append-nil word) ∙ ap (λ (ws : List (List ℕ)). filter is_some_word ws) (slice_split_none is_space word solid) ∙ kept word [] some
+    ap (λ (t : List ℕ). words_of_text t) (append-nil word)
+    ∙ ap (λ (ws : List (List ℕ)). filter is_some_word ws) (slice_split_none is_space word solid)
+    ∙ kept word [] some
 words-after word [] (b ∷ bs) solid some small blank =
     let parts = and_parts _ _ blank in
     ap (λ (ws : List (List ℕ)). filter is_some_word ws) (slice_split_at is_space word b bs solid parts.0) ∙ kept word (slice_split is_space bs) some
@@ -93,7 +103,10 @@ words-after word (c ∷ cs) white solid some small blank =
     (ap (λ (t : List ℕ). words_of_text t) (append_assoc (printed_choice c) (printed_after cs) white)
     ∙ words-after (printed_choice c) cs white (choice-is-solid c small.0) (some-byte c) small.1 blank)
 
-words-are : (cs : List Choice) (white : List ℕ) → AreSmall cs → list_all is_space white ≡ true → words_of_text (printed_choices cs ++ white) ≡ map printed_choice cs
+words-are : (cs : List Choice) (white : List ℕ)
+    → AreSmall cs
+    → list_all is_space white ≡ true
+    → words_of_text (printed_choices cs ++ white) ≡ map printed_choice cs
 words-are [] white small blank = no-words white blank
 words-are (c ∷ cs) white small blank =
     ap (λ (t : List ℕ). words_of_text t) (append_assoc (printed_choice c) (printed_after cs) white)

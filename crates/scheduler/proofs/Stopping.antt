@@ -1,6 +1,11 @@
 -- The word that says a choice is the word at which one reading of the words stops, where as many choices have room as stand
 -- before that one.
-use Rattle.scheduler.proofs.Vocabulary.{◌≡◌, ℕ, ◌+◌, ◌-◌, ◌<◌, ◌≤◌, List, [], ◌∷◌, ◌++◌, length, take, drop, Option, Some, Ok, Err, refl, sym, ap, subst, ◌∙◌, inl, inr, append_assoc, arith, IfSome, IsSome, is_some, take-add, cases_lt, length-append, length-drop, length-take, take-append-drop, drop-drop, Choice, ChoiceFault, TooMany, ChoiceItem, One, Seeded, most_choices, IsItem, AreItems, none, more, WordsSpell, IsItemAtFault, bad_form, cut_seed, bad_seed, bad_count, no_core, too_many, SayAt, made_of, words_in, item_of, too_many_at}
+use Rattle.scheduler.proofs.Vocabulary.{◌≡◌, ℕ, ◌+◌, ◌-◌, ◌<◌, ◌≤◌, List, [], ◌∷◌, ◌++◌, length, take, drop, Option, Some, Ok, Err, refl}
+use Rattle.scheduler.proofs.Vocabulary.{sym, ap, subst, ◌∙◌, inl, inr, append_assoc, arith, IfSome, IsSome, is_some, take-add, cases_lt}
+use Rattle.scheduler.proofs.Vocabulary.{length-append, length-drop, length-take, take-append-drop, drop-drop, Choice, ChoiceFault, TooMany}
+use Rattle.scheduler.proofs.Vocabulary.{ChoiceItem, One, Seeded, most_choices, IsItem, AreItems, none, more, WordsSpell, IsItemAtFault}
+use Rattle.scheduler.proofs.Vocabulary.{bad_form, cut_seed, bad_seed, bad_count, no_core, too_many, SayAt, made_of, words_in, item_of}
+use Rattle.scheduler.proofs.Vocabulary.{too_many_at}
 use Rattle.scheduler.proofs.Found.{Fits, IsRead, item_read}
 use Rattle.scheduler.proofs.Loop.{one_more}
 use Rattle.scheduler.proofs.Whole.{with_front, whole, items_whole, fault_whole}
@@ -22,10 +27,15 @@ after_first word rest (Seeded seed count) = refl
 
 -- past an item that has room
 pub passed_on : (cores place at room count : ℕ) (words rest left : List (List ℕ)) (word : List ℕ) (item : ChoiceItem) → 0 < cores → place < most_choices
-    → Passed cores words place at room (word ∷ rest) → item_of cores room (at + 1) word rest ≡ Ok item → left ≡ drop (words_in item - 1) rest → length (made_of cores item) ≡ count
+    → Passed cores words place at room (word ∷ rest)
+    → item_of cores room (at + 1) word rest ≡ Ok item
+    → left ≡ drop (words_in item - 1) rest
+    → length (made_of cores item) ≡ count
     → Passed cores words place (at + words_in item) (room - count) left
 passed_on cores place at room count words rest left word item some small p is after counts =
-    let read : Fits cores room (word ∷ rest) item = subst (IsRead cores (most_choices - room) room (at + 1) (word ∷ rest)) is (item_read cores (most_choices - room) room (at + 1) word rest some (omega (arith, p.room_is, small))) in
+    let read : Fits cores room (word ∷ rest) item =
+    subst (IsRead cores (most_choices - room) room (at + 1) (word ∷ rest)) is
+    (item_read cores (most_choices - room) room (at + 1) word rest some (omega (arith, p.room_is, small))) in
     let here = ap length p.to_come in
     record {
       made = p.made ++ made_of cores item;
@@ -33,7 +43,11 @@ passed_on cores place at room count words rest left word item some small p is af
           (one_more cores (take at words) p.made p.items (take (words_in item) (drop at words)) (made_of cores item)
           (subst (λ (ws : List (List ℕ)). IsItem cores (take (words_in item) ws) (made_of cores item)) (sym p.to_come) read.is_item));
       room_is = omega (arith, length-append p.made (made_of cores item), read.room_left, p.room_is, counts);
-      to_come = sym (drop-drop (words_in item) at words) ∙ ap (λ (ws : List (List ℕ)). drop (words_in item) ws) p.to_come ∙ after_first word rest item ∙ sym after;
+      to_come =
+          sym (drop-drop (words_in item) at words)
+          ∙ ap (λ (ws : List (List ℕ)). drop (words_in item) ws) p.to_come
+          ∙ after_first word rest item
+          ∙ sym after;
       at_most = omega (arith, read.words_there, here, length-drop at words, p.at_most);
     }
 
@@ -41,7 +55,9 @@ passed_on cores place at room count words rest left word item some small p is af
 pub fits_room : (cores place at room count : ℕ) (words rest : List (List ℕ)) (word : List ℕ) (item : ChoiceItem) → 0 < cores → place < most_choices
     → Passed cores words place at room (word ∷ rest) → item_of cores room (at + 1) word rest ≡ Ok item → length (made_of cores item) ≡ count → count ≤ room
 fits_room cores place at room count words rest word item some small p is counts =
-    let read : Fits cores room (word ∷ rest) item = subst (IsRead cores (most_choices - room) room (at + 1) (word ∷ rest)) is (item_read cores (most_choices - room) room (at + 1) word rest some (omega (arith, p.room_is, small))) in
+    let read : Fits cores room (word ∷ rest) item =
+    subst (IsRead cores (most_choices - room) room (at + 1) (word ∷ rest)) is
+    (item_read cores (most_choices - room) room (at + 1) word rest some (omega (arith, p.room_is, small))) in
     omega (arith, read.room_left, counts)
 
 -- ---- one reading
@@ -67,7 +83,9 @@ stops cores words place number some small s =
     let same_number : 1 + length s.front ≡ number = omega (arith, s.number_is) in
     let back = fault_whole cores (most_choices - place + length s.before) number (s.item ++ s.back) (TooMany number) some (omega (arith, s.not_before, small))
     (too_many s.item s.choices s.back s.is_item (omega (arith, s.not_before, s.within, small))) in
-    ap (whole cores 0 (most_choices - place) 1) s.split ∙ front ∙ ap (with_front s.before) (ap (λ (n : ℕ). whole cores 0 (most_choices - place + length s.before) n (s.item ++ s.back)) same_number ∙ back)
+    ap (whole cores 0 (most_choices - place) 1) s.split
+    ∙ front
+    ∙ ap (with_front s.before) (ap (λ (n : ℕ). whole cores 0 (most_choices - place + length s.before) n (s.item ++ s.back)) same_number ∙ back)
 
 -- ---- where it stops
 
@@ -93,21 +111,29 @@ say_by cores place at room words _ _ small p (too_many item choices rest is over
 }
 
 at_fault : (cores place at room : ℕ) (words rest : List (List ℕ)) (word : List ℕ) (fault : ChoiceFault) → 0 < cores → place < most_choices
-    → Passed cores words place at room (word ∷ rest) → item_of cores room (at + 1) word rest ≡ Err fault → IsItemAtFault cores (most_choices - room) (at + 1) (word ∷ rest) fault
+    → Passed cores words place at room (word ∷ rest)
+    → item_of cores room (at + 1) word rest ≡ Err fault
+    → IsItemAtFault cores (most_choices - room) (at + 1) (word ∷ rest) fault
 at_fault cores place at room words rest word fault some small p is =
-    subst (IsRead cores (most_choices - room) room (at + 1) (word ∷ rest)) is (item_read cores (most_choices - room) room (at + 1) word rest some (omega (arith, p.room_is, small)))
+    subst (IsRead cores (most_choices - room) room (at + 1) (word ∷ rest)) is
+    (item_read cores (most_choices - room) room (at + 1) word rest some (omega (arith, p.room_is, small)))
 
 pub found : (cores place at room : ℕ) (words rest : List (List ℕ)) (word : List ℕ) (fault : ChoiceFault) → 0 < cores → place < most_choices
     → Passed cores words place at room (word ∷ rest) → item_of cores room (at + 1) word rest ≡ Err fault → IfSome (too_many_at fault) (SayAt cores words place)
-found cores place at room words rest word fault some small p is = say_by cores place at room words (word ∷ rest) fault small p (at_fault cores place at room words rest word fault some small p is)
+found cores place at room words rest word fault some small p is =
+    say_by cores place at room words (word ∷ rest) fault small p (at_fault cores place at room words rest word fault some small p is)
 
 pub only : (cores place at room : ℕ) (words rest : List (List ℕ)) (word : List ℕ) (fault : ChoiceFault) → 0 < cores → place < most_choices
-    → Passed cores words place at room (word ∷ rest) → item_of cores room (at + 1) word rest ≡ Err fault → (number : ℕ) → SayAt cores words place number → too_many_at fault ≡ Some number
+    → Passed cores words place at room (word ∷ rest)
+    → item_of cores room (at + 1) word rest ≡ Err fault
+    → (number : ℕ) → SayAt cores words place number
+    → too_many_at fault ≡ Some number
 unfolding with_front
 only cores place at room words rest word fault some small p is number s =
     let stopped : whole cores 0 (most_choices - place) 1 words ≡ Err fault =
     front_read cores place at room words (word ∷ rest) small p
-    ∙ ap (with_front p.made) (fault_whole cores (most_choices - room) (at + 1) (word ∷ rest) fault some (omega arith) (at_fault cores place at room words rest word fault some small p is)) in
+    ∙ ap (with_front p.made) (fault_whole cores (most_choices - room) (at + 1) (word ∷ rest) fault some (omega arith)
+    (at_fault cores place at room words rest word fault some small p is)) in
     let said = stops cores words place number some small s in
     let same : fault ≡ TooMany number = cc in
     ap too_many_at same
@@ -140,7 +166,10 @@ later cores place number words rest choices item le s = record {
   number_is = omega (arith, length-append words s.front, s.number_is);
 }
 
-pub said : (cores place : ℕ) (words : List (List ℕ)) (choices : List Choice) → AreItems cores words choices → place < length choices → (number : ℕ) × SayAt cores words place number
+pub said : (cores place : ℕ) (words : List (List ℕ)) (choices : List Choice)
+    → AreItems cores words choices
+    → place < length choices
+    → (number : ℕ) × SayAt cores words place number
 said cores place _ _ none below = absurd (omega arith)
 said cores place _ _ (more words rest choices others item items) below =
     elim (cases_lt place (length choices)) [

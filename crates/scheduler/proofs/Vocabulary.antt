@@ -1,9 +1,14 @@
 -- The names that the proofs of this crate bring in from definitions and from crates below; each file takes its own from here.
-pub use Rattle.std.proofs.Common.{◌≡◌, ℕ, ◌+◌, ◌-◌, ◌<◌, ◌≤◌, Bool, true, false, cond, eqb, leb, List, [], ◌∷◌, ◌++◌, length, get_or, take, Option, Some, None, Ok, Err, refl, sym, ap, subst, ◌∙◌, ◌⊎◌, inl, inr, take_all, arith, ◌^◌, IsTrue, All, not, map, filter, rules, append_assoc, zero, suc, Result, ◌≢◌, drop, ◌*◌, min, ◌/◌, ◌%◌, ◌==◌, lit<, string_bytes, ◌&&◌, if◌then◌else◌, replicate, sum, ◌||◌, drop-cons, max}
+pub use Rattle.std.proofs.Common.{◌≡◌, ℕ, ◌+◌, ◌-◌, ◌<◌, ◌≤◌, Bool, true, false, cond, eqb, leb, List, [], ◌∷◌, ◌++◌, length, get_or, take}
+pub use Rattle.std.proofs.Common.{Option, Some, None, Ok, Err, refl, sym, ap, subst, ◌∙◌, ◌⊎◌, inl, inr, take_all, arith, ◌^◌, IsTrue, All}
+pub use Rattle.std.proofs.Common.{not, map, filter, rules, append_assoc, zero, suc, Result, ◌≢◌, drop, ◌*◌, min, ◌/◌, ◌%◌, ◌==◌, lit<}
+pub use Rattle.std.proofs.Common.{string_bytes, ◌&&◌, if◌then◌else◌, replicate, sum, ◌||◌, drop-cons, max}
 pub use Rattle.std.specs.Str.{bytes_eq}
 pub use Rattle.std.specs.Prelude.{codes, nat_lt, MatchResult, IfOk, IfErr, IfSome, IsSome, is_some}
 pub use Rattle.std.proofs.lemmas.Bool.{le-leb, lt-leb, leb-true, and_parts, eqb-true, cases_lt, false≢true, lt-ltb, ne_eqb}
-pub use Rattle.std.proofs.lemmas.List.{take_more, append-nil, length-append, length-map, length-drop, length-take, take-append-drop, drop-drop, take_at, get_or_at, drop_all, length_push, length-replicate, take-set-le, get_or-take, get_or-set_same, get_or-set_other, get_or_default}
+pub use Rattle.std.proofs.lemmas.List.{take_more, append-nil, length-append, length-map, length-drop, length-take, take-append-drop}
+pub use Rattle.std.proofs.lemmas.List.{drop-drop, take_at, get_or_at, drop_all, length_push, length-replicate, take-set-le, get_or-take}
+pub use Rattle.std.proofs.lemmas.List.{get_or-set_same, get_or-set_other, get_or_default}
 pub use Rattle.tso_terms.specs.FlatMachine.{chosen}
 pub use Rattle.basic_laws.specs.Types.{Choice, Step, Drain, Entry, Kind, R, W, F, LR, LW}
 pub use Rattle.scheduler.specs.declared.fault.ChoiceFault.TheVariants.{BadWord, NoSuchCore, TooMany, NoMemory}

@@ -1,5 +1,11 @@
 -- A text spells at most one list of choices, or gets at most one refusal: both are what one reading of its words gives.
-use Rattle.scheduler.proofs.Vocabulary.{◌≡◌, ℕ, zero, suc, ◌+◌, ◌-◌, ◌<◌, ◌≤◌, Bool, true, false, List, [], ◌∷◌, ◌++◌, length, take, drop, Result, Ok, Err, refl, sym, ap, subst, ◌∙◌, ◌⊎◌, inl, inr, append_assoc, arith, bytes_eq, codes, MatchResult, IfOk, IfErr, Vec, append-nil, length-append, length-drop, take-append-drop, bytes_eq-Decides, Choice, ChoiceFault, BadWord, NoMemory, ChoiceItem, One, Seeded, decimal_value, words_of_text, most_choices, IsChoiceWord, IsItem, one, seeded, AreItems, none, more, WordsSpell, IsItemAtFault, bad_form, cut_seed, bad_seed, bad_count, no_core, too_many, AreRefused, IsDecidedAsChoices, made_of, words_in, one_of, seeded_of, item_of}
+use Rattle.scheduler.proofs.Vocabulary.{◌≡◌, ℕ, zero, suc, ◌+◌, ◌-◌, ◌<◌, ◌≤◌, Bool, true, false, List, [], ◌∷◌, ◌++◌, length, take, drop}
+use Rattle.scheduler.proofs.Vocabulary.{Result, Ok, Err, refl, sym, ap, subst, ◌∙◌, ◌⊎◌, inl, inr, append_assoc, arith, bytes_eq, codes}
+use Rattle.scheduler.proofs.Vocabulary.{MatchResult, IfOk, IfErr, Vec, append-nil, length-append, length-drop, take-append-drop}
+use Rattle.scheduler.proofs.Vocabulary.{bytes_eq-Decides, Choice, ChoiceFault, BadWord, NoMemory, ChoiceItem, One, Seeded, decimal_value}
+use Rattle.scheduler.proofs.Vocabulary.{words_of_text, most_choices, IsChoiceWord, IsItem, one, seeded, AreItems, none, more, WordsSpell}
+use Rattle.scheduler.proofs.Vocabulary.{IsItemAtFault, bad_form, cut_seed, bad_seed, bad_count, no_core, too_many, AreRefused}
+use Rattle.scheduler.proofs.Vocabulary.{IsDecidedAsChoices, made_of, words_in, one_of, seeded_of, item_of}
 use Rattle.std.specs.Prelude.{◌≢◌}
 use Rattle.scheduler.proofs.ChoiceWords.{number_in, number_out, reads_absent, reads_full, reads_there, word_cases, choice_is_no_seed}
 use Rattle.scheduler.proofs.Found.{IsRead, item_read, length_seeded, seed_in, seed_out}
@@ -33,7 +39,9 @@ unfolding with_front
 front_none (Ok choices) = refl
 front_none (Err fault) = refl
 
-choice_item : (cores room number : ℕ) (word : List ℕ) (rest : List (List ℕ)) (c : Choice) → IsChoiceWord word c → item_of cores room number word rest ≡ one_of cores room number word
+choice_item : (cores room number : ℕ) (word : List ℕ) (rest : List (List ℕ)) (c : Choice)
+    → IsChoiceWord word c
+    → item_of cores room number word rest ≡ one_of cores room number word
 unfolding item_of
 choice_item cores room number word rest c is = rw (choice_is_no_seed word c is) refl
 
@@ -42,18 +50,28 @@ unfolding item_of
 seed_item cores room number rest = refl
 
 -- an item within the limit is read
-item_whole : (cores before number : ℕ) (words : List (List ℕ)) (choices : List Choice) → IsItem cores words choices → before + length choices ≤ most_choices → (back : List (List ℕ))
+item_whole : (cores before number : ℕ) (words : List (List ℕ)) (choices : List Choice)
+    → IsItem cores words choices
+    → before + length choices ≤ most_choices
+    → (back : List (List ℕ))
     → whole cores 0 before number (words ++ back) ≡ with_front choices (whole cores 0 (before + length choices) (number + length words) back)
 unfolding whole seeded_of item_of with_front
 item_whole cores before number _ _ (one word choice is below) fits back =
-    rw (choice_item cores (most_choices - before) number word back choice is, reads_there cores (most_choices - before) number word choice is below (omega arith)) refl
+    rw (
+      choice_item cores (most_choices - before) number word back choice is,
+      reads_there cores (most_choices - before) number word choice is below (omega arith),
+    )
+    refl
 item_whole cores before number _ _ (seeded seed count good small well) fits back =
     let long = length_seeded cores (decimal_value seed) (decimal_value count) in
     let numbers : number + 1 + 1 + 1 ≡ number + 3 = omega arith in
     rw (seed_in seed good small, well, number_in (most_choices - before) count (omega (arith, long)), numbers) refl
 
 -- items within the limit are read one after the other
-pub items_whole : (cores : ℕ) (front : List (List ℕ)) (choices : List Choice) → AreItems cores front choices → (before number : ℕ) → before + length choices ≤ most_choices → (back : List (List ℕ))
+pub items_whole : (cores : ℕ) (front : List (List ℕ)) (choices : List Choice)
+    → AreItems cores front choices
+    → (before number : ℕ) → before + length choices ≤ most_choices
+    → (back : List (List ℕ))
     → whole cores 0 before number (front ++ back) ≡ with_front choices (whole cores 0 (before + length choices) (number + length front) back)
 items_whole cores _ _ none before number fits back =
     let same_choices : before + 0 ≡ before = omega arith in
@@ -73,7 +91,10 @@ apart : (b : Bool) → ¬ (b ≡ true) → b ≡ false
 apart true not_so = absurd (not_so refl)
 apart false not_so = refl
 
-bad_item : (cores room number : ℕ) (word : List ℕ) (rest : List (List ℕ)) → ((choice : Choice) → ¬ (IsChoiceWord word choice)) → word ≢ codes "seed" → item_of cores room number word rest ≡ Err (BadWord number)
+bad_item : (cores room number : ℕ) (word : List ℕ) (rest : List (List ℕ))
+    → ((choice : Choice) → ¬ (IsChoiceWord word choice))
+    → word ≢ codes "seed"
+    → item_of cores room number word rest ≡ Err (BadWord number)
 unfolding item_of
 bad_item cores room number word rest no_form other =
     let no_seed : bytes_eq word (codes "seed") ≡ false = apart _ (λ same. other ((bytes_eq-Decides word (codes "seed")).0 same)) in
@@ -84,25 +105,44 @@ unfolding seeded_of
 cut_item room number (seed ∷ count ∷ rest) short = absurd (omega arith)
 cut_item room number _ short = refl
 
-pub fault_whole : (cores before number : ℕ) (back : List (List ℕ)) (fault : ChoiceFault) → 0 < cores → before ≤ most_choices → IsItemAtFault cores before number back fault → whole cores 0 before number back ≡ Err fault
+pub fault_whole : (cores before number : ℕ) (back : List (List ℕ)) (fault : ChoiceFault)
+    → 0 < cores
+    → before ≤ most_choices
+    → IsItemAtFault cores before number back fault
+    → whole cores 0 before number back ≡ Err fault
 unfolding whole seeded_of
-fault_whole cores before number _ _ some room (bad_form word rest no_form other) = rw (bad_item cores (most_choices - before) number word rest no_form other) refl
-fault_whole cores before number _ _ some room (cut_seed rest short) = rw (seed_item cores (most_choices - before) number rest, cut_item (most_choices - before) number rest short) refl
-fault_whole cores before number _ _ some room (bad_seed seed count rest bad) = rw (seed_item cores (most_choices - before) number (seed ∷ count ∷ rest), seed_out seed bad) refl
+fault_whole cores before number _ _ some room (bad_form word rest no_form other) =
+    rw (bad_item cores (most_choices - before) number word rest no_form other) refl
+fault_whole cores before number _ _ some room (cut_seed rest short) =
+    rw (seed_item cores (most_choices - before) number rest, cut_item (most_choices - before) number rest short) refl
+fault_whole cores before number _ _ some room (bad_seed seed count rest bad) =
+    rw (seed_item cores (most_choices - before) number (seed ∷ count ∷ rest), seed_out seed bad) refl
 fault_whole cores before number _ _ some room (bad_count seed count rest good small bad) =
     rw (seed_item cores (most_choices - before) number (seed ∷ count ∷ rest), seed_in seed good small, apart _ bad) refl
 fault_whole cores before number _ _ some room (no_core word choice rest is over) =
     rw (choice_item cores (most_choices - before) number word rest choice is, reads_absent cores (most_choices - before) number word choice some is over) refl
 fault_whole cores before number _ _ some room (too_many _ _ rest (one word choice is below) over) =
-    rw (choice_item cores (most_choices - before) number word rest choice is, reads_full cores (most_choices - before) number word choice is below (omega arith)) refl
+    rw (
+      choice_item cores (most_choices - before) number word rest choice is,
+      reads_full cores (most_choices - before) number word choice is below (omega arith),
+    )
+    refl
 fault_whole cores before number _ _ some room (too_many _ _ rest (seeded seed count good small well) over) =
     let long = length_seeded cores (decimal_value seed) (decimal_value count) in
-    rw (seed_item cores (most_choices - before) number (seed ∷ count ∷ rest), seed_in seed good small, well, number_out (most_choices - before) count (omega (arith, long))) refl
+    rw (
+      seed_item cores (most_choices - before) number (seed ∷ count ∷ rest),
+      seed_in seed good small,
+      well,
+      number_out (most_choices - before) count (omega (arith, long)),
+    )
+    refl
 
 spells_whole : (cores : ℕ) (words : List (List ℕ)) (choices : List Choice) → WordsSpell cores words choices → whole cores 0 0 1 words ≡ Ok choices
 unfolding whole with_front
 spells_whole cores words choices spell =
-    ap (whole cores 0 0 1) (sym (append-nil words)) ∙ items_whole cores words choices spell.items 0 1 (omega (arith, spell.few)) [] ∙ ap (λ (l : List Choice). Ok l) (append-nil choices)
+    ap (whole cores 0 0 1) (sym (append-nil words))
+    ∙ items_whole cores words choices spell.items 0 1 (omega (arith, spell.few)) []
+    ∙ ap (λ (l : List Choice). Ok l) (append-nil choices)
 
 gets_whole : (cores : ℕ) (words : List (List ℕ)) (fault : ChoiceFault) → 0 < cores → AreRefused cores words fault → whole cores 0 0 1 words ≡ Err fault
 unfolding with_front
@@ -110,22 +150,37 @@ gets_whole cores words fault some get =
     let front = items_whole cores get.front get.choices get.items 0 1 (omega (arith, get.few)) get.back in
     let same_choices : 0 + length get.choices ≡ length get.choices = omega arith in
     let same_number : 1 + length get.front ≡ length get.front + 1 = omega arith in
-    let back : whole cores 0 (0 + length get.choices) (1 + length get.front) get.back ≡ Err fault = rw (same_choices, same_number) (fault_whole cores (length get.choices) (length get.front + 1) get.back fault some get.few get.at_fault) in
+    let back : whole cores 0 (0 + length get.choices) (1 + length get.front) get.back ≡ Err fault =
+    rw (
+      same_choices,
+      same_number,
+    ) (fault_whole cores (length get.choices) (length get.front + 1) get.back fault some get.few get.at_fault) in
     ap (whole cores 0 0 1) get.split ∙ front ∙ ap (with_front get.choices) back
 
-one_list : (cores : ℕ) (words : List (List ℕ)) (choices others : List Choice) → WordsSpell cores words choices → WordsSpell cores words others → choices ≡ others
+one_list : (cores : ℕ) (words : List (List ℕ)) (choices others : List Choice)
+    → WordsSpell cores words choices
+    → WordsSpell cores words others
+    → choices ≡ others
 one_list cores words choices others spell other =
     let first = spells_whole cores words choices spell in
     let second = spells_whole cores words others other in
     cc
 
-one_refusal : (cores : ℕ) (words : List (List ℕ)) (fault other : ChoiceFault) → 0 < cores → AreRefused cores words fault → AreRefused cores words other → fault ≡ other
+one_refusal : (cores : ℕ) (words : List (List ℕ)) (fault other : ChoiceFault)
+    → 0 < cores
+    → AreRefused cores words fault
+    → AreRefused cores words other
+    → fault ≡ other
 one_refusal cores words fault other some get gets =
     let first = gets_whole cores words fault some get in
     let second = gets_whole cores words other some gets in
     cc
 
-never_both : (cores : ℕ) (words : List (List ℕ)) (choices : List Choice) (fault : ChoiceFault) → 0 < cores → WordsSpell cores words choices → AreRefused cores words fault → ⊥
+never_both : (cores : ℕ) (words : List (List ℕ)) (choices : List Choice) (fault : ChoiceFault)
+    → 0 < cores
+    → WordsSpell cores words choices
+    → AreRefused cores words fault
+    → ⊥
 never_both cores words choices fault some spell get =
     let first = spells_whole cores words choices spell in
     let second = gets_whole cores words fault some get in
@@ -140,9 +195,16 @@ abbrev Decided : ℕ → List (List ℕ) → Type 0
 Decided cores words = ((choices : List Choice) × WordsSpell cores words choices) ⊎ ((fault : ChoiceFault) × AreRefused cores words fault)
 
 -- what an item that was read leaves to be decided
-item_next : (cores : ℕ) (front : List (List ℕ)) (word : List ℕ) (rest : List (List ℕ)) (choices : List Choice) (r : Result ChoiceItem ChoiceFault) → AreItems cores front choices → length choices ≤ most_choices
+item_next : (cores : ℕ) (front : List (List ℕ)) (word : List ℕ) (rest : List (List ℕ)) (choices : List Choice)
+    (r : Result ChoiceItem ChoiceFault)
+    → AreItems cores front choices
+    → length choices ≤ most_choices
     → IsRead cores (length choices) (most_choices - length choices) (length front + 1) (word ∷ rest) r
-    → ((front back : List (List ℕ)) (choices : List Choice) → length back ≤ length rest → AreItems cores front choices → length choices ≤ most_choices → Decided cores (front ++ back))
+    → ((front back : List (List ℕ)) (choices : List Choice)
+    → length back ≤ length rest
+    → AreItems cores front choices
+    → length choices ≤ most_choices
+    → Decided cores (front ++ back))
     → Decided cores (front ++ word ∷ rest)
 item_next cores front word rest choices (Ok item) items few read goes_on =
     let used = take (words_in item) (word ∷ rest) in
@@ -156,8 +218,20 @@ item_next cores front word rest choices (Err fault) items few read goes_on =
     inr (fault, record { front = front; back = word ∷ rest; choices = choices; split = refl; items = items; few = few; at_fault = read })
 
 -- item by item, with so many words to go at most
-item_by_item : (fuel cores : ℕ) (front back : List (List ℕ)) (choices : List Choice) → 0 < cores → length back ≤ fuel → AreItems cores front choices → length choices ≤ most_choices → Decided cores (front ++ back)
-item_by_item fuel cores front [] choices some le items few = inl (choices, record { items = subst (λ (ws : List (List ℕ)). AreItems cores ws choices) (sym (append-nil front)) items; few = few })
+item_by_item : (fuel cores : ℕ) (front back : List (List ℕ)) (choices : List Choice)
+    → 0 < cores
+    → length back ≤ fuel
+    → AreItems cores front choices
+    → length choices ≤ most_choices
+    → Decided cores (front ++ back)
+item_by_item fuel cores front [] choices some le items few =
+    inl (
+      choices,
+      record {
+        items = subst (λ (ws : List (List ℕ)). AreItems cores ws choices) (sym (append-nil front)) items;
+        few = few;
+      },
+    )
 item_by_item zero cores front (word ∷ rest) choices some le items few = absurd (omega arith)
 item_by_item (suc fuel) cores front (word ∷ rest) choices some le items few =
     item_next cores front word rest choices (item_of cores (most_choices - length choices) (length front + 1) word rest) items few
@@ -173,13 +247,19 @@ is_decided cores text some = record {
 }
 
 -- an answer that says what words spell, or which refusal they get, is the only one but where memory runs out
-pub only_these : (cores : ℕ) (words : List (List ℕ)) (r : Result (Vec Choice) ChoiceFault) → 0 < cores → IfOk r (λ v. WordsSpell cores words v.items) → IfErr r (λ f. f ≢ NoMemory → AreRefused cores words f)
+pub only_these : (cores : ℕ) (words : List (List ℕ)) (r : Result (Vec Choice) ChoiceFault)
+    → 0 < cores
+    → IfOk r (λ v. WordsSpell cores words v.items)
+    → IfErr r (λ f. f ≢ NoMemory → AreRefused cores words f)
     → (choices : List Choice) → WordsSpell cores words choices → MatchResult r (λ v. v.items ≡ choices) (λ f. f ≡ NoMemory)
 only_these cores words (Ok v) some found refused choices spell = one_list cores words v.items choices found spell
 only_these cores words (Err NoMemory) some found refused choices spell = refl
 only_these cores words (Err fault) some found refused choices spell = absurd (never_both cores words choices fault some spell (refused (λ e. absurd cc)))
 
-pub only_this : (cores : ℕ) (words : List (List ℕ)) (r : Result (Vec Choice) ChoiceFault) → 0 < cores → IfOk r (λ v. WordsSpell cores words v.items) → IfErr r (λ f. f ≢ NoMemory → AreRefused cores words f)
+pub only_this : (cores : ℕ) (words : List (List ℕ)) (r : Result (Vec Choice) ChoiceFault)
+    → 0 < cores
+    → IfOk r (λ v. WordsSpell cores words v.items)
+    → IfErr r (λ f. f ≢ NoMemory → AreRefused cores words f)
     → (fault : ChoiceFault) → AreRefused cores words fault → MatchResult r (λ _. ⊥) (λ f. f ≢ NoMemory → f ≡ fault)
 only_this cores words (Ok v) some found refused fault get = never_both cores words v.items fault some found get
 only_this cores words (Err f) some found refused fault get = λ other. one_refusal cores words f fault some (refused other) get

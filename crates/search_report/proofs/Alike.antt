@@ -1,23 +1,36 @@
 -- Of the same final states the same is printed, but for the choices.
-use Rattle.search_report.proofs.Vocabulary.{◌≡◌, ◌∙◌, ◌+◌, ℕ, Bool, false, not, cond, if◌then◌else◌, List, [], ◌∷◌, map, drop, length, slice_index_or, Contains, Option, Some, None, refl, sym, ap, subst, count_by, recursion_from_All, sum_by-cons, slice_get_within, get_or_from_slice_get, Litmus, IsTest, Claim, Condition, truth_of, Named, names_shown, values_at, Show, Have, FinalState, Outcome, outcome_of, shown_values, ArePrinted, true_from, holds_in, AreNotShown, OutcomesAreAlike, OutcomesOfTheSameValuesAreAlike, OutcomesAreOneButForChoices}
+use Rattle.search_report.proofs.Vocabulary.{◌≡◌, ◌∙◌, ◌+◌, ℕ, Bool, false, not, cond, if◌then◌else◌, List, [], ◌∷◌, map, drop, length}
+use Rattle.search_report.proofs.Vocabulary.{slice_index_or, Contains, Option, Some, None, refl, sym, ap, subst, count_by}
+use Rattle.search_report.proofs.Vocabulary.{recursion_from_All, sum_by-cons, slice_get_within, get_or_from_slice_get, Litmus, IsTest, Claim}
+use Rattle.search_report.proofs.Vocabulary.{Condition, truth_of, Named, names_shown, values_at, Show, Have, FinalState, Outcome, outcome_of}
+use Rattle.search_report.proofs.Vocabulary.{shown_values, ArePrinted, true_from, holds_in, AreNotShown, OutcomesAreAlike}
+use Rattle.search_report.proofs.Vocabulary.{OutcomesOfTheSameValuesAreAlike, OutcomesAreOneButForChoices}
 use Rattle.search_report.proofs.Members.{Member, to-member, member-place, member-map, member-each, same-lists}
 use Rattle.search_report.proofs.Showing.{truth-shown}
 
 -- ---- the same values
 
-printed-there : (names : List Named) (hidden : List (List Bool)) (others : List FinalState) (again : List Outcome) (registers : List (List ℕ)) (memory : List ℕ) → AreNotShown names hidden
+printed-there : (names : List Named) (hidden : List (List Bool)) (others : List FinalState) (again : List Outcome)
+    (registers : List (List ℕ)) (memory : List ℕ)
+    → AreNotShown names hidden
     → ArePrinted names others again → Have hidden others registers memory → Member (values_at names registers memory) (map (shown_values names) again)
 printed-there names hidden others again registers memory unseen printed h =
     let g = h.final in
     let lt = slice_get_within others h.at g h.stands in
     let found : Contains (map (shown_values names) again) (shown_values names (outcome_of g)) =
-    subst (λ f. Contains (map (shown_values names) again) (shown_values names (outcome_of f))) (get_or_from_slice_get others h.at g g h.stands) (printed.complete h.at g lt) in
-    subst (λ v. Member v (map (shown_values names) again)) (unseen g.registers.items registers g.memory.items h.registers_are ∙ ap (λ m. values_at names registers m) h.memory_is)
+    subst (λ f. Contains (map (shown_values names) again) (shown_values names (outcome_of f)))
+    (get_or_from_slice_get others h.at g g h.stands) (printed.complete h.at g lt) in
+    subst (λ v. Member v (map (shown_values names) again))
+    (unseen g.registers.items registers g.memory.items h.registers_are
+    ∙ ap (λ m. values_at names registers m) h.memory_is)
     (to-member (shown_values names (outcome_of g)) (map (shown_values names) again) found)
 
 among : (names : List Named) (hidden : List (List Bool)) (finals others : List FinalState) (outcomes again : List Outcome) → AreNotShown names hidden
     → ((registers : List (List ℕ)) (memory : List ℕ) → Have hidden finals registers memory → Have hidden others registers memory)
-    → ArePrinted names finals outcomes → ArePrinted names others again → (v : List ℕ) → Member v (map (shown_values names) outcomes) → Member v (map (shown_values names) again)
+    → ArePrinted names finals outcomes
+    → ArePrinted names others again
+    → (v : List ℕ) → Member v (map (shown_values names) outcomes)
+    → Member v (map (shown_values names) again)
 among names hidden finals others outcomes again unseen have printed more v m =
     let one = member-map (shown_values names) v outcomes m in
     let found : Contains (map outcome_of finals) one.0 =
@@ -25,7 +38,13 @@ among names hidden finals others outcomes again unseen have printed more v m =
     let final = member-map outcome_of one.0 finals (to-member one.0 (map outcome_of finals) found) in
     let f = final.0 in
     let place = member-place f finals final.1 in
-    let there : Have hidden finals f.registers.items f.memory.items = record { at = place.0; final = f; stands = place.1; registers_are = refl; memory_is = refl } in
+    let there : Have hidden finals f.registers.items f.memory.items = record {
+      at = place.0;
+      final = f;
+      stands = place.1;
+      registers_are = refl;
+      memory_is = refl;
+    } in
     subst (λ w. Member w (map (shown_values names) again)) (sym (one.2 ∙ ap (shown_values names) final.2))
     (printed-there names hidden others again f.registers.items f.memory.items unseen more (have f.registers.items f.memory.items there))
 
@@ -44,7 +63,10 @@ same-count shown p (x ∷ xs) (y ∷ ys) same are =
 
 -- ---- the same truths
 
-same-map : {X Y : Type 0} (shown : X → List ℕ) (f : X → Y) (xs ys : List X) → ((x y : X) → shown x ≡ shown y → f x ≡ f y) → map shown xs ≡ map shown ys → map f xs ≡ map f ys
+same-map : {X Y : Type 0} (shown : X → List ℕ) (f : X → Y) (xs ys : List X)
+    → ((x y : X) → shown x ≡ shown y → f x ≡ f y)
+    → map shown xs ≡ map shown ys
+    → map f xs ≡ map f ys
 same-map shown f [] [] same are = refl
 same-map shown f [] (y ∷ ys) same are = absurd (let long : 0 ≡ length (map shown (y ∷ ys)) = ap length are in let none : ⊥ = cc in none)
 same-map shown f (x ∷ xs) [] same are = absurd (let long : length (map shown (x ∷ xs)) ≡ 0 = ap length are in let none : ⊥ = cc in none)
@@ -68,7 +90,9 @@ holds-shown : (show : Show) (t : Litmus) (condition : Option Condition) (o p : O
 holds-shown show t None o p test is values = refl
 holds-shown show t (Some c) o p test is values = ap Some (truth-shown show t c o p test is values)
 
-pub alike : (show : Show) (t : Litmus) (outcomes again : List Outcome) → IsTest t → map (shown_values (names_shown show t)) outcomes ≡ map (shown_values (names_shown show t)) again
+pub alike : (show : Show) (t : Litmus) (outcomes again : List Outcome)
+    → IsTest t
+    → map (shown_values (names_shown show t)) outcomes ≡ map (shown_values (names_shown show t)) again
     → OutcomesAreAlike t (names_shown show t) outcomes again
 alike show t outcomes again test values =
     let shown = shown_values (names_shown show t) in

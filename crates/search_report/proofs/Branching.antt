@@ -1,5 +1,6 @@
 -- The nodes of a tree, each in its branch: one after the other, as the loop goes over them.
-use Rattle.search_report.proofs.Vocabulary.{◌≡◌, ◌∙◌, ◌<◌, ◌+◌, ◌-◌, ℕ, suc, List, [], ◌∷◌, ◌++◌, map, length, take, drop, get_or, refl, sym, ap, append_assoc, append-nil, drop_more, length-map, Litmus, Model}
+use Rattle.search_report.proofs.Vocabulary.{◌≡◌, ◌∙◌, ◌<◌, ◌+◌, ◌-◌, ℕ, suc, List, [], ◌∷◌, ◌++◌, map, length, take, drop, get_or, refl}
+use Rattle.search_report.proofs.Vocabulary.{sym, ap, append_assoc, append-nil, drop_more, length-map, Litmus, Model}
 use Rattle.std.proofs.lemmas.List.{take-map}
 use Rattle.std.specs.Prelude.{Vec}
 use Rattle.std.specs.Global.{Global}
@@ -19,7 +20,9 @@ use Rattle.search_report.proofs.Lining.{branch_pushed}
 -- ---- one node
 
 -- the facts of the last answer stand first
-pub answer-first : (before n : ℕ) (facts : List Fact) → n ≡ length facts - before → facts_of (take n facts) ≡ spec.last_answer (branch_of before (facts_of facts))
+pub answer-first : (before n : ℕ) (facts : List Fact)
+    → n ≡ length facts - before
+    → facts_of (take n facts) ≡ spec.last_answer (branch_of before (facts_of facts))
 answer-first before n facts is =
     sym (take-map fact_of n facts) ∙ ap (λ m. take m (facts_of facts)) (is ∙ ap (λ m. m - before) (sym (length-map facts fact_of)))
 

@@ -1,5 +1,6 @@
 -- Where each place that a line `False` names has one of its values, the propositions that are given can't all be as they are given.
-use Rattle.std.proofs.Common.{◌≡◌, ◌∙◌, ◌⊎◌, inl, inr, ◌==◌, ◌&&◌, ◌||◌, ℕ, Bool, true, false, not, cond, List, [], ◌∷◌, ◌++◌, slice_index, slice_index_or, Some, None, All, Contains, refl, sym, ap, subst, eqb-true}
+use Rattle.std.proofs.Common.{◌≡◌, ◌∙◌, ◌⊎◌, inl, inr, ◌==◌, ◌&&◌, ◌||◌, ℕ, Bool, true, false, not, cond, List, [], ◌∷◌, ◌++◌, slice_index}
+use Rattle.std.proofs.Common.{slice_index_or, Some, None, All, Contains, refl, sym, ap, subst, eqb-true}
 use Rattle.std.specs.List.{list_any}
 use Rattle.search_report.proofs.LastWords.{Among, any-member, can-be-so, known, words-by-facts}
 use Rattle.std.proofs.lemmas.Bool.{and_parts, and_from, or_right, or_cases}
@@ -13,7 +14,8 @@ use Rattle.tso_report.specs.declared.named.Named.TheVariants.{Register, Location
 use Rattle.tso_report.specs.Tally.{named_location, named_register, shown_value}
 use Rattle.possible_reads.specs.Facts.{Fact, From, Before, Last, Returns, Holds}
 use Rattle.possible_reads.specs.Expressions.{Constant, first_registers, registers_at_end}
-use Rattle.possible_reads.specs.Possible.{Values, both_of, can_be, fits_word, is_among, kept, last_words, may_be_left, same_number, told_word, values_of, values_read, words_left}
+use Rattle.possible_reads.specs.Possible.{Values, both_of, can_be, fits_word, is_among, kept, last_words, may_be_left, same_number}
+use Rattle.possible_reads.specs.Possible.{told_word, values_of, values_read, words_left}
 use Rattle.short_refutations.specs.Edges.{Knowledge}
 use Rattle.short_refutations.specs.Refutations.{allows, is_impossible, known_from}
 use Rattle.search_report.specs.Places.{Place, is_same_place}
@@ -192,12 +194,14 @@ module _ (registers : List (List ℕ)) (memory : List ℕ) where
     allowed (TruthClaim c) true among e = e
     allowed (TruthClaim c) false among e = ap not e
     allowed (RegClaim core reg n) b among e =
-        can-be-so (values_left_at t k (named_register core reg)) (same_number b n) (shown (named_register core reg)) among (same-is b n (shown (named_register core reg)) e)
+        can-be-so (values_left_at t k (named_register core reg)) (same_number b n) (shown (named_register core reg))
+        among (same-is b n (shown (named_register core reg)) e)
     allowed (LocClaim loc n) b among e =
         let fits = all-fit loc k.facts so in
         can-be-so (words_left t k.facts k.readings loc) (same_number b n) (word loc)
         (kept-among (may_be_left k.facts loc) (both_of (told_word k.facts loc) (last_words t k.facts k.readings loc)) (word loc) fits
-        (both-among (told_word k.facts loc) (last_words t k.facts k.readings loc) (word loc) (told loc k.facts so) (words-by-facts t k loc (word loc) fits among)))
+        (both-among (told_word k.facts loc) (last_words t k.facts k.readings loc) (word loc) (told loc k.facts so)
+        (words-by-facts t k loc (word loc) fits among)))
         (same-is b n (word loc) e)
     allowed (NotClaim c) b among e = allowed c (not b) among (turned (truth c) b e)
     allowed (AndClaim l r) true among e =
@@ -241,7 +245,8 @@ module _ (registers : List (List ℕ)) (memory : List ℕ) where
         let both = and_parts (core.0 == other.0) (index_of reg == index_of named) is in
         let held : ℕ → ℕ → Type 0 =
         λ c i. Among (slice_index (slice_index_or registers c []) i)
-        (values_of (values_read k.readings) (slice_index_or (registers_at_end c 0 (slice_index_or t.programs c []) (first_registers t.registers c)) i (Constant 0))) in
+        (values_of (values_read k.readings)
+        (slice_index_or (registers_at_end c 0 (slice_index_or t.programs c []) (first_registers t.registers c)) i (Constant 0))) in
         subst (λ c. held c (index_of reg)) (sym (eqb-true core.0 other.0 both.0))
         (subst (held other.0) (sym (eqb-true (index_of reg) (index_of named) both.1)) can)
     at-same (Location loc) (Location other) is can =

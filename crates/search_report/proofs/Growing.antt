@@ -1,5 +1,6 @@
 -- Lists that a loop makes of another one, item by item.
-use Rattle.search_report.proofs.Vocabulary.{Bool, true, false, cond, filter, ℕ, ◌+◌, ◌≡◌, ◌<◌, ◌≤◌, append-nil, drop_all, List, [], ◌∷◌, ◌++◌, length, drop, get_or, map, sym, ap, ◌∙◌, append_assoc, drop_more, flat_map}
+use Rattle.search_report.proofs.Vocabulary.{Bool, true, false, cond, filter, ℕ, ◌+◌, ◌≡◌, ◌<◌, ◌≤◌, append-nil, drop_all, List, [], ◌∷◌}
+use Rattle.search_report.proofs.Vocabulary.{◌++◌, length, drop, get_or, map, sym, ap, ◌∙◌, append_assoc, drop_more, flat_map}
 
 -- what is written of the next item comes after what is written
 pub written : {X : Type 0} (f : X → List ℕ) (xs : List X) (i : ℕ) (x : X) (old new whole : List ℕ) → i < length xs → x ≡ get_or xs i x → new ≡ old ++ f x

@@ -1,5 +1,8 @@
 -- What is shown isn't hidden, so states that differ in hidden registers alone look alike.
-use Rattle.search_report.proofs.Vocabulary.{◌≡◌, ◌<◌, ◌≤◌, ◌⊎◌, ℕ, ◌+◌, zero, suc, Bool, false, List, [], ◌∷◌, ◌++◌, map, length, take, drop, Some, slice_get, slice_set, slice_index, slice_index_or, if◌then◌else◌, arith, ap, sym, ◌∙◌, subst, refl, index_of, Reg, Core, cleared, hidden_of, seen_from, seen, Named, Register, Location, shown_value, AreNotShown, IsNotHidden}
+use Rattle.search_report.proofs.Vocabulary.{◌≡◌, ◌<◌, ◌≤◌, ◌⊎◌, ℕ, ◌+◌, zero, suc, Bool, false, List, [], ◌∷◌, ◌++◌, map, length, take}
+use Rattle.search_report.proofs.Vocabulary.{drop, Some, slice_get, slice_set, slice_index, slice_index_or, if◌then◌else◌, arith, ap, sym}
+use Rattle.search_report.proofs.Vocabulary.{◌∙◌, subst, refl, index_of, Reg, Core, cleared, hidden_of, seen_from, seen, Named, Register}
+use Rattle.search_report.proofs.Vocabulary.{Location, shown_value, AreNotShown, IsNotHidden}
 use Rattle.std.proofs.Math.ListN.{length-set}
 use Rattle.std.specs.Prelude.{All}
 use Rattle.tso_report.specs.inner.Tally.{NameExists}
@@ -22,7 +25,10 @@ false-there (d ∷ ds) zero = refl
 false-there (d ∷ ds) (suc i) = false-there ds i
 
 -- what is so of a row, and of the one that takes its place
-row-stays : (P : List Bool → Type 0) (rows : List (List Bool)) (k c : ℕ) (row : List Bool) → (P (hidden_of rows k) → P row) → P (hidden_of rows c) → P (hidden_of (slice_set rows k row) c)
+row-stays : (P : List Bool → Type 0) (rows : List (List Bool)) (k c : ℕ) (row : List Bool)
+    → (P (hidden_of rows k) → P row)
+    → P (hidden_of rows c)
+    → P (hidden_of (slice_set rows k row) c)
 row-stays P [] k c row f h = h
 row-stays P (x ∷ rows) zero zero row f h = f h
 row-stays P (x ∷ rows) zero (suc c) row f h = h
@@ -38,7 +44,8 @@ module _ (old new : List (List Bool)) (k i : ℕ) (new-is : new ≡ slice_set ol
   pub others-stay : (other : Named) → IsNotHidden old other → IsNotHidden new other
   others-stay (Register core reg) h =
       subst (λ z. slice_index_or (hidden_of z core.0) (index_of reg) false ≡ false) (sym new-is)
-      (row-stays (λ ds. slice_index_or ds (index_of reg) false ≡ false) old k core.0 (slice_set (hidden_of old k) i false) (false-stays (hidden_of old k) i (index_of reg)) h)
+      (row-stays (λ ds. slice_index_or ds (index_of reg) false ≡ false) old k core.0
+      (slice_set (hidden_of old k) i false) (false-stays (hidden_of old k) i (index_of reg)) h)
   others-stay (Location loc) h = tt
 
   pub this-shown : (core : Core) (reg : Reg) → k < length old → core.0 ≡ k → index_of reg ≡ i → IsNotHidden new (Register core reg)
@@ -63,7 +70,9 @@ pub shows : (old : List (List Bool)) (at i : ℕ) (d : List Bool) (core : Core) 
     → IsShownBy old (slice_set old at (slice_set (slice_index_or old at d) i false)) (Register core reg)
 shows old at i d core reg a e l =
     let row : slice_index_or old at d ≡ hidden_of old at = row-at old at d (omega (arith, a, l)) in
-    let is : slice_set old at (slice_set (slice_index_or old at d) i false) ≡ slice_set old at (slice_set (hidden_of old at) i false) = ap (λ z. slice_set old at (slice_set z i false)) row in
+    let is : slice_set old at (slice_set (slice_index_or old at d) i false)
+    ≡ slice_set old at (slice_set (hidden_of old at) i false) =
+    ap (λ z. slice_set old at (slice_set z i false)) row in
     record {
       shown = this-shown old _ at i is core reg (omega (arith, a, l)) (sym a) (sym e);
       others = others-stay old _ at i is;
@@ -71,7 +80,10 @@ shows old at i d core reg a e l =
     }
 
 -- a register that is known is of a core for which there is a row
-pub core-known : (cores locations : ℕ) (names others : List Named) (j : ℕ) (d : Named) (core : Core) (reg : Reg) → All (NameExists cores locations) names → others ≡ names → j < length others
+pub core-known : (cores locations : ℕ) (names others : List Named) (j : ℕ) (d : Named) (core : Core) (reg : Reg)
+    → All (NameExists cores locations) names
+    → others ≡ names
+    → j < length others
     → slice_index_or others j d ≡ Register core reg → core.0 < cores
 core-known cores locations names others j d core reg known e l is =
     let m : j < length names = (let n = ap length e in omega (arith, n, l)) in
@@ -102,10 +114,13 @@ clear-none : (ds : List Bool) → cleared ds [] ≡ []
 clear-none [] = refl
 clear-none (d ∷ ds) = refl
 
-seen-at : (hidden : List (List Bool)) (n k : ℕ) (rs : List (List ℕ)) → slice_index_or (seen_from hidden n rs) k [] ≡ cleared (hidden_of hidden (n + k)) (slice_index_or rs k [])
+seen-at : (hidden : List (List Bool)) (n k : ℕ) (rs : List (List ℕ))
+    → slice_index_or (seen_from hidden n rs) k [] ≡ cleared (hidden_of hidden (n + k)) (slice_index_or rs k [])
 seen-at hidden n k [] = sym (clear-none (hidden_of hidden (n + k)))
 seen-at hidden n zero (r ∷ rs) = let q : n ≡ n + 0 = omega arith in ap (λ z. cleared (hidden_of hidden z) r) q
-seen-at hidden n (suc k) (r ∷ rs) = let q : (n + 1) + k ≡ n + suc k = omega arith in seen-at hidden (n + 1) k rs ∙ ap (λ z. cleared (hidden_of hidden z) (slice_index_or rs k [])) q
+seen-at hidden n (suc k) (r ∷ rs) =
+    let q : (n + 1) + k ≡ n + suc k = omega arith in
+    seen-at hidden (n + 1) k rs ∙ ap (λ z. cleared (hidden_of hidden z) (slice_index_or rs k [])) q
 
 live-same : (ds : List Bool) (rs ss : List ℕ) (i : ℕ) → cleared ds rs ≡ cleared ds ss → slice_index_or ds i false ≡ false → slice_index rs i ≡ slice_index ss i
 live-same [] rs ss i h e = ap (λ z. slice_index z i) h
@@ -125,7 +140,8 @@ module _ (hidden : List (List Bool)) (registers others : List (List ℕ)) (memor
       (sym (seen-at hidden 0 k registers) ∙ ap (λ z. slice_index_or z k []) same ∙ seen-at hidden 0 k others)
 
   one-same : (n : Named) → IsNotHidden hidden n → shown_value registers memory n ≡ shown_value others memory n
-  one-same (Register core reg) h = live-same (hidden_of hidden core.0) (slice_index_or registers core.0 []) (slice_index_or others core.0 []) (index_of reg) (core-same core.0) h
+  one-same (Register core reg) h =
+      live-same (hidden_of hidden core.0) (slice_index_or registers core.0 []) (slice_index_or others core.0 []) (index_of reg) (core-same core.0) h
   one-same (Location loc) h = refl
 
   pub values-same : (names : List Named) → ((j : ℕ) (n : Named) → slice_get names j ≡ Some n → IsNotHidden hidden n)
@@ -133,7 +149,9 @@ module _ (hidden : List (List Bool)) (registers others : List (List ℕ)) (memor
   values-same [] h = refl
   values-same (n ∷ names) h = rw (one-same n (h 0 n refl), values-same names (λ j. h (suc j))) refl
 
-pub not-shown : (shown : List Named) (hidden : List (List Bool)) (names : List Named) → names ≡ shown → ((j : ℕ) (n : Named) → slice_get names j ≡ Some n → IsNotHidden hidden n)
+pub not-shown : (shown : List Named) (hidden : List (List Bool)) (names : List Named)
+    → names ≡ shown
+    → ((j : ℕ) (n : Named) → slice_get names j ≡ Some n → IsNotHidden hidden n)
     → AreNotShown shown hidden
 not-shown shown hidden names q h registers others memory same =
     subst (λ z. map (shown_value registers memory) z ≡ map (shown_value others memory) z) q (values-same hidden registers others memory same names h)

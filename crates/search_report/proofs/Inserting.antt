@@ -1,5 +1,9 @@
 -- One list of values more in a list of entries in ascending order.
-use Rattle.search_report.proofs.Vocabulary.{◌≡◌, ◌∙◌, Bool, true, false, cond, List, [], ◌∷◌, Option, Some, None, is_some, Less, Equal, Contains, refl, ap, subst, ℕ, AllByRecursion, IsStrictlySortedBy, is_eq, nat_cmp, ordering_reverse, match_ordering, slice_cmp, insert_entry, is_at, lookup, keys_of, nat_list_cmp_total, eq_by_cmp_equiv, tied_itself, Contains-keys_from_lookup, IsSome-lookup_from_Contains}
+use Rattle.search_report.proofs.Vocabulary.{◌≡◌, ◌∙◌, Bool, true, false, cond, List, [], ◌∷◌, Option, Some, None, is_some, Less, Equal}
+use Rattle.search_report.proofs.Vocabulary.{Contains, refl, ap, subst, ℕ, AllByRecursion, IsStrictlySortedBy, is_eq, nat_cmp}
+use Rattle.search_report.proofs.Vocabulary.{ordering_reverse, match_ordering, slice_cmp, insert_entry, is_at, lookup, keys_of}
+use Rattle.search_report.proofs.Vocabulary.{nat_list_cmp_total, eq_by_cmp_equiv, tied_itself, Contains-keys_from_lookup}
+use Rattle.search_report.proofs.Vocabulary.{IsSome-lookup_from_Contains}
 use Rattle.std.proofs.Common.{Ordering, Greater}
 use Rattle.std.proofs.lemmas.Map.Lookups.{exact_bytes}
 
@@ -65,7 +69,10 @@ module _ {X : Type 0} (v : List ℕ) (n : X) where
   kept-more true x o h = refl
   kept-more false x o h = h
 
-  kept-beside : (b : Bool) (x : X) (o r : Option X) → (is_some o ≡ true → is_some r ≡ true) → is_some (cond b (Some x) o) ≡ true → is_some (cond b (Some x) r) ≡ true
+  kept-beside : (b : Bool) (x : X) (o r : Option X)
+      → (is_some o ≡ true → is_some r ≡ true)
+      → is_some (cond b (Some x) o) ≡ true
+      → is_some (cond b (Some x) r) ≡ true
   kept-beside true x o r f h = refl
   kept-beside false x o r f h = f h
 
@@ -90,7 +97,9 @@ module _ {X : Type 0} (v : List ℕ) (n : X) where
       by_order Greater is further = kept-more (is_eq (R v e.0)) e.1 (lookup (is_at (R v)) (insert_entry R es v n)) further
 
   pub stands-still : (w : List ℕ) (es : List (List ℕ × X)) → Contains (keys_of es) w → Contains (keys_of (insert_entry R es v n)) w
-  stands-still w es h = Contains-keys_from_lookup same-values w (insert_entry R es v n) (found-still w es (IsSome-lookup_from_Contains (eq_by_cmp_equiv nat_list_cmp_total) w es h))
+  stands-still w es h =
+      Contains-keys_from_lookup same-values w (insert_entry R es v n)
+      (found-still w es (IsSome-lookup_from_Contains (eq_by_cmp_equiv nat_list_cmp_total) w es h))
 
   pub stands-there : (es : List (List ℕ × X)) → Contains (keys_of (insert_entry R es v n)) v
   stands-there es = Contains-keys_from_lookup same-values v (insert_entry R es v n) (found-there es)

@@ -1,5 +1,6 @@
 -- A word that the last write to a location can leave there by the facts on events, and that fits what is asked, it can leave by all facts.
-use Rattle.std.proofs.Common.{◌≡◌, ◌∙◌, ◌⊎◌, inl, inr, ◌==◌, ◌&&◌, ◌||◌, ℕ, Bool, true, false, not, cond, List, [], ◌∷◌, map, filter, length, slice_index, Some, None, refl, sym, ap, subst, eqb-true}
+use Rattle.std.proofs.Common.{◌≡◌, ◌∙◌, ◌⊎◌, inl, inr, ◌==◌, ◌&&◌, ◌||◌, ℕ, Bool, true, false, not, cond, List, [], ◌∷◌, map, filter}
+use Rattle.std.proofs.Common.{length, slice_index, Some, None, refl, sym, ap, subst, eqb-true}
 use Rattle.std.specs.Prelude.{nat_lt, if◌then◌else◌}
 use Rattle.std.specs.List.{list_any, list_all}
 use Rattle.std.proofs.lemmas.Bool.{and_parts, and_from, or_right, or_cases}
@@ -9,7 +10,8 @@ use Rattle.basic_laws.specs.Types.{Entry}
 use Rattle.refutation_laws.specs.Known.{events_of}
 use Rattle.possible_reads.specs.Facts.{Fact, From, Before, Last, Returns, Holds}
 use Rattle.possible_reads.specs.Laws.{IsPossible}
-use Rattle.possible_reads.specs.Possible.{Reading, Values, any_of, can_be, can_be_last, counted, either_of, fits_last, is_among, is_counter, is_put_before, is_told_before, last_words, may_be_left, union, values_written}
+use Rattle.possible_reads.specs.Possible.{Reading, Values, any_of, can_be, can_be_last, counted, either_of, fits_last, is_among, is_counter}
+use Rattle.possible_reads.specs.Possible.{is_put_before, is_told_before, last_words, may_be_left, union, values_written}
 use Rattle.possible_reads.proofs.Values.{either-first, either-second, possible-test}
 use Rattle.short_refutations.specs.Edges.{Knowledge}
 use Rattle.search_report.specs.Shown.{is_on_events, or_else, words_left_at}
@@ -114,7 +116,8 @@ module _ (f : Entry → Values) (p q : Entry → Bool) (m : ℕ) (more : (w : En
           → IsKnown m (any_of (map f (cond b (w ∷ filter p ws) (filter p ws)))) → IsPossible (any_of (map f (filter q (w ∷ ws)))) m
       by rest true e is = one (either-known (f w) (any_of (map f (filter p ws))) m is) rest
         where
-          one : IsKnown m (f w) ⊎ IsKnown m (any_of (map f (filter p ws))) → (IsKnown m (any_of (map f (filter p ws))) → IsPossible (any_of (map f (filter q ws))) m)
+          one : IsKnown m (f w) ⊎ IsKnown m (any_of (map f (filter p ws)))
+              → (IsKnown m (any_of (map f (filter p ws))) → IsPossible (any_of (map f (filter q ws))) m)
               → IsPossible (any_of (map f (filter q (w ∷ ws)))) m
           one (inl own) further = own-possible w ws (more w e (possible w own)) (possible w own)
           one (inr left) further = kept-possible w ws (further left)
@@ -146,9 +149,14 @@ module _ (t : Litmus) (facts : List Fact) (table : List Reading) (loc m : ℕ) (
   still-last : (w : Entry) → can_be_last t (filter is_on_events facts) table loc w ≡ true → IsPossible (values_written t table w) m
       → can_be_last t facts table loc w ≡ true
   still-last w is can =
-      let all = and_parts (writes_to loc w && list_all (fits_last loc w) (filter is_on_events facts) && not (list_any (is_put_before (filter is_on_events facts) w) (events_of t)))
+      let all =
+      and_parts (writes_to loc w
+      && list_all (fits_last loc w) (filter is_on_events facts)
+      && not (list_any (is_put_before (filter is_on_events facts) w) (events_of t)))
       (can_be (values_written t table w) (may_be_left (filter is_on_events facts) loc)) is in
-      let put = and_parts (writes_to loc w && list_all (fits_last loc w) (filter is_on_events facts)) (not (list_any (is_put_before (filter is_on_events facts) w) (events_of t))) all.0 in
+      let put =
+      and_parts (writes_to loc w && list_all (fits_last loc w) (filter is_on_events facts))
+      (not (list_any (is_put_before (filter is_on_events facts) w) (events_of t))) all.0 in
       let fit = and_parts (writes_to loc w) (list_all (fits_last loc w) (filter is_on_events facts)) put.0 in
       and_from (writes_to loc w && list_all (fits_last loc w) facts && not (list_any (is_put_before facts w) (events_of t))) _
       (and_from (writes_to loc w && list_all (fits_last loc w) facts) (not (list_any (is_put_before facts w) (events_of t)))
@@ -161,7 +169,10 @@ module _ (t : Litmus) (facts : List Fact) (table : List Reading) (loc m : ℕ) (
       else if d then any_of (map (values_written t table) (filter (can_be_last t fs table loc) (events_of t)))
       else Some (slice_index t.words loc ∷ [])
 
-  among-all : (values : Values) → values ≡ words false true (filter is_on_events facts) → Among m (or_else values (words false true facts)) → Among m (words false true facts)
+  among-all : (values : Values)
+      → values ≡ words false true (filter is_on_events facts)
+      → Among m (or_else values (words false true facts))
+      → Among m (words false true facts)
   among-all None e among = among
   among-all (Some us) e among = among-possible (words false true facts) m
       (any-more (values_written t table) (can_be_last t (filter is_on_events facts) table loc) (can_be_last t facts table loc) m still-last (events_of t)

@@ -1,5 +1,7 @@
 -- Lines, parts and branches that loops make one after the other.
-use Rattle.search_report.proofs.Vocabulary.{◌≡◌, ◌∙◌, ◌<◌, ◌+◌, ◌==◌, ℕ, suc, Bool, true, false, take, List, [], ◌∷◌, ◌++◌, map, length, drop, get_or, Some, None, refl, sym, ap, arith, append_assoc, append-nil, drop_more, flat_map, Litmus}
+use Rattle.search_report.proofs.Vocabulary.{◌≡◌, ◌∙◌, ◌<◌, ◌+◌, ◌==◌, ℕ, suc, Bool, true, false, take, List, [], ◌∷◌, ◌++◌, map, length}
+use Rattle.search_report.proofs.Vocabulary.{drop, get_or, Some, None, refl, sym, ap, arith, append_assoc, append-nil, drop_more, flat_map}
+use Rattle.search_report.proofs.Vocabulary.{Litmus}
 use Rattle.search_report.specs.Lines as spec
 use Rattle.search_report.specs.inner.LineViews.{reason_line_of}
 use Rattle.search_report.specs.inner.LineParts.{closed_of, grown_by, reason_lines_in, open_of, part_in, stacked_parts}
@@ -109,7 +111,8 @@ taken-first G before rest x ys goes is old new whole e so =
 pub maps-last : {X Y Z : Type 0} (f : Y → Z) (g : X → Y) (xs : List X) (x : X) → map f (map g (xs ++ (x ∷ []))) ≡ map f (map g xs) ++ (f (g x) ∷ [])
 maps-last f g xs x = ap (map f) (map-last g xs x) ∙ map-last f (map g xs) (g x)
 
-pub flat-maps-last : {X Y Z : Type 0} (f : Y → List Z) (g : X → Y) (xs : List X) (x : X) → flat_map f (map g (xs ++ (x ∷ []))) ≡ flat_map f (map g xs) ++ f (g x)
+pub flat-maps-last : {X Y Z : Type 0} (f : Y → List Z) (g : X → Y) (xs : List X) (x : X)
+    → flat_map f (map g (xs ++ (x ∷ []))) ≡ flat_map f (map g xs) ++ f (g x)
 flat-maps-last f g xs x = ap (flat_map f) (map-last g xs x) ∙ flat-last f (map g xs) (g x)
 
 -- a line is taken, and stands behind those that are done
@@ -148,9 +151,13 @@ none-left (x ∷ xs) n empty size is so = absurd (let no : false ≡ true = sym 
 
 -- ---- parts, one by one
 
-pub part-grown : (t : Litmus) (before after : List Standing) (s : Standing) → before ≡ after ++ (s ∷ []) → (old rest new : List Part) (p : Part) → new ≡ rest ++ (p ∷ [])
+pub part-grown : (t : Litmus) (before after : List Standing) (s : Standing)
+    → before ≡ after ++ (s ∷ [])
+    → (old rest new : List Part) (p : Part)
+    → new ≡ rest ++ (p ∷ [])
     → part_in p ≡ spec.part_of t (standing_of s) (take s.count (stacked_parts old)) → stacked_parts rest ≡ drop s.count (stacked_parts old)
-    → (whole : List spec.Part) → grown_by t (map standing_of before) (stacked_parts old) ≡ whole → grown_by t (map standing_of after) (stacked_parts new) ≡ whole
+    → (whole : List spec.Part) → grown_by t (map standing_of before) (stacked_parts old) ≡ whole
+    → grown_by t (map standing_of after) (stacked_parts new) ≡ whole
 part-grown t before after s taken old rest new p e is left whole so =
     ap (grown_by t (map standing_of after)) (part_pushed rest new p e ∙ (λ i. is i ∷ left i))
     ∙ (sym (ap (λ ss. grown_by t ss (stacked_parts old)) (ap (map standing_of) taken ∙ map-last standing_of after s)

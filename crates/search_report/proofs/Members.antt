@@ -1,5 +1,7 @@
 -- Members of lists, and lists in ascending order that have the same.
-use Rattle.search_report.proofs.Vocabulary.{◌≡◌, ◌∙◌, ◌⊎◌, inl, inr, ◌<◌, ℕ, zero, suc, Bool, true, false, cond, List, [], ◌∷◌, ◌++◌, map, filter, length, slice_index_or, Contains, Some, Less, Equal, refl, sym, ap, subst, arith, AllByRecursion, IsStrictlySortedBy, ordering_reverse, nat_list_cmp_total, tied_itself}
+use Rattle.search_report.proofs.Vocabulary.{◌≡◌, ◌∙◌, ◌⊎◌, inl, inr, ◌<◌, ℕ, zero, suc, Bool, true, false, cond, List, [], ◌∷◌, ◌++◌, map}
+use Rattle.search_report.proofs.Vocabulary.{filter, length, slice_index_or, Contains, Some, Less, Equal, refl, sym, ap, subst, arith}
+use Rattle.search_report.proofs.Vocabulary.{AllByRecursion, IsStrictlySortedBy, ordering_reverse, nat_list_cmp_total, tied_itself}
 use Rattle.std.specs.List.{slice_get}
 use Rattle.search_report.proofs.Inserting.{R}
 
@@ -73,7 +75,8 @@ same-lists [] (y ∷ ys) s t there back = absurd (back y (inl refl))
 same-lists (x ∷ xs) [] s t there back = absurd (there x (inl refl))
 same-lists (x ∷ xs) (y ∷ ys) s t there back =
     ap (λ v. v ∷ xs) same
-    ∙ ap (λ vs. y ∷ vs) (same-lists xs ys s.1 t.1 (λ u m. past x y xs ys same s.0 u m (there u (inr m))) (λ u m. past y x ys xs (sym same) t.0 u m (back u (inr m))))
+    ∙ ap (λ vs. y ∷ vs)
+    (same-lists xs ys s.1 t.1 (λ u m. past x y xs ys same s.0 u m (there u (inr m))) (λ u m. past y x ys xs (sym same) t.0 u m (back u (inr m))))
   where
     heads : Member x (y ∷ ys) → Member y (x ∷ xs) → x ≡ y
     heads (inl is) n = is

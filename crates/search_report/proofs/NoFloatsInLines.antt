@@ -1,5 +1,7 @@
 -- The values of printed lines have no float, so that their text is known.
-use Rattle.search_report.proofs.Vocabulary.{codes, ◌≡◌, ℕ, Bool, false, List, [], ◌∷◌, map, Option, Some, None, refl, string, array, items_of, has_float, items_have_float, members_have_float, Litmus, Condition, count, key_of, Model, outcomes_verdict_value, Place, edge_value, edges_value, place_members, asked_value}
+use Rattle.search_report.proofs.Vocabulary.{codes, ◌≡◌, ℕ, Bool, false, List, [], ◌∷◌, map, Option, Some, None, refl, string, array}
+use Rattle.search_report.proofs.Vocabulary.{items_of, has_float, items_have_float, members_have_float, Litmus, Condition, count, key_of}
+use Rattle.search_report.proofs.Vocabulary.{Model, outcomes_verdict_value, Place, edge_value, edges_value, place_members, asked_value}
 use Rattle.search_report.specs.declared.shown.Edge.{Edge}
 use Rattle.search_report.specs.Shown.{ShownFact, Closing, Uniproc, Cycle, Amid, False, NoAnswer, ByLemma}
 use Rattle.search_report.specs.ShownText.{fact_text}
@@ -30,7 +32,9 @@ closed : (t : Litmus) (c : Option Closing) → has_float (closed_value t c) ≡ 
 closed t None = refl
 closed t (Some c) = closing t c
 
-answers : (t : Litmus) (step : List ℕ) (depth : ℕ) (question : List ℕ) (groups : List (List ShownFact)) (c : Option Closing) → has_float (case_value t step depth question groups c) ≡ false
+answers : (t : Litmus) (step : List ℕ) (depth : ℕ) (question : List ℕ) (groups : List (List ShownFact))
+    (c : Option Closing)
+    → has_float (case_value t step depth question groups c) ≡ false
 answers t step depth question groups c =
     neither (items_have_float (items_of (map (facts_value t) groups))) _ (each (facts_value t) (facts t) groups)
     (neither (has_float (closed_value t c)) false (closed t c) refl)

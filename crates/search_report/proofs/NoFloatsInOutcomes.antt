@@ -1,5 +1,8 @@
 -- The values that are printed have no float, so that their text is known.
-use Rattle.search_report.proofs.Vocabulary.{◌≡◌, ℕ, Bool, false, List, [], ◌∷◌, Option, Some, None, codes, refl, Members, no_members, member, object, has_float, members_have_float, Litmus, Condition, Named, Outcome, shown_values, is_met_in, outcomes_verdict_value, key_of, value_members, with_holds, holds_in, state_value, states_value, observation_value, outcomes_value}
+use Rattle.search_report.proofs.Vocabulary.{◌≡◌, ℕ, Bool, false, List, [], ◌∷◌, Option, Some, None, codes, refl, Members, no_members}
+use Rattle.search_report.proofs.Vocabulary.{member, object, has_float, members_have_float, Litmus, Condition, Named, Outcome, shown_values}
+use Rattle.search_report.proofs.Vocabulary.{is_met_in, outcomes_verdict_value, key_of, value_members, with_holds, holds_in, state_value}
+use Rattle.search_report.proofs.Vocabulary.{states_value, observation_value, outcomes_value}
 use Rattle.tso_report.specs.Json.{count}
 use Rattle.tso_report.proofs.NoFloats.{neither, one_more}
 

@@ -1,5 +1,9 @@
 -- The values that are printed have no float, so that their text is known.
-use Rattle.search_report.proofs.Vocabulary.{filter, writes_to, Entry, Choice, printed_entry, Named, Model, value_members, outcomes_verdict_value, Reading, reading_value, coherence_members_by, with_coherence, ◌≡◌, ◌+◌, ℕ, Bool, true, false, List, [], ◌∷◌, map, Option, Some, None, refl, string, array, Members, items_of, has_float, items_have_float, members_have_float, Litmus, Condition, count, key_of, Place, source_text, edge_value, edges_value, place_members, asked_value}
+use Rattle.search_report.proofs.Vocabulary.{filter, writes_to, Entry, Choice, printed_entry, Named, Model, value_members}
+use Rattle.search_report.proofs.Vocabulary.{outcomes_verdict_value, Reading, reading_value, coherence_members_by, with_coherence, ◌≡◌, ◌+◌}
+use Rattle.search_report.proofs.Vocabulary.{ℕ, Bool, true, false, List, [], ◌∷◌, map, Option, Some, None, refl, string, array, Members}
+use Rattle.search_report.proofs.Vocabulary.{items_of, has_float, items_have_float, members_have_float, Litmus, Condition, count, key_of}
+use Rattle.search_report.proofs.Vocabulary.{Place, source_text, edge_value, edges_value, place_members, asked_value}
 use Rattle.search_report.specs.declared.shown.Edge.{Edge}
 use Rattle.tso_report.proofs.NoFloats.{neither, one_more, each}
 use Rattle.search_report.proofs.ShownReasons.{value-from}
@@ -12,7 +16,9 @@ verdict : (o : Option Condition) (allowed : Bool) → has_float (outcomes_verdic
 verdict None allowed = refl
 verdict (Some c) allowed = refl
 
-with-writes : (t : Litmus) (name : List ℕ) (ws : List Entry) (ms : Members) → members_have_float ms ≡ false → members_have_float (with_coherence t name ws ms) ≡ false
+with-writes : (t : Litmus) (name : List ℕ) (ws : List Entry) (ms : Members)
+    → members_have_float ms ≡ false
+    → members_have_float (with_coherence t name ws ms) ≡ false
 with-writes t name [] ms h = h
 with-writes t name (w ∷ ws) ms h =
     one_more name (array (items_of (map (λ v. string (printed_entry t v)) (w ∷ ws)))) ms (each (λ v. string (printed_entry t v)) (λ v. refl) (w ∷ ws)) h

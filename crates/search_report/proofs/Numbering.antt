@@ -1,5 +1,8 @@
 -- The numbers of the states in which a claim is true: one state after the other.
-use Rattle.search_report.proofs.Vocabulary.{◌≡◌, ◌∙◌, ◌≤◌, ℕ, suc, ◌+◌, Bool, true, false, if◌then◌else◌, List, [], ◌∷◌, ◌++◌, length, Bor, codes, refl, sym, ap, subst, append_assoc, arith, values_of, All-head, All-tail, Claim, NamesExist, truth_of, FinalState, outcome_of, true_from, true_in, printed_numbers, kept_of, outcomes_at, AllHave}
+use Rattle.search_report.proofs.Vocabulary.{◌≡◌, ◌∙◌, ◌≤◌, ℕ, suc, ◌+◌, Bool, true, false, if◌then◌else◌, List, [], ◌∷◌, ◌++◌, length, Bor}
+use Rattle.search_report.proofs.Vocabulary.{codes, refl, sym, ap, subst, append_assoc, arith, values_of, All-head, All-tail, Claim}
+use Rattle.search_report.proofs.Vocabulary.{NamesExist, truth_of, FinalState, outcome_of, true_from, true_in, printed_numbers, kept_of}
+use Rattle.search_report.proofs.Vocabulary.{outcomes_at, AllHave}
 use Rattle.std.specs.Fmt.{decimal}
 use Rattle.search_report.proofs.Truths.{Entries, states-kept}
 
@@ -19,16 +22,21 @@ none-numbered claim text rest es are have =
     let many : length rest ≡ length es = ap length are ∙ as-many-values es in
     (ap (λ states. text ++ printed_numbers (true_from 1 claim states)) same, subst (AllHave claim) (sym same) have, omega (arith, many))
 
-pub next-has : (claim : Claim) (whole : List ℕ) (many before : ℕ) (text : List ℕ) (all rest : List (Bor FinalState)) (s : Bor FinalState) (registers : List (List ℕ)) (memory : List ℕ)
+pub next-has : (claim : Claim) (whole : List ℕ) (many before : ℕ) (text : List ℕ) (all rest : List (Bor FinalState))
+    (s : Bor FinalState) (registers : List (List ℕ)) (memory : List ℕ)
     → all ≡ s ∷ rest → registers ≡ s.now.registers.items → memory ≡ s.now.memory.items → Numbered claim whole many before text all
     → NamesExist (length registers) (length memory) claim
 next-has claim whole many before text all rest s registers memory steps are_registers are_words numbered =
-    let has = All-head (λ o. NamesExist (length o.registers) (length o.memory) claim) (outcome_of s.now) (outcomes_at rest) (subst (λ states. AllHave claim (outcomes_at states)) steps numbered.1) in
+    let has =
+    All-head (λ o. NamesExist (length o.registers) (length o.memory) claim) (outcome_of s.now) (outcomes_at rest)
+    (subst (λ states. AllHave claim (outcomes_at states)) steps numbered.1) in
     subst (λ r. NamesExist (length r) (length memory) claim) (sym are_registers)
     (subst (λ m. NamesExist (length s.now.registers.items) (length m) claim) (sym are_words) has)
 
-module _ (claim : Claim) (whole : List ℕ) (many before : ℕ) (text : List ℕ) (all rest : List (Bor FinalState)) (s : Bor FinalState) (registers : List (List ℕ)) (memory : List ℕ) (holds : Bool)
-    (steps : all ≡ s ∷ rest) (are_registers : registers ≡ s.now.registers.items) (are_words : memory ≡ s.now.memory.items) (is : holds ≡ truth_of registers memory claim)
+module _ (claim : Claim) (whole : List ℕ) (many before : ℕ) (text : List ℕ) (all rest : List (Bor FinalState))
+    (s : Bor FinalState) (registers : List (List ℕ)) (memory : List ℕ) (holds : Bool)
+    (steps : all ≡ s ∷ rest) (are_registers : registers ≡ s.now.registers.items)
+    (are_words : memory ≡ s.now.memory.items) (is : holds ≡ truth_of registers memory claim)
     (numbered : Numbered claim whole many before text all) where
   abbrev further : List ℕ
   further = true_from (before + 1 + 1) claim (outcomes_at rest)
@@ -37,7 +45,9 @@ module _ (claim : Claim) (whole : List ℕ) (many before : ℕ) (text : List ℕ
   count = let longer : length all ≡ suc (length rest) = ap length steps in let was = numbered.2 in omega (arith, longer, was)
 
   left : AllHave claim (outcomes_at rest)
-  left = All-tail (λ o. NamesExist (length o.registers) (length o.memory) claim) (outcome_of s.now) (outcomes_at rest) (subst (λ states. AllHave claim (outcomes_at states)) steps numbered.1)
+  left =
+      All-tail (λ o. NamesExist (length o.registers) (length o.memory) claim) (outcome_of s.now) (outcomes_at rest)
+      (subst (λ states. AllHave claim (outcomes_at states)) steps numbered.1)
 
   -- what was still to be written, by the truth in this state
   by-truth : text ++ printed_numbers (if holds then (before + 1) ∷ further else further) ≡ whole

@@ -2,7 +2,8 @@
 use Rattle.search_report.proofs.Vocabulary.{◌≡◌, ℕ, List, [], ◌∷◌, ◌++◌, ap, sym, refl, map, flat_map-map, append_assoc, append-nil, ◌∙◌}
 use Rattle.search_report.specs.ShownText.{separated}
 
-pub separated-map : {X Y : Type 0} (between : List ℕ) (f : Y → List ℕ) (g : X → Y) (xs : List X) → separated between (λ x. f (g x)) xs ≡ separated between f (map g xs)
+pub separated-map : {X Y : Type 0} (between : List ℕ) (f : Y → List ℕ) (g : X → Y) (xs : List X)
+    → separated between (λ x. f (g x)) xs ≡ separated between f (map g xs)
 separated-map between f g [] = refl
 separated-map between f g (x ∷ xs) = ap (λ ys. f (g x) ++ ys) (sym (flat_map-map (λ y. between ++ f y) g xs))
 

@@ -1,5 +1,6 @@
 -- Cases that are closed for the same reason share a line.
-use Rattle.search_report.proofs.Vocabulary.{◌≡◌, ◌∙◌, ◌<◌, ◌≤◌, ◌+◌, ◌-◌, ◌==◌, ℕ, zero, suc, Bool, true, false, cond, List, [], ◌∷◌, ◌++◌, map, length, take, drop, get_or, set, refl, sym, ap, arith, string_bytes, Litmus}
+use Rattle.search_report.proofs.Vocabulary.{◌≡◌, ◌∙◌, ◌<◌, ◌≤◌, ◌+◌, ◌-◌, ◌==◌, ℕ, zero, suc, Bool, true, false, cond, List, [], ◌∷◌, ◌++◌}
+use Rattle.search_report.proofs.Vocabulary.{map, length, take, drop, get_or, set, refl, sym, ap, arith, string_bytes, Litmus}
 use Rattle.std.specs.Str.{bytes_eq}
 use Rattle.search_report.specs.Lines as spec
 use Rattle.search_report.specs.Shown as shown
@@ -23,19 +24,25 @@ module _ (t : Litmus) (text : List ℕ) (answer : List shown.ShownFact) (closing
   one-more : (c : Closed) (rest : List spec.Closed) → string_bytes c.text ≡ closing_text t (shown_closing_of c.closing)
       → (b : Bool) → bytes_eq (string_bytes c.text) text ≡ b
       → spec.with_closed t answer closing (closed_of c ∷ rest)
-      ≡ cond b (record { answers = (closed_of c).answers ++ (answer ∷ []); closing = (closed_of c).closing } ∷ rest) (closed_of c ∷ spec.with_closed t answer closing rest)
+      ≡ cond b (record { answers = (closed_of c).answers ++ (answer ∷ []); closing = (closed_of c).closing } ∷ rest)
+      (closed_of c ∷ spec.with_closed t answer closing rest)
   one-more c rest told b e =
-      ap (λ q. cond q (record { answers = (closed_of c).answers ++ (answer ∷ []); closing = (closed_of c).closing } ∷ rest) (closed_of c ∷ spec.with_closed t answer closing rest))
+      ap (λ q.
+      cond q (record { answers = (closed_of c).answers ++ (answer ∷ []); closing = (closed_of c).closing } ∷ rest)
+      (closed_of c ∷ spec.with_closed t answer closing rest))
       ((λ i. bytes_eq (sym told i) (sym is i)) ∙ e)
 
   -- it stands behind those that there are
   pub closed-apart : (cs : List Closed) → HaveTheirTexts t cs → length cs ≤ place_with_text cs text → (new : Closed)
-      → closed_of new ≡ record { answers = answer ∷ []; closing = closing } → map closed_of (cs ++ (new ∷ [])) ≡ spec.with_closed t answer closing (map closed_of cs)
+      → closed_of new ≡ record { answers = answer ∷ []; closing = closing }
+      → map closed_of (cs ++ (new ∷ [])) ≡ spec.with_closed t answer closing (map closed_of cs)
   closed-apart [] told behind new e = ap (λ c. c ∷ []) e
   closed-apart (c ∷ cs) told behind new e = by (λ more. closed-apart cs told.1 more new e) (bytes_eq (string_bytes c.text) text) refl
     where
       by : (length cs ≤ place_with_text cs text → map closed_of (cs ++ (new ∷ [])) ≡ spec.with_closed t answer closing (map closed_of cs))
-          → (b : Bool) → bytes_eq (string_bytes c.text) text ≡ b → closed_of c ∷ map closed_of (cs ++ (new ∷ [])) ≡ spec.with_closed t answer closing (closed_of c ∷ map closed_of cs)
+          → (b : Bool) → bytes_eq (string_bytes c.text) text ≡ b
+          → closed_of c ∷ map closed_of (cs ++ (new ∷ []))
+          ≡ spec.with_closed t answer closing (closed_of c ∷ map closed_of cs)
       by later true same =
           let at : place_with_text (c ∷ cs) text ≡ 0 = place-of-first c cs text true same in
           absurd (omega (arith, behind, at))
@@ -44,7 +51,11 @@ module _ (t : Litmus) (text : List ℕ) (answer : List shown.ShownFact) (closing
           ap (λ ds. closed_of c ∷ ds) (later (omega (arith, behind, at))) ∙ sym (one-more c (map closed_of cs) told.0 false other)
 
   -- it stands with those that are closed for the same reason
-  pub closed-together : (cs : List Closed) → HaveTheirTexts t cs → (at : ℕ) → at ≡ place_with_text cs text → at < length cs → (c new : Closed) → c ≡ get_or cs at c
+  pub closed-together : (cs : List Closed)
+      → HaveTheirTexts t cs
+      → (at : ℕ) → at ≡ place_with_text cs text
+      → at < length cs
+      → (c new : Closed) → c ≡ get_or cs at c
       → closed_of new ≡ record { answers = (closed_of c).answers ++ (answer ∷ []); closing = (closed_of c).closing }
       → map closed_of (set cs at new) ≡ spec.with_closed t answer closing (map closed_of cs)
   closed-together [] told at here within c new known e = absurd (omega (arith, within))
@@ -53,7 +64,8 @@ module _ (t : Litmus) (text : List ℕ) (answer : List shown.ShownFact) (closing
     where
       by : (place_with_text cs text < length cs → c ≡ get_or cs (place_with_text cs text) c
           → map closed_of (set cs (place_with_text cs text) new) ≡ spec.with_closed t answer closing (map closed_of cs))
-          → (b : Bool) → bytes_eq (string_bytes d.text) text ≡ b → map closed_of (set (d ∷ cs) at new) ≡ spec.with_closed t answer closing (closed_of d ∷ map closed_of cs)
+          → (b : Bool) → bytes_eq (string_bytes d.text) text ≡ b
+          → map closed_of (set (d ∷ cs) at new) ≡ spec.with_closed t answer closing (closed_of d ∷ map closed_of cs)
       by later true same =
           let first : at ≡ 0 = here ∙ place-of-first d cs text true same in
           let is-first : c ≡ d = known ∙ ap (λ n. get_or (d ∷ cs) n c) first in

@@ -1,5 +1,16 @@
 -- What is shown of an execution is its candidate; what is shown of a refutation, its lines.
-use Rattle.search_report.proofs.Vocabulary.{ℕ, suc, zero, ◌+◌, ◌||◌, ◌≡◌, ◌≤◌, ◌<◌, Bool, true, false, cond, List, [], ◌∷◌, ◌++◌, length, take, take_all, length-drop, ◌-◌, drop, get_or, map, Option, Some, None, refl, sym, ap, ◌∙◌, arith, subst, append_assoc, All, filter, slice_get, slice_index_or, codes, flat_map, list_any, at_drop_more, drop_more, append-nil, drop_all, Data, Members, no_members, member, put, object, array, string, items_of, Litmus, is_read, writes_to, is_before, made, final_words, final_registers, Choice, Entry, IsIn, IsCandidateOf, LeaveTheSame, last_in, IsExecutionOf, Model, value_members, printed_entry, line, test_line, looked_at, verdict_line, outcomes_verdict_value, model_name, asked_line, from_line, reads_of, coherence_lines, coherence_line, allowed_text, asked_value, from_value, coherence_members, with_coherence, allowed_value, Reading, Named, NameExists, allowed_in, ShowsExecution, last_or, ReadsIt, AreIn, AreReadings, IsShown, read_with_source, reading_line, reading_value, coherence_by, coherence_members_by, drop-cons, values_in, shown_value}
+use Rattle.search_report.proofs.Vocabulary.{ℕ, suc, zero, ◌+◌, ◌||◌, ◌≡◌, ◌≤◌, ◌<◌, Bool, true, false, cond, List, [], ◌∷◌, ◌++◌, length}
+use Rattle.search_report.proofs.Vocabulary.{take, take_all, length-drop, ◌-◌, drop, get_or, map, Option, Some, None, refl, sym, ap, ◌∙◌}
+use Rattle.search_report.proofs.Vocabulary.{arith, subst, append_assoc, All, filter, slice_get, slice_index_or, codes, flat_map, list_any}
+use Rattle.search_report.proofs.Vocabulary.{at_drop_more, drop_more, append-nil, drop_all, Data, Members, no_members, member, put, object}
+use Rattle.search_report.proofs.Vocabulary.{array, string, items_of, Litmus, is_read, writes_to, is_before, made, final_words}
+use Rattle.search_report.proofs.Vocabulary.{final_registers, Choice, Entry, IsIn, IsCandidateOf, LeaveTheSame, last_in, IsExecutionOf}
+use Rattle.search_report.proofs.Vocabulary.{Model, value_members, printed_entry, line, test_line, looked_at, verdict_line}
+use Rattle.search_report.proofs.Vocabulary.{outcomes_verdict_value, model_name, asked_line, from_line, reads_of, coherence_lines}
+use Rattle.search_report.proofs.Vocabulary.{coherence_line, allowed_text, asked_value, from_value, coherence_members, with_coherence}
+use Rattle.search_report.proofs.Vocabulary.{allowed_value, Reading, Named, NameExists, allowed_in, ShowsExecution, last_or, ReadsIt, AreIn}
+use Rattle.search_report.proofs.Vocabulary.{AreReadings, IsShown, read_with_source, reading_line, reading_value, coherence_by}
+use Rattle.search_report.proofs.Vocabulary.{coherence_members_by, drop-cons, values_in, shown_value}
 use Rattle.tso_terms.specs.Axioms.{counting, IsTsoExecution}
 use Rattle.relational_model.specs.Candidates.{Candidate, words_left}
 use Rattle.refutation_laws.specs.declared.model.Model.TheVariants.{Tso, Sequential}
@@ -70,7 +81,10 @@ pub reads-last : (order : List Entry) (r : Entry) (at n m : ℕ) (before after :
 reads-last order r at n m before after w place first past back is second over e = record {
   front = take at order;
   back = back;
-  place = place ∙ ap (λ es. take at order ++ (r ∷ es)) (sym (is ∙ take_all (length order - (at + 1)) (drop (at + 1) order) (omega (arith, length-drop (at + 1) order))));
+  place =
+      place
+      ∙ ap (λ es. take at order ++ (r ∷ es))
+      (sym (is ∙ take_all (length order - (at + 1)) (drop (at + 1) order) (omega (arith, length-drop (at + 1) order))));
   source = e ∙ ap event_of_write (last-counting r (take at order) back before after
       (sym (first ∙ ap (λ es. last_or before (filter (writes_to r.loc.0) es)) (drop_all n (take at order) past)))
       (sym (second ∙ ap (λ es. last_or after (filter (writes_to r.loc.0) (filter (λ (x : Entry). is_before x r) es))) (drop_all m back over))));
@@ -150,7 +164,8 @@ module _ (t : Litmus) (order : List Entry) (c : Candidate) (same : (loc : ℕ) �
   locations-members (name ∷ names) loc =
       let next : loc + 1 ≡ suc loc = omega arith in
       ap (λ ws. with_coherence t name ws (coherence_members_by t order (loc + 1) names)) (sym (same loc))
-      ∙ ap (λ (ms : Members). with_coherence t name (c.coherence loc) ms) (ap (λ n. coherence_members_by t order n names) next ∙ locations-members names (suc loc))
+      ∙ ap (λ (ms : Members). with_coherence t name (c.coherence loc) ms)
+      (ap (λ n. coherence_members_by t order n names) next ∙ locations-members names (suc loc))
 
 abbrev lines-with : Model → Litmus → List Choice → List ℕ → List ℕ → List ℕ → List ℕ
 lines-with model t choices r q v =
@@ -208,16 +223,25 @@ module _ (model : Model) (t : Litmus) (order : List Entry) (xs : List Reading) (
       ∙ (ap (λ p. lines-with model t choices (flat_map (from_line t c) (reads_of t c)) p vs) (locations-lines t order c shown.coherence t.locations 0)
       ∙ ap (λ v. lines-with model t choices (flat_map (from_line t c) (reads_of t c)) (coherence_lines t c 0 t.locations) v) shown.values)))))
 
-  pub value-is : value-from t choices n m (map (reading_value t) xs) (coherence_members_by t order 0 t.locations) (value_members t ns vs) ≡ allowed_value model t c choices
+  pub value-is : value-from t choices n m (map (reading_value t) xs) (coherence_members_by t order 0 t.locations)
+      (value_members t ns vs)
+      ≡ allowed_value model t c choices
   value-is =
       ap (λ z. value-from t choices z m (map (reading_value t) xs) (coherence_members_by t order 0 t.locations) (value_members t ns vs)) hn
       ∙ (ap (λ z. value-from t choices t.name z (map (reading_value t) xs) (coherence_members_by t order 0 t.locations) (value_members t ns vs)) hm
-      ∙ (ap (λ z. value-from t choices t.name (model_name model) (map (reading_value t) xs) (coherence_members_by t order 0 t.locations) (value_members t z vs)) hs
-      ∙ (ap (λ (d : List Data). value-from t choices t.name (model_name model) d (coherence_members_by t order 0 t.locations) (value_members t (looked_at t) vs))
+      ∙ (ap (λ z.
+      value-from t choices t.name (model_name model) (map (reading_value t) xs)
+      (coherence_members_by t order 0 t.locations) (value_members t z vs))
+      hs
+      ∙ (ap (λ (d : List Data).
+      value-from t choices t.name (model_name model) d (coherence_members_by t order 0 t.locations) (value_members t (looked_at t) vs))
       (ap (map (reading_value t)) shown.readings ∙ reads-values t order c shown.coherence (reads_of t c))
       ∙ (ap (λ (ms : Members). value-from t choices t.name (model_name model) (map (from_value t c) (reads_of t c)) ms (value_members t (looked_at t) vs))
       (locations-members t order c shown.coherence t.locations 0)
-      ∙ ap (λ v. value-from t choices t.name (model_name model) (map (from_value t c) (reads_of t c)) (coherence_members t c 0 t.locations) (value_members t (looked_at t) v)) shown.values))))
+      ∙ ap (λ v.
+      value-from t choices t.name (model_name model) (map (from_value t c) (reads_of t c))
+      (coherence_members t c 0 t.locations) (value_members t (looked_at t) v))
+      shown.values))))
 
 -- ---- a refutation
 
@@ -326,7 +350,10 @@ pub tso-of : (model : Model) (t : Litmus) (order : List Entry) → IsExecutionOf
 tso-of Tso t order h = h
 tso-of Sequential t order h = h.execution
 
-pub location-written : (bytes name written ws one two three : List ℕ) → written ≡ name → one ≡ bytes ++ (codes "Coherence " ++ (written ++ [])) → two ≡ one ++ ws
+pub location-written : (bytes name written ws one two three : List ℕ)
+    → written ≡ name
+    → one ≡ bytes ++ (codes "Coherence " ++ (written ++ []))
+    → two ≡ one ++ ws
     → three ≡ two ++ (10 ∷ []) → three ≡ bytes ++ (codes "Coherence " ++ (name ++ line ws))
 location-written bytes name written ws one two three e first second third =
     third
@@ -342,7 +369,9 @@ known-moved a b cores locations ns names ea eb en h =
     subst (λ (x : ℕ). All (NameExists x locations) names) (sym ea)
     (subst (λ (y : ℕ). All (NameExists a y) names) (sym eb) (subst (All (NameExists a b)) (sym en) h))
 
-pub shows : (json : Bool) (model : Model) (t : Litmus) (order : List Entry) (choices : List Choice) (c : Candidate) → IsCandidateOf t order c → LeaveTheSame t order c
+pub shows : (json : Bool) (model : Model) (t : Litmus) (order : List Entry) (choices : List Choice) (c : Candidate)
+    → IsCandidateOf t order c
+    → LeaveTheSame t order c
     → (xs ys : List Reading) → AreReadings order (filter is_read (made t order)) xs → ys ≡ xs → (ns : List Named) → ns ≡ looked_at t
     → (vs us : List ℕ) → vs ≡ map (shown_value (final_registers t order) (final_words t order)) ns → us ≡ vs
     → (out : List ℕ) → ((d : Candidate) → IsShown t order ys us d → out ≡ allowed_in json model t d choices) → ShowsExecution json model t order choices out

@@ -1,5 +1,8 @@
 -- Every register is hidden at first, and those that aren't shown stay so.
-use Rattle.search_report.proofs.Vocabulary.{◌≡◌, ◌≢◌, ◌∙◌, ◌<◌, ◌⊎◌, inl, inr, ℕ, zero, suc, Bool, true, false, List, [], ◌∷◌, length, filter, cond, Some, slice_get, slice_set, slice_index_or, arith, ap, sym, subst, refl, Litmus, index_of, Reg, Eax, Ebx, Ecx, Edx, Esi, Edi, Core, none_hidden, hidden_of, Named, Register, named_register, is_shown, names_shown, Show, IsHidden}
+use Rattle.search_report.proofs.Vocabulary.{◌≡◌, ◌≢◌, ◌∙◌, ◌<◌, ◌⊎◌, inl, inr, ℕ, zero, suc, Bool, true, false, List, [], ◌∷◌, length}
+use Rattle.search_report.proofs.Vocabulary.{filter, cond, Some, slice_get, slice_set, slice_index_or, arith, ap, sym, subst, refl, Litmus}
+use Rattle.search_report.proofs.Vocabulary.{index_of, Reg, Eax, Ebx, Ecx, Edx, Esi, Edi, Core, none_hidden, hidden_of, Named, Register}
+use Rattle.search_report.proofs.Vocabulary.{named_register, is_shown, names_shown, Show, IsHidden}
 use Rattle.search_report.proofs.Hiding.{row-at}
 
 -- ---- one register more is shown
@@ -42,10 +45,14 @@ one-register core other reg r cores places =
     λ i. Register (record { 0 = cores i }) (registers i)
 
 pub stays : (old : List (List Bool)) (at place : ℕ) (d : List Bool) (other core : Core) (r reg : Reg) → at ≡ other.0 → place ≡ index_of r → other.0 < length old
-    → (Register other r ≡ Register core reg → ⊥) → IsHidden old core.0 reg → IsHidden (slice_set old at (slice_set (slice_index_or old at d) place false)) core.0 reg
+    → (Register other r ≡ Register core reg → ⊥)
+    → IsHidden old core.0 reg
+    → IsHidden (slice_set old at (slice_set (slice_index_or old at d) place false)) core.0 reg
 stays old at place d other core r reg cores places l differ hidden = by_core (same-or-not at core.0)
   where
-    by_place : at ≡ core.0 → (place ≡ index_of reg) ⊎ (place ≢ index_of reg) → IsHidden (slice_set old at (slice_set (slice_index_or old at d) place false)) core.0 reg
+    by_place : at ≡ core.0
+        → (place ≡ index_of reg) ⊎ (place ≢ index_of reg)
+        → IsHidden (slice_set old at (slice_set (slice_index_or old at d) place false)) core.0 reg
     by_place same (inl is) = absurd (differ (one-register core other reg r (sym cores ∙ same) (sym places ∙ is)))
     by_place same (inr isnt) =
         let new = slice_set (slice_index_or old at d) place false in
@@ -93,7 +100,9 @@ passes {X} p (y ∷ ys) i x at = by (p y) refl i at (λ j. passes p ys j x)
     by true is (suc i) at further = further i at
     by false isnt i at further = further i at
 
-pub unnamed : (show : Show) (t : Litmus) (names : List Named) (core : ℕ) (reg : Reg) → names ≡ names_shown show t → is_shown show t (named_register core reg) ≡ false
+pub unnamed : (show : Show) (t : Litmus) (names : List Named) (core : ℕ) (reg : Reg)
+    → names ≡ names_shown show t
+    → is_shown show t (named_register core reg) ≡ false
     → (j : ℕ) (n : Named) → slice_get names j ≡ Some n → n ≡ named_register core reg → ⊥
 unnamed show t names core reg list not_shown j n at is =
     let shown : is_shown show t n ≡ true = passes (is_shown show t) _ j n (subst (λ z. slice_get z j ≡ Some n) list at) in

@@ -1,5 +1,8 @@
 -- The names that the proofs of this crate bring in from definitions and from crates below; each file takes its own from here.
-pub use Rattle.std.proofs.Common.{◌≡◌, ◌∙◌, Bool, true, false, cond, List, [], ◌∷◌, Option, Some, None, is_some, Less, Equal, Contains, refl, ap, subst, ℕ, ◌<◌, map, length, drop, slice_index_or, ◌+◌, Vec, Bor, All, sym, suc, ◌-◌, not, arith, ◌≤◌, if◌then◌else◌, ◌++◌, codes, append_assoc, ◌||◌, ◌⊎◌, inl, inr, zero, filter, ⊎_elim, ◌==◌, ◌&&◌, slice_index, take, slice_get, slice_set, ◌≢◌, string_bytes, IfOk, get_or, set, vec_len, drop-cons}
+pub use Rattle.std.proofs.Common.{◌≡◌, ◌∙◌, Bool, true, false, cond, List, [], ◌∷◌, Option, Some, None, is_some, Less, Equal, Contains}
+pub use Rattle.std.proofs.Common.{refl, ap, subst, ℕ, ◌<◌, map, length, drop, slice_index_or, ◌+◌, Vec, Bor, All, sym, suc, ◌-◌, not, arith}
+pub use Rattle.std.proofs.Common.{◌≤◌, if◌then◌else◌, ◌++◌, codes, append_assoc, ◌||◌, ◌⊎◌, inl, inr, zero, filter, ⊎_elim, ◌==◌, ◌&&◌}
+pub use Rattle.std.proofs.Common.{slice_index, take, slice_get, slice_set, ◌≢◌, string_bytes, IfOk, get_or, set, vec_len, drop-cons}
 pub use Rattle.std.specs.List.{AllByRecursion, flat_map, list_any}
 unfoldable pub use Rattle.std.specs.List.Sorted.{IsStrictlySortedBy}
 pub use Rattle.std.specs.Ordering.{is_eq, nat_cmp, ordering_reverse, match_ordering}
@@ -15,14 +18,18 @@ pub use Rattle.std.proofs.lemmas.List.Elements.{All-from_recursion, recursion_fr
 pub use Rattle.std.proofs.lemmas.List.{get_or-map, length-map, drop_more, drop_all, at_drop_more, take_all, length-drop, append-nil}
 pub use Rattle.tso_terms.specs.Litmus.{Litmus, IsTest, IsCondition}
 pub use Rattle.explorer.specs.declared.final_states.FinalState.{FinalState}
-pub use Rattle.tso_report.specs.Tally.{shown_value, claim_names_register, claim_names_location, is_looked_at, named_register, named_location, named_registers, named_locations, looked_at, values_in}
+pub use Rattle.tso_report.specs.Tally.{shown_value, claim_names_register, claim_names_location, is_looked_at, named_register}
+pub use Rattle.tso_report.specs.Tally.{named_location, named_registers, named_locations, looked_at, values_in}
 pub use Rattle.tso_report.specs.declared.named.Named.{Named}
 pub use Rattle.tso_report.specs.Json.{count}
-pub use Rattle.search_report.specs.Outcomes.{Outcome, outcome_of, shown_values, ArePrinted, held_in, failed_in, true_from, true_in, printed_numbers, state_line, by_line, outcome_lines, outcomes_line, condition_lines, outcomes_text, is_met_in}
+pub use Rattle.search_report.specs.Outcomes.{Outcome, outcome_of, shown_values, ArePrinted, held_in, failed_in, true_from, true_in}
+pub use Rattle.search_report.specs.Outcomes.{printed_numbers, state_line, by_line, outcome_lines, outcomes_line, condition_lines}
+pub use Rattle.search_report.specs.Outcomes.{outcomes_text, is_met_in}
 pub use Rattle.search_report.specs.inner.ShownOutcomes.{IsOutcomeOf, is_kept, kept_of, with_outcome, kept_after, AreShown, outcomes_at, AllHave}
 pub use Rattle.std.specs.Prelude.{count_by}
 pub use Rattle.std.proofs.lemmas.List.Sums.{sum_by-cons}
-pub use Rattle.tso_terms.specs.Condition.{Claim, NamesExist, truth_of, claim_of, condition_of, Condition, TruthClaim, RegClaim, LocClaim, NotClaim, AndClaim, OrClaim}
+pub use Rattle.tso_terms.specs.Condition.{Claim, NamesExist, truth_of, claim_of, condition_of, Condition, TruthClaim, RegClaim, LocClaim}
+pub use Rattle.tso_terms.specs.Condition.{NotClaim, AndClaim, OrClaim}
 pub use Rattle.serde_json.specs.Data.{array, Data, string, Members, no_members, member, put, object}
 pub use Rattle.serde_json.specs.View.{view, items_of}
 pub use Rattle.search_report.specs.OutcomesJson.{holds_in, state_value, states_value, key_of, value_members, with_holds, observation_value, outcomes_value}
@@ -49,8 +56,10 @@ pub use Rattle.search_report.specs.inner.Views.{place_of}
 pub use Rattle.tso_terms.specs.ProgramOrder.{writes_to, is_read, is_before}
 pub use Rattle.order_builder.specs.PrintedOrder.{printed_entry}
 pub use Rattle.search_report.specs.declared.readings.Reading.{Reading}
-pub use Rattle.search_report.specs.inner.ShownExecutions.{reading_value, coherence_members_by, last_or, ReadsIt, AreIn, AreReadings, IsShown, read_with_source, reading_line, coherence_by}
-pub use Rattle.search_report.specs.ReasonJson.{with_coherence, edge_value, edges_value, place_members, asked_value, from_value, coherence_members, allowed_value}
+pub use Rattle.search_report.specs.inner.ShownExecutions.{reading_value, coherence_members_by, last_or, ReadsIt, AreIn, AreReadings}
+pub use Rattle.search_report.specs.inner.ShownExecutions.{IsShown, read_with_source, reading_line, coherence_by}
+pub use Rattle.search_report.specs.ReasonJson.{with_coherence, edge_value, edges_value, place_members, asked_value, from_value}
+pub use Rattle.search_report.specs.ReasonJson.{coherence_members, allowed_value}
 pub use Rattle.search_report.specs.ReasonText.{source_text, model_name, asked_line, from_line, reads_of, coherence_lines, coherence_line, allowed_text}
 pub use Rattle.tso_terms.specs.ProgramEntries.{made}
 pub use Rattle.tso_terms.specs.FinalState.{final_words, final_registers}

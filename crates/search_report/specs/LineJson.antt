@@ -1,7 +1,8 @@
 -- What `why` prints of a refutation as a JSON value, for programs to read. Its objects have their keys in the order of their bytes.
 -- (This project's profile.)
 use Rattle.std.specs.Prelude.{ℕ, false, List, map, Option, Some, None, codes}
-use Rattle.search_report.specs.Vocabulary.{array, asked_claim, Data, items_of, line, Litmus, member, Model, no_members, null, object, outcomes_verdict_value, string}
+use Rattle.search_report.specs.Vocabulary.{array, asked_claim, Data, items_of, line, Litmus, member, Model, no_members, null, object}
+use Rattle.search_report.specs.Vocabulary.{outcomes_verdict_value, string}
 use Rattle.serde_json.specs.Written.{compact_text}
 use Rattle.tso_report.specs.Json.{count}
 use Rattle.short_refutations.specs.Refutations.{Node, Lemma}

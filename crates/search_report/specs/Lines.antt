@@ -2,7 +2,8 @@
 -- Of a question's cases those come first that their line closes; those that are closed for the same reason are one line. The others follow,
 -- each with its part one step deeper. Where one alone follows, its part stands at the same depth. Where none follows, the last line is what
 -- is left.
-use Rattle.std.specs.Prelude.{ℕ, ◌+◌, ◌-◌, Bool, true, false, if◌then◌else◌, Option, Some, None, is_some, List, [], ◌∷◌, ◌++◌, map, take, drop, length, count_by, codes}
+use Rattle.std.specs.Prelude.{ℕ, ◌+◌, ◌-◌, Bool, true, false, if◌then◌else◌, Option, Some, None, is_some, List, [], ◌∷◌, ◌++◌, map, take}
+use Rattle.std.specs.Prelude.{drop, length, count_by, codes}
 use Rattle.std.specs.List.{flat_map}
 use Rattle.std.specs.Str.{bytes_eq}
 use Rattle.search_report.specs.Vocabulary.{Claim, Litmus, Model}

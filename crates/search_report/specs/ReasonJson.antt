@@ -1,7 +1,9 @@
 -- What `why` prints as a JSON value, for programs to read. Its objects have their keys in the order of their bytes.
 -- (This project's profile.)
 use Rattle.std.specs.Prelude.{ℕ, suc, true, false, List, [], ◌∷◌, map, Option, Some, None, codes}
-use Rattle.search_report.specs.Vocabulary.{array, boolean, Candidate, Choice, Condition, Data, Entry, items_of, key_of, line, Litmus, looked_at, member, Members, Model, no_members, null, object, outcomes_verdict_value, printed_choices, printed_entry, printed_quantifier, put, string, value_members}
+use Rattle.search_report.specs.Vocabulary.{array, boolean, Candidate, Choice, Condition, Data, Entry, items_of, key_of, line, Litmus}
+use Rattle.search_report.specs.Vocabulary.{looked_at, member, Members, Model, no_members, null, object, outcomes_verdict_value}
+use Rattle.search_report.specs.Vocabulary.{printed_choices, printed_entry, printed_quantifier, put, string, value_members}
 use Rattle.serde_json.specs.Written.{compact_text}
 use Rattle.tso_report.specs.Json.{count}
 use Rattle.search_report.specs.Places.{Place}

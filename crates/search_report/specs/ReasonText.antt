@@ -2,7 +2,9 @@
 use Rattle.std.specs.Prelude.{ℕ, suc, Bool, true, false, List, [], ◌∷◌, ◌++◌, filter, Option, Some, None, slice_index_or, codes, replicate}
 use Rattle.std.specs.List.{flat_map}
 use Rattle.std.specs.Fmt.{decimal}
-use Rattle.search_report.specs.Vocabulary.{Choice, Condition, entry, Entry, Exists, F, Forall, is_read, key_of, Kind, letters_of, line, Litmus, looked_at, Model, NotExists, printed_entry, printed_quantifier, printed_truth, Quantifier, Relation, test_line, values_in, verdict_line}
+use Rattle.search_report.specs.Vocabulary.{Choice, Condition, entry, Entry, Exists, F, Forall, is_read, key_of, Kind, letters_of, line}
+use Rattle.search_report.specs.Vocabulary.{Litmus, looked_at, Model, NotExists, printed_entry, printed_quantifier, printed_truth}
+use Rattle.search_report.specs.Vocabulary.{Quantifier, Relation, test_line, values_in, verdict_line}
 use Rattle.relational_model.specs.Candidates.{Candidate, events, registers_left, words_left}
 use Rattle.refutation_laws.specs.declared.model.Model.TheVariants.{Tso, Sequential}
 use Rattle.refutation_laws.specs.declared.model.Relation.TheVariants.{Po, PoLoc, PoGhb, Mfence, Implied, Rf, Rfe, Co, Fr}

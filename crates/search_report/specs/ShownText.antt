@@ -6,7 +6,8 @@ use Rattle.search_report.specs.Vocabulary.{key_of, Litmus}
 use Rattle.tso_report.specs.Tally.{named_location}
 use Rattle.search_report.specs.ClaimText.{value_text}
 use Rattle.search_report.specs.ReasonText.{cycle_text, event_text, place_text, source_text}
-use Rattle.search_report.specs.Shown.{ShownFact, From, Before, Last, Returns, Holds, Subject, OfEvent, OfInitial, OfLocation, Closing, Uniproc, Cycle, Amid, False, NoAnswer, ByLemma}
+use Rattle.search_report.specs.Shown.{ShownFact, From, Before, Last, Returns, Holds, Subject, OfEvent, OfInitial, OfLocation, Closing}
+use Rattle.search_report.specs.Shown.{Uniproc, Cycle, Amid, False, NoAnswer, ByLemma}
 
 -- items, with this between them
 abbrev pub separated : {X : Type 0} → List ℕ → (X → List ℕ) → List X → List ℕ

@@ -238,7 +238,9 @@ fn tree_lines<'t>(
     nodes: &[Node<'t>],
 ) -> Result<Vec<Line>, NoMemory>
     requires { IsProblem problem.now.test.now problem.now }
-    ensures { IfOk result (λ lines. map reason_line_of lines.items ≡ spec.tree_lines model problem.now.test.now (facts_of facts.entry.items) (map node_of nodes.now)) }
+    ensures { IfOk result (λ lines.
+        map reason_line_of lines.items
+        ≡ spec.tree_lines model problem.now.test.now (facts_of facts.entry.items) (map node_of nodes.now)) }
 {
     let standing = nodes_in_branches(alloc, problem, model, facts, nodes)?;
     let mut parts = tree_parts(alloc, problem.test, standing)?;

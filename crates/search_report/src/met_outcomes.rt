@@ -7,7 +7,8 @@ ghost use Rattle.serde_json.specs.View.{view};
 ghost use Rattle.explorer.specs.FinalStates.{AreReached};
 ghost use Rattle.tso_report.specs.ShownNames as shown;
 ghost use Rattle.search_report.specs.Outcomes.{is_met_in};
-ghost use Rattle.search_report.specs.MetOutcomes.{unfinished_outcomes_line, met_line, decided_line, decided_value, met_text, met_json, unfinished_search_in, PrintsMet};
+ghost use Rattle.search_report.specs.MetOutcomes.{unfinished_outcomes_line, met_line, decided_line, decided_value, met_text, met_json};
+ghost use Rattle.search_report.specs.MetOutcomes.{unfinished_search_in, PrintsMet};
 ghost use Rattle.search_report.specs.inner.ShownOutcomes.{AreNamesOf, AreShown, kept_of};
 
 use crate::outcomes::{Outcomes, outcomes_of};

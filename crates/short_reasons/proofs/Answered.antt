@@ -1,5 +1,10 @@
 -- The next question may be asked and isn't answered; where there is none, the case is full.
-use Rattle.short_reasons.proofs.Vocabulary.{◌≡◌, ◌&&◌, Bool, true, false, not, if◌then◌else◌, List, [], ◌∷◌, Option, Some, None, refl, sym, ap, ◌∙◌, ◌⊎◌, inl, inr, subst, Litmus, is_read, is_write, writes_to, Entry, IsIn, in-case, in-none, in-first, in-later, and-both, Known, events_of, same_event, is_event, has_source, are_ordered, may_ask, is_answered, IsFull, IsSound, and-of, is-event, is_unread, is_unordered, first_where, first_beside, pair_or, first_pair, question_of, read_or, first_unread, next_question, from-not, QuestionOrFull}
+use Rattle.short_reasons.proofs.Vocabulary.{◌≡◌, ◌&&◌, Bool, true, false, not, if◌then◌else◌, List, [], ◌∷◌, Option, Some, None, refl, sym}
+use Rattle.short_reasons.proofs.Vocabulary.{ap, ◌∙◌, ◌⊎◌, inl, inr, subst, Litmus, is_read, is_write, writes_to, Entry, IsIn, in-case}
+use Rattle.short_reasons.proofs.Vocabulary.{in-none, in-first, in-later, and-both, Known, events_of, same_event, is_event, has_source}
+use Rattle.short_reasons.proofs.Vocabulary.{are_ordered, may_ask, is_answered, IsFull, IsSound, and-of, is-event, is_unread, is_unordered}
+use Rattle.short_reasons.proofs.Vocabulary.{first_where, first_beside, pair_or, first_pair, question_of, read_or, first_unread}
+use Rattle.short_reasons.proofs.Vocabulary.{next_question, from-not, QuestionOrFull}
 use Rattle.refutations.specs.Trees.{node_of}
 use Rattle.refutations.specs.declared.tree.Node.{Node}
 use Rattle.refutation_laws.specs.declared.known.Pair.{Pair}

@@ -1,5 +1,10 @@
 -- What the facts of a branch answer: nothing at first, and with each answer one more.
-use Rattle.short_reasons.proofs.Vocabulary.{◌≡◌, ◌≤◌, suc, Bool, true, false, if◌then◌else◌, List, [], ◌∷◌, ◌++◌, length, Option, Some, arith, refl, sym, ap, ◌∙◌, subst, Litmus, Claim, is_read, is_write, Entry, IsIn, bare, same_event, is_event, events_of, nothing, has_source, same-bare, Holds, any-holds, IsPossibleSource, IsSound, sources_of, Fact, From, Before, Last, Returns, HoldsAtEnd, given_by, Reading, sources_read, readings_after, Has, has-none, sources_told, pairs_told, answers_told, given_at_first, IsBranch}
+use Rattle.short_reasons.proofs.Vocabulary.{◌≡◌, ◌≤◌, suc, Bool, true, false, if◌then◌else◌, List, [], ◌∷◌, ◌++◌, length, Option, Some}
+use Rattle.short_reasons.proofs.Vocabulary.{arith, refl, sym, ap, ◌∙◌, subst, Litmus, Claim, is_read, is_write, Entry, IsIn, bare}
+use Rattle.short_reasons.proofs.Vocabulary.{same_event, is_event, events_of, nothing, has_source, same-bare, Holds, any-holds}
+use Rattle.short_reasons.proofs.Vocabulary.{IsPossibleSource, IsSound, sources_of, Fact, From, Before, Last, Returns, HoldsAtEnd, given_by}
+use Rattle.short_reasons.proofs.Vocabulary.{Reading, sources_read, readings_after, Has, has-none, sources_told, pairs_told, answers_told}
+use Rattle.short_reasons.proofs.Vocabulary.{given_at_first, IsBranch}
 use Rattle.std.proofs.Common.{ℕ, zero, not}
 use Rattle.std.specs.Prelude.{filter}
 use Rattle.tso_terms.specs.Condition.{TruthClaim, RegClaim, LocClaim, NotClaim, AndClaim, OrClaim}

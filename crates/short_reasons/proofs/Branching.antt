@@ -1,8 +1,14 @@
 -- The branches of an open question weigh together no more than its case; where one is added to each factor, less.
-use Rattle.short_reasons.proofs.Vocabulary.{◌≡◌, ◌<◌, ◌≤◌, ◌+◌, ◌*◌, ◌==◌, ◌&&◌, ◌||◌, ℕ, suc, Bool, true, false, not, if◌then◌else◌, List, [], ◌∷◌, length, map, Option, None, arith, refl, sym, ap, ◌∙◌, ◌⊎◌, inl, inr, subst, mul-le, Litmus, is_read, is_write, writes_to, Entry, and-both, same-number, number-same, Precedes, Known, bare, events_of, same_event, is_event, comes_before, with_source, with_pair, sources_of, branches, are_ordered, may_ask, is_answered, and-of, or-first, or-second, Holds, any-holds, same-bare, bare-same, product, pick, pass}
+use Rattle.short_reasons.proofs.Vocabulary.{◌≡◌, ◌<◌, ◌≤◌, ◌+◌, ◌*◌, ◌==◌, ◌&&◌, ◌||◌, ℕ, suc, Bool, true, false, not, if◌then◌else◌, List}
+use Rattle.short_reasons.proofs.Vocabulary.{[], ◌∷◌, length, map, Option, None, arith, refl, sym, ap, ◌∙◌, ◌⊎◌, inl, inr, subst, mul-le}
+use Rattle.short_reasons.proofs.Vocabulary.{Litmus, is_read, is_write, writes_to, Entry, and-both, same-number, number-same, Precedes}
+use Rattle.short_reasons.proofs.Vocabulary.{Known, bare, events_of, same_event, is_event, comes_before, with_source, with_pair, sources_of}
+use Rattle.short_reasons.proofs.Vocabulary.{branches, are_ordered, may_ask, is_answered, and-of, or-first, or-second, Holds, any-holds}
+use Rattle.short_reasons.proofs.Vocabulary.{same-bare, bare-same, product, pick, pass}
 use Rattle.refutation_laws.specs.declared.known.Source.{Source}
 use Rattle.refutation_laws.specs.Refutations.{Node, ReadsFrom, ComesFirst, OnLocation, Globally, Between, FalseClaim}
-use Rattle.short_reasons.proofs.Weighing.{weigh_read, weigh_pair, weight, total, pairs, swap, less-if, open-pair, one-pair-more, either-first, some-weight, source-weight}
+use Rattle.short_reasons.proofs.Weighing.{weigh_read, weigh_pair, weight, total, pairs, swap, less-if, open-pair, one-pair-more}
+use Rattle.short_reasons.proofs.Weighing.{either-first, some-weight, source-weight}
 
 -- ---- a pair that is asked for
 

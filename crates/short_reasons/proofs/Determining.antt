@@ -1,5 +1,9 @@
 -- A branch in which each question is answered, and that no leaf closes: the case of its answers is full, and the model allows it.
-use Rattle.short_reasons.proofs.Vocabulary.{◌≡◌, ℕ, Bool, true, false, List, length, Option, Some, None, refl, sym, subst, Litmus, IsTest, IsCondition, Claim, Condition, NamesExist, Quantifier, Exists, NotExists, Forall, Ordered, Known, events_of, on_location, global_in, asked_claim, asked_by, Model, IsOpen, IsFull, NoneBetween, clash, Fact, LastWordsArePossible, Reading, readings, known_from, is_impossible, answers_told, given_at_first, IsBranch, HasNoLeaf, IsAllowedCase}
+use Rattle.short_reasons.proofs.Vocabulary.{◌≡◌, ℕ, Bool, true, false, List, length, Option, Some, None, refl, sym, subst, Litmus, IsTest}
+use Rattle.short_reasons.proofs.Vocabulary.{IsCondition, Claim, Condition, NamesExist, Quantifier, Exists, NotExists, Forall, Ordered}
+use Rattle.short_reasons.proofs.Vocabulary.{Known, events_of, on_location, global_in, asked_claim, asked_by, Model, IsOpen, IsFull}
+use Rattle.short_reasons.proofs.Vocabulary.{NoneBetween, clash, Fact, LastWordsArePossible, Reading, readings, known_from, is_impossible}
+use Rattle.short_reasons.proofs.Vocabulary.{answers_told, given_at_first, IsBranch, HasNoLeaf, IsAllowedCase}
 use Rattle.relational_model.specs.Candidates.{Candidate, registers_left, words_left}
 use Rattle.relational_model.specs.Model.{IsAllowed}
 use Rattle.tso_terms.specs.Condition.{truth_of}

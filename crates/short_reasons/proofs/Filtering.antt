@@ -1,5 +1,6 @@
 -- What a loop picks of a list, item by item.
-use Rattle.short_reasons.proofs.Vocabulary.{◌≡◌, ◌<◌, ◌+◌, ℕ, Bool, true, false, if◌then◌else◌, List, [], ◌∷◌, ◌++◌, length, drop, filter, ap, refl, sym, ◌∙◌, is_step}
+use Rattle.short_reasons.proofs.Vocabulary.{◌≡◌, ◌<◌, ◌+◌, ℕ, Bool, true, false, if◌then◌else◌, List, [], ◌∷◌, ◌++◌, length, drop, filter}
+use Rattle.short_reasons.proofs.Vocabulary.{ap, refl, sym, ◌∙◌, is_step}
 use Rattle.basic_laws.specs.Types.{Choice, Core, Step, Drain}
 use Rattle.std.proofs.Common.{get_or, append_assoc}
 use Rattle.std.proofs.lemmas.List.{at_drop_more}

@@ -1,6 +1,12 @@
 -- The branches that the facts leave to a question are among those of the full case's question, and weigh no more.
 use Rattle.relational_model.specs.Events.{IsIn}
-use Rattle.short_reasons.proofs.Vocabulary.{◌≡◌, ◌<◌, ◌≤◌, ◌+◌, ◌*◌, ◌&&◌, ℕ, suc, Bool, true, false, not, List, [], ◌∷◌, ◌++◌, length, map, Option, None, arith, refl, sym, ap, ◌∙◌, mul-le, Litmus, is_read, is_write, writes_to, Entry, and-both, Known, same_event, is_event, with_source, has_source, may_ask, is_answered, from-not, same-bare, bare-same, bare, events_of, sources_of, Fact, From, Before, Last, Returns, HoldsAtEnd, Node, ReadsFrom, ReadsValue, Asks, IsReadBy, ComesLast, HasCase, OnLocation, Globally, Between, FalseClaim, ByLemma, readings_after, known_from, is_node, Model, below, Has, answers_told, as_question, IsBranch, IsPossibleSource, has_no_source, is_none_left}
+use Rattle.short_reasons.proofs.Vocabulary.{◌≡◌, ◌<◌, ◌≤◌, ◌+◌, ◌*◌, ◌&&◌, ℕ, suc, Bool, true, false, not, List, [], ◌∷◌, ◌++◌, length, map}
+use Rattle.short_reasons.proofs.Vocabulary.{Option, None, arith, refl, sym, ap, ◌∙◌, mul-le, Litmus, is_read, is_write, writes_to, Entry}
+use Rattle.short_reasons.proofs.Vocabulary.{and-both, Known, same_event, is_event, with_source, has_source, may_ask, is_answered, from-not}
+use Rattle.short_reasons.proofs.Vocabulary.{same-bare, bare-same, bare, events_of, sources_of, Fact, From, Before, Last, Returns}
+use Rattle.short_reasons.proofs.Vocabulary.{HoldsAtEnd, Node, ReadsFrom, ReadsValue, Asks, IsReadBy, ComesLast, HasCase, OnLocation}
+use Rattle.short_reasons.proofs.Vocabulary.{Globally, Between, FalseClaim, ByLemma, readings_after, known_from, is_node, Model, below, Has}
+use Rattle.short_reasons.proofs.Vocabulary.{answers_told, as_question, IsBranch, IsPossibleSource, has_no_source, is_none_left}
 use Rattle.refutation_laws.specs.Refutations as full
 use Rattle.short_reasons.proofs.Weighing.{weight, total, some-weight, source-weight}
 use Rattle.short_reasons.proofs.Branching.{each-source, spread, as-heavy, lighter, turned}
@@ -27,7 +33,8 @@ are-both t (x ∷ xs) ys a b = (a.0, are-both t xs ys a.1 b)
 abbrev by_sources : List Fact → Entry → List (Option Entry) → List (List Fact)
 by_sources facts r os = map (λ answer. answer ++ facts) (map (λ source. From r source true ∷ []) os)
 
-known-sources : (facts : List Fact) (r : Entry) (os : List (Option Entry)) → map answers_told (by_sources facts r os) ≡ map (with_source (answers_told facts) r) os
+known-sources : (facts : List Fact) (r : Entry) (os : List (Option Entry))
+    → map answers_told (by_sources facts r os) ≡ map (with_source (answers_told facts) r) os
 known-sources facts r [] = refl
 known-sources facts r (o ∷ os) = ap (λ ks. with_source (answers_told facts) r o ∷ ks) (known-sources facts r os)
 

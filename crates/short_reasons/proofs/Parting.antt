@@ -1,5 +1,9 @@
 -- Events that are put in a row step by step: those of the rest that none of the rest must precede come next.
-use Rattle.short_reasons.proofs.Vocabulary.{◌≡◌, ◌<◌, ◌==◌, ℕ, Bool, true, false, not, List, [], ◌∷◌, ◌++◌, length, arith, refl, sym, ap, ◌∙◌, ◌⊎◌, inl, inr, subst, filter, list_any, Entry, IsIn, in-none, in-append, in-left, in-right, in-filter, filter-in, same-number, number-same, once-filter, once-append, Once, any-in, is_first, IsParted, IsSorted, picked-and-left, forward-append, forward-if, clash, from-not, length-append, nil_from_length, append-nil}
+use Rattle.short_reasons.proofs.Vocabulary.{◌≡◌, ◌<◌, ◌==◌, ℕ, Bool, true, false, not, List, [], ◌∷◌, ◌++◌, length, arith, refl, sym, ap}
+use Rattle.short_reasons.proofs.Vocabulary.{◌∙◌, ◌⊎◌, inl, inr, subst, filter, list_any, Entry, IsIn, in-none, in-append, in-left, in-right}
+use Rattle.short_reasons.proofs.Vocabulary.{in-filter, filter-in, same-number, number-same, once-filter, once-append, Once, any-in}
+use Rattle.short_reasons.proofs.Vocabulary.{is_first, IsParted, IsSorted, picked-and-left, forward-append, forward-if, clash, from-not}
+use Rattle.short_reasons.proofs.Vocabulary.{length-append, nil_from_length, append-nil}
 
 -- ---- what a test picks, and what it leaves
 

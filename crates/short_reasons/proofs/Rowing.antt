@@ -1,5 +1,12 @@
 -- A full case that no leaf closes: all of its events can be put in a row; and a write between two parts is found where there is one.
-use Rattle.short_reasons.proofs.Vocabulary.{◌≡◌, Bool, true, false, not, if◌then◌else◌, List, [], ◌∷◌, Option, Some, None, map, refl, sym, ap, ◌∙◌, ◌⊎◌, inl, inr, subst, Litmus, IsTest, Entry, IsIn, in-case, in-none, in-first, in-later, in-filter, filter-in, and-both, and-of, once-filter, once-events, Ordered, Once, Known, bare, events_of, is_event, is-event, is_read, on_location, global_in, Knowledge, is_edge, are_parts, is_between, list_any, is_impossible, asked_claim, IsFull, IsSound, Model, IsOpen, From, sources_read, IsSorted, IsAllowedCase, LeafIfAny, first_of_two, write_between_these, write_between_from, first_write_between, first_where, has_no_source, is_none_left, read_of, from-not}
+use Rattle.short_reasons.proofs.Vocabulary.{◌≡◌, Bool, true, false, not, if◌then◌else◌, List, [], ◌∷◌, Option, Some, None, map, refl, sym}
+use Rattle.short_reasons.proofs.Vocabulary.{ap, ◌∙◌, ◌⊎◌, inl, inr, subst, Litmus, IsTest, Entry, IsIn, in-case, in-none, in-first}
+use Rattle.short_reasons.proofs.Vocabulary.{in-later, in-filter, filter-in, and-both, and-of, once-filter, once-events, Ordered, Once}
+use Rattle.short_reasons.proofs.Vocabulary.{Known, bare, events_of, is_event, is-event, is_read, on_location, global_in, Knowledge, is_edge}
+use Rattle.short_reasons.proofs.Vocabulary.{are_parts, is_between, list_any, is_impossible, asked_claim, IsFull, IsSound, Model, IsOpen}
+use Rattle.short_reasons.proofs.Vocabulary.{From, sources_read, IsSorted, IsAllowedCase, LeafIfAny, first_of_two, write_between_these}
+use Rattle.short_reasons.proofs.Vocabulary.{write_between_from, first_write_between, first_where, has_no_source, is_none_left, read_of}
+use Rattle.short_reasons.proofs.Vocabulary.{from-not}
 use Rattle.std.proofs.Common.{filter}
 use Rattle.relational_model.specs.Candidates.{events_from}
 use Rattle.refutation_laws.specs.Models.{IsMet}

@@ -1,5 +1,10 @@
 -- The search's state: its nodes are part of a tree, whose open branches are these; they weigh, with the nodes, no more than all cases.
-use Rattle.short_reasons.proofs.Vocabulary.{◌≡◌, ◌<◌, ◌≤◌, ◌+◌, ◌*◌, ◌/◌, ℕ, ◌&&◌, Bool, true, false, if◌then◌else◌, List, [], ◌∷◌, ◌++◌, length, length_push, length-map, map, Some, None, arith, mul-le, div-lt_iff_lt-mul, refl, sym, ap, ◌∙◌, subst, Litmus, Model, events_of, may_ask, is_answered, asked_claim, Fact, facts_of, branches_of, Node, known_from, is_node, close, refutes, product, sources_in, all_orders, below, still_open_after, counted_as, given_at_first, HasMoreCases, most_cases, node_of, answers_told, as_question, as_node, IsBranch, IsCaseStep, AreOpenAfter}
+use Rattle.short_reasons.proofs.Vocabulary.{◌≡◌, ◌<◌, ◌≤◌, ◌+◌, ◌*◌, ◌/◌, ℕ, ◌&&◌, Bool, true, false, if◌then◌else◌, List, [], ◌∷◌, ◌++◌}
+use Rattle.short_reasons.proofs.Vocabulary.{length, length_push, length-map, map, Some, None, arith, mul-le, div-lt_iff_lt-mul, refl, sym}
+use Rattle.short_reasons.proofs.Vocabulary.{ap, ◌∙◌, subst, Litmus, Model, events_of, may_ask, is_answered, asked_claim, Fact, facts_of}
+use Rattle.short_reasons.proofs.Vocabulary.{branches_of, Node, known_from, is_node, close, refutes, product, sources_in, all_orders, below}
+use Rattle.short_reasons.proofs.Vocabulary.{still_open_after, counted_as, given_at_first, HasMoreCases, most_cases, node_of, answers_told}
+use Rattle.short_reasons.proofs.Vocabulary.{as_question, as_node, IsBranch, IsCaseStep, AreOpenAfter}
 use Rattle.refutations.specs.Trees as found
 use Rattle.refutations.specs.declared.tree.Node as step
 use Rattle.std.specs.Prelude.{Vec}
@@ -162,7 +167,8 @@ module _ (model : Model) (t : Litmus) (before after : List (Vec declared.Fact Gl
         (with-question model t facts (branches_of after) (map node_of nodes) (at-case (map node_of nodes) s) (as_node (found.node_of o)) h.0 h.1.0))
 
   module _ (o : step.Node) (newer : List (Vec declared.Fact Global)) where
-    pub lighter-by-leaf : AreOpenAfter t facts (branches_of after) (branches_of newer) (Leaf o) → total_of 1 t (branches_of newer) < total_of 1 t (branches_of before)
+    pub lighter-by-leaf : AreOpenAfter t facts (branches_of after) (branches_of newer) (Leaf o)
+        → total_of 1 t (branches_of newer) < total_of 1 t (branches_of before)
     lighter-by-leaf added =
         let e = ap (total_of 1 t) first in
         let f = ap (total_of 1 t) added in

@@ -1,5 +1,7 @@
 -- One step of the search, as the code takes it.
-use Rattle.short_reasons.proofs.Vocabulary.{◌≡◌, false, List, ◌++◌, map, Some, None, sym, ap, subst, Litmus, Model, Known, is_answered, IsFull, IsSound, Fact, Reading, readings, known_from, may_ask, true, answers_told, as_question, as_node, IsBranch, HasNoLeaf, LeafIfAny, IsCaseStep, QuestionOrFull}
+use Rattle.short_reasons.proofs.Vocabulary.{◌≡◌, false, List, ◌++◌, map, Some, None, sym, ap, subst, Litmus, Model, Known, is_answered}
+use Rattle.short_reasons.proofs.Vocabulary.{IsFull, IsSound, Fact, Reading, readings, known_from, may_ask, true, answers_told, as_question}
+use Rattle.short_reasons.proofs.Vocabulary.{as_node, IsBranch, HasNoLeaf, LeafIfAny, IsCaseStep, QuestionOrFull}
 use Rattle.refutation_laws.specs.Refutations as full_node
 use Rattle.refutations.specs.Trees.{node_of}
 use Rattle.refutations.specs.declared.tree.Node.{Node}
@@ -27,8 +29,13 @@ module _ (model : Model) (t : Litmus) (facts : List Fact) (table : List Reading)
   question-step known a n u q =
       let v : HasNoLeaf model t (known_from t facts) =
       subst (λ (rs : List Reading). HasNoLeaf model t (record { facts = facts; readings = rs })) e u in
-      let m = told-question known (node_of n) q.0 q.1 in
-      (m.0, (subst (λ (k : Known). is_answered k (as_question (as_node (node_of n))) ≡ false) a m.1, question-has-answer t facts (as_node (node_of n)) m.0 v.can_read))
+      let m = told-question known (node_of n) q.0 q.1 in (
+        m.0,
+        (
+          subst (λ (k : Known). is_answered k (as_question (as_node (node_of n))) ≡ false) a m.1,
+          question-has-answer t facts (as_node (node_of n)) m.0 v.can_read,
+        ),
+      )
 
 pub full : (t : Litmus) (facts : List Fact) → IsBranch t facts → (known : Known) → known ≡ answers_told facts → QuestionOrFull t known None → IsFull t known
 full t facts b known a q = q (subst (IsSound t) (sym a) b.sound)

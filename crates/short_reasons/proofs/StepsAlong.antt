@@ -1,5 +1,7 @@
 -- The steps among the choices along an order.
-use Rattle.short_reasons.proofs.Vocabulary.{◌≡◌, ℕ, ◌+◌, ◌-◌, suc, Bool, true, false, if◌then◌else◌, List, [], ◌∷◌, ◌++◌, length, ap, ◌∙◌, refl, Litmus, is_store, Entry, steps, drained, choices_for, places_after, last_steps, choices_from, is_step}
+use Rattle.short_reasons.proofs.Vocabulary.{◌≡◌, ℕ, ◌+◌, ◌-◌, suc, Bool, true, false, if◌then◌else◌, List, [], ◌∷◌, ◌++◌, length, ap, ◌∙◌}
+use Rattle.short_reasons.proofs.Vocabulary.{refl, Litmus, is_store, Entry, steps, drained, choices_for, places_after, last_steps}
+use Rattle.short_reasons.proofs.Vocabulary.{choices_from, is_step}
 use Rattle.std.proofs.Common.{zero, filter, slice_index}
 use Rattle.basic_laws.proofs.Lists.{append-nil}
 use Rattle.tso_terms.specs.FlatMachine.{step}
@@ -43,7 +45,11 @@ filter-from t places (x ∷ xs) =
     let n = (x.place + 1) - slice_index places x.core.0 in
     let rest = choices_from t (places_after places x) xs in
     filter-append is_step (choices_for places x) rest
-    ∙ ap (λ z. z ++ filter is_step rest) (filter-append is_step (steps x.core.0 n) (drained x) ∙ ap (λ z. z ++ filter is_step (drained x)) (filter-steps x.core.0 n) ∙ ap (λ z. steps x.core.0 n ++ z) (filter-drained x) ∙ append-nil (steps x.core.0 n))
+    ∙ ap (λ z. z ++ filter is_step rest)
+    (filter-append is_step (steps x.core.0 n) (drained x)
+    ∙ ap (λ z. z ++ filter is_step (drained x)) (filter-steps x.core.0 n)
+    ∙ ap (λ z. steps x.core.0 n ++ z) (filter-drained x)
+    ∙ append-nil (steps x.core.0 n))
     ∙ ap (λ z. steps x.core.0 n ++ z) (filter-from t (places_after places x) xs)
 
 pub steps-last : (k n : ℕ) → steps k n ++ (step k ∷ []) ≡ steps k (suc n)

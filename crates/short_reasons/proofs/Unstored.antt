@@ -1,12 +1,16 @@
 -- The steps among the choices along a sequentially consistent order lead to it on a machine without store buffers: it follows any other
 -- run of that machine with that order, and makes a core's register moves where its next entry is committed.
-use Rattle.short_reasons.proofs.Vocabulary.{◌≡◌, ◌<◌, ◌≤◌, ℕ, ◌+◌, ◌-◌, suc, true, List, [], ◌∷◌, ◌++◌, Option, Some, None, slice_index_or, length, inl, inr, arith, ap, sym, ◌∙◌, subst, refl, set-get_or, length-set, Litmus, Entry, steps, places_after, last_steps, beginnings, choices_along, LeadTo, is_step}
+use Rattle.short_reasons.proofs.Vocabulary.{◌≡◌, ◌<◌, ◌≤◌, ℕ, ◌+◌, ◌-◌, suc, true, List, [], ◌∷◌, ◌++◌, Option, Some, None, slice_index_or}
+use Rattle.short_reasons.proofs.Vocabulary.{length, inl, inr, arith, ap, sym, ◌∙◌, subst, refl, set-get_or, length-set, Litmus, Entry}
+use Rattle.short_reasons.proofs.Vocabulary.{steps, places_after, last_steps, beginnings, choices_along, LeadTo, is_step}
 use Rattle.std.proofs.Common.{◌≢◌, max, zero, filter, slice_get, slice_set, slice_index, append_assoc, get_or-set_same, get_or-set_other, set-set}
 use Rattle.basic_laws.proofs.Basics.{decide, max-second}
 use Rattle.basic_laws.proofs.Lists.{append-nil}
 use Rattle.tso_terms.specs.Actions.{action_of}
 use Rattle.tso_terms.specs.Thread.{entry, fence, changed, updated}
-use Rattle.tso_terms.specs.FlatMachine.{CoreState, State, Effect, idle, advanced, advanced_to, advanced_taking, moved, effect_by, step_of, drain_of, core_of, program_of, effect_of, chosen, memory_after, after_choice, applied, start, started, step, drain}
+use Rattle.tso_terms.specs.FlatMachine.{CoreState, State, Effect, idle, advanced, advanced_to, advanced_taking, moved, effect_by, step_of}
+use Rattle.tso_terms.specs.FlatMachine.{drain_of, core_of, program_of, effect_of, chosen, memory_after, after_choice, applied, start}
+use Rattle.tso_terms.specs.FlatMachine.{started, step, drain}
 use Rattle.tso_terms.specs.Runs.{CoresExist, stall_count, all_done, has_ended}
 use Rattle.basic_laws.specs.Types.{Instr, Loc, Reg, Action, LR, LW, Choice, Step, Drain, Stall, Committed, Stalled}
 use Rattle.tso_terms.specs.declared.action.Action.TheVariants.{Store, Load, Move, Fence, Lock}
@@ -54,23 +58,38 @@ trails-set t places a b k place x y m n h l q w = record {
   second = length-set b.cores k y ∙ h.second;
   sized = length-set places k place ∙ h.sized;
   cores = λ j lj. elim (decide j k) [
-    | inl e ↦ subst (λ z. Lags (program_of t z) (slice_index (slice_set places k place) z) (slice_index_or (slice_set a.cores k x) z idle) (slice_index_or (slice_set b.cores k y) z idle)) (sym e) here
+    | inl e ↦
+        subst (λ z.
+        Lags (program_of t z) (slice_index (slice_set places k place) z) (slice_index_or (slice_set a.cores k x) z idle)
+        (slice_index_or (slice_set b.cores k y) z idle))
+        (sym e) here
     | inr ne ↦
-        subst (λ z. Lags (program_of t j) (slice_index (slice_set places k place) j) z (slice_index_or (slice_set b.cores k y) j idle)) (sym (get_or-set_other a.cores k j x idle ne))
+        subst (λ z.
+        Lags (program_of t j) (slice_index (slice_set places k place) j) z (slice_index_or (slice_set b.cores k y) j idle))
+        (sym (get_or-set_other a.cores k j x idle ne))
         (subst (λ z. Lags (program_of t j) (slice_index (slice_set places k place) j) (core_of a j) z) (sym (get_or-set_other b.cores k j y idle ne))
         (subst (λ z. Lags (program_of t j) z (core_of a j) (core_of b j)) (sym (get_or-set_other places k j place 0 ne)) (h.cores j lj)))
   ];
 }
   where
-    here : Lags (program_of t k) (slice_index (slice_set places k place) k) (slice_index_or (slice_set a.cores k x) k idle) (slice_index_or (slice_set b.cores k y) k idle)
+    here : Lags (program_of t k) (slice_index (slice_set places k place) k)
+        (slice_index_or (slice_set a.cores k x) k idle) (slice_index_or (slice_set b.cores k y) k idle)
     here =
-        subst (λ z. Lags (program_of t k) (slice_index (slice_set places k place) k) z (slice_index_or (slice_set b.cores k y) k idle)) (sym (get_or-set_same a.cores k x idle (let f = h.first in omega (arith, f, l))))
-        (subst (λ z. Lags (program_of t k) (slice_index (slice_set places k place) k) x z) (sym (get_or-set_same b.cores k y idle (let f = h.second in omega (arith, f, l))))
+        subst (λ z.
+        Lags (program_of t k) (slice_index (slice_set places k place) k) z (slice_index_or (slice_set b.cores k y) k idle))
+        (sym (get_or-set_same a.cores k x idle (let f = h.first in omega (arith, f, l))))
+        (subst (λ z. Lags (program_of t k) (slice_index (slice_set places k place) k) x z)
+        (sym (get_or-set_same b.cores k y idle (let f = h.second in omega (arith, f, l))))
         (subst (λ z. Lags (program_of t k) z x y) (sym (get_or-set_same places k place 0 (let f = h.sized in omega (arith, f, l)))) w))
 
 -- ---- register moves take effect
 
-moves-take : (t : Litmus) (k n : ℕ) (s : State) (a b : CoreState) → k < length t.programs → k < length s.cores → core_of s k ≡ a → Moves (program_of t k) n a b → AllTake t 0 s (steps k n)
+moves-take : (t : Litmus) (k n : ℕ) (s : State) (a b : CoreState)
+    → k < length t.programs
+    → k < length s.cores
+    → core_of s k ≡ a
+    → Moves (program_of t k) n a b
+    → AllTake t 0 s (steps k n)
 moves-take t k zero s a b l ls e m = tt
 moves-take t k (suc n) s a b l ls e m =
     let next : CoreState = advanced_to a (changed m.1 a.registers) in
@@ -80,7 +99,8 @@ moves-take t k (suc n) s a b l ls e m =
       l,
       ap (λ z. stall_count z.outcome) f,
       subst (λ z. AllTake t 0 z (steps k n)) (sym s2)
-          (moves-take t k n (with_core s k next) next b l (let w = length-set s.cores k next in omega (arith, w, ls)) (get_or-set_same s.cores k next idle ls) m.4),
+          (moves-take t k n (with_core s k next) next b l (let w = length-set s.cores k next in omega (arith, w, ls))
+          (get_or-set_same s.cores k next idle ls) m.4),
     )
 
 -- one entry, or two of one place
@@ -107,7 +127,10 @@ module _ (t : Litmus) (places : List ℕ) (k place n : ℕ) (l : k < length plac
       ∙ ap (λ z. slice_set (slice_set places k (place + 1)) k z) (max-second (place + 1) (place + 1) (omega arith))
       ∙ set-set places k (place + 1) (place + 1))
 
-  goes-along : (es : List Entry) → Shape k place es → (rest : List Entry) → steps_from t places (es ++ rest) ≡ steps k (suc n) ++ steps_from t (slice_set places k (place + 1)) rest
+  goes-along : (es : List Entry)
+      → Shape k place es
+      → (rest : List Entry)
+      → steps_from t places (es ++ rest) ≡ steps k (suc n) ++ steps_from t (slice_set places k (place + 1)) rest
   goes-along _ (one e p q) rest =
       ap (λ z. z ++ steps_from t (places_after places e) rest) (number e p q) ∙ ap (λ z. steps k (suc n) ++ steps_from t z rest) (moved-on e p q)
   goes-along _ (two e d p q r s) rest =
@@ -148,7 +171,11 @@ module _ (law : StallsChangeNothing) (t : Litmus) (places : List ℕ) (a b : Sta
     stands = let p = moves-place (program_of t k) w.count (core_of a k) (core_of b k) w.moves in let q = w.stands in omega (arith, p, q)
 
     -- a register move waits until its core commits
-    later : (f : Effect) → effect_of t 0 b (step k) ≡ f → f.commits ≡ [] → Lags (program_of t k) (slice_index places k) (core_of a k) f.after → Goes t places a b (step k)
+    later : (f : Effect)
+        → effect_of t 0 b (step k) ≡ f
+        → f.commits ≡ []
+        → Lags (program_of t k) (slice_index places k) (core_of a k) f.after
+        → Goes t places a b (step k)
     later f q none lags = record {
       made = [];
       after = places;
@@ -158,7 +185,8 @@ module _ (law : StallsChangeNothing) (t : Litmus) (places : List ℕ) (a b : Sta
       trails = subst (λ z. Trails t places a (applied b k z)) (sym q)
           (subst (λ cs. Trails t places (record { memory = a.memory; cores = cs }) (applied b k f)) (set-same a.cores k)
           (subst (λ ps. Trails t ps (record { memory = a.memory; cores = slice_set a.cores k (core_of a k) }) (applied b k f)) (set-get_or places k 0)
-          (trails-set t places a b k (slice_index places k) (core_of a k) f.after a.memory _ h l (h.memory ∙ ap (λ es. memory_after es b.memory) (sym none)) lags)));
+          (trails-set t places a b k (slice_index places k) (core_of a k) f.after a.memory _ h l
+          (h.memory ∙ ap (λ es. memory_after es b.memory) (sym none)) lags)));
     }
 
     -- what commits is made, after the moves before it
@@ -171,7 +199,9 @@ module _ (law : StallsChangeNothing) (t : Litmus) (places : List ℕ) (a b : Sta
         let a1 : State = with_core a k y in
         let core : core_of a1 k ≡ y = get_or-set_same a.cores k y idle la in
         let g : effect_of t 0 a1 (step k) ≡ f =
-        ap (λ z. step_of 0 a.memory k (slice_get (program_of t k) z.place) z) core ∙ ap (λ z. step_of 0 z k (slice_get (program_of t k) y.place) y) h.memory ∙ q in
+        ap (λ z. step_of 0 a.memory k (slice_get (program_of t k) z.place) z) core
+        ∙ ap (λ z. step_of 0 z k (slice_get (program_of t k) y.place) y) h.memory
+        ∙ q in
         let made : List Choice = steps k n ++ (step k ∷ []) in
         let last : state_after t 0 a made ≡ record { memory = memory_after f.commits a.memory; cores = slice_set a.cores k f.after } =
         after-append t a (steps k n) (step k ∷ []) ∙ ap (λ z. after_choice t 0 z (step k)) m.state ∙ ap (λ z. applied a1 k z) g
@@ -186,7 +216,11 @@ module _ (law : StallsChangeNothing) (t : Litmus) (places : List ℕ) (a b : Sta
           along = λ rest. ap (λ z. steps_from t places (z.commits ++ rest)) q ∙ goes-along t places k y.place n lp stands f.commits shape rest
               ∙ ap (λ z. z ++ steps_from t (slice_set places k (y.place + 1)) rest) (sym (steps-last k n));
           trails = subst (λ z. Trails t (slice_set places k (y.place + 1)) z (after_choice t 0 b (step k))) (sym last)
-              (subst (λ z. Trails t (slice_set places k (y.place + 1)) (record { memory = memory_after f.commits a.memory; cores = slice_set a.cores k f.after }) (applied b k z)) (sym q)
+              (subst (λ z.
+              Trails t (slice_set places k (y.place + 1))
+              (record { memory = memory_after f.commits a.memory; cores = slice_set a.cores k f.after })
+              (applied b k z))
+              (sym q)
               (trails-set t places a b k (y.place + 1) f.after f.after _ _ h l (ap (memory_after f.commits) h.memory)
               (record { count = 0; moves = refl; empty = empty; stands = sym place })));
         }
@@ -215,7 +249,9 @@ module _ (law : StallsChangeNothing) (t : Litmus) (places : List ℕ) (a b : Sta
           stands = w.stands;
         })
     by-action i Fence at is =
-        acts (fence_effect (core_of b k)) (effect-is i Fence at is ∙ acts-when stall.Fence (core_of b k) (fence_effect (core_of b k)) w.empty) refl w.empty refl (one _ refl refl)
+        acts (fence_effect (core_of b k))
+        (effect-is i Fence at is ∙ acts-when stall.Fence (core_of b k) (fence_effect (core_of b k)) w.empty) refl
+        w.empty refl (one _ refl refl)
     by-action i (Lock loc reg update) at is =
         let f : Effect = lock_effect (core_of b k) loc reg (slice_index b.memory loc.0) (updated update (core_of b k).registers (slice_index b.memory loc.0)) in
         acts f (effect-is i (Lock loc reg update) at is ∙ acts-when stall.Lock (core_of b k) f w.empty) refl w.empty refl (two _ _ refl refl refl refl)
@@ -247,7 +283,11 @@ record Follows (t : Litmus) (places : List ℕ) (a b : State) (cs : List Choice)
   along : (rest : List Entry) → steps_from t places (commits_of t 0 b cs ++ rest) ≡ made ++ steps_from t after rest
   trails : Trails t after (state_after t 0 a made) (state_after t 0 b cs)
 
-follow : StallsChangeNothing → (t : Litmus) (places : List ℕ) (a b : State) (cs : List Choice) → Trails t places a b → CoresExist (length t.programs) cs → Follows t places a b cs
+follow : StallsChangeNothing
+    → (t : Litmus) (places : List ℕ) (a b : State) (cs : List Choice)
+    → Trails t places a b
+    → CoresExist (length t.programs) cs
+    → Follows t places a b cs
 follow law t places a b [] h l = record { made = []; after = places; takes = tt; commits = refl; along = λ rest. refl; trails = h }
 follow law t places a b (c ∷ cs) h l =
     let g = goes law t places a b h c l.0 in
@@ -292,31 +332,42 @@ ends t places b done (p ∷ ps) core a n same m size below above =
     let la : core < length a.cores = omega (arith, size, l) in
     let w = above core (omega arith) l in
     let y : CoreState = core_of b core in
-    let pn : length p ≡ length (program_of t core) = ap (λ (q : List Instr). length q) (same 0 ∙ ap (λ z. program_of t z) (let z : core + 0 ≡ core = omega arith in z)) in
+    let pn : length p ≡ length (program_of t core) =
+    ap (λ (q : List Instr). length q) (same 0 ∙ ap (λ z. program_of t z) (let z : core + 0 ≡ core = omega arith in z)) in
     let mp = moves-place (program_of t core) w.count (core_of a core) y w.moves in
     let st = w.stands in
     let dn = done core l in
     let count : length p - slice_index places core ≡ w.count = omega (arith, pn, mp, st, dn) in
     let made = moves-made 0 t core w.count a (core_of a core) y la refl w.moves in
     let a1 : State = with_core a core y in
-    let rest = ends t places b done ps (core + 1) a1 (omega (arith, n)) (λ j. same (suc j) ∙ ap (λ z. program_of t z) (let z : core + suc j ≡ core + 1 + j = omega arith in z)) m (length-set a.cores core y ∙ size)
+    let rest =
+    ends t places b done ps (core + 1) a1 (omega (arith, n))
+    (λ j. same (suc j) ∙ ap (λ z. program_of t z) (let z : core + suc j ≡ core + 1 + j = omega arith in z)) m
+    (length-set a.cores core y ∙ size)
     (λ k lk. elim (decide k core) [
       | inl e ↦ subst (λ z. core_of a1 z ≡ core_of b z) (sym e) (get_or-set_same a.cores core y idle la)
       | inr ne ↦ get_or-set_other a.cores core k y idle ne ∙ below k (omega (arith, lk, ne))
     ])
-    (λ k lo hi. subst (λ z. Lags (program_of t k) (slice_index places k) z (core_of b k)) (sym (get_or-set_other a.cores core k y idle (let z : k ≢ core = λ e. omega (arith, lo, e) in z)))
+    (λ k lo hi.
+    subst (λ z. Lags (program_of t k) (slice_index places k) z (core_of b k))
+    (sym (get_or-set_other a.cores core k y idle (let z : k ≢ core = λ e. omega (arith, lo, e) in z)))
     (above k (omega (arith, lo)) hi)) in
     subst (λ z. Ends t a b (steps core z ++ last_steps (core + 1) ps places)) (sym count) (record {
       takes = takes-append t 0 a (steps core w.count) (last_steps (core + 1) ps places) (moves-take t core w.count a (core_of a core) y l la refl w.moves)
           (subst (λ z. AllTake t 0 z (last_steps (core + 1) ps places)) (sym made.state) rest.takes);
-      commits = commits-append t 0 a (steps core w.count) (last_steps (core + 1) ps places) ∙ ap (λ z. z ++ commits_of t 0 (state_after t 0 a (steps core w.count)) (last_steps (core + 1) ps places)) made.none
+      commits =
+          commits-append t 0 a (steps core w.count) (last_steps (core + 1) ps places)
+          ∙ ap (λ z. z ++ commits_of t 0 (state_after t 0 a (steps core w.count)) (last_steps (core + 1) ps places)) made.none
           ∙ ap (λ z. commits_of t 0 z (last_steps (core + 1) ps places)) made.state ∙ rest.commits;
       memory = ap (λ z. z.memory) (last a1 (steps core w.count) made.state) ∙ rest.memory;
       size = ap (λ z. length z.cores) (last a1 (steps core w.count) made.state) ∙ rest.size;
       cores = λ k lk. ap (λ z. core_of z k) (last a1 (steps core w.count) made.state) ∙ rest.cores k lk;
     })
   where
-    last : (s : State) (cs : List Choice) → state_after t 0 a cs ≡ s → state_after t 0 a (cs ++ last_steps (core + 1) ps places) ≡ state_after t 0 s (last_steps (core + 1) ps places)
+    last : (s : State) (cs : List Choice)
+        → state_after t 0 a cs ≡ s
+        → state_after t 0 a (cs ++ last_steps (core + 1) ps places)
+        ≡ state_after t 0 s (last_steps (core + 1) ps places)
     last s cs e = after-append t a cs (last_steps (core + 1) ps places) ∙ ap (λ z. state_after t 0 z (last_steps (core + 1) ps places)) e
 
 -- ---- the beginning
@@ -365,16 +416,24 @@ steps-lead law stop t order h =
     let size : length b.cores ≡ length t.programs = tr.second in
     let last : List Choice = last_steps 0 t.programs f.after in
     let e = ends t f.after b (λ k l. sym (done-length (program_of t k) (core_of b k) (done-at t.programs b.cores k done (omega (arith, size, l)))))
-    t.programs 0 a (omega arith) (λ j. ap (λ z. program_of t z) (let z : j ≡ 0 + j = omega arith in z)) tr.memory tr.first (λ k l. absurd (omega (arith, l))) (λ k lo hi. tr.cores k hi) in
+    t.programs 0 a (omega arith)
+    (λ j. ap (λ z. program_of t z) (let z : j ≡ 0 + j = omega arith in z)) tr.memory tr.first
+    (λ k l. absurd (omega (arith, l))) (λ k lo hi. tr.cores k hi) in
     let made : List Choice = f.made ++ last in
     let is : filter is_step (choices_along t order) ≡ made =
-    filter-from t (beginnings t.programs) order ∙ ap (λ z. steps_from t (beginnings t.programs) z) (sym order_is ∙ sym (append-nil (commits_of t 0 (start t) h.choices))) ∙ f.along [] in
+    filter-from t (beginnings t.programs) order
+    ∙ ap (λ z. steps_from t (beginnings t.programs) z) (sym order_is ∙ sym (append-nil (commits_of t 0 (start t) h.choices)))
+    ∙ f.along [] in
     let takes : AllTake t 0 (start t) made = takes-append t 0 (start t) f.made last f.takes e.takes in
     let there : (state_after t 0 (start t) made).cores ≡ b.cores =
-    ap (λ z. z.cores) (after-append t (start t) f.made last) ∙ same-cores (state_after t 0 a last).cores b.cores (e.size ∙ sym size) (λ k l. e.cores k (let z = e.size in omega (arith, z, l))) in
+    ap (λ z. z.cores) (after-append t (start t) f.made last)
+    ∙ same-cores (state_after t 0 a last).cores b.cores (e.size ∙ sym size) (λ k l. e.cores k (let z = e.size in omega (arith, z, l))) in
     let u = uses-all t (start t) made (length-starts 0 t.programs t.registers) takes (ap (all_done t.programs) there ∙ done) in
     let commits : commits_of t 0 (start t) made ≡ order =
-    commits-append t 0 (start t) f.made last ∙ ap (λ z. z ++ commits_of t 0 a last) (f.commits ∙ order_is) ∙ ap (λ z. order ++ z) e.commits ∙ append-nil order in
+    commits-append t 0 (start t) f.made last
+    ∙ ap (λ z. z ++ commits_of t 0 a last) (f.commits ∙ order_is)
+    ∙ ap (λ z. order ++ z) e.commits
+    ∙ append-nil order in
     subst (λ z. LeadTo t 0 z order) (sym is) (record {
       cores = cores-exist t (start t) made takes;
       ended = u.ended;

@@ -14,7 +14,10 @@ not-ended t s c l o = go (has_ended t s) (λ h. done-at t.programs s.cores (chos
     go : (b : Bool) → (b ≡ true → is_done (program_of t (chosen c)) (core_of s (chosen c)) ≡ true) → b ≡ false
     go false f = refl
     go true f = absurd (let u = done-undone 0 (program_of t (chosen c)) (core_of s (chosen c)) (f refl) in
-        elim (choice-changes t 0 s c) [ inl w ↦ (let m = w.less in let z : ⊥ = omega (arith, m, u) in z) | inr w ↦ (let q = w.stalled in let z : ⊥ = omega (arith, q, o) in z) ])
+        elim (choice-changes t 0 s c) [
+          | inl w ↦ (let m = w.less in let z : ⊥ = omega (arith, m, u) in z)
+          | inr w ↦ (let q = w.stalled in let z : ⊥ = omega (arith, q, o) in z)
+        ])
 
 pub record Uses (t : Litmus) (s : State) (cs : List Choice) : Type 0 where
   pub ended : (run_from t 0 s cs).ended ≡ true
@@ -23,7 +26,11 @@ pub record Uses (t : Litmus) (s : State) (cs : List Choice) : Type 0 where
   pub stalled : (run_from t 0 s cs).stalled ≡ 0
   pub unused : (run_from t 0 s cs).unused ≡ 0
 
-pub uses-all : (t : Litmus) (s : State) (cs : List Choice) → length s.cores ≡ length t.programs → AllTake t 0 s cs → has_ended t (state_after t 0 s cs) ≡ true → Uses t s cs
+pub uses-all : (t : Litmus) (s : State) (cs : List Choice)
+    → length s.cores ≡ length t.programs
+    → AllTake t 0 s cs
+    → has_ended t (state_after t 0 s cs) ≡ true
+    → Uses t s cs
 uses-all t s [] n a e = record { ended = e; commits = refl; used = refl; stalled = refl; unused = refl }
 uses-all t s (c ∷ cs) n a e =
     let h = uses-all t (after_choice t 0 s c) cs (length-set s.cores (chosen c) (effect_of t 0 s c).after ∙ n) a.2 e in

@@ -1,5 +1,7 @@
 -- The names that the proofs of this crate bring in from definitions and from crates below; each file takes its own from here.
-pub use Rattle.std.proofs.Common.{◌≡◌, ◌<◌, ◌+◌, ◌==◌, ℕ, suc, Bool, true, false, not, if◌then◌else◌, List, [], ◌∷◌, ◌++◌, length, arith, refl, sym, ap, ◌∙◌, ◌⊎◌, inl, inr, subst, ◌-◌, Option, Some, None, option_map, slice_index_or, map, ◌≤◌, ◌*◌, ◌&&◌, ◌||◌, drop, take, length-append}
+pub use Rattle.std.proofs.Common.{◌≡◌, ◌<◌, ◌+◌, ◌==◌, ℕ, suc, Bool, true, false, not, if◌then◌else◌, List, [], ◌∷◌, ◌++◌, length, arith}
+pub use Rattle.std.proofs.Common.{refl, sym, ap, ◌∙◌, ◌⊎◌, inl, inr, subst, ◌-◌, Option, Some, None, option_map, slice_index_or, map, ◌≤◌}
+pub use Rattle.std.proofs.Common.{◌*◌, ◌&&◌, ◌||◌, drop, take, length-append}
 pub use Rattle.std.proofs.lemmas.List.{drop_all, append-nil}
 pub use Rattle.std.specs.Prelude.{filter, ◌/◌}
 pub use Rattle.std.specs.List.{list_any, list_all}
@@ -30,20 +32,26 @@ pub use Rattle.refutation_laws.specs.Refutations.{sources_of, branches, asked_cl
 pub use Rattle.possible_reads.specs.Facts.{Fact, From, Before, Last, Returns, Holds as HoldsAtEnd, given_by}
 pub use Rattle.possible_reads.specs.Possible.{Reading, sources_read, readings, readings_after}
 pub use Rattle.possible_reads.specs.Laws.{LastWordsArePossible}
-pub use Rattle.short_refutations.specs.Refutations.{Node, ReadsFrom, ReadsValue, Asks, IsReadBy, ComesLast, HasCase, OnLocation, Globally, Between, FalseClaim, ByLemma, known_from, is_impossible, is_node, answers, close, refutes}
+pub use Rattle.short_refutations.specs.Refutations.{Node, ReadsFrom, ReadsValue, Asks, IsReadBy, ComesLast, HasCase, OnLocation, Globally}
+pub use Rattle.short_refutations.specs.Refutations.{Between, FalseClaim, ByLemma, known_from, is_impossible, is_node, answers, close}
+pub use Rattle.short_refutations.specs.Refutations.{refutes}
 pub use Rattle.short_refutations.proofs.Lists.{Has, has-none}
 pub use Rattle.reading_tables.specs.Told.{fact_of, facts_of}
 pub use Rattle.refutation_checker.specs.inner.Stack.{branches_of}
 pub use Rattle.refutation_laws.specs.inner.FullCases.{has_source, are_ordered, may_ask, is_answered, IsFull, IsSound, IsPossibleSource, NoneBetween}
-pub use Rattle.short_reasons.specs.Reasons.{product, sources_in, orders_in, all_orders, most_cases, below, still_open_after, counted_as, given_at_first, HasMoreCases}
+pub use Rattle.short_reasons.specs.Reasons.{product, sources_in, orders_in, all_orders, most_cases, below, still_open_after, counted_as}
+pub use Rattle.short_reasons.specs.Reasons.{given_at_first, HasMoreCases}
 pub use Rattle.refutation_checker.specs.Trees.{node_of}
 pub use Rattle.short_reasons.specs.inner.Answered.{sources_told, pairs_told, answers_told, as_question, as_node}
-pub use Rattle.short_reasons.specs.inner.Questions.{is_unread, is_unordered, first_where, first_beside, pair_or, first_pair, question_of, read_or, first_unread, next_question}
+pub use Rattle.short_reasons.specs.inner.Questions.{is_unread, is_unordered, first_where, first_beside, pair_or, first_pair, question_of}
+pub use Rattle.short_reasons.specs.inner.Questions.{read_or, first_unread, next_question}
 pub use Rattle.tso_terms.specs.Condition.{Claim, Condition, NamesExist}
 pub use Rattle.refutation_laws.specs.declared.model.Model.{Model}
 pub use Rattle.refutations.specs.inner.Trees.{known_of, relations_of}
 pub use Rattle.refutations.specs.declared.answers.Answers.{Answers}
-pub use Rattle.short_reasons.specs.inner.Cases.{IsBranch, HasNoLeaf, IsAllowedCase, LeafIfAny, first_of_two, write_between_these, write_between_from, first_write_between, IsCaseStep, AreOpenAfter, QuestionOrFull, is_none_left, has_no_source, read_of}
+pub use Rattle.short_reasons.specs.inner.Cases.{IsBranch, HasNoLeaf, IsAllowedCase, LeafIfAny, first_of_two, write_between_these}
+pub use Rattle.short_reasons.specs.inner.Cases.{write_between_from, first_write_between, IsCaseStep, AreOpenAfter, QuestionOrFull}
+pub use Rattle.short_reasons.specs.inner.Cases.{is_none_left, has_no_source, read_of}
 pub use Rattle.std.proofs.lemmas.List.{set-get_or, length-set, nil_from_length}
 pub use Rattle.tso_laws.specs.Along.{steps, drained, choices_for, places_after, last_steps, choices_from, beginnings, choices_along, LeadTo}
 pub use Rattle.short_reasons.specs.inner.Steps.{is_step}

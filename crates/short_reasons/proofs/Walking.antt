@@ -1,5 +1,9 @@
 -- Back from event to event: where one comes again, the way between is a cycle.
-use Rattle.short_reasons.proofs.Vocabulary.{◌≡◌, ◌<◌, ◌-◌, ◌+◌, take, ℕ, suc, Bool, true, false, if◌then◌else◌, List, [], ◌∷◌, length, Option, Some, None, option_map, slice_index_or, map, arith, refl, sym, ap, ◌∙◌, ◌⊎◌, inl, inr, subst, list_all, Litmus, Entry, IsIn, in-case, in-none, in-first, in-later, no-more, Ordered, Once, bare, same_event, is_event, events_of, leads_back, is_cycle, and-of, same-bare, itself, is-event, up_to, IsSorted}
+use Rattle.short_reasons.proofs.Vocabulary.{◌≡◌, ◌<◌, ◌-◌, ◌+◌, take, ℕ, suc, Bool, true, false, if◌then◌else◌, List, [], ◌∷◌, length}
+use Rattle.short_reasons.proofs.Vocabulary.{Option, Some, None, option_map, slice_index_or, map, arith, refl, sym, ap, ◌∙◌, ◌⊎◌, inl, inr}
+use Rattle.short_reasons.proofs.Vocabulary.{subst, list_all, Litmus, Entry, IsIn, in-case, in-none, in-first, in-later, no-more, Ordered}
+use Rattle.short_reasons.proofs.Vocabulary.{Once, bare, same_event, is_event, events_of, leads_back, is_cycle, and-of, same-bare, itself}
+use Rattle.short_reasons.proofs.Vocabulary.{is-event, up_to, IsSorted}
 
 -- ---- events of a test have the value 0, so that one event is one entry
 

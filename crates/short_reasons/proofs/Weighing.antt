@@ -1,5 +1,9 @@
 -- How many cases a case can come to: over its open questions the product of their answers. What is added to each factor has the search end.
-use Rattle.short_reasons.proofs.Vocabulary.{◌≡◌, ◌≤◌, ◌+◌, ◌*◌, ◌&&◌, ◌||◌, ℕ, Bool, true, false, if◌then◌else◌, List, [], ◌∷◌, length, Option, arith, refl, sym, ap, ◌∙◌, ◌⊎◌, inl, inr, subst, mul-le, Litmus, is_read, is_write, writes_to, Entry, IsIn, in-case, in-none, Precedes, Known, bare, events_of, same_event, is_event, nothing, with_source, sources_of, has_source, are_ordered, or-first, Holds, any-holds, same-bare, product, sources_in, orders_in, all_orders, pick, pass}
+use Rattle.short_reasons.proofs.Vocabulary.{◌≡◌, ◌≤◌, ◌+◌, ◌*◌, ◌&&◌, ◌||◌, ℕ, Bool, true, false, if◌then◌else◌, List, [], ◌∷◌, length}
+use Rattle.short_reasons.proofs.Vocabulary.{Option, arith, refl, sym, ap, ◌∙◌, ◌⊎◌, inl, inr, subst, mul-le, Litmus, is_read, is_write}
+use Rattle.short_reasons.proofs.Vocabulary.{writes_to, Entry, IsIn, in-case, in-none, Precedes, Known, bare, events_of, same_event}
+use Rattle.short_reasons.proofs.Vocabulary.{is_event, nothing, with_source, sources_of, has_source, are_ordered, or-first, Holds, any-holds}
+use Rattle.short_reasons.proofs.Vocabulary.{same-bare, product, sources_in, orders_in, all_orders, pick, pass}
 
 -- ---- products
 

@@ -59,7 +59,9 @@ fn walk_back(
     requires stuck { (x : declared.Entry) → IsIn some.now x
         → list_any (λ y. edges.is_edge told.test.now (knowledge_of told) (relations_of acyclic) y x) some.now ≡ true }
     requires some { 0 < length some.now }
-    ensures { IfOk result (λ c. cycles.is_cycle told.entry.test.now (edges.is_edge told.entry.test.now (knowledge_of told.entry) (relations_of acyclic)) c.items ≡ true) }
+    ensures { IfOk result (λ c.
+        cycles.is_cycle told.entry.test.now (edges.is_edge told.entry.test.now (knowledge_of told.entry) (relations_of acyclic)) c.items
+        ≡ true) }
 {
     let mut path = Vec::new(alloc);
     let mut at = some[0];

@@ -1,5 +1,10 @@
 -- The relations that facts tell are those of each allowed candidate that meets them.
-use Rattle.short_refutations.proofs.Vocabulary.{◌≡◌, true, List, Option, Some, None, refl, sym, ap, ◌∙◌, subst, Litmus, Entry, IsIn, IsEarlier, Candidate, is_read, is_write, writes_to, ReadsFrom, IsBefore, StandsAfter, FromReads, and-both, location, writes, IsAllowed, Sound, sound, Stands, IsSameSource, Fact, sources_read, same_source, reads_it, comes_before, AreMet, HasSourceAmong, ReadingsArePossible, KnownOrderIsRight, Knowledge, reads_from, overwrites, from_reads, known_from, length, events_of, events}
+use Rattle.short_refutations.proofs.Vocabulary.{◌≡◌, true, List, Option, Some, None, refl, sym, ap, ◌∙◌, subst, Litmus, Entry, IsIn}
+use Rattle.short_refutations.proofs.Vocabulary.{IsEarlier, Candidate, is_read, is_write, writes_to, ReadsFrom, IsBefore, StandsAfter}
+use Rattle.short_refutations.proofs.Vocabulary.{FromReads, and-both, location, writes, IsAllowed, Sound, sound, Stands, IsSameSource, Fact}
+use Rattle.short_refutations.proofs.Vocabulary.{sources_read, same_source, reads_it, comes_before, AreMet, HasSourceAmong}
+use Rattle.short_refutations.proofs.Vocabulary.{ReadingsArePossible, KnownOrderIsRight, Knowledge, reads_from, overwrites, from_reads}
+use Rattle.short_refutations.proofs.Vocabulary.{known_from, length, events_of, events}
 use Rattle.short_refutations.proofs.Lists.{all-at}
 use Rattle.refutation_laws.proofs.Standing.{same-bare, one-entry}
 use Rattle.refutation_laws.proofs.Agreeing.{source-in}

@@ -1,7 +1,12 @@
 -- All questions asked: each case in which every read has a source and every two writes of a location are ordered has an answer, so
 -- the whole has one. A case is told by what it answers, and by facts that hold these answers.
-use Rattle.short_refutations.proofs.Vocabulary.{◌≡◌, ◌&&◌, ◌||◌, zero, suc, Bool, true, false, not, writes, List, [], ◌∷◌, ◌++◌, length, map, Option, Some, refl, sym, ap, ◌⊎◌, inl, inr, subst, Litmus, is_read, is_write, writes_to, Entry, IsIn, in-case, in-none, in-first, in-later, events_of, same_event, is_event, and-both, Model, Fact, From, Before, sources_read, readings, Node, AskSource, Asks, known_from, is_node}
-use Rattle.refutation_laws.proofs.Vocabulary.{Known, nothing, with_source, with_pair, comes_before, IsPossibleSource, ArePossible, has_source, are_ordered, may_ask, IsFull}
+use Rattle.short_refutations.proofs.Vocabulary.{◌≡◌, ◌&&◌, ◌||◌, zero, suc, Bool, true, false, not, writes, List, [], ◌∷◌, ◌++◌, length}
+use Rattle.short_refutations.proofs.Vocabulary.{map, Option, Some, refl, sym, ap, ◌⊎◌, inl, inr, subst, Litmus, is_read, is_write}
+use Rattle.short_refutations.proofs.Vocabulary.{writes_to, Entry, IsIn, in-case, in-none, in-first, in-later, events_of, same_event}
+use Rattle.short_refutations.proofs.Vocabulary.{is_event, and-both, Model, Fact, From, Before, sources_read, readings, Node, AskSource}
+use Rattle.short_refutations.proofs.Vocabulary.{Asks, known_from, is_node}
+use Rattle.refutation_laws.proofs.Vocabulary.{Known, nothing, with_source, with_pair, comes_before, IsPossibleSource, ArePossible}
+use Rattle.refutation_laws.proofs.Vocabulary.{has_source, are_ordered, may_ask, IsFull}
 use Rattle.refutation_laws.specs.declared.known.Source.{Source}
 use Rattle.refutation_laws.specs.declared.known.Pair.{Pair}
 use Rattle.refutation_laws.specs.Refutations.{ComesFirst as First}

@@ -1,5 +1,6 @@
 -- The laws of the crates below on which refutations rest.
-use Rattle.short_refutations.proofs.Vocabulary.{ReadingsArePossible, KnownOrderIsRight, SomeWriteComesLast, LastWordsArePossible, LastRegistersArePossible, SomeCaseIsMet}
+use Rattle.short_refutations.proofs.Vocabulary.{ReadingsArePossible, KnownOrderIsRight, SomeWriteComesLast, LastWordsArePossible}
+use Rattle.short_refutations.proofs.Vocabulary.{LastRegistersArePossible, SomeCaseIsMet}
 use Rattle.locked_laws.specs.Turns.{SomebodyReadsTheInitialWord, EachButTheLastIsRead}
 
 pub record Laws : Type 0 where

@@ -1,5 +1,10 @@
 -- What a proposition can be, where facts are met: its truth in the candidate is among it.
-use Rattle.short_refutations.proofs.Vocabulary.{arith, ◌≡◌, ◌==◌, ◌&&◌, ◌||◌, ℕ, Bool, true, false, not, List, [], ◌∷◌, length, Some, None, refl, sym, ap, subst, list_any, Litmus, Claim, TruthClaim, RegClaim, LocClaim, NotClaim, AndClaim, OrClaim, Candidate, IsAllowed, events_of, Values, can_be, same_number, Fact, From, Before, Last, ReturnsValue, Holds, holds_in, register_in, word_in, IsMet, AreMet, IsPossible, LastWordsArePossible, LastRegistersArePossible, Knowledge, known_from, allows, is_impossible}
+use Rattle.short_refutations.proofs.Vocabulary.{arith, ◌≡◌, ◌==◌, ◌&&◌, ◌||◌, ℕ, Bool, true, false, not, List, [], ◌∷◌, length, Some, None}
+use Rattle.short_refutations.proofs.Vocabulary.{refl, sym, ap, subst, list_any, Litmus, Claim, TruthClaim, RegClaim, LocClaim, NotClaim}
+use Rattle.short_refutations.proofs.Vocabulary.{AndClaim, OrClaim, Candidate, IsAllowed, events_of, Values, can_be, same_number, Fact, From}
+use Rattle.short_refutations.proofs.Vocabulary.{Before, Last, ReturnsValue, Holds, holds_in, register_in, word_in, IsMet, AreMet}
+use Rattle.short_refutations.proofs.Vocabulary.{IsPossible, LastWordsArePossible, LastRegistersArePossible, Knowledge, known_from, allows}
+use Rattle.short_refutations.proofs.Vocabulary.{is_impossible}
 use Rattle.refutation_laws.proofs.Tests.{or-first, or-second, from-not, clash}
 use Rattle.short_refutations.proofs.Lists.{any-picked, any-at}
 use Rattle.refutation_laws.proofs.Vocabulary.{same-number}

@@ -1,5 +1,9 @@
 -- Each claim has a refutation, or an allowed candidate makes it true.
-use Rattle.short_refutations.proofs.Vocabulary.{◌≡◌, Bool, true, false, List, [], ◌∷◌, ◌++◌, map, Candidate, length, refl, sym, ap, ◌⊎◌, inl, inr, subst, list_any, Litmus, Claim, truth_of, NamesExist, Entry, IsIn, events_of, on_location, global_in, registers_left, words_left, Model, HasCandidate, Fact, given_by, LastWordsArePossible, Knowledge, known_from, is_edge, is_between, allows, is_impossible, Node, OnLocation, Globally, Between, FalseClaim, is_node, answers, IsRefuted}
+use Rattle.short_refutations.proofs.Vocabulary.{◌≡◌, Bool, true, false, List, [], ◌∷◌, ◌++◌, map, Candidate, length, refl, sym, ap, ◌⊎◌}
+use Rattle.short_refutations.proofs.Vocabulary.{inl, inr, subst, list_any, Litmus, Claim, truth_of, NamesExist, Entry, IsIn, events_of}
+use Rattle.short_refutations.proofs.Vocabulary.{on_location, global_in, registers_left, words_left, Model, HasCandidate, Fact, given_by}
+use Rattle.short_refutations.proofs.Vocabulary.{LastWordsArePossible, Knowledge, known_from, is_edge, is_between, allows, is_impossible}
+use Rattle.short_refutations.proofs.Vocabulary.{Node, OnLocation, Globally, Between, FalseClaim, is_node, answers, IsRefuted}
 use Rattle.refutation_laws.proofs.Vocabulary.{Known, IsFull, NoneBetween}
 use Rattle.refutation_laws.proofs.Tests.{any-in, any-holds, clash}
 use Rattle.refutation_laws.proofs.Soundness.{as-tso}
@@ -52,7 +56,10 @@ module _ (words : LastWordsArePossible) (model : Model) (t : Litmus) (claim : Cl
   abbrev Answered : List Fact → Type 0
   Answered facts = Answer model t given (HasCandidate model t claim) facts
 
-  leaf : (facts : List Fact) (n : Node) → answers t (known_from t facts) n ≡ [] → is_node model t [] (known_from t facts) n ≡ true → HasTrees model t (facts ∷ [])
+  leaf : (facts : List Fact) (n : Node)
+      → answers t (known_from t facts) n ≡ []
+      → is_node model t [] (known_from t facts) n ≡ true
+      → HasTrees model t (facts ∷ [])
   leaf facts n e h =
       has-tree model t facts n h (subst (EachHasOne model t) (sym (ap (λ xs. map (λ answer. answer ++ facts) xs) e)) tt)
 

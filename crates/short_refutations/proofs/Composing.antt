@@ -1,5 +1,6 @@
 -- Trees are put together: a question whose branches all have a tree has one.
-use Rattle.short_refutations.proofs.Vocabulary.{◌≡◌, true, List, [], ◌∷◌, ◌++◌, map, append-nil, append_assoc, refl, sym, subst, Litmus, and-both, Model, Fact, Node, known_from, is_node, answers, close}
+use Rattle.short_refutations.proofs.Vocabulary.{◌≡◌, true, List, [], ◌∷◌, ◌++◌, map, append-nil, append_assoc, refl, sym, subst, Litmus}
+use Rattle.short_refutations.proofs.Vocabulary.{and-both, Model, Fact, Node, known_from, is_node, answers, close}
 use Rattle.refutation_laws.proofs.Tests.{and-of}
 
 module _ (model : Model) (t : Litmus) where

@@ -1,5 +1,9 @@
 -- Facts that hold all answers of a case, and what they leave of each read's sources: what the case answers, or nothing.
-use Rattle.short_refutations.proofs.Vocabulary.{◌≡◌, ◌&&◌, ℕ, zero, suc, Bool, true, false, if◌then◌else◌, List, [], ◌∷◌, Option, Some, None, refl, sym, ap, ◌∙◌, ◌⊎◌, inl, inr, subst, slice_get, map, filter, list_all, Litmus, Entry, IsIn, is_read, is_write, writes_to, in-case, in-none, in-first, in-later, in-filter, filter-in, and-both, bare, events_of, same_event, sources_of, Fact, From, Before, Reading, values_read, sources_read, same_source, readings_after}
+use Rattle.short_refutations.proofs.Vocabulary.{◌≡◌, ◌&&◌, ℕ, zero, suc, Bool, true, false, if◌then◌else◌, List, [], ◌∷◌, Option, Some}
+use Rattle.short_refutations.proofs.Vocabulary.{None, refl, sym, ap, ◌∙◌, ◌⊎◌, inl, inr, subst, slice_get, map, filter, list_all, Litmus}
+use Rattle.short_refutations.proofs.Vocabulary.{Entry, IsIn, is_read, is_write, writes_to, in-case, in-none, in-first, in-later, in-filter}
+use Rattle.short_refutations.proofs.Vocabulary.{filter-in, and-both, bare, events_of, same_event, sources_of, Fact, From, Before, Reading}
+use Rattle.short_refutations.proofs.Vocabulary.{values_read, sources_read, same_source, readings_after}
 use Rattle.possible_reads.specs.Possible.{reading_after, sources_after, can_read_from, fits_source}
 use Rattle.refutation_laws.proofs.Vocabulary.{Known, IsPossibleSource}
 use Rattle.refutation_laws.specs.declared.known.Source.{Source}

@@ -1,5 +1,15 @@
 -- The three leaves of relations: an allowed candidate that meets the facts has none of them.
-use Rattle.short_refutations.proofs.Vocabulary.{◌≡◌, ◌≢◌, ℕ, ◌==◌, ◌&&◌, ◌||◌, Bool, true, not, List, [], ◌∷◌, refl, sym, ap, ◌∙◌, ◌⊎◌, inl, inr, list_all, Litmus, is_before, is_read, is_write, same_kind, Entry, F, LR, LW, LeadsTo, at_once, onward, Candidate, events, is_access, share_location, ReadsFrom, IsBeforeOnLocation, po_loc, rf, co, fr, HappensBefore, write_before_write, read_before_access, mfence, implied, rfe, IsAtomic, IsAllowed, is_locked, IsBeforeSequentially, and-both, or-either, same-number, number-same, equal-kinds, bare, events_of, is_event, on_location, global_in, leads_back, is_cycle, are_parts, Stands, IsAllowedBy, Model, Tso, Sequential, Relation, Mfence, Fact, AreMet, ReadingsArePossible, KnownOrderIsRight, comes_before, Knowledge, known_from, reads_from, from_reads, relates, is_edge, is_between, writes, Sound, sound, IsBefore, FromReads, StandsAfter, Option, Some, None}
+use Rattle.short_refutations.proofs.Vocabulary.{◌≡◌, ◌≢◌, ℕ, ◌==◌, ◌&&◌, ◌||◌, Bool, true, not, List, [], ◌∷◌, refl, sym, ap, ◌∙◌, ◌⊎◌, inl}
+use Rattle.short_refutations.proofs.Vocabulary.{inr, list_all, Litmus, is_before, is_read, is_write, same_kind, Entry, F, LR, LW, LeadsTo}
+use Rattle.short_refutations.proofs.Vocabulary.{at_once, onward, Candidate, events, is_access, share_location, ReadsFrom}
+use Rattle.short_refutations.proofs.Vocabulary.{IsBeforeOnLocation, po_loc, rf, co, fr, HappensBefore, write_before_write}
+use Rattle.short_refutations.proofs.Vocabulary.{read_before_access, mfence, implied, rfe, IsAtomic, IsAllowed, is_locked}
+use Rattle.short_refutations.proofs.Vocabulary.{IsBeforeSequentially, and-both, or-either, same-number, number-same, equal-kinds, bare}
+use Rattle.short_refutations.proofs.Vocabulary.{events_of, is_event, on_location, global_in, leads_back, is_cycle, are_parts, Stands}
+use Rattle.short_refutations.proofs.Vocabulary.{IsAllowedBy, Model, Tso, Sequential, Relation, Mfence, Fact, AreMet, ReadingsArePossible}
+use Rattle.short_refutations.proofs.Vocabulary.{KnownOrderIsRight, comes_before, Knowledge, known_from, reads_from, from_reads, relates}
+use Rattle.short_refutations.proofs.Vocabulary.{is_edge, is_between, writes, Sound, sound, IsBefore, FromReads, StandsAfter, Option, Some}
+use Rattle.short_refutations.proofs.Vocabulary.{None}
 use Rattle.relational_model.specs.SequentialModel as sc
 use Rattle.refutation_laws.proofs.Tests.{any-holds}
 use Rattle.refutation_laws.proofs.Standing.{standing, of-event}

@@ -1,7 +1,17 @@
 -- In a full case with no cycle a proposition can have no truth but the one that it has in the state that the case's candidate leaves. So if
 -- it is false there, a part of it that is given is.
-use Rattle.short_refutations.proofs.Vocabulary.{◌≡◌, ◌<◌, ℕ, ◌==◌, ◌&&◌, ◌||◌, Bool, true, false, not, if◌then◌else◌, List, [], ◌∷◌, ◌++◌, length, Some, slice_index, slice_index_or, map, list_any, list_all, arith, refl, sym, ap, ◌∙◌, ◌⊎◌, inl, inr, subst, Litmus, Claim, TruthClaim, RegClaim, LocClaim, NotClaim, AndClaim, OrClaim, truth_of, NamesExist, Entry, IsIn, IsEarlier, Candidate, IsAllowed, last_in, registers_left, words_left, value_in, writes_to, is_write, last-is-in, last-last, Precedes, from-precedes, in-filter, and-both, or-either, location, same-number, bare, events_of, same_event, Reg, in-none, Model, Fact, Before, Holds, given_by, Values, can_be, same_number, values_of, values_read, values_written, last_writes, can_be_last, words_possible, register_left, IsPossible, word_in, LastWordsArePossible, Knowledge, known_from, allows, is_impossible}
-use Rattle.possible_reads.specs.Possible.{is_counter, counted, is_put_before, is_told_before, kept, both_of, any_of, told_word, may_be_left, fits_last, last_words}
+use Rattle.short_refutations.proofs.Vocabulary.{◌≡◌, ◌<◌, ℕ, ◌==◌, ◌&&◌, ◌||◌, Bool, true, false, not, if◌then◌else◌, List, [], ◌∷◌, ◌++◌}
+use Rattle.short_refutations.proofs.Vocabulary.{length, Some, slice_index, slice_index_or, map, list_any, list_all, arith, refl, sym, ap}
+use Rattle.short_refutations.proofs.Vocabulary.{◌∙◌, ◌⊎◌, inl, inr, subst, Litmus, Claim, TruthClaim, RegClaim, LocClaim, NotClaim}
+use Rattle.short_refutations.proofs.Vocabulary.{AndClaim, OrClaim, truth_of, NamesExist, Entry, IsIn, IsEarlier, Candidate, IsAllowed}
+use Rattle.short_refutations.proofs.Vocabulary.{last_in, registers_left, words_left, value_in, writes_to, is_write, last-is-in, last-last}
+use Rattle.short_refutations.proofs.Vocabulary.{Precedes, from-precedes, in-filter, and-both, or-either, location, same-number, bare}
+use Rattle.short_refutations.proofs.Vocabulary.{events_of, same_event, Reg, in-none, Model, Fact, Before, Holds, given_by, Values, can_be}
+use Rattle.short_refutations.proofs.Vocabulary.{same_number, values_of, values_read, values_written, last_writes, can_be_last}
+use Rattle.short_refutations.proofs.Vocabulary.{words_possible, register_left, IsPossible, word_in, LastWordsArePossible, Knowledge}
+use Rattle.short_refutations.proofs.Vocabulary.{known_from, allows, is_impossible}
+use Rattle.possible_reads.specs.Possible.{is_counter, counted, is_put_before, is_told_before, kept, both_of, any_of, told_word, may_be_left}
+use Rattle.possible_reads.specs.Possible.{fits_last, last_words}
 use Rattle.possible_reads.specs.Facts.{value_facts}
 use Rattle.refutation_laws.proofs.Vocabulary.{Known, comes_before, true-or}
 use Rattle.refutation_laws.specs.declared.known.Pair.{Pair}
@@ -181,7 +191,9 @@ module _ (t : Litmus) (told : Knowledge) where
   SomeFalse fs = list_any (is_impossible t told) fs ≡ true
 
   in-first-part : (fs gs : List Fact) → SomeFalse fs → SomeFalse (fs ++ gs)
-  in-first-part fs gs h = let m = any-picked (is_impossible t told) fs h in any-at (is_impossible t told) (fs ++ gs) m.place m.member (left-at fs gs m.place m.member m.stands) m.holds
+  in-first-part fs gs h =
+      let m = any-picked (is_impossible t told) fs h in
+      any-at (is_impossible t told) (fs ++ gs) m.place m.member (left-at fs gs m.place m.member m.stands) m.holds
 
   in-second-part : (fs gs : List Fact) → SomeFalse gs → SomeFalse (fs ++ gs)
   in-second-part fs gs h =

@@ -1,5 +1,11 @@
 -- Lists of facts that are met, and what facts of a branch give.
-use Rattle.short_refutations.proofs.Vocabulary.{◌≡◌, ◌==◌, ℕ, zero, suc, Bool, true, false, not, List, [], ◌∷◌, ◌++◌, length, Option, Some, None, refl, sym, ap, ◌∙◌, subst, slice_get, list_any, list_all, Litmus, Entry, IsIn, Candidate, events, is_read, is_write, writes_to, and-both, sound, IsAllowed, is_event, last-is-in, writes-at, last_writes, is_last, HasLastWrite, Last, bare, events_of, same_event, IsSameSource, last_in, can_be, same_number, Fact, From, Before, ReturnsValue, Holds, values_read, sources_read, same_source, reads_it, comes_before, holds_in, IsMet, AreMet, Knowledge, known_from, allows, is_known}
+use Rattle.short_refutations.proofs.Vocabulary.{◌≡◌, ◌==◌, ℕ, zero, suc, Bool, true, false, not, List, [], ◌∷◌, ◌++◌, length, Option, Some}
+use Rattle.short_refutations.proofs.Vocabulary.{None, refl, sym, ap, ◌∙◌, subst, slice_get, list_any, list_all, Litmus, Entry, IsIn}
+use Rattle.short_refutations.proofs.Vocabulary.{Candidate, events, is_read, is_write, writes_to, and-both, sound, IsAllowed, is_event}
+use Rattle.short_refutations.proofs.Vocabulary.{last-is-in, writes-at, last_writes, is_last, HasLastWrite, Last, bare, events_of}
+use Rattle.short_refutations.proofs.Vocabulary.{same_event, IsSameSource, last_in, can_be, same_number, Fact, From, Before, ReturnsValue}
+use Rattle.short_refutations.proofs.Vocabulary.{Holds, values_read, sources_read, same_source, reads_it, comes_before, holds_in, IsMet}
+use Rattle.short_refutations.proofs.Vocabulary.{AreMet, Knowledge, known_from, allows, is_known}
 use Rattle.refutation_laws.proofs.Standing.{same-bare, standing}
 use Rattle.refutation_laws.proofs.Soundness.{bare-same}
 use Rattle.refutation_laws.proofs.Cycles.{carried-one}

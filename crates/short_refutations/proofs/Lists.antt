@@ -1,5 +1,6 @@
 -- Members of lists of any type, by their places.
-use Rattle.short_refutations.proofs.Vocabulary.{◌≡◌, ◌⊎◌, inl, inr, ◌&&◌, ◌||◌, ℕ, zero, suc, Bool, true, false, List, [], ◌∷◌, ◌++◌, Some, refl, sym, ap, subst, slice_get, map, filter, if◌then◌else◌, list_any, list_all, and-both}
+use Rattle.short_refutations.proofs.Vocabulary.{◌≡◌, ◌⊎◌, inl, inr, ◌&&◌, ◌||◌, ℕ, zero, suc, Bool, true, false, List, [], ◌∷◌, ◌++◌, Some}
+use Rattle.short_refutations.proofs.Vocabulary.{refl, sym, ap, subst, slice_get, map, filter, if◌then◌else◌, list_any, list_all, and-both}
 
 -- x is in this list
 abbrev pub Has : {A : Type 0} → List A → A → Type 0

@@ -1,5 +1,6 @@
 -- The first relation of an edge.
-use Rattle.short_refutations.proofs.Vocabulary.{◌≡◌, ◌||◌, Bool, true, false, if◌then◌else◌, List, [], ◌∷◌, Some, refl, ap, ◌∙◌, sym, Litmus, Entry, Knowledge, relates, is_edge, Relation}
+use Rattle.short_refutations.proofs.Vocabulary.{◌≡◌, ◌||◌, Bool, true, false, if◌then◌else◌, List, [], ◌∷◌, Some, refl, ap, ◌∙◌, sym}
+use Rattle.short_refutations.proofs.Vocabulary.{Litmus, Entry, Knowledge, relates, is_edge, Relation}
 use Rattle.short_refutations.specs.Shown.{first_that_relates}
 use Rattle.refutation_laws.proofs.Tests.{or-first, or-second}
 

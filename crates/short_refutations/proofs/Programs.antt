@@ -1,10 +1,20 @@
 -- What relates numbers, what reads return and what instructions make of these relates each write's expression to its value, and each
 -- register's at the end: by the reads before the write in its program alone.
-use Rattle.refutation_laws.proofs.Vocabulary.{◌≡◌, ◌<◌, ◌≤◌, ◌==◌, ◌&&◌, ℕ, zero, suc, ◌+◌, true, false, if◌then◌else◌, List, [], ◌∷◌, ◌++◌, length, slice_index, slice_index_or, slice_set, Option, Some, None, arith, refl, sym, ap, ◌∙◌, inl, inr, subst, map, append_assoc, Litmus, index_of, action_of, entry, value_in, value_of, updated, entries_by, registers_by, values_after, entries_of, registers_after, is_before, is_read, is_write, same_kind, is_at, Reg, Loc, Kind, Instr, Operand, Number, Held, Update, Action, Store, Load, Move, Fence, Lock, Entry, R, W, LR, LW, rank, part-small, IsIn, events_from, in-case, in-none, in-append, in-left, in-right, rank-before, only, here-by, from-place, bare, same_event, registers_left_from, same-number, is-false, and-both}
+use Rattle.refutation_laws.proofs.Vocabulary.{◌≡◌, ◌<◌, ◌≤◌, ◌==◌, ◌&&◌, ℕ, zero, suc, ◌+◌, true, false, if◌then◌else◌, List, [], ◌∷◌, ◌++◌}
+use Rattle.refutation_laws.proofs.Vocabulary.{length, slice_index, slice_index_or, slice_set, Option, Some, None, arith, refl, sym, ap, ◌∙◌}
+use Rattle.refutation_laws.proofs.Vocabulary.{inl, inr, subst, map, append_assoc, Litmus, index_of, action_of, entry, value_in, value_of}
+use Rattle.refutation_laws.proofs.Vocabulary.{updated, entries_by, registers_by, values_after, entries_of, registers_after, is_before}
+use Rattle.refutation_laws.proofs.Vocabulary.{is_read, is_write, same_kind, is_at, Reg, Loc, Kind, Instr, Operand, Number, Held, Update}
+use Rattle.refutation_laws.proofs.Vocabulary.{Action, Store, Load, Move, Fence, Lock, Entry, R, W, LR, LW, rank, part-small, IsIn}
+use Rattle.refutation_laws.proofs.Vocabulary.{events_from, in-case, in-none, in-append, in-left, in-right, rank-before, only, here-by}
+use Rattle.refutation_laws.proofs.Vocabulary.{from-place, bare, same_event, registers_left_from, same-number, is-false, and-both}
 use Rattle.tso_terms.specs.Thread.{combined, difference_of, changed, with_taken}
 use Rattle.basic_laws.specs.Types.{Eax, Operator, Replace, Negate, CompareExchange, Change, Keep, Set, Swap}
 use Rattle.tso_terms.specs.declared.action.Update.TheVariants.{Combine}
-use Rattle.possible_reads.specs.Expressions.{Expression, Constant, Returned, Combined, Negated, Exchanged, Written, held_in, operand_in, updated_by, changed_by, taken_by, written_by, registers_after_action, written_in, registers_at_end, first_registers, written_from, expression_among, expression_of, register_left}
+use Rattle.possible_reads.specs.Expressions.{Expression, Constant, Returned, Combined, Negated, Exchanged, Written, held_in, operand_in}
+use Rattle.possible_reads.specs.Expressions.{updated_by, changed_by, taken_by, written_by, registers_after_action, written_in}
+use Rattle.possible_reads.specs.Expressions.{registers_at_end, first_registers, written_from, expression_among, expression_of}
+use Rattle.possible_reads.specs.Expressions.{register_left}
 use Rattle.refutation_laws.proofs.Building.{unwritten}
 use Rattle.refutation_laws.proofs.Soundness.{itself}
 use Rattle.refutation_laws.proofs.Tests.{pick, pass}

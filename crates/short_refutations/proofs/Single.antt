@@ -1,6 +1,9 @@
 -- Values of which at most one number is left.
-use Rattle.short_refutations.proofs.Vocabulary.{◌≡◌, ◌==◌, ◌||◌, ℕ, suc, Bool, true, false, not, if◌then◌else◌, Entry, List, [], ◌∷◌, Some, None, refl, sym, ap, ◌∙◌, ◌⊎◌, inl, inr, subst, slice_get, map, filter, number-same, same-number, Values, can_be, values_of}
-use Rattle.possible_reads.specs.Possible.{at_most_64, either_of, both_of, any_of, combined_values, negated_values, only_where, exchanged_word, exchanged_values, kept, is_among}
+use Rattle.short_refutations.proofs.Vocabulary.{◌≡◌, ◌==◌, ◌||◌, ℕ, suc, Bool, true, false, not, if◌then◌else◌, Entry, List, [], ◌∷◌, Some}
+use Rattle.short_refutations.proofs.Vocabulary.{None, refl, sym, ap, ◌∙◌, ◌⊎◌, inl, inr, subst, slice_get, map, filter, number-same}
+use Rattle.short_refutations.proofs.Vocabulary.{same-number, Values, can_be, values_of}
+use Rattle.possible_reads.specs.Possible.{at_most_64, either_of, both_of, any_of, combined_values, negated_values, only_where}
+use Rattle.possible_reads.specs.Possible.{exchanged_word, exchanged_values, kept, is_among}
 use Rattle.tso_terms.specs.Thread.{combined, difference_of}
 use Rattle.basic_laws.specs.Types.{Operator}
 use Rattle.possible_reads.proofs.Values.{turned}

@@ -1,5 +1,16 @@
 -- What is refuted is false of each allowed candidate: it meets the facts of one branch of each question, and those of no leaf.
-use Rattle.short_refutations.proofs.Vocabulary.{◌≡◌, ◌==◌, ◌&&◌, ℕ, zero, suc, Bool, true, false, not, if◌then◌else◌, List, [], ◌∷◌, ◌++◌, length, Option, Some, None, refl, sym, ap, ◌∙◌, ◌⊎◌, inl, inr, subst, slice_get, append-nil, append_assoc, map, list_any, list_all, Litmus, Entry, IsIn, IsEarlier, Candidate, events, is_read, is_write, writes_to, same_kind, R, LR, LW, IsBefore, filter-in, and-both, number-same, same-number, equal-kinds, one-way, location, writes-at, Sound, sound, IsAllowed, bare, events_of, same_event, is_event, Stands, IsSameSource, last_in, Values, Fact, From, Before, Last, ReturnsValue, Holds, values_read, sources_read, same_source, last_writes, holds_in, IsMet, AreMet, IsPossible, ReadIsPossible, HasLastWrite, Model, IsAllowedBy, Knowledge, known_from, Node, AskSource, ReadsValue, Asks, IsReadBy, ComesLast, HasCase, OnLocation, Globally, Between, FalseClaim, ByLemma, Lemma, is_written_locked, applies, are_values, is_case, is_source_at, may_be_asked, opposite, is_node, locked_readers, unread, answers_of_values, answers_of_cases, answers, close, hold}
+use Rattle.short_refutations.proofs.Vocabulary.{◌≡◌, ◌==◌, ◌&&◌, ℕ, zero, suc, Bool, true, false, not, if◌then◌else◌, List, [], ◌∷◌, ◌++◌}
+use Rattle.short_refutations.proofs.Vocabulary.{length, Option, Some, None, refl, sym, ap, ◌∙◌, ◌⊎◌, inl, inr, subst, slice_get, append-nil}
+use Rattle.short_refutations.proofs.Vocabulary.{append_assoc, map, list_any, list_all, Litmus, Entry, IsIn, IsEarlier, Candidate, events}
+use Rattle.short_refutations.proofs.Vocabulary.{is_read, is_write, writes_to, same_kind, R, LR, LW, IsBefore, filter-in, and-both}
+use Rattle.short_refutations.proofs.Vocabulary.{number-same, same-number, equal-kinds, one-way, location, writes-at, Sound, sound}
+use Rattle.short_refutations.proofs.Vocabulary.{IsAllowed, bare, events_of, same_event, is_event, Stands, IsSameSource, last_in, Values}
+use Rattle.short_refutations.proofs.Vocabulary.{Fact, From, Before, Last, ReturnsValue, Holds, values_read, sources_read, same_source}
+use Rattle.short_refutations.proofs.Vocabulary.{last_writes, holds_in, IsMet, AreMet, IsPossible, ReadIsPossible, HasLastWrite, Model}
+use Rattle.short_refutations.proofs.Vocabulary.{IsAllowedBy, Knowledge, known_from, Node, AskSource, ReadsValue, Asks, IsReadBy, ComesLast}
+use Rattle.short_refutations.proofs.Vocabulary.{HasCase, OnLocation, Globally, Between, FalseClaim, ByLemma, Lemma, is_written_locked}
+use Rattle.short_refutations.proofs.Vocabulary.{applies, are_values, is_case, is_source_at, may_be_asked, opposite, is_node, locked_readers}
+use Rattle.short_refutations.proofs.Vocabulary.{unread, answers_of_values, answers_of_cases, answers, close, hold}
 use Rattle.locked_laws.specs.Turns.{IsWrittenByLockedAlone, IsReadByLocked}
 use Rattle.refutation_laws.proofs.Soundness.{as-tso, bare-same}
 use Rattle.refutation_laws.proofs.Standing.{Standing, standing, event-in, one-stands, of-event}
@@ -154,7 +165,8 @@ module _ (laws : Laws) (model : Model) (t : Litmus) (c : Candidate) (by-model : 
         (λ q. not-so (Some w) (last_in (c.coherence w.loc.0)) (from-not _ q)) (λ q. so (Some w) (last_in (c.coherence w.loc.0)) (from-false _ q)) none
     by-fact (ReturnsValue r v true) h none =
         let s = standing t c r (and-both (is_event t r) (is_read r) h).0 in
-        one-of (ReturnsValue r v true) (ReturnsValue r v false) (s.entry.value == v) (returns-met r s.entry s.stands v true) (returns-met r s.entry s.stands v false) none
+        one-of (ReturnsValue r v true) (ReturnsValue r v false) (s.entry.value == v)
+        (returns-met r s.entry s.stands v true) (returns-met r s.entry s.stands v false) none
     by-fact (ReturnsValue r v false) h none =
         let s = standing t c r (and-both (is_event t r) (is_read r) h).0 in
         one-of (ReturnsValue r v false) (ReturnsValue r v true) (not (s.entry.value == v)) (λ q. returns-met r s.entry s.stands v false (from-not _ q))

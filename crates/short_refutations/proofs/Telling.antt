@@ -1,5 +1,10 @@
 -- The relations that the answers of a case tell, its facts tell too.
-use Rattle.short_refutations.proofs.Vocabulary.{◌≡◌, ◌==◌, ◌&&◌, ℕ, suc, true, not, List, [], ◌∷◌, length, slice_get, Option, Some, None, refl, sym, ap, ◌∙◌, inl, inr, subst, list_any, Litmus, Entry, IsIn, in-none, in-first, in-later, is_read, is_write, and-both, or-either, events_of, same_event, Relation, Mfence, Po, PoLoc, PoGhb, Implied, Rf, Rfe, Co, Fr, Fact, Before, readings_after, sources_read, same_source, comes_before, Knowledge, known_from, reads_from, overwrites, from_reads, relates, is_edge, is_between}
+use Rattle.short_refutations.proofs.Vocabulary.{◌≡◌, ◌==◌, ◌&&◌, ℕ, suc, true, not, List, [], ◌∷◌, length, slice_get, Option, Some, None}
+use Rattle.short_refutations.proofs.Vocabulary.{refl, sym, ap, ◌∙◌, inl, inr, subst, list_any, Litmus, Entry, IsIn, in-none, in-first}
+use Rattle.short_refutations.proofs.Vocabulary.{in-later, is_read, is_write, and-both, or-either, events_of, same_event, Relation, Mfence}
+use Rattle.short_refutations.proofs.Vocabulary.{Po, PoLoc, PoGhb, Implied, Rf, Rfe, Co, Fr, Fact, Before, readings_after, sources_read}
+use Rattle.short_refutations.proofs.Vocabulary.{same_source, comes_before, Knowledge, known_from, reads_from, overwrites, from_reads}
+use Rattle.short_refutations.proofs.Vocabulary.{relates, is_edge, is_between}
 use Rattle.possible_reads.specs.Possible.{is_put_before, is_told_before}
 use Rattle.refutation_laws.specs.Known as old
 use Rattle.refutation_laws.specs.Edges as old_edges
@@ -31,8 +36,11 @@ module _ (t : Litmus) (given : List Fact) (k : Known) (facts : List Fact) (cover
       go n (m, e) (j, q) =
           let f = (covers.sources s h).0 in
           fits-named r s.read s.write o facts f same
-          (fits t facts r i read m o
-          (j, ap (λ xs. slice_get xs j) (sym (sources-after t facts r i read m)) ∙ subst (λ l. slice_get (sources_read t (readings_after t facts l) r) j ≡ Some o) e q))
+          (fits t facts r i read m o (
+            j,
+            ap (λ xs. slice_get xs j) (sym (sources-after t facts r i read m))
+                ∙ subst (λ l. slice_get (sources_read t (readings_after t facts l) r) j ≡ Some o) e q,
+          ))
 
   -- the read of an answer is a read
   reads : (s : Source) → Has k.sources s → (r : Entry) → same_event s.read r ≡ true → is_read r ≡ true

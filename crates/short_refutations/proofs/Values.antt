@@ -1,8 +1,14 @@
 -- In a full case with no cycle each read's values are at most the one that the case's candidate returns, after so many rounds as its
 -- place in a row of the model's global relation says; and so are each write's.
-use Rattle.short_refutations.proofs.Vocabulary.{◌≡◌, ◌<◌, ℕ, zero, suc, true, List, [], ◌∷◌, length, Option, Some, None, slice_get, slice_index, map, arith, refl, sym, ap, ◌∙◌, inl, inr, subst, Litmus, Entry, IsIn, at_once, onward, Candidate, Returns, IsAllowed, is_access, is_before, is_read, is_write, writes_to, location, share, writes, write-is-no-read, bare, events_of, on_location, Model, Fact, Values, Reading, values_read, same_source, values_of, values_written, readings_after, Expression, expression_of}
+use Rattle.short_refutations.proofs.Vocabulary.{◌≡◌, ◌<◌, ℕ, zero, suc, true, List, [], ◌∷◌, length, Option, Some, None, slice_get}
+use Rattle.short_refutations.proofs.Vocabulary.{slice_index, map, arith, refl, sym, ap, ◌∙◌, inl, inr, subst, Litmus, Entry, IsIn, at_once}
+use Rattle.short_refutations.proofs.Vocabulary.{onward, Candidate, Returns, IsAllowed, is_access, is_before, is_read, is_write, writes_to}
+use Rattle.short_refutations.proofs.Vocabulary.{location, share, writes, write-is-no-read, bare, events_of, on_location, Model, Fact}
+use Rattle.short_refutations.proofs.Vocabulary.{Values, Reading, values_read, same_source, values_of, values_written, readings_after}
+use Rattle.short_refutations.proofs.Vocabulary.{Expression, expression_of}
 use Rattle.possible_reads.specs.Possible.{sources_after, values_from, any_of, may_return, told_value, counts, both_of}
-use Rattle.refutation_laws.proofs.Vocabulary.{Known, IsPossibleSource, is_write_of, reads_from, is_edge, rank, part_of, part-small, rank-before, before-trans, order-of, halves}
+use Rattle.refutation_laws.proofs.Vocabulary.{Known, IsPossibleSource, is_write_of, reads_from, is_edge, rank, part_of, part-small}
+use Rattle.refutation_laws.proofs.Vocabulary.{rank-before, before-trans, order-of, halves}
 use Rattle.refutation_laws.specs.declared.known.Source.{Source}
 use Rattle.relational_model.proofs.Decisions.{number}
 use Rattle.refutation_laws.proofs.Standing.{Of, of-event, same-bare}
@@ -11,7 +17,8 @@ use Rattle.refutation_laws.proofs.Tests.{and-of, or-first, or-second}
 use Rattle.refutation_laws.proofs.Relating.{edge-by, of-bare}
 use Rattle.refutation_laws.proofs.Rows.{ordered-acyclic, Edge}
 use Rattle.refutation_laws.proofs.Building.{same-place}
-use Rattle.refutation_laws.proofs.Settling.{IsOpen, First, found, entry_of, own_events, own_reads, own_candidate, own-in, place, within, edge-places, one-own, first-source, read-edge, other-edge}
+use Rattle.refutation_laws.proofs.Settling.{IsOpen, First, found, entry_of, own_events, own_reads, own_candidate, own-in, place, within}
+use Rattle.refutation_laws.proofs.Settling.{edge-places, one-own, first-source, read-edge, other-edge}
 use Rattle.short_refutations.proofs.Programs.{related-write, same-expression}
 use Rattle.short_refutations.proofs.Single.{AtMost, exactly-one, any-most, both-most, kept-most, most-relates}
 use Rattle.short_refutations.proofs.Covering.{Covers, values-after, fits, named}

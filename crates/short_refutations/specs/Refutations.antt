@@ -13,7 +13,8 @@ use Rattle.refutation_laws.specs.Edges.{on_location, global_in, is_cycle}
 use Rattle.refutation_laws.specs.declared.model.Model.{Model}
 use Rattle.possible_reads.specs.Expressions.{register_left}
 use Rattle.possible_reads.specs.Facts.{Fact, From, Before, Last, Returns, Holds, given_by, cases_of}
-use Rattle.possible_reads.specs.Possible.{Values, same_number, can_be, same_source, values_of, values_read, sources_read, reads_it, readings, is_last, last_writes, comes_before, words_left}
+use Rattle.possible_reads.specs.Possible.{Values, same_number, can_be, same_source, values_of, values_read, sources_read, reads_it}
+use Rattle.possible_reads.specs.Possible.{readings, is_last, last_writes, comes_before, words_left}
 use Rattle.short_refutations.specs.Edges.{Knowledge, is_edge, is_between}
 
 -- what these facts tell

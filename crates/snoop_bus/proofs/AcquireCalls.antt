@@ -1,9 +1,12 @@
 -- What the calls of a write access rest on, and what it leaves where nobody else holds the bus.
-use Rattle.snoop_bus.proofs.Vocabulary.{get_or_default, ◌≡◌, ℕ, ◌<◌, true, false, is_some, Option, Some, None, IsSome, List, [], length, slice_index_or, refl, sym, ap, ◌∙◌, WritesInPlace, Table, State, M, Line, AccessReport, Hierarchy, HeldBus, Words, Sets, copy_in, copy_at, IsReady, Acquires, KeepsWords, KeepsBeside}
+use Rattle.snoop_bus.proofs.Vocabulary.{get_or_default, ◌≡◌, ℕ, ◌<◌, true, false, is_some, Option, Some, None, IsSome, List, [], length}
+use Rattle.snoop_bus.proofs.Vocabulary.{slice_index_or, refl, sym, ap, ◌∙◌, WritesInPlace, Table, State, M, Line, AccessReport, Hierarchy}
+use Rattle.snoop_bus.proofs.Vocabulary.{HeldBus, Words, Sets, copy_in, copy_at, IsReady, Acquires, KeepsWords, KeepsBeside}
 use Rattle.snoop_bus.proofs.WriteLemmas.{written_m}
 
 -- what a look at a core's own sets found
-module _ (caches : List Sets) (core line : ℕ) (sets : Sets) (looked : Option Line) (within : core < length caches) (at : sets ≡ slice_index_or caches core sets) (is : looked ≡ copy_in sets line) where
+module _ (caches : List Sets) (core line : ℕ) (sets : Sets) (looked : Option Line) (within : core < length caches)
+    (at : sets ≡ slice_index_or caches core sets) (is : looked ≡ copy_in sets line) where
   there : copy_at caches core line ≡ looked
   there = sym (ap (λ (s : Sets). copy_in s line) (at ∙ get_or_default caches core sets [] within)) ∙ sym is
 

@@ -1,5 +1,9 @@
 -- What an ask does, in the bus's own words.
-use Rattle.snoop_bus.proofs.Vocabulary.{◌≡◌, ℕ, ◌*◌, ◌/◌, ◌<◌, ◌≤◌, Bool, Option, Some, None, option_map, List, length, refl, sym, ap, ◌∙◌, Core, Loc, Table, Request, Transient, HeldBus, Geometry, Words, rows_of, table_of_rows, TagSets, Sets, cache_of, tags_of, counted_copies_of, stage_for, held_by, current_words, bus_with, KeepsWords, BusRequest, request_in, requesting, awaiting, asked_for, request_for, asking, asked_caches, asked_memory, awaited_in, transacting, transaction_of, AsksFor}
+use Rattle.snoop_bus.proofs.Vocabulary.{◌≡◌, ℕ, ◌*◌, ◌/◌, ◌<◌, ◌≤◌, Bool, Option, Some, None, option_map, List, length, refl, sym, ap, ◌∙◌}
+use Rattle.snoop_bus.proofs.Vocabulary.{Core, Loc, Table, Request, Transient, HeldBus, Geometry, Words, rows_of, table_of_rows, TagSets}
+use Rattle.snoop_bus.proofs.Vocabulary.{Sets, cache_of, tags_of, counted_copies_of, stage_for, held_by, current_words, bus_with, KeepsWords}
+use Rattle.snoop_bus.proofs.Vocabulary.{BusRequest, request_in, requesting, awaiting, asked_for, request_for, asking, asked_caches}
+use Rattle.snoop_bus.proofs.Vocabulary.{asked_memory, awaited_in, transacting, transaction_of, AsksFor}
 use Rattle.snoop_bus.proofs.RowLemmas.{table_of-rows}
 use Rattle.snoop_bus.proofs.WordLemmas.{words-same}
 
@@ -19,7 +23,9 @@ pub requested-for : (t : Table) (request : Request) (core line : ℕ) (words : W
 unfolding transacting
 requested-for t request core line words caches = by_transient (asked_for request core line caches)
   where
-    by_transient : (o : Option Transient) → request_in (option_map (transacting t request line words caches) o) ≡ option_map (requesting t request line caches) o
+    by_transient : (o : Option Transient)
+        → request_in (option_map (transacting t request line words caches) o)
+        ≡ option_map (requesting t request line caches) o
     by_transient None = refl
     by_transient (Some x) = refl
 
@@ -43,10 +49,15 @@ module _ (t : Table) (shape : Geometry) (locations : ℕ) (c0 c2 : List Sets) (m
   pub ask_done : (write : Bool) (h : HeldBus) (request : Option BusRequest) → request ≡ request_in h.transaction → AskSteps write h
       → AsksFor (bus_with t shape locations c0 m0 None) (bus_with t shape locations c2 m2 (Some h)) core loc write request
   ask_done write h request told s = record {
-    request_is = told ∙ ap (λ (x : HeldBus). request_in x.transaction) s.exact ∙ requested-for t (request_for write) core.0 line (current_words c0 m0 line) (tags_of c0)
+    request_is =
+        told
+        ∙ ap (λ (x : HeldBus). request_in x.transaction) s.exact
+        ∙ requested-for t (request_for write) core.0 line (current_words c0 m0 line) (tags_of c0)
         ∙ ap (λ (u : Table). (asking u (request_for write) core.0 line (tags_of c0)).request) back;
     own = s.own;
-    words = words-same shape.words locations (length m0) (current_words c0 m0) (current_words (counted_copies_of (Some h) c2) m2) s.some_word s.enough s.words.words;
+    words =
+        words-same shape.words locations (length m0) (current_words c0 m0)
+        (current_words (counted_copies_of (Some h) c2) m2) s.some_word s.enough s.words.words;
     holder_is = rw s.exact refl;
     awaited_is = ap (λ (x : HeldBus). awaited_in x.transaction) s.exact ∙ awaited-for t (request_for write) core.0 line (current_words c0 m0 line) (tags_of c0)
         ∙ ap (λ (u : Table). (asking u (request_for write) core.0 line (tags_of c0)).awaited) back;

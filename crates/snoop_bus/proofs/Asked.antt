@@ -1,6 +1,9 @@
 -- An ask keeps every line coherent, if it keeps its own: the others have seen the request, and the copy that the bus keeps
 -- counts as its core's.
-use Rattle.snoop_bus.proofs.Vocabulary.{cases_eq, arith, ◌≡◌, ◌≢◌, ℕ, ◌<◌, ◌≤◌, ◌&&◌, not, nat_eq, if◌then◌else◌, Option, Some, None, List, length, refl, sym, ap, subst, ◌∙◌, inl, inr, State, Snoop, Line, Words, line_in, Coherent, Sets, copy_at, cache_of, ways_of, current_words, AllCoherent, with_counted_copy, copy_left_by, copy_left_if, LeftByOthers, KeepsWords, cases_Bool}
+use Rattle.snoop_bus.proofs.Vocabulary.{cases_eq, arith, ◌≡◌, ◌≢◌, ℕ, ◌<◌, ◌≤◌, ◌&&◌, not, nat_eq, if◌then◌else◌, Option, Some, None, List}
+use Rattle.snoop_bus.proofs.Vocabulary.{length, refl, sym, ap, subst, ◌∙◌, inl, inr, State, Snoop, Line, Words, line_in, Coherent, Sets}
+use Rattle.snoop_bus.proofs.Vocabulary.{copy_at, cache_of, ways_of, current_words, AllCoherent, with_counted_copy, copy_left_by}
+use Rattle.snoop_bus.proofs.Vocabulary.{copy_left_if, LeftByOthers, KeepsWords, cases_Bool}
 use Rattle.cache_set.proofs.Numbers.{differ, itself}
 use Rattle.snoop_bus.proofs.CurrentWords.{seen_is, coherent_along, all_coherent}
 use Rattle.snoop_bus.proofs.NewLemmas.{same_cores}
@@ -22,7 +25,10 @@ module _ (on : State → Snoop) (c0 c1 : List Sets) (m0 m1 : List Words) (core l
     pub elsewhere : (k : ℕ) → k ≢ line → line_in m1 k ≡ line_in m0 k
 
   module _ (h : Asked) where
-    copies : (i k : ℕ) → copy_at asked i k ≡ (if nat_eq i core && nat_eq k line then Some copy else copy_left_if (not (nat_eq i core) && nat_eq k line) on (copy_at c0 i k))
+    copies : (i k : ℕ)
+        → copy_at asked i k ≡ (if nat_eq i core && nat_eq k line
+        then Some copy
+        else copy_left_if (not (nat_eq i core) && nat_eq k line) on (copy_at c0 i k))
     copies i k =
         counting-at c1 core line copy i k (rw (same_cores c0 c1 h.ways) h.core_in) (same_sets c0 c1 core h.ways h.some_set)
         ∙ ap (λ (o : Option Line). if nat_eq i core && nat_eq k line then Some copy else o) (h.left i k)

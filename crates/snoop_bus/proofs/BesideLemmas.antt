@@ -1,5 +1,8 @@
 -- Hits beside an action that holds the bus: what counts then, and that the action still finds what it left.
-use Rattle.snoop_bus.proofs.Vocabulary.{cases_eq, ◌≡◌, ◌≢◌, ◌⊎◌, inl, inr, ℕ, ◌&&◌, nat_eq, Option, Some, None, IfSome, List, length, refl, sym, ap, ◌∙◌, if◌then◌else◌, in_place, S, M, Transient, IsD, ImD, SmD, Line, Words, state_of_copy, Sets, copy_at, ways_of, ChangesCopy, HeldBus, Stage, Load, Write, Locked, Transaction, counted_in, counted_copies_of, IsHeld, Awaits, AskedOf}
+use Rattle.snoop_bus.proofs.Vocabulary.{cases_eq, ◌≡◌, ◌≢◌, ◌⊎◌, inl, inr, ℕ, ◌&&◌, nat_eq, Option, Some, None, IfSome, List, length, refl}
+use Rattle.snoop_bus.proofs.Vocabulary.{sym, ap, ◌∙◌, if◌then◌else◌, in_place, S, M, Transient, IsD, ImD, SmD, Line, Words, state_of_copy}
+use Rattle.snoop_bus.proofs.Vocabulary.{Sets, copy_at, ways_of, ChangesCopy, HeldBus, Stage, Load, Write, Locked, Transaction, counted_in}
+use Rattle.snoop_bus.proofs.Vocabulary.{counted_copies_of, IsHeld, Awaits, AskedOf}
 use Rattle.cache_set.proofs.Numbers.{differ, itself}
 use Rattle.snoop_bus.proofs.NewLemmas.{same_cores}
 use Rattle.snoop_bus.proofs.HeldLemmas.{counting-at, ways-counting, same_sets}
@@ -13,11 +16,15 @@ abbrev pub over : Option HeldBus → ℕ → ℕ → Option Line → Option Line
 over None i k o = o
 over (Some h) i k o = over_in h.holder.core.0 h.line h.transaction i k o
 
-pub counted-at : (held : Option HeldBus) (caches : List Sets) (memory : List Words) (i k : ℕ) → IfSome held (IsHeld caches memory) → copy_at (counted_copies_of held caches) i k ≡ over held i k (copy_at caches i k)
+pub counted-at : (held : Option HeldBus) (caches : List Sets) (memory : List Words) (i k : ℕ)
+    → IfSome held (IsHeld caches memory)
+    → copy_at (counted_copies_of held caches) i k ≡ over held i k (copy_at caches i k)
 counted-at None caches memory i k h = refl
 counted-at (Some h) caches memory i k held = by_transaction h.transaction
   where
-    by_transaction : (x : Option Transaction) → copy_at (counted_in h.holder.core.0 h.line x caches) i k ≡ over_in h.holder.core.0 h.line x i k (copy_at caches i k)
+    by_transaction : (x : Option Transaction)
+        → copy_at (counted_in h.holder.core.0 h.line x caches) i k
+        ≡ over_in h.holder.core.0 h.line x i k (copy_at caches i k)
     by_transaction None = refl
     by_transaction (Some x) = counting-at caches h.holder.core.0 h.line x.copy i k held.core_in held.some_set
 
@@ -44,12 +51,16 @@ placed_free Write x own a placed = by_transient x.transient refl a.1
     ]
 
 -- at a copy that is written in place the caches' own copy counts
-pub placed-over : (held : Option HeldBus) (caches : List Sets) (memory : List Words) (core line : ℕ) → IfSome held (IsHeld caches memory) → in_place (state_of_copy (copy_at caches core line)) ≡ Some M →
+pub placed-over : (held : Option HeldBus) (caches : List Sets) (memory : List Words) (core line : ℕ)
+    → IfSome held (IsHeld caches memory)
+    → in_place (state_of_copy (copy_at caches core line)) ≡ Some M →
     (o : Option Line) → over held core line o ≡ o
 placed-over None caches memory core line h placed o = refl
 placed-over (Some h) caches memory core line held placed o = by_transaction h.transaction held.awaits
   where
-    by_transaction : (x : Option Transaction) → Awaits h.holder.stage x (copy_at caches h.holder.core.0 h.line) → over_in h.holder.core.0 h.line x core line o ≡ o
+    by_transaction : (x : Option Transaction)
+        → Awaits h.holder.stage x (copy_at caches h.holder.core.0 h.line)
+        → over_in h.holder.core.0 h.line x core line o ≡ o
     by_transaction None a = refl
     by_transaction (Some x) a = elim (cases_eq core h.holder.core.0) [
       | inl p ↦ elim (cases_eq line h.line) [
@@ -60,27 +71,44 @@ placed-over (Some h) caches memory core line held placed o = by_transaction h.tr
     ]
 
 -- the same copies count where each core has the same
-pub counted-same : (held : Option HeldBus) (c0 c2 : List Sets) (memory : List Words) → IfSome held (IsHeld c0 memory) → IfSome held (IsHeld c2 memory) → ((i k : ℕ) → copy_at c2 i k ≡ copy_at c0 i k) →
+pub counted-same : (held : Option HeldBus) (c0 c2 : List Sets) (memory : List Words)
+    → IfSome held (IsHeld c0 memory)
+    → IfSome held (IsHeld c2 memory)
+    → ((i k : ℕ) → copy_at c2 i k ≡ copy_at c0 i k) →
     (i k : ℕ) → copy_at (counted_copies_of held c2) i k ≡ copy_at (counted_copies_of held c0) i k
 counted-same held c0 c2 memory h0 h2 same i k = counted-at held c2 memory i k h2 ∙ ap (over held i k) (same i k) ∙ sym (counted-at held c0 memory i k h0)
 
 -- a change of a copy that is written in place is one of those that count
-pub counted-changes : (held : Option HeldBus) (c0 c2 : List Sets) (memory : List Words) (core line : ℕ) (o : Option Line) → IfSome held (IsHeld c0 memory) → IfSome held (IsHeld c2 memory) →
-    in_place (state_of_copy (copy_at c0 core line)) ≡ Some M → ChangesCopy core line o c0 c2 → ChangesCopy core line o (counted_copies_of held c0) (counted_copies_of held c2)
+pub counted-changes : (held : Option HeldBus) (c0 c2 : List Sets) (memory : List Words) (core line : ℕ)
+    (o : Option Line)
+    → IfSome held (IsHeld c0 memory)
+    → IfSome held (IsHeld c2 memory) →
+    in_place (state_of_copy (copy_at c0 core line)) ≡ Some M
+    → ChangesCopy core line o c0 c2
+    → ChangesCopy core line o (counted_copies_of held c0) (counted_copies_of held c2)
 counted-changes held c0 c2 memory core line o h0 h2 placed to i k =
     rw (counted-at held c2 memory i k h2, counted-at held c0 memory i k h0, to i k) (by_core (cases_eq i core) (cases_eq k line))
   where
-    by_core : (i ≡ core) ⊎ (i ≢ core) → (k ≡ line) ⊎ (k ≢ line) → over held i k (if nat_eq i core && nat_eq k line then o else copy_at c0 i k) ≡ (if nat_eq i core && nat_eq k line then o else over held i k (copy_at c0 i k))
+    by_core : (i ≡ core) ⊎ (i ≢ core)
+        → (k ≡ line) ⊎ (k ≢ line)
+        → over held i k (if nat_eq i core && nat_eq k line then o else copy_at c0 i k)
+        ≡ (if nat_eq i core && nat_eq k line then o else over held i k (copy_at c0 i k))
     by_core (inl p) (inl q) = rw (p, q, itself core, itself line) (placed-over held c0 memory core line h0 placed o)
     by_core (inl p) (inr q) = rw (p, itself core, differ k line q) refl
     by_core (inr p) q = rw (differ i core p) refl
 
-pub placed-counts : (held : Option HeldBus) (caches : List Sets) (memory : List Words) (core line : ℕ) → IfSome held (IsHeld caches memory) → in_place (state_of_copy (copy_at caches core line)) ≡ Some M →
+pub placed-counts : (held : Option HeldBus) (caches : List Sets) (memory : List Words) (core line : ℕ)
+    → IfSome held (IsHeld caches memory)
+    → in_place (state_of_copy (copy_at caches core line)) ≡ Some M →
     copy_at (counted_copies_of held caches) core line ≡ copy_at caches core line
-placed-counts held caches memory core line h placed = counted-at held caches memory core line h ∙ placed-over held caches memory core line h placed (copy_at caches core line)
+placed-counts held caches memory core line h placed =
+    counted-at held caches memory core line h
+    ∙ placed-over held caches memory core line h placed (copy_at caches core line)
 
 -- any own copy has the word that counts
-pub own_word : (held : Option HeldBus) (caches : List Sets) (memory : List Words) (core line : ℕ) (copy : Line) → IfSome held (IsHeld caches memory) → copy_at caches core line ≡ Some copy →
+pub own_word : (held : Option HeldBus) (caches : List Sets) (memory : List Words) (core line : ℕ) (copy : Line)
+    → IfSome held (IsHeld caches memory)
+    → copy_at caches core line ≡ Some copy →
     (other : Line) × (copy_at (counted_copies_of held caches) core line ≡ Some other) × (copy.words ≡ other.words)
 own_word None caches memory core line copy h found = (copy, found, refl)
 own_word (Some h) caches memory core line copy held found = by_transaction h.transaction refl held.awaits
@@ -99,7 +127,10 @@ own_word (Some h) caches memory core line copy held found = by_transaction h.tra
         (other : Line) × (copy_at (counted_copies_of (Some h) caches) core line ≡ Some other) × (copy.words ≡ other.words)
     by_transaction None e a = (copy, rw e found, refl)
     by_transaction (Some x) e a =
-        let at : copy_at (counted_copies_of (Some h) caches) core line ≡ over_in h.holder.core.0 h.line (Some x) core line (copy_at caches core line) = counted-at (Some h) caches memory core line held ∙ ap (λ (y : Option Transaction). over_in h.holder.core.0 h.line y core line (copy_at caches core line)) e in
+        let at : copy_at (counted_copies_of (Some h) caches) core line
+        ≡ over_in h.holder.core.0 h.line (Some x) core line (copy_at caches core line) =
+        counted-at (Some h) caches memory core line held
+        ∙ ap (λ (y : Option Transaction). over_in h.holder.core.0 h.line y core line (copy_at caches core line)) e in
         elim (cases_eq core h.holder.core.0) [
           | inl p ↦ elim (cases_eq line h.line) [
             | inl q ↦
@@ -111,7 +142,12 @@ own_word (Some h) caches memory core line copy held found = by_transaction h.tra
         ]
 
 -- the action finds what it left where its own copy is as it was
-pub held-same : (held : Option HeldBus) (c0 c2 : List Sets) (m0 m2 : List Words) → IfSome held (IsHeld c0 m0) → ways_of c2 ≡ ways_of c0 → length m2 ≡ length m0 → ((i k : ℕ) → copy_at c2 i k ≡ copy_at c0 i k) → IfSome held (IsHeld c2 m2)
+pub held-same : (held : Option HeldBus) (c0 c2 : List Sets) (m0 m2 : List Words)
+    → IfSome held (IsHeld c0 m0)
+    → ways_of c2 ≡ ways_of c0
+    → length m2 ≡ length m0
+    → ((i k : ℕ) → copy_at c2 i k ≡ copy_at c0 i k)
+    → IfSome held (IsHeld c2 m2)
 held-same None c0 c2 m0 m2 h ways size same = tt
 held-same (Some h) c0 c2 m0 m2 held ways size same = record {
   core_in = rw (same_cores c0 c2 ways) held.core_in;
@@ -121,7 +157,9 @@ held-same (Some h) c0 c2 m0 m2 held ways size same = record {
 }
 
 -- and where a copy that is written in place went to M
-pub held-placed : (held : Option HeldBus) (c0 c2 : List Sets) (memory : List Words) (core line : ℕ) (o : Option Line) → IfSome held (IsHeld c0 memory) → ways_of c2 ≡ ways_of c0 →
+pub held-placed : (held : Option HeldBus) (c0 c2 : List Sets) (memory : List Words) (core line : ℕ) (o : Option Line)
+    → IfSome held (IsHeld c0 memory)
+    → ways_of c2 ≡ ways_of c0 →
     in_place (state_of_copy (copy_at c0 core line)) ≡ Some M → state_of_copy o ≡ M → ChangesCopy core line o c0 c2 → IfSome held (IsHeld c2 memory)
 held-placed None c0 c2 memory core line o h ways placed now to = tt
 held-placed (Some h) c0 c2 memory core line o held ways placed now to = record {

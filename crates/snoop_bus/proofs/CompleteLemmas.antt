@@ -1,5 +1,8 @@
 -- What a completion answers and leaves: the copy that the bus kept is the core's own, and another may have left.
-use Rattle.snoop_bus.proofs.Vocabulary.{cases_eq, arith, ◌≡◌, ◌≢◌, ◌⊎◌, inl, inr, ℕ, ◌<◌, ◌≤◌, cond, true, false, nat_eq, Option, Some, None, IfSome, List, length, map, refl, sym, ap, subst, ◌∙◌, slice_set, if◌then◌else◌, WritesBackDirty, Table, I, Line, Victim, after_fill, Words, line_in, Coherent, Sets, copy_in, copy_at, cache_of, current_words, AllCoherent, KeepsWords, written_back, with_counted_copy}
+use Rattle.snoop_bus.proofs.Vocabulary.{cases_eq, arith, ◌≡◌, ◌≢◌, ◌⊎◌, inl, inr, ℕ, ◌<◌, ◌≤◌, cond, true, false, nat_eq, Option, Some}
+use Rattle.snoop_bus.proofs.Vocabulary.{None, IfSome, List, length, map, refl, sym, ap, subst, ◌∙◌, slice_set, if◌then◌else◌}
+use Rattle.snoop_bus.proofs.Vocabulary.{WritesBackDirty, Table, I, Line, Victim, after_fill, Words, line_in, Coherent, Sets, copy_in}
+use Rattle.snoop_bus.proofs.Vocabulary.{copy_at, cache_of, current_words, AllCoherent, KeepsWords, written_back, with_counted_copy}
 use Rattle.cache_set.proofs.Numbers.{differ, itself, inside}
 use Rattle.snoop_bus.proofs.Coherence.{drop-coherent}
 use Rattle.snoop_bus.proofs.CurrentWords.{copy_at-set, seen_is, coherent_along, all_coherent}
@@ -18,7 +21,10 @@ module _ (t : Table) (law : WritesBackDirty t.evicts_dirty) (d0 c2 : List Sets) 
 
   module _ (h : Left) where
     had : (y : Victim) → v ≡ Some y → copy_at d0 core y.line ≡ Some y.content
-    had y e = let f : IfSome (Some y) (λ z. copy_at d0 core z.line ≡ Some z.content) = subst (λ (o : Option Victim). IfSome o (λ z. copy_at d0 core z.line ≡ Some z.content)) e h.was_here in f
+    had y e =
+        let f : IfSome (Some y) (λ z. copy_at d0 core z.line ≡ Some z.content) =
+        subst (λ (o : Option Victim). IfSome o (λ z. copy_at d0 core z.line ≡ Some z.content)) e h.was_here in
+        f
 
     below : (y : Victim) → v ≡ Some y → y.line < length m0
     below y e = elim (inside y.line (length m0)) [
@@ -27,7 +33,11 @@ module _ (t : Table) (law : WritesBackDirty t.evicts_dirty) (d0 c2 : List Sets) 
     ]
 
     -- a line that did not leave is as it was
-    stays : (k : ℕ) → k < length m0 → ((o : Option Line) → left_after v k o ≡ o) → line_in m2 k ≡ line_in m0 k → Coherent (current_words d0 m0 k) (line_in m2 k) (λ i. copy_at c2 i k)
+    stays : (k : ℕ)
+        → k < length m0
+        → ((o : Option Line) → left_after v k o ≡ o)
+        → line_in m2 k ≡ line_in m0 k
+        → Coherent (current_words d0 m0 k) (line_in m2 k) (λ i. copy_at c2 i k)
     stays k b e same = subst (λ (n : Words). Coherent (current_words d0 m0 k) n (λ i. copy_at c2 i k)) (sym same)
         (coherent_along (current_words d0 m0 k) (line_in m0 k) (λ i. copy_at d0 i k) (λ i. copy_at c2 i k) each (h.coherent.each k b))
       where
@@ -78,7 +88,8 @@ module _ (t : Table) (law : WritesBackDirty t.evicts_dirty) (d0 c2 : List Sets) 
     pub left-seen : (k : ℕ) → k < length m0 → current_words c2 m2 k ≡ current_words d0 m0 k
     left-seen k b = seen_is c2 m2 k (current_words d0 m0 k) (each_line k b)
 
-module _ (t : Table) (law : WritesBackDirty t.evicts_dirty) (c0 : List Sets) (m0 m2 : List Words) (core line : ℕ) (copy : Line) (v : Option Victim) (own : Sets) where
+module _ (t : Table) (law : WritesBackDirty t.evicts_dirty) (c0 : List Sets) (m0 m2 : List Words) (core line : ℕ)
+    (copy : Line) (v : Option Victim) (own : Sets) where
   -- the steps of a fill
   pub record Fill : Type 0 where
     pub coherent : AllCoherent (with_counted_copy core line copy c0) m0
@@ -102,7 +113,8 @@ module _ (t : Table) (law : WritesBackDirty t.evicts_dirty) (c0 : List Sets) (m0
 
     not_line : (y : Victim) → v ≡ Some y → y.line ≢ line
     not_line y e d =
-        let f : IfSome (Some y) (λ z. copy_at c0 core z.line ≡ Some z.content) = subst (λ (o : Option Victim). IfSome o (λ z. copy_at c0 core z.line ≡ Some z.content)) e h.was_here in
+        let f : IfSome (Some y) (λ z. copy_at c0 core z.line ≡ Some z.content) =
+        subst (λ (o : Option Victim). IfSome o (λ z. copy_at c0 core z.line ≡ Some z.content)) e h.was_here in
         let a : copy_at c0 core line ≡ Some y.content = rw d at f in let b : copy_at c0 core line ≡ None = h.absent in cc
 
     pub filled-left : Left t law d0 (slice_set c0 core own) m0 m2 core v
@@ -117,7 +129,8 @@ module _ (t : Table) (law : WritesBackDirty t.evicts_dirty) (c0 : List Sets) (m0
         was : (o : Option Victim) → v ≡ o → IfSome o (λ y. copy_at d0 core y.line ≡ Some y.content)
         was None e = tt
         was (Some y) e =
-            let f : IfSome (Some y) (λ z. copy_at c0 core z.line ≡ Some z.content) = subst (λ (o : Option Victim). IfSome o (λ z. copy_at c0 core z.line ≡ Some z.content)) e h.was_here in
+            let f : IfSome (Some y) (λ z. copy_at c0 core z.line ≡ Some z.content) =
+            subst (λ (o : Option Victim). IfSome o (λ z. copy_at c0 core z.line ≡ Some z.content)) e h.was_here in
             let n : nat_eq y.line line ≡ false = differ y.line line (not_line y e) in
             rw n at (counts_own y.line) ∙ f
 
@@ -125,7 +138,9 @@ module _ (t : Table) (law : WritesBackDirty t.evicts_dirty) (c0 : List Sets) (m0
         own_left None e k = sym (counts_own k)
         own_left (Some y) e k = rw (counts_own k) (by_line (cases_eq k line))
           where
-            by_line : (k ≡ line) ⊎ (k ≢ line) → (if nat_eq k line then Some copy else (if nat_eq k y.line then None else copy_at c0 core k)) ≡ cond (nat_eq k y.line) None (if nat_eq k line then Some copy else copy_at c0 core k)
+            by_line : (k ≡ line) ⊎ (k ≢ line)
+                → (if nat_eq k line then Some copy else (if nat_eq k y.line then None else copy_at c0 core k))
+                ≡ cond (nat_eq k y.line) None (if nat_eq k line then Some copy else copy_at c0 core k)
             by_line (inl p) =
                 let a : nat_eq k line ≡ true = rw p (itself line) in
                 let b : nat_eq k y.line ≡ false = differ k y.line (λ q. not_line y e (sym q ∙ p)) in rw (a, b) refl
@@ -146,12 +161,21 @@ module _ (t : Table) (law : WritesBackDirty t.evicts_dirty) (c0 : List Sets) (m0
     }
 
 -- the copy that counts is valid
-pub counted-valid : (c0 : List Sets) (m0 : List Words) (core line : ℕ) (copy : Line) → AllCoherent (with_counted_copy core line copy c0) m0 → core < length c0 → 0 < length (cache_of c0 core) → line < length m0 → copy.state ≢ I
+pub counted-valid : (c0 : List Sets) (m0 : List Words) (core line : ℕ) (copy : Line)
+    → AllCoherent (with_counted_copy core line copy c0) m0
+    → core < length c0
+    → 0 < length (cache_of c0 core)
+    → line < length m0
+    → copy.state ≢ I
 counted-valid c0 m0 core line copy h within some line_in =
     (h.each line line_in).valid core copy (rw (itself core, itself line) at (counting-at c0 core line copy core line within some))
 
 -- what leaves is a line of memory
-pub victim_within : (c0 : List Sets) (m0 : List Words) (core line : ℕ) (copy : Line) (v : Option Victim) → AllCoherent (with_counted_copy core line copy c0) m0 → core < length c0 → 0 < length (cache_of c0 core) → line < length m0 →
+pub victim_within : (c0 : List Sets) (m0 : List Words) (core line : ℕ) (copy : Line) (v : Option Victim)
+    → AllCoherent (with_counted_copy core line copy c0) m0
+    → core < length c0
+    → 0 < length (cache_of c0 core)
+    → line < length m0 →
     IfSome v (λ y. copy_at c0 core y.line ≡ Some y.content) → IfSome v (λ y. y.line < length m0)
 victim_within c0 m0 core line copy None h within some line_in was = tt
 victim_within c0 m0 core line copy (Some y) h within some line_in was = elim (inside y.line (length m0)) [
@@ -159,7 +183,8 @@ victim_within c0 m0 core line copy (Some y) h within some line_in was = elim (in
   | inr p ↦
       let d : y.line ≢ line = λ e. let z : line < length m0 = line_in in let q : length m0 ≤ line = rw e at p in absurd (omega arith) in
       let n : nat_eq y.line line ≡ false = differ y.line line d in
-      let a : copy_at (with_counted_copy core line copy c0) core y.line ≡ copy_at c0 core y.line = rw (itself core, n) at (counting-at c0 core line copy core y.line within some) in
+      let a : copy_at (with_counted_copy core line copy c0) core y.line ≡ copy_at c0 core y.line =
+      rw (itself core, n) at (counting-at c0 core line copy core y.line within some) in
       let b : copy_at (with_counted_copy core line copy c0) core y.line ≡ None = h.within y.line core p in
       cc (a, b, was)
 ]

@@ -1,5 +1,6 @@
 -- What the calls of an access that misses rest on, from what the calls before them did.
-use Rattle.snoop_bus.proofs.Vocabulary.{◌≡◌, ℕ, ◌<◌, Option, Some, None, List, length, refl, ◌∙◌, slice_set, Table, Line, Victim, after_fill, Words, Sets, copy_in, copy_at, written_back}
+use Rattle.snoop_bus.proofs.Vocabulary.{◌≡◌, ℕ, ◌<◌, Option, Some, None, List, length, refl, ◌∙◌, slice_set, Table, Line, Victim}
+use Rattle.snoop_bus.proofs.Vocabulary.{after_fill, Words, Sets, copy_in, copy_at, written_back}
 use Rattle.cache_set.proofs.Numbers.{itself}
 use Rattle.snoop_bus.proofs.CurrentWords.{copy_at-set}
 

@@ -1,5 +1,8 @@
 -- The copies that count while the bus is held.
-use Rattle.snoop_bus.proofs.Vocabulary.{cases_eq, get_or-set_same, get_or-set_other, length-set, length-map, get_or-map, map-set_same, arith, ◌≡◌, ◌≢◌, ◌⊎◌, inl, inr, ℕ, ◌<◌, ◌%◌, false, ◌&&◌, nat_eq, Some, List, [], length, map, refl, sym, ap, ◌∙◌, slice_index_or, if◌then◌else◌, Line, Contents, contents, copy_of, Sets, set_at, in_set, copy_in, copy_at, cache_of, ways_of, with_copy, with_counted_copy}
+use Rattle.snoop_bus.proofs.Vocabulary.{cases_eq, get_or-set_same, get_or-set_other, length-set, length-map, get_or-map, map-set_same}
+use Rattle.snoop_bus.proofs.Vocabulary.{arith, ◌≡◌, ◌≢◌, ◌⊎◌, inl, inr, ℕ, ◌<◌, ◌%◌, false, ◌&&◌, nat_eq, Some, List, [], length, map, refl}
+use Rattle.snoop_bus.proofs.Vocabulary.{sym, ap, ◌∙◌, slice_index_or, if◌then◌else◌, Line, Contents, contents, copy_of, Sets, set_at}
+use Rattle.snoop_bus.proofs.Vocabulary.{in_set, copy_in, copy_at, cache_of, ways_of, with_copy, with_counted_copy}
 use Rattle.cache_set.proofs.Numbers.{differ, itself}
 use Rattle.snoop_bus.proofs.CurrentWords.{copy_at-set}
 use Rattle.snoop_bus.proofs.UseLemmas.{ways-set_cache}
@@ -12,7 +15,8 @@ copy_in-with sets line k copy some =
     rw size (by_set size (cases_eq (k % length sets) (line % length sets)))
   where
     by_set : length (in_set line (with_copy line copy) sets) ≡ length sets → (k % length sets ≡ line % length sets) ⊎ (k % length sets ≢ line % length sets) →
-        copy_of (slice_index_or (in_set line (with_copy line copy) sets) (k % length sets) (contents [] 1)) k ≡ (if nat_eq k line then Some copy else copy_in sets k)
+        copy_of (slice_index_or (in_set line (with_copy line copy) sets) (k % length sets) (contents [] 1)) k
+        ≡ (if nat_eq k line then Some copy else copy_in sets k)
     by_set size (inl p) =
         let within : line % length sets < length sets = omega arith in
         rw (p, get_or-set_same sets (line % length sets) (with_copy line copy (set_at sets line)) (contents [] 1) within) refl
@@ -32,12 +36,14 @@ counting-at caches core line copy i k within some =
 
 pub ways-counting : (caches : List Sets) (core line : ℕ) (copy : Line) → ways_of (with_counted_copy core line copy caches) ≡ ways_of caches
 ways-counting caches core line copy = ways-set_cache caches core (in_set line (with_copy line copy) (cache_of caches core))
-    (map-set_same (λ (s : Contents). s.ways) (cache_of caches core) (line % length (cache_of caches core)) (with_copy line copy (set_at (cache_of caches core) line)) (contents [] 1) refl)
+    (map-set_same (λ (s : Contents). s.ways) (cache_of caches core) (line % length (cache_of caches core))
+    (with_copy line copy (set_at (cache_of caches core) line)) (contents [] 1) refl)
 
 -- as many sets, where each has the room that it had
 pub same_sets : (c0 c1 : List Sets) (core : ℕ) → ways_of c1 ≡ ways_of c0 → 0 < length (cache_of c0 core) → 0 < length (cache_of c1 core)
 same_sets c0 c1 core same some =
-    let sized : length (cache_of c1 core) ≡ length (cache_of c0 core) = sym (sets c1) ∙ ap (λ (l : List (List ℕ)). length (slice_index_or l core [])) same ∙ sets c0 in
+    let sized : length (cache_of c1 core) ≡ length (cache_of c0 core) =
+    sym (sets c1) ∙ ap (λ (l : List (List ℕ)). length (slice_index_or l core [])) same ∙ sets c0 in
     rw sized some
   where
     sets : (c : List Sets) → length (slice_index_or (ways_of c) core []) ≡ length (cache_of c core)

@@ -1,11 +1,17 @@
 -- Each line has its words of the list of words, and 0 at every other offset: what keeps that.
-use Rattle.snoop_bus.proofs.Vocabulary.{nat_tests, arith, ◌≡◌, ◌≢◌, ◌⊎◌, inl, inr, ℕ, ◌<◌, ◌≤◌, nat_eq, true, false, refl, sym, ap, ◌∙◌, List, length, slice_set, if◌then◌else◌, ◌%◌, slice_index_or, nat_lt, ◌+◌, ◌*◌, ◌/◌, slice_index, cases_eq, cases_lt, Words, words_in_lines, offset_of, line_of_words, get_or-set_same, get_or-set_other, ext_get_or, length-set, length-map-range_with_len, get_or-map-range_with_len, div-add-mod', div-mul-add, mod-mul-add, mod_below, most_words}
+use Rattle.snoop_bus.proofs.Vocabulary.{nat_tests, arith, ◌≡◌, ◌≢◌, ◌⊎◌, inl, inr, ℕ, ◌<◌, ◌≤◌, nat_eq, true, false, refl, sym, ap, ◌∙◌}
+use Rattle.snoop_bus.proofs.Vocabulary.{List, length, slice_set, if◌then◌else◌, ◌%◌, slice_index_or, nat_lt, ◌+◌, ◌*◌, ◌/◌, slice_index}
+use Rattle.snoop_bus.proofs.Vocabulary.{cases_eq, cases_lt, Words, words_in_lines, offset_of, line_of_words, get_or-set_same}
+use Rattle.snoop_bus.proofs.Vocabulary.{get_or-set_other, ext_get_or, length-set, length-map-range_with_len, get_or-map-range_with_len}
+use Rattle.snoop_bus.proofs.Vocabulary.{div-add-mod', div-mul-add, mod-mul-add, mod_below, most_words}
 use Rattle.cache_set.proofs.Numbers.{differ, itself}
 use Rattle.snoop_bus.proofs.WordLemmas.{length-words, words-same, words-set}
 
 -- where each line is as it was
 pub lines-same : (words n size : ℕ) (l0 l2 : ℕ → Words) → 0 < words → n ≤ size * words → ((k : ℕ) → k < size → l2 k ≡ l0 k) →
-    ((k : ℕ) → k < size → l0 k ≡ line_of_words words (words_in_lines words l0 n) k) → (k : ℕ) → k < size → l2 k ≡ line_of_words words (words_in_lines words l2 n) k
+    ((k : ℕ) → k < size → l0 k ≡ line_of_words words (words_in_lines words l0 n) k)
+    → (k : ℕ) → k < size
+    → l2 k ≡ line_of_words words (words_in_lines words l2 n) k
 lines-same words n size l0 l2 some enough same was k b =
     same k b ∙ was k b ∙ ap (λ (ws : List ℕ). line_of_words words ws k) (sym (words-same words n size l0 l2 some enough same))
 
@@ -60,7 +66,8 @@ module _ (words : ℕ) (ws : List ℕ) (loc value : ℕ) (some : 0 < words) (wit
 
   line-away : (k : ℕ) → k ≢ loc / words → line_of_words words (slice_set ws loc value) k ≡ line_of_words words ws k
   line-away k d =
-      ext_get_or 0 (line_of_words words (slice_set ws loc value) k) (line_of_words words ws k) (length-line words (slice_set ws loc value) k ∙ sym (length-line words ws k)) (λ p b.
+      ext_get_or 0 (line_of_words words (slice_set ws loc value) k) (line_of_words words ws k)
+      (length-line words (slice_set ws loc value) k ∙ sym (length-line words ws k)) (λ p b.
       let bp : p < most_words = rw (length-line words (slice_set ws loc value) k) at b in
       place-at words (slice_set ws loc value) k p bp ∙ at p (place-set k p) ∙ sym (place-at words ws k p bp))
     where
@@ -74,9 +81,12 @@ module _ (words : ℕ) (ws : List ℕ) (loc value : ℕ) (some : 0 < words) (wit
 -- where one offset of one line was written
 pub lines-set : (words n size : ℕ) (l0 l2 : ℕ → Words) (loc value : ℕ) → 0 < words → n ≤ size * words → loc < n → loc % words < length (l0 (loc / words)) →
     ((k : ℕ) → k < size → l2 k ≡ (if nat_eq k (loc / words) then slice_set (l0 (loc / words)) (loc % words) value else l0 k)) →
-    ((k : ℕ) → k < size → l0 k ≡ line_of_words words (words_in_lines words l0 n) k) → (k : ℕ) → k < size → l2 k ≡ line_of_words words (words_in_lines words l2 n) k
+    ((k : ℕ) → k < size → l0 k ≡ line_of_words words (words_in_lines words l0 n) k)
+    → (k : ℕ) → k < size
+    → l2 k ≡ line_of_words words (words_in_lines words l2 n) k
 lines-set words n size l0 l2 loc value some enough within offset set was k b =
-    by_line (cases_eq k (loc / words)) ∙ ap (λ (ws : List ℕ). line_of_words words ws k) (sym (words-set words n size l0 l2 loc value some enough within offset set))
+    by_line (cases_eq k (loc / words))
+    ∙ ap (λ (ws : List ℕ). line_of_words words ws k) (sym (words-set words n size l0 l2 loc value some enough within offset set))
   where
     there : loc < length (words_in_lines words l0 n)
     there = rw (length-words words l0 n) within

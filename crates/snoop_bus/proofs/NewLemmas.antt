@@ -1,5 +1,12 @@
 -- A new bus, and what holds of a bus from one access to the next.
-use Rattle.snoop_bus.proofs.Vocabulary.{nat_tests, arith, ◌≡◌, inl, inr, ℕ, ◌<◌, ◌≤◌, true, None, refl, Option, sym, ap, ◌∙◌, zero, suc, List, [], ◌∷◌, length, map, ◌%◌, slice_index_or, nat_lt, ◌+◌, replicate, ◌*◌, ◌/◌, slice_index, IfSome, Table, cases_lt, Words, line_in, word_in_lines, words_in_lines, offset_of, line_of_words, lines_of_words, Coherent, length-map, Sets, copy_in, copy_at, cache_of, current_words, AllCoherent, empty_caches, Contents, copy_of, contents, get_or-map, ways_of, most_cores, length-map-range_with_len, get_or-map-range_with_len, fill_by_all, div-add-mod', mod_below, mul-le, most_words, div_ceil, Geometry, HasWholeLines, IsBus, Updated, Hierarchy, HeldBus, counted_copies_of, IsHeld, IsPlaced, KeepsWords, SetsWord, Updates}
+use Rattle.snoop_bus.proofs.Vocabulary.{nat_tests, arith, ◌≡◌, inl, inr, ℕ, ◌<◌, ◌≤◌, true, None, refl, Option, sym, ap, ◌∙◌, zero, suc}
+use Rattle.snoop_bus.proofs.Vocabulary.{List, [], ◌∷◌, length, map, ◌%◌, slice_index_or, nat_lt, ◌+◌, replicate, ◌*◌, ◌/◌, slice_index}
+use Rattle.snoop_bus.proofs.Vocabulary.{IfSome, Table, cases_lt, Words, line_in, word_in_lines, words_in_lines, offset_of, line_of_words}
+use Rattle.snoop_bus.proofs.Vocabulary.{lines_of_words, Coherent, length-map, Sets, copy_in, copy_at, cache_of, current_words, AllCoherent}
+use Rattle.snoop_bus.proofs.Vocabulary.{empty_caches, Contents, copy_of, contents, get_or-map, ways_of, most_cores}
+use Rattle.snoop_bus.proofs.Vocabulary.{length-map-range_with_len, get_or-map-range_with_len, fill_by_all, div-add-mod', mod_below, mul-le}
+use Rattle.snoop_bus.proofs.Vocabulary.{most_words, div_ceil, Geometry, HasWholeLines, IsBus, Updated, Hierarchy, HeldBus}
+use Rattle.snoop_bus.proofs.Vocabulary.{counted_copies_of, IsHeld, IsPlaced, KeepsWords, SetsWord, Updates}
 use Rattle.std.proofs.lemmas.List.{length-replicate}
 use Rattle.cache_set.proofs.WholeCache.{replicate-at}
 use Rattle.snoop_bus.proofs.CurrentWords.{seen_is, all_coherent}
@@ -32,13 +39,19 @@ new-line cores shape w k = record {
 }
 
 -- the lines of these words have these words
-lines-of_words : (words lines : ℕ) (init : List ℕ) → 0 < words → words ≤ most_words → length init ≤ lines * words → words_in_lines words (line_in (lines_of_words words init lines)) (length init) ≡ init
-lines-of_words words lines init some few enough = sym (fill_by_all (word_in_lines words (line_in (lines_of_words words init lines))) init (length init) 0 refl each)
+lines-of_words : (words lines : ℕ) (init : List ℕ)
+    → 0 < words
+    → words ≤ most_words
+    → length init ≤ lines * words
+    → words_in_lines words (line_in (lines_of_words words init lines)) (length init) ≡ init
+lines-of_words words lines init some few enough =
+    sym (fill_by_all (word_in_lines words (line_in (lines_of_words words init lines))) init (length init) 0 refl each)
   where
     each : (i : ℕ) → i < length init → slice_index_or init i 0 ≡ word_in_lines words (line_in (lines_of_words words init lines)) i
     each i b =
         let line : line_in (lines_of_words words init lines) (i / words) ≡ line_of_words words init (i / words) =
-        get_or-map-range_with_len (line_of_words words init) 0 lines (i / words) (i / words) [] (line_below words (length init) lines i some enough b) (omega arith) in
+        get_or-map-range_with_len (line_of_words words init) 0 lines (i / words) (i / words) []
+        (line_below words (length init) lines i some enough b) (omega arith) in
         let low : i % words < words = mod_below i words some in
         let offset : slice_index (line_of_words words init (i / words)) (i % words) ≡ offset_of words init (i / words) (i % words) =
         get_or-map-range_with_len (offset_of words init (i / words)) 0 most_words (i % words) (i % words) 0 (omega arith) (omega arith) in
@@ -64,10 +77,19 @@ lines_few lines words n some close few = elim (cases_lt 16 lines) [
   | inr p ↦ p
 ]
 
-pub new-bus : (cores lines : ℕ) (shape : Geometry) (init : List ℕ) → 1 ≤ cores → cores ≤ most_cores → 1 ≤ shape.words → shape.words ≤ most_words → length init ≤ 16 → length init ≤ lines * shape.words → lines * shape.words < length init + shape.words →
+pub new-bus : (cores lines : ℕ) (shape : Geometry) (init : List ℕ)
+    → 1 ≤ cores
+    → cores ≤ most_cores
+    → 1 ≤ shape.words
+    → shape.words ≤ most_words
+    → length init ≤ 16
+    → length init ≤ lines * shape.words
+    → lines * shape.words < length init + shape.words →
     lines ≡ div_ceil (length init) shape.words → IsBus shape (length init) (empty_caches cores shape) (lines_of_words shape.words init lines) None
 new-bus cores lines shape init some few words small locations enough close exact = record {
-  coherent = all_coherent (empty_caches cores shape) memory (λ k. line_in memory k) (λ k b. new-line cores shape (line_in memory k) k) (λ k i b. empty_copy cores shape i k);
+  coherent =
+      all_coherent (empty_caches cores shape) memory (λ k. line_in memory k)
+      (λ k b. new-line cores shape (line_in memory k) k) (λ k i b. empty_copy cores shape i k);
   lines = λ k b. seen_is (empty_caches cores shape) memory k (line_in memory k) (new-line cores shape (line_in memory k) k)
       ∙ get_or-map-range_with_len (line_of_words shape.words init) 0 lines k k [] (rw lines_are at b) (omega arith)
       ∙ ap (λ (ws : List ℕ). line_of_words shape.words ws k) (sym (new-words shape.words lines cores shape init words small enough));
@@ -97,8 +119,15 @@ new-bus cores lines shape init some few words small locations enough close exact
 pub same_cores : (c0 c2 : List Sets) → ways_of c2 ≡ ways_of c0 → length c2 ≡ length c0
 same_cores c0 c2 same = sym (length-map c2 (map (λ (s : Contents). s.ways))) ∙ ap length same ∙ length-map c0 (map (λ (s : Contents). s.ways))
 
-pub bus-after : (shape : Geometry) (locations : ℕ) (old new : Hierarchy) (h0 h2 : Option HeldBus) → IsBus shape locations old.caches.items old.memory.items h0 → length new.memory.items ≡ length old.memory.items → AllCoherent (counted_copies_of h2 new.caches.items) new.memory.items → ways_of new.caches.items ≡ ways_of old.caches.items →
-    HasWholeLines shape locations (counted_copies_of h2 new.caches.items) new.memory.items → IfSome h2 (IsHeld new.caches.items new.memory.items) → IfSome h2 (IsPlaced shape locations) → IsBus shape locations new.caches.items new.memory.items h2
+pub bus-after : (shape : Geometry) (locations : ℕ) (old new : Hierarchy) (h0 h2 : Option HeldBus)
+    → IsBus shape locations old.caches.items old.memory.items h0
+    → length new.memory.items ≡ length old.memory.items
+    → AllCoherent (counted_copies_of h2 new.caches.items) new.memory.items
+    → ways_of new.caches.items ≡ ways_of old.caches.items →
+    HasWholeLines shape locations (counted_copies_of h2 new.caches.items) new.memory.items
+    → IfSome h2 (IsHeld new.caches.items new.memory.items)
+    → IfSome h2 (IsPlaced shape locations)
+    → IsBus shape locations new.caches.items new.memory.items h2
 bus-after shape locations old new h0 h2 h size coherent ways lines awaited placed = record {
   coherent = coherent;
   lines = lines;
@@ -115,26 +144,60 @@ bus-after shape locations old new h0 h2 h size coherent ways lines awaited place
 }
 
 -- a bus whose words stay
-pub bus-kept : (shape : Geometry) (locations : ℕ) (old new : Hierarchy) (h0 h2 : Option HeldBus) → IsBus shape locations old.caches.items old.memory.items h0 → length new.memory.items ≡ length old.memory.items → KeepsWords (counted_copies_of h0 old.caches.items) (counted_copies_of h2 new.caches.items) old.memory.items new.memory.items →
-    ways_of new.caches.items ≡ ways_of old.caches.items → IfSome h2 (IsHeld new.caches.items new.memory.items) → IfSome h2 (IsPlaced shape locations) → IsBus shape locations new.caches.items new.memory.items h2
+pub bus-kept : (shape : Geometry) (locations : ℕ) (old new : Hierarchy) (h0 h2 : Option HeldBus)
+    → IsBus shape locations old.caches.items old.memory.items h0
+    → length new.memory.items ≡ length old.memory.items
+    → KeepsWords (counted_copies_of h0 old.caches.items) (counted_copies_of h2 new.caches.items) old.memory.items new.memory.items →
+    ways_of new.caches.items ≡ ways_of old.caches.items
+    → IfSome h2 (IsHeld new.caches.items new.memory.items)
+    → IfSome h2 (IsPlaced shape locations)
+    → IsBus shape locations new.caches.items new.memory.items h2
 bus-kept shape locations old new h0 h2 h size keeps ways awaited placed = bus-after shape locations old new h0 h2 h size keeps.coherent ways
-    (λ k b. lines-same shape.words locations (length old.memory.items) (current_words (counted_copies_of h0 old.caches.items) old.memory.items) (current_words (counted_copies_of h2 new.caches.items) new.memory.items) h.some_word h.enough_lines keeps.words h.lines k (rw size at b)) awaited placed
+    (λ k b. lines-same shape.words locations (length old.memory.items)
+    (current_words (counted_copies_of h0 old.caches.items) old.memory.items)
+    (current_words (counted_copies_of h2 new.caches.items) new.memory.items) h.some_word h.enough_lines keeps.words
+    h.lines k (rw size at b))
+    awaited placed
 
 -- a bus once a word was written, where nobody holds it then
-pub bus-set : (shape : Geometry) (locations : ℕ) (old new : Hierarchy) (h0 : Option HeldBus) (loc value : ℕ) → IsBus shape locations old.caches.items old.memory.items h0 → length new.memory.items ≡ length old.memory.items → loc < locations →
-    SetsWord (loc / shape.words) (loc % shape.words) value (counted_copies_of h0 old.caches.items) new.caches.items old.memory.items new.memory.items → ways_of new.caches.items ≡ ways_of old.caches.items → IsBus shape locations new.caches.items new.memory.items None
+pub bus-set : (shape : Geometry) (locations : ℕ) (old new : Hierarchy) (h0 : Option HeldBus) (loc value : ℕ)
+    → IsBus shape locations old.caches.items old.memory.items h0
+    → length new.memory.items ≡ length old.memory.items
+    → loc < locations →
+    SetsWord (loc / shape.words) (loc % shape.words) value (counted_copies_of h0 old.caches.items) new.caches.items old.memory.items new.memory.items
+    → ways_of new.caches.items ≡ ways_of old.caches.items
+    → IsBus shape locations new.caches.items new.memory.items None
 bus-set shape locations old new h0 loc value h size within sets ways = bus-after shape locations old new h0 None h size sets.coherent ways
-    (λ k b. lines-set shape.words locations (length old.memory.items) (current_words (counted_copies_of h0 old.caches.items) old.memory.items) (current_words new.caches.items new.memory.items) loc value h.some_word h.enough_lines within sets.offset_in sets.lines h.lines k (rw size at b)) tt tt
+    (λ k b. lines-set shape.words locations (length old.memory.items)
+    (current_words (counted_copies_of h0 old.caches.items) old.memory.items)
+    (current_words new.caches.items new.memory.items) loc value h.some_word h.enough_lines within sets.offset_in
+    sets.lines h.lines k (rw size at b))
+    tt tt
 
 -- a bus once a write access was made
 pub bus-written : (t : Table) (held : Option HeldBus) (x : Updated) (shape : Geometry) (locations : ℕ) (old new : Hierarchy) (core loc : ℕ) →
-    IsBus shape locations old.caches.items old.memory.items held → length new.memory.items ≡ length old.memory.items → loc < locations → AllCoherent (counted_copies_of held new.caches.items) new.memory.items → IfSome held (IsHeld new.caches.items new.memory.items) → ways_of new.caches.items ≡ ways_of old.caches.items →
-    Updates t held core (loc / shape.words) (loc % shape.words) old.caches.items new.caches.items old.memory.items new.memory.items x → IsBus shape locations new.caches.items new.memory.items held
-bus-written t held x shape locations old new core loc h size within coherent awaited ways writes = bus-after shape locations old new held held h size coherent ways
-    (λ k b. lines-set shape.words locations (length old.memory.items) (current_words (counted_copies_of held old.caches.items) old.memory.items) (current_words (counted_copies_of held new.caches.items) new.memory.items) loc x.after h.some_word h.enough_lines within writes.offset_in writes.lines h.lines k (rw size at b)) awaited h.placed
+    IsBus shape locations old.caches.items old.memory.items held
+    → length new.memory.items ≡ length old.memory.items
+    → loc < locations
+    → AllCoherent (counted_copies_of held new.caches.items) new.memory.items
+    → IfSome held (IsHeld new.caches.items new.memory.items)
+    → ways_of new.caches.items ≡ ways_of old.caches.items →
+    Updates t held core (loc / shape.words) (loc % shape.words) old.caches.items new.caches.items old.memory.items new.memory.items x
+    → IsBus shape locations new.caches.items new.memory.items held
+bus-written t held x shape locations old new core loc h size within coherent awaited ways writes =
+    bus-after shape locations old new held held h size coherent ways
+    (λ k b. lines-set shape.words locations (length old.memory.items)
+    (current_words (counted_copies_of held old.caches.items) old.memory.items)
+    (current_words (counted_copies_of held new.caches.items) new.memory.items) loc x.after h.some_word
+    h.enough_lines within writes.offset_in writes.lines h.lines k (rw size at b))
+    awaited h.placed
 
 -- each core has as many sets as the shape says
-pub cache-sets : (shape : Geometry) (locations : ℕ) (caches : List Sets) (memory : List Words) (held : Option HeldBus) (core : ℕ) → IsBus shape locations caches memory held → core < length caches → length (cache_of caches core) ≡ shape.sets
+pub cache-sets : (shape : Geometry) (locations : ℕ) (caches : List Sets) (memory : List Words) (held : Option HeldBus)
+    (core : ℕ)
+    → IsBus shape locations caches memory held
+    → core < length caches
+    → length (cache_of caches core) ≡ shape.sets
 cache-sets shape locations caches memory held core h within =
     sym (length-map (cache_of caches core) (λ (s : Contents). s.ways))
     ∙ ap length (sym (get_or-map (map (λ (s : Contents). s.ways)) caches core []))

@@ -1,6 +1,7 @@
 -- A table is that of its rows.
 use mathlib.Core.Path.{fun_ext}
-use Rattle.snoop_bus.proofs.Vocabulary.{◌≡◌, Bool, true, false, None, refl, State, I, M, Table, snoop, table_column, column_entry, rows_of, filled_in, table_of_rows}
+use Rattle.snoop_bus.proofs.Vocabulary.{◌≡◌, Bool, true, false, None, refl, State, I, M, Table, snoop, table_column, column_entry, rows_of}
+use Rattle.snoop_bus.proofs.Vocabulary.{filled_in, table_of_rows}
 
 column-entry : {A : Type 0} (none : A) (f : State → A) → column_entry none (table_column f) ≡ f
 column-entry none f = fun_ext each
@@ -17,4 +18,12 @@ filled-in t = fun_ext each
     each false = refl
 
 pub table_of-rows : (t : Table) → table_of_rows (rows_of t) ≡ t
-table_of-rows t = rw (filled-in t, column-entry (snoop I false false) t.on_get_s, column-entry (snoop I false false) t.on_get_m, column-entry None t.written, column-entry false t.evicts_dirty) refl
+table_of-rows t =
+    rw (
+      filled-in t,
+      column-entry (snoop I false false) t.on_get_s,
+      column-entry (snoop I false false) t.on_get_m,
+      column-entry None t.written,
+      column-entry false t.evicts_dirty,
+    )
+    refl

@@ -1,5 +1,8 @@
 -- A write access, from what each of its steps gives.
-use Rattle.snoop_bus.proofs.Vocabulary.{◌≡◌, ◌≢◌, ℕ, ◌<◌, false, nat_eq, Option, Some, None, option_map, List, length, slice_set, refl, ap, ◌∙◌, in_place, GivesUp, State, I, M, Snoop, Line, copy_with, with_state, with_word, Words, line_in, Coherent, Sets, copy_at, current_words, AllCoherent, copy_if, copy_left_by, ChangesCopy, cases_Bool, inl, inr}
+use Rattle.snoop_bus.proofs.Vocabulary.{◌≡◌, ◌≢◌, ℕ, ◌<◌, false, nat_eq, Option, Some, None, option_map, List, length, slice_set, refl, ap}
+use Rattle.snoop_bus.proofs.Vocabulary.{◌∙◌, in_place, GivesUp, State, I, M, Snoop, Line, copy_with, with_state, with_word, Words, line_in}
+use Rattle.snoop_bus.proofs.Vocabulary.{Coherent, Sets, copy_at, current_words, AllCoherent, copy_if, copy_left_by, ChangesCopy, cases_Bool}
+use Rattle.snoop_bus.proofs.Vocabulary.{inl, inr}
 use Rattle.cache_set.proofs.Numbers.{differ, itself}
 use Rattle.snoop_bus.proofs.Coherence.{alone}
 use Rattle.snoop_bus.proofs.OwnLemmas.{Owned}
@@ -43,7 +46,9 @@ hit_owned c0 c2 m core line copy next h within here writes to =
 
 -- a word is written to a copy in M
 pub write_owned : (c0 c2 : List Sets) (m : List Words) (core line offset value : ℕ) (old : Words) → AllCoherent c0 m → line < length m →
-    copy_at c0 core line ≡ Some (copy_with M old) → ChangesCopy core line (option_map (with_word offset value) (copy_at c0 core line)) c0 c2 → Owned c0 c2 m core line (slice_set old offset value)
+    copy_at c0 core line ≡ Some (copy_with M old)
+    → ChangesCopy core line (option_map (with_word offset value) (copy_at c0 core line)) c0 c2
+    → Owned c0 c2 m core line (slice_set old offset value)
 write_owned c0 c2 m core line offset value old h within here to =
     let was : Coherent (current_words c0 m line) (line_in m line) (λ i. copy_at c0 i line) = h.each line within in
     record {

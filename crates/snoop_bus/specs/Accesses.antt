@@ -13,7 +13,8 @@ use Rattle.cache_set.specs.CacheTags.{TagSets}
 use Rattle.cache_set.specs.Copies.{cache_of, tags_of}
 use Rattle.snoop_bus.specs.Bus.{BusModel, bus_with, words_of, holder_of, empty_caches}
 use Rattle.snoop_bus.specs.Held.{transaction_in, holder, stage_for}
-use Rattle.snoop_bus.specs.Asks.{Awaited, AskedAccess, hits, request_for, asking, asked_memory, awaited_in, completed, completed_memory, whole_access, whole_memory}
+use Rattle.snoop_bus.specs.Asks.{Awaited, AskedAccess, hits, request_for, asking, asked_memory, awaited_in, completed, completed_memory}
+use Rattle.snoop_bus.specs.Asks.{whole_access, whole_memory}
 use Rattle.snoop_bus.specs.declared.looking.CachedLine.{CachedLine}
 
 -- memory with these words: as many lines as they need

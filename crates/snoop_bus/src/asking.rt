@@ -58,10 +58,13 @@ impl Hierarchy {
         requires ready { IsReady None wanted.core.0 wanted.line self.old }
         requires misses { wanted.write ≡ false → copy_at self.old.caches.items wanted.core.0 wanted.line ≡ None }
 
-        ensures exact { result ≡ held_after_ask (P.table protocol.now) wanted.core wanted.loc wanted.line wanted.write self.old.caches.items self.old.memory.items }
+        ensures exact { result ≡ held_after_ask (P.table protocol.now) wanted.core wanted.loc wanted.line wanted.write
+            self.old.caches.items self.old.memory.items }
         ensures awaited { IsHeld self.new.caches.items self.new.memory.items result }
-        ensures tags { tags_of self.new.caches.items ≡ asked_caches (P.table protocol.now) (request_for wanted.write) wanted.core.0 wanted.line (tags_of self.old.caches.items) }
-        ensures memory { self.new.memory.items ≡ asked_memory (P.table protocol.now) (request_for wanted.write) wanted.line self.old.caches.items self.old.memory.items }
+        ensures tags { tags_of self.new.caches.items
+            ≡ asked_caches (P.table protocol.now) (request_for wanted.write) wanted.core.0 wanted.line (tags_of self.old.caches.items) }
+        ensures memory { self.new.memory.items
+            ≡ asked_memory (P.table protocol.now) (request_for wanted.write) wanted.line self.old.caches.items self.old.memory.items }
         ensures words { KeepsWords self.old.caches.items (counted_copies_of (Some result) self.new.caches.items) self.old.memory.items self.new.memory.items }
         ensures cache { cache_of self.new.caches.items wanted.core.0 ≡ cache_of self.old.caches.items wanted.core.0 }
         ensures ways { ways_of self.new.caches.items ≡ ways_of self.old.caches.items }
@@ -93,7 +96,8 @@ impl Hierarchy {
         ensures tags { tags_of self.new.caches.items ≡ requested (P.table protocol.now).on_get_s core line (tags_of self.old.caches.items) }
         ensures memory { self.new.memory.items ≡ asked_memory (P.table protocol.now) GetS line self.old.caches.items self.old.memory.items }
         ensures own { copy_at self.new.caches.items core line ≡ None }
-        ensures words { KeepsWords self.old.caches.items (with_counted_copy core line result.copy self.new.caches.items) self.old.memory.items self.new.memory.items }
+        ensures words { KeepsWords self.old.caches.items
+            (with_counted_copy core line result.copy self.new.caches.items) self.old.memory.items self.new.memory.items }
         ensures cache { cache_of self.new.caches.items core ≡ cache_of self.old.caches.items core }
         ensures ways { ways_of self.new.caches.items ≡ ways_of self.old.caches.items }
     {

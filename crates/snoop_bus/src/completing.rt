@@ -52,7 +52,9 @@ impl Hierarchy {
         ensures tags { tags_of self.new.caches.items ≡ filled_by core line transaction.copy.state (tags_of self.old.caches.items) }
         ensures memory { self.new.memory.items ≡ written_back (P.table protocol.now) (victim_at self.old.caches.items core line) self.old.memory.items }
         ensures own { copy_at self.new.caches.items core line ≡ Some transaction.copy }
-        ensures words { KeepsWords (with_counted_copy core line transaction.copy self.old.caches.items) self.new.caches.items self.old.memory.items self.new.memory.items }
+        ensures words { KeepsWords
+            (with_counted_copy core line transaction.copy self.old.caches.items) self.new.caches.items self.old.memory.items
+            self.new.memory.items }
         ensures ways { ways_of self.new.caches.items ≡ ways_of self.old.caches.items }
     {
         let cache = &mut self.caches[core];
@@ -121,7 +123,9 @@ impl Hierarchy {
 
         ensures word { result.0 ≡ slice_index (words_due transaction target.core target.line self.old) target.offset }
         ensures ok { Completes (P.table protocol.now) transaction target.core target.line self.old self.new result.1 }
-        ensures words { KeepsWords (counted_in target.core target.line transaction self.old.caches.items) self.new.caches.items self.old.memory.items self.new.memory.items }
+        ensures words { KeepsWords
+            (counted_in target.core target.line transaction self.old.caches.items) self.new.caches.items
+            self.old.memory.items self.new.memory.items }
         ensures ways { ways_of self.new.caches.items ≡ ways_of self.old.caches.items }
     {
         let transaction = transaction.unwrap();

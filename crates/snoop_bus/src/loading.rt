@@ -26,7 +26,8 @@ impl Hierarchy {
         requires offset { target.offset < most_words }
         requires free { (held ≡ None) ⊎ IsSome (copy_at self.old.caches.items target.core target.line) }
 
-        ensures ok { Loads (P.table protocol.now) held target.core target.line target.offset self.old.caches.items self.new.caches.items self.old.memory.items self.new.memory.items result.0 result.1 }
+        ensures ok { Loads (P.table protocol.now) held target.core target.line target.offset self.old.caches.items
+            self.new.caches.items self.old.memory.items self.new.memory.items result.0 result.1 }
         ensures kept { KeepsBeside held self.old.caches.items self.new.caches.items self.old.memory.items self.new.memory.items }
     {
         let Target { core, line, offset } = target;

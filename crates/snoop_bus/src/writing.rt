@@ -31,7 +31,8 @@ impl Hierarchy {
         requires ready { IsReady held core line self.old }
         requires free { MayWrite (P.table protocol.now) held core line (tags_of self.old.caches.items) }
 
-        ensures ok { Acquires (P.table protocol.now) held core line self.old.caches.items self.new.caches.items self.old.memory.items self.new.memory.items result.0 result.1 }
+        ensures ok { Acquires (P.table protocol.now) held core line self.old.caches.items self.new.caches.items
+            self.old.memory.items self.new.memory.items result.0 result.1 }
         ensures kept { KeepsBeside held self.old.caches.items self.new.caches.items self.old.memory.items self.new.memory.items }
     {
         if let Some(copy) = self.caches[core].look(line).copied() {
@@ -56,7 +57,9 @@ impl Hierarchy {
         requires valid { state ≢ State.I }
 
         ensures tags { tags_of self.new.caches.items ≡ used_by core line state (tags_of self.old.caches.items) }
-        ensures copies { ChangesCopy core line (option_map (with_state state) (copy_at self.old.caches.items core line)) self.old.caches.items self.new.caches.items }
+        ensures copies { ChangesCopy core line
+            (option_map (with_state state) (copy_at self.old.caches.items core line)) self.old.caches.items
+            self.new.caches.items }
         ensures ways { ways_of self.new.caches.items ≡ ways_of self.old.caches.items }
         ensures memory { self.new.memory.items ≡ self.old.memory.items }
     {
@@ -73,7 +76,9 @@ impl Hierarchy {
         requires offset { target.offset < most_words }
 
         ensures tags { tags_of self.new.caches.items ≡ tags_of self.old.caches.items }
-        ensures copies { ChangesCopy target.core target.line (option_map (with_word target.offset value) (copy_at self.old.caches.items target.core target.line)) self.old.caches.items self.new.caches.items }
+        ensures copies { ChangesCopy target.core target.line
+            (option_map (with_word target.offset value) (copy_at self.old.caches.items target.core target.line))
+            self.old.caches.items self.new.caches.items }
         ensures ways { ways_of self.new.caches.items ≡ ways_of self.old.caches.items }
         ensures memory { self.new.memory.items ≡ self.old.memory.items }
     {

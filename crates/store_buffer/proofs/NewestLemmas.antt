@@ -20,6 +20,8 @@ newest_for-fold loc items = fold-newer loc None items
 
 -- a store to the location is newer than those found before it
 pub newer-found : (loc : ℕ) (newest : Option ℕ) (before : List (Bor Pending)) (p : Bor Pending)
-    → newest ≡ fold (newer loc) None (map (λ q. q.now) before) → (p.now.loc.0 == loc) ≡ true → Some p.now.value ≡ fold (newer loc) None (map (λ q. q.now) (before ++ p ∷ []))
+    → newest ≡ fold (newer loc) None (map (λ q. q.now) before)
+    → (p.now.loc.0 == loc) ≡ true
+    → Some p.now.value ≡ fold (newer loc) None (map (λ q. q.now) (before ++ p ∷ []))
 newer-found loc newest before p so_far is =
     sym (rw (map-append (λ q. q.now) before (p ∷ []), fold-append (newer loc) None (map (λ q. q.now) before) (p.now ∷ []), is) refl)

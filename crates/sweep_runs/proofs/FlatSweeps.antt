@@ -1,6 +1,9 @@
 -- Runs that are made on the flat machine, one after the other: what is counted of each, and that on the atomic bus it is the run
 -- of every machine with caches.
-use Rattle.sweep_runs.proofs.Vocabulary.{◌≡◌, ℕ, true, List, [], ◌∷◌, map, Option, Bool, refl, sym, ap, ◌∙◌, Litmus, State, chosen, effect_of, applied, registers_in, start, Run, run, unheld, HitsFit, Bus, Atomic, Choice, table_of, ProtocolKind, Configuration, state_of_snapshot, core_of_processor, RunCounts, with_state_counted, with_verdict, values_in, run_by, run_under, AnswersFit, verdict, with_one_run}
+use Rattle.sweep_runs.proofs.Vocabulary.{◌≡◌, ℕ, true, List, [], ◌∷◌, map, Option, Bool, refl, sym, ap, ◌∙◌, Litmus, State, chosen}
+use Rattle.sweep_runs.proofs.Vocabulary.{effect_of, applied, registers_in, start, Run, run, unheld, HitsFit, Bus, Atomic, Choice, table_of}
+use Rattle.sweep_runs.proofs.Vocabulary.{ProtocolKind, Configuration, state_of_snapshot, core_of_processor, RunCounts, with_state_counted}
+use Rattle.sweep_runs.proofs.Vocabulary.{with_verdict, values_in, run_by, run_under, AnswersFit, verdict, with_one_run}
 use Rattle.tso_terms.specs.SplitMachine.{Attempt}
 use Rattle.multiprocessor.specs.Answered.{answered}
 use Rattle.flat_machine.specs.declared.snapshot.Processor.{Processor}
@@ -12,7 +15,9 @@ registers-there : (cores : List Processor) → map (λ c. c.registers) cores ≡
 registers-there [] = refl
 registers-there (c ∷ cs) = ap (λ (rs : List (List ℕ)). c.registers ∷ rs) (registers-there cs)
 
-pub registers-left : (s : Snapshot) (registers : List (List ℕ)) → registers ≡ map (λ c. c.registers) s.cores.items → registers ≡ registers_in (state_of_snapshot s)
+pub registers-left : (s : Snapshot) (registers : List (List ℕ))
+    → registers ≡ map (λ c. c.registers) s.cores.items
+    → registers ≡ registers_in (state_of_snapshot s)
 registers-left s registers r = r ∙ registers-there s.cores.items
 
 pub counted : (t : Litmus) (r : Run) (s : State) (registers : List (List ℕ)) (memory : List ℕ) (holds : Option Bool) (c : RunCounts)
@@ -27,7 +32,9 @@ counted t r s registers memory holds c ended state regs words truth =
 
 -- ---- on the atomic bus the run is that of every machine, and its caches' answers fit
 
-pub run-is-of-all : (t : Litmus) (kind : ProtocolKind) (c : Configuration) (choices : List Choice) → c.bus ≡ Atomic → run t c.depth choices ≡ run_under t kind c choices
+pub run-is-of-all : (t : Litmus) (kind : ProtocolKind) (c : Configuration) (choices : List Choice)
+    → c.bus ≡ Atomic
+    → run t c.depth choices ≡ run_under t kind c choices
 run-is-of-all t kind c choices a = ap (λ (b : Bus). run_by b (table_of kind) c t choices) (sym a)
 
 all-fit : (t : Litmus) (depth : ℕ) (s : State) (attempts : List Attempt) → HitsFit Atomic t depth (unheld s) attempts

@@ -1,5 +1,8 @@
 -- What one more run adds to what is counted of a sweep: the lists of values stay in ascending order, and each run is counted once.
-use Rattle.sweep_runs.proofs.Vocabulary.{◌≡◌, ◌<◌, ◌≤◌, ◌⊎◌, inl, inr, ◌==◌, ◌&&◌, ◌+◌, ℕ, Bool, true, false, not, cond, List, Option, Some, None, refl, sym, ap, subst, ◌∙◌, arith, sum, values_of, registers_in, Litmus, Run, ProtocolKind, Configuration, RunCounts, with_state_counted, with_verdict, values_in, runs_in, AnswersFit, verdict, choices_of, with_one_run, AnswersFitFrom}
+use Rattle.sweep_runs.proofs.Vocabulary.{◌≡◌, ◌<◌, ◌≤◌, ◌⊎◌, inl, inr, ◌==◌, ◌&&◌, ◌+◌, ℕ, Bool, true, false, not, cond, List, Option, Some}
+use Rattle.sweep_runs.proofs.Vocabulary.{None, refl, sym, ap, subst, ◌∙◌, arith, sum, values_of, registers_in, Litmus, Run, ProtocolKind}
+use Rattle.sweep_runs.proofs.Vocabulary.{Configuration, RunCounts, with_state_counted, with_verdict, values_in, runs_in, AnswersFit}
+use Rattle.sweep_runs.proofs.Vocabulary.{verdict, choices_of, with_one_run, AnswersFitFrom}
 use Rattle.std.proofs.lemmas.Bool.Decides.{nat_tests}
 use Rattle.sweep_runs.proofs.StateLemmas.{States, Ascend, EachGiven, ascend-with, given-with, sum-with}
 
@@ -34,21 +37,37 @@ failed-judged false c = refl
 pub ascend-run : (t : Litmus) (r : Run) (c : RunCounts) → Ascend c.states → Ascend (with_one_run t r c).states
 ascend-run t r c s = by_end r.ended
   where
-    by_end : (b : Bool) → Ascend (cond b (with_verdict (verdict t (registers_in r.state) r.state.memory) (with_state_counted (values-left t r) c)) (record c { unfinished = c.unfinished + 1 })).states
-    by_end true = subst Ascend (sym (states-judged (verdict t (registers_in r.state) r.state.memory) (with_state_counted (values-left t r) c))) (ascend-with (values-left t r) c.states s)
+    by_end : (b : Bool)
+        → Ascend (cond b
+        (with_verdict (verdict t (registers_in r.state) r.state.memory) (with_state_counted (values-left t r) c))
+        (record c { unfinished = c.unfinished + 1 })).states
+    by_end true =
+        subst Ascend
+        (sym (states-judged (verdict t (registers_in r.state) r.state.memory) (with_state_counted (values-left t r) c)))
+        (ascend-with (values-left t r) c.states s)
     by_end false = s
 
 pub given-run : (t : Litmus) (r : Run) (c : RunCounts) → EachGiven c.states → EachGiven (with_one_run t r c).states
 given-run t r c s = by_end r.ended
   where
-    by_end : (b : Bool) → EachGiven (cond b (with_verdict (verdict t (registers_in r.state) r.state.memory) (with_state_counted (values-left t r) c)) (record c { unfinished = c.unfinished + 1 })).states
-    by_end true = subst EachGiven (sym (states-judged (verdict t (registers_in r.state) r.state.memory) (with_state_counted (values-left t r) c))) (given-with (values-left t r) c.states s)
+    by_end : (b : Bool)
+        → EachGiven (cond b
+        (with_verdict (verdict t (registers_in r.state) r.state.memory) (with_state_counted (values-left t r) c))
+        (record c { unfinished = c.unfinished + 1 })).states
+    by_end true =
+        subst EachGiven
+        (sym (states-judged (verdict t (registers_in r.state) r.state.memory) (with_state_counted (values-left t r) c)))
+        (given-with (values-left t r) c.states s)
     by_end false = s
 
 pub runs-with : (t : Litmus) (r : Run) (c : RunCounts) → Ascend c.states → runs_in (with_one_run t r c) ≡ runs_in c + 1
 runs-with t r c s = by_end r.ended
   where
-    by_end : (b : Bool) → runs_in (cond b (with_verdict (verdict t (registers_in r.state) r.state.memory) (with_state_counted (values-left t r) c)) (record c { unfinished = c.unfinished + 1 })) ≡ runs_in c + 1
+    by_end : (b : Bool)
+        → runs_in (cond b
+        (with_verdict (verdict t (registers_in r.state) r.state.memory) (with_state_counted (values-left t r) c))
+        (record c { unfinished = c.unfinished + 1 }))
+        ≡ runs_in c + 1
     by_end true =
         let o = verdict t (registers_in r.state) r.state.memory in
         let d = with_state_counted (values-left t r) c in
@@ -62,8 +81,15 @@ runs-with t r c s = by_end r.ended
 pub ended-with : (t : Litmus) (r : Run) (c : RunCounts) (b : Bool) → b ≡ (c.unfinished == 0) → (b && r.ended) ≡ ((with_one_run t r c).unfinished == 0)
 ended-with t r c b is = by_end r.ended
   where
-    by_end : (e : Bool) → (b && e) ≡ ((cond e (with_verdict (verdict t (registers_in r.state) r.state.memory) (with_state_counted (values-left t r) c)) (record c { unfinished = c.unfinished + 1 })).unfinished == 0)
-    by_end true = kept b ∙ is ∙ ap (λ (n : ℕ). n == 0) (sym (unfinished-judged (verdict t (registers_in r.state) r.state.memory) (with_state_counted (values-left t r) c)))
+    by_end : (e : Bool)
+        → (b && e) ≡ ((cond e
+        (with_verdict (verdict t (registers_in r.state) r.state.memory) (with_state_counted (values-left t r) c))
+        (record c { unfinished = c.unfinished + 1 })).unfinished
+        == 0)
+    by_end true =
+        kept b
+        ∙ is
+        ∙ ap (λ (n : ℕ). n == 0) (sym (unfinished-judged (verdict t (registers_in r.state) r.state.memory) (with_state_counted (values-left t r) c)))
       where
         kept : (b : Bool) → (b && true) ≡ b
         kept true = refl
@@ -89,4 +115,5 @@ fit-more t kind c count from seeds length seed before same_length same_seed last
     by_place n (inl below) = before n below
     by_place n (inr is) =
         subst (λ (k : ℕ). AnswersFit t kind c (choices_of t count (from + k))) (sym is)
-        (subst (λ (k : ℕ). AnswersFit t kind c (choices_of t count k)) same_seed (subst (λ (k : ℕ). AnswersFit t kind c (choices_of t k seed)) same_length last))
+        (subst (λ (k : ℕ). AnswersFit t kind c (choices_of t count k)) same_seed
+        (subst (λ (k : ℕ). AnswersFit t kind c (choices_of t k seed)) same_length last))

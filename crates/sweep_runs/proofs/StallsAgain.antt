@@ -1,5 +1,6 @@
 -- What stalled stalls again, until the machine changes.
-use Rattle.sweep_runs.proofs.Vocabulary.{◌≡◌, ◌<◌, ◌≤◌, ◌⊎◌, inl, inr, ℕ, List, length, Option, Some, None, sym, ap, subst, ◌∙◌, arith, slice_index_or, slice_set, Choice, Running}
+use Rattle.sweep_runs.proofs.Vocabulary.{◌≡◌, ◌<◌, ◌≤◌, ◌⊎◌, inl, inr, ℕ, List, length, Option, Some, None, sym, ap, subst, ◌∙◌, arith}
+use Rattle.sweep_runs.proofs.Vocabulary.{slice_index_or, slice_set, Choice, Running}
 use Rattle.std.proofs.lemmas.Bool.Decides.{eqb_tells}
 use Rattle.std.proofs.lemmas.List.{get_or-set_same, get_or-set_other, get_or_past, length-set}
 use Rattle.basic_laws.specs.Types.{Step, Drain, Stall}
@@ -14,11 +15,14 @@ written : (xs : List (Option Stall)) (place k : ℕ) (why reason : Stall) → sl
     → ((place ≡ k) × (why ≡ reason)) ⊎ (slice_index_or xs k None ≡ Some reason)
 written xs place k why reason q = elim (eqb_tells place k) [
   | inl p ↦
-      let here : slice_index_or (slice_set xs place (Some why)) place None ≡ Some reason = subst (λ j. slice_index_or (slice_set xs place (Some why)) j None ≡ Some reason) (sym p.1) q in
+      let here : slice_index_or (slice_set xs place (Some why)) place None ≡ Some reason =
+      subst (λ j. slice_index_or (slice_set xs place (Some why)) j None ≡ Some reason) (sym p.1) q in
       elim (within-or (length xs) place) [
         | inl l ↦ let same : Some why ≡ Some reason = sym (get_or-set_same xs place (Some why) None l) ∙ here in inl (p.1, (let z : why ≡ reason = cc in z))
         | inr past ↦
-            let none : None ≡ Some reason = sym (get_or_past (slice_set xs place (Some why)) place None (subst (λ n. n ≤ place) (sym (length-set xs place (Some why))) past)) ∙ here in
+            let none : None ≡ Some reason =
+            sym (get_or_past (slice_set xs place (Some why)) place None (subst (λ n. n ≤ place) (sym (length-set xs place (Some why))) past))
+            ∙ here in
             absurd (let z : ⊥ = cc in z)
       ]
   | inr p ↦ inr (sym (get_or-set_other xs place k (Some why) None (λ e. p.1 (sym e))) ∙ q)

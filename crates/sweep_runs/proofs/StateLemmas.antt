@@ -1,5 +1,7 @@
 -- The states of a tally: lists of values in ascending order, each with the number of runs that gave it.
-use Rattle.sweep_runs.proofs.Vocabulary.{◌≡◌, ◌<◌, ◌+◌, ℕ, zero, suc, Bool, true, false, cond, List, [], ◌∷◌, length, slice_index_or, Option, Some, None, is_some, Ordering, Less, Equal, Greater, All, Contains, refl, sym, ap, subst, ◌∙◌, arith, bytes_eq, sum, AllByRecursion, lookup, keys_of, values_of, count_of_runs, with_values}
+use Rattle.sweep_runs.proofs.Vocabulary.{◌≡◌, ◌<◌, ◌+◌, ℕ, zero, suc, Bool, true, false, cond, List, [], ◌∷◌, length, slice_index_or}
+use Rattle.sweep_runs.proofs.Vocabulary.{Option, Some, None, is_some, Ordering, Less, Equal, Greater, All, Contains, refl, sym, ap, subst}
+use Rattle.sweep_runs.proofs.Vocabulary.{◌∙◌, arith, bytes_eq, sum, AllByRecursion, lookup, keys_of, values_of, count_of_runs, with_values}
 use Rattle.std.specs.List.Sorted.{IsStrictlySortedBy}
 use Rattle.std.specs.Option.{unwrap_or, option_map}
 use Rattle.std.specs.Ordering.{is_eq, nat_cmp, ordering_reverse, match_ordering, eq_by_cmp}
@@ -41,10 +43,14 @@ lookup-inserted v w n [] = refl
 lookup-inserted v w n (e ∷ es) = by (R w e.0) refl (lookup-inserted v w n es)
   where
     by : (r : Ordering) → R w e.0 ≡ r → lookup (is_at (R v)) (insert_entry R es w n) ≡ cond (is_eq (R v w)) (Some n) (lookup (is_at (R v)) es)
-        → lookup (is_at (R v)) (match_ordering r ((w, n) ∷ e ∷ es) ((e.0, n) ∷ es) (e ∷ insert_entry R es w n)) ≡ cond (is_eq (R v w)) (Some n) (lookup (is_at (R v)) (e ∷ es))
+        → lookup (is_at (R v)) (match_ordering r ((w, n) ∷ e ∷ es) ((e.0, n) ∷ es) (e ∷ insert_entry R es w n))
+        ≡ cond (is_eq (R v w)) (Some n) (lookup (is_at (R v)) (e ∷ es))
     by Less p further = refl
     by Equal p further =
-        let one : R v w ≡ R v e.0 = nat_list_cmp_total.antisymm v w ∙ ap ordering_reverse (nat_list_cmp_total.congr w e.0 v p) ∙ sym (nat_list_cmp_total.antisymm v e.0) in
+        let one : R v w ≡ R v e.0 =
+        nat_list_cmp_total.antisymm v w
+        ∙ ap ordering_reverse (nat_list_cmp_total.congr w e.0 v p)
+        ∙ sym (nat_list_cmp_total.antisymm v e.0) in
         twice (is_eq (R v e.0)) (Some n) (Some e.1) (lookup (is_at (R v)) es)
         ∙ ap (λ (r : Ordering). cond (is_eq r) (Some n) (cond (is_eq (R v e.0)) (Some e.1) (lookup (is_at (R v)) es))) (sym one)
     by Greater p further =
@@ -57,7 +63,10 @@ lookup-inserted v w n (e ∷ es) = by (R w e.0) refl (lookup-inserted v w n es)
 pub count-with : (v w : List ℕ) (es : States) → count_of_runs v (with_values w es) ≡ count_of_runs v es + cond (bytes_eq v w) 1 0
 count-with v w es = ap (λ (o : Option ℕ). unwrap_or o 0) (lookup-inserted v w (count_of_runs w es + 1) es) ∙ by (bytes_eq v w) refl
   where
-    by : (b : Bool) → bytes_eq v w ≡ b → unwrap_or (cond (is_eq (R v w)) (Some (count_of_runs w es + 1)) (lookup (is_at (R v)) es)) 0 ≡ count_of_runs v es + cond b 1 0
+    by : (b : Bool)
+        → bytes_eq v w ≡ b
+        → unwrap_or (cond (is_eq (R v w)) (Some (count_of_runs w es + 1)) (lookup (is_at (R v)) es)) 0
+        ≡ count_of_runs v es + cond b 1 0
     by true h =
         let one : v ≡ w = (bytes_eq-Decides v w).0 h in
         rw (is_eq-slice_cmp v w, h) (ap (λ (u : List ℕ). count_of_runs u es + 1) (sym one))
@@ -69,7 +78,10 @@ pub all-map : (P Q : List ℕ → Type 0) → ((y : List ℕ) → P y → Q y) �
 all-map P Q f [] a = tt
 all-map P Q f (k ∷ ks) a = (f k a.0, all-map P Q f ks a.1)
 
-keys-inserted : (P : List ℕ → Type 0) (w : List ℕ) (n : ℕ) (es : States) → P w → AllByRecursion P (keys_of es) → AllByRecursion P (keys_of (insert_entry R es w n))
+keys-inserted : (P : List ℕ → Type 0) (w : List ℕ) (n : ℕ) (es : States)
+    → P w
+    → AllByRecursion P (keys_of es)
+    → AllByRecursion P (keys_of (insert_entry R es w n))
 keys-inserted P w n [] p a = (p, tt)
 keys-inserted P w n (e ∷ es) p a = by (R w e.0) (keys-inserted P w n es p a.1)
   where

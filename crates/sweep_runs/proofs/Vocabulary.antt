@@ -1,5 +1,7 @@
 -- The names that the proofs of this crate bring in from definitions and from crates below; each file takes its own from here.
-pub use Rattle.std.proofs.Common.{◌≡◌, ◌<◌, ◌≤◌, ◌⊎◌, inl, inr, ◌==◌, ◌&&◌, ◌+◌, ℕ, Bool, true, false, not, cond, List, Option, Some, None, refl, sym, ap, subst, ◌∙◌, arith, if◌then◌else◌, [], ◌∷◌, suc, length, map, zero, slice_index_or, is_some, Ordering, Less, Equal, Greater, All, Contains, add-one, slice_set, Ok, ◌*◌}
+pub use Rattle.std.proofs.Common.{◌≡◌, ◌<◌, ◌≤◌, ◌⊎◌, inl, inr, ◌==◌, ◌&&◌, ◌+◌, ℕ, Bool, true, false, not, cond, List, Option, Some, None}
+pub use Rattle.std.proofs.Common.{refl, sym, ap, subst, ◌∙◌, arith, if◌then◌else◌, [], ◌∷◌, suc, length, map, zero, slice_index_or, is_some}
+pub use Rattle.std.proofs.Common.{Ordering, Less, Equal, Greater, All, Contains, add-one, slice_set, Ok, ◌*◌}
 pub use Rattle.std.specs.Prelude.{sum, bytes_eq}
 pub use Rattle.std.specs.Map.{values_of, lookup, keys_of}
 pub use Rattle.tso_terms.specs.FlatMachine.{registers_in, State, chosen, core_of, effect_of, applied, start}

@@ -69,7 +69,8 @@ pub(crate) fn count_runs<R: Runner>(
 
     // What is counted is what any machine's runs come to that are these.
     ensures counts { OnOk result ((kind : ProtocolKind) (config : Configuration)
-        → ((cs : List Choice) → R.run_of runner.old test.now cs ≡ run_under test.now kind config cs) → tally.new.counts ≡ sweep_counts test.now kind config plan) }
+        → ((cs : List Choice) → R.run_of runner.old test.now cs ≡ run_under test.now kind config cs)
+        → tally.new.counts ≡ sweep_counts test.now kind config plan) }
     ensures answers { OnOk result ((kind : ProtocolKind) (config : Configuration)
         → ((cs : List Choice) → R.fits runner.old cs → AnswersFit test.now kind config cs) → SweepAnswersFit test.now kind config plan) }
 {
@@ -95,7 +96,9 @@ pub(crate) fn count_state(
     requires locations { length memory.now ≡ length test.now.locations }
     requires room { runs_in tally.old.counts < 2 ^ 32 - 1 }
 
-    ensures counts { OnOk result (tally.new.counts ≡ with_verdict (verdict test.now registers.now memory.now) (with_state_counted (values_in test.now registers.now memory.now) tally.old.counts)) }
+    ensures counts { OnOk result
+        (tally.new.counts ≡ with_verdict (verdict test.now registers.now memory.now)
+        (with_state_counted (values_in test.now registers.now memory.now) tally.old.counts)) }
     ensures test { tally.new.test ≡ tally.old.test }
 {
     let holds = verdict_of(test, registers, memory);

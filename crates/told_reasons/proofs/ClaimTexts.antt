@@ -90,7 +90,10 @@ closed w s = (closed_last s.0.0 s.0.1, last-fits s.0.0 s.0.1 s.1, last-closed s.
 join-flat : (unit joined op other rest : List ℕ) → unit ++ (joined ++ ((op ++ other) ++ rest)) ≡ (unit ++ joined) ++ (op ++ (other ++ rest))
 join-flat unit joined op other rest = simp append_assoc
 
-all-append : (xs ys : List Joined) → AllByRecursion (FitsFormat joined_format) xs → AllByRecursion (FitsFormat joined_format) ys → AllByRecursion (FitsFormat joined_format) (xs ++ ys)
+all-append : (xs ys : List Joined)
+    → AllByRecursion (FitsFormat joined_format) xs
+    → AllByRecursion (FitsFormat joined_format) ys
+    → AllByRecursion (FitsFormat joined_format) (xs ++ ys)
 all-append [] ys p q = q
 all-append (x ∷ xs) ys p q = (p.0, all-append xs ys p.1 q)
 
@@ -100,7 +103,8 @@ joined op w v fits s r = (
   (s.0.0, s.0.1 ++ ((op, r.0.0) ∷ r.0.1)),
   (s.1.0, all-append s.0.1 ((op, r.0.0) ∷ r.0.1) s.1.1 ((fits, r.1.0), r.1.1)),
   ap (λ (l : List ℕ). text unit_format s.0.0 ++ l) (flat_map-append (text joined_format) s.0.1 ((op, r.0.0) ∷ r.0.1))
-      ∙ (join-flat (text unit_format s.0.0) (flat_map (text joined_format) s.0.1) (text operator_format op) (text unit_format r.0.0) (flat_map (text joined_format) r.0.1)
+      ∙ (join-flat (text unit_format s.0.0) (flat_map (text joined_format) s.0.1) (text operator_format op)
+      (text unit_format r.0.0) (flat_map (text joined_format) r.0.1)
       ∙ λ i. s.2 i ++ (text operator_format op ++ r.2 i)),
 )
 
@@ -126,9 +130,13 @@ module _ (t : Litmus) (key : (named : Named) → IsKey t named → Spells key_fo
   claim-spelled (LocClaim loc value) fits = valued (named_location loc) value fits.0 fits.1
   claim-spelled (NotClaim inner) fits = opened (That tt) (claim_text t inner) (claim-spelled inner fits)
   claim-spelled (AndClaim left right) fits =
-      opened (This tt) _ (joined (This tt) (claim_text t left) (claim_text t right ++ codes ")") tt (claim-spelled left fits.0) (closed (claim_text t right) (claim-spelled right fits.1)))
+      opened (This tt) _
+      (joined (This tt) (claim_text t left) (claim_text t right ++ codes ")") tt (claim-spelled left fits.0)
+      (closed (claim_text t right) (claim-spelled right fits.1)))
   claim-spelled (OrClaim left right) fits =
-      opened (This tt) _ (joined (That tt) (claim_text t left) (claim_text t right ++ codes ")") tt (claim-spelled left fits.0) (closed (claim_text t right) (claim-spelled right fits.1)))
+      opened (This tt) _
+      (joined (That tt) (claim_text t left) (claim_text t right ++ codes ")") tt (claim-spelled left fits.0)
+      (closed (claim_text t right) (claim-spelled right fits.1)))
 
   by-claim : (w : List ℕ) → Spells claim_format w → Spells holds_format w
   by-claim w s = (This s.0, s.1, s.2)

@@ -33,11 +33,19 @@ module _ (t : Litmus) where
   facts-data fs = λ i. array (items_of (each-data (Spelled fact_format) (fact_text t) (λ f. string (fact_text t f)) (λ f. refl) fs i))
 
   steps-data : (thing : Data) (e : Edge) (es : List Edge) → thing ≡ string (event_text t e.source) → AreSteps t e es
-      → chain_steps (codes "from") (codes "relation") (codes "to") thing (map (λ j. (j.first, j.second)) (map (json hop_format) (map (λ d. (relation_text d.relation, event_text t d.target)) (e ∷ es)))) ≡ map (edge_value t) (e ∷ es)
-  steps-data thing e [] same all = λ i. object (member (codes "from") (same i) (member (codes "relation") (string (relation_text e.relation)) (member (codes "to") (string (event_text t e.target)) no_members))) ∷ []
+      → chain_steps (codes "from") (codes "relation") (codes "to") thing
+      (map (λ j. (j.first, j.second)) (map (json hop_format) (map (λ d. (relation_text d.relation, event_text t d.target)) (e ∷ es))))
+      ≡ map (edge_value t) (e ∷ es)
+  steps-data thing e [] same all = λ i.
+      object (member (codes "from") (same i)
+      (member (codes "relation") (string (relation_text e.relation)) (member (codes "to") (string (event_text t e.target)) no_members)))
+      ∷ []
   steps-data thing e (d ∷ ds) same all =
       let more = steps-data (string (event_text t e.target)) d ds (ap string (sym all.0)) all.1 in
-      λ i. object (member (codes "from") (same i) (member (codes "relation") (string (relation_text e.relation)) (member (codes "to") (string (event_text t e.target)) no_members))) ∷ more i
+      λ i.
+      object (member (codes "from") (same i)
+      (member (codes "relation") (string (relation_text e.relation)) (member (codes "to") (string (event_text t e.target)) no_members)))
+      ∷ more i
 
   places-data : (places : List Place) → all_add (map (json place_format) (map (λ p. (key_of t p.named, p.values)) places)) no_members ≡ place_members t places
   places-data [] = refl
@@ -46,12 +54,19 @@ module _ (t : Litmus) where
   closing-data : (c : Closing) → ClosingIsChained t c → data_of closing_format (shown_closing t c) ≡ closing_value t c
   closing-data (Uniproc []) all = refl
   closing-data (Uniproc (e ∷ es)) all =
-      λ i. object (member (codes "cycle") (array (items_of (steps-data (string (event_text t e.source)) e es refl all i))) (member (codes "step") (string (codes "uniproc")) no_members))
+      λ i.
+      object
+      (member (codes "cycle") (array (items_of (steps-data (string (event_text t e.source)) e es refl all i)))
+      (member (codes "step") (string (codes "uniproc")) no_members))
   closing-data (Cycle []) all = refl
   closing-data (Cycle (e ∷ es)) all =
-      λ i. object (member (codes "cycle") (array (items_of (steps-data (string (event_text t e.source)) e es refl all i))) (member (codes "step") (string (codes "cycle")) no_members))
+      λ i.
+      object
+      (member (codes "cycle") (array (items_of (steps-data (string (event_text t e.source)) e es refl all i)))
+      (member (codes "step") (string (codes "cycle")) no_members))
   closing-data (Amid r v w) all = refl
-  closing-data (False places) all = λ i. object (member (codes "places") (object (places-data places i)) (member (codes "step") (string (codes "false")) no_members))
+  closing-data (False places) all = λ i.
+      object (member (codes "places") (object (places-data places i)) (member (codes "step") (string (codes "false")) no_members))
   closing-data (NoAnswer kind subject) all = refl
   closing-data (ByLemma number) all = refl
 
@@ -63,7 +78,8 @@ module _ (t : Litmus) where
   question-data [] = refl
   question-data (c ∷ cs) = refl
 
-  answers-data : (answers : List (List ShownFact)) → map (λ j. j.value) (map (json facts_format) (map (map (fact_text t)) answers)) ≡ map (facts_value t) answers
+  answers-data : (answers : List (List ShownFact))
+      → map (λ j. j.value) (map (json facts_format) (map (map (fact_text t)) answers)) ≡ map (facts_value t) answers
   answers-data answers = each-data facts_format (map (fact_text t)) (facts_value t) facts-data answers
 
   case-data : (step : List ℕ) (depth : ℕ) (question : List ℕ) (answers : List (List ShownFact)) (c : Option Closing) → IfSome c (ClosingIsChained t)
@@ -78,8 +94,11 @@ module _ (t : Litmus) where
 
   pub line-data : (l : Line) → LineIsChained t l → data_of line_format (shown_line t l) ≡ line_value t l
   line-data (Given fs) all = λ i. object (member (codes "facts") (facts-data fs i) (member (codes "step") (string (codes "given")) no_members))
-  line-data (Never n fs) all = λ i. object (member (codes "facts") (facts-data fs i) (member (codes "lemma") (count n) (member (codes "step") (string (codes "never")) no_members)))
+  line-data (Never n fs) all = λ i.
+      object (member (codes "facts") (facts-data fs i) (member (codes "lemma") (count n) (member (codes "step") (string (codes "never")) no_members)))
   line-data (Case depth question answers c) all = case-data (codes "case") depth question answers c all
   line-data (So depth question answers c) all = case-data (codes "so") depth question answers c all
-  line-data (Leaf depth c) all = λ i. object (member (codes "closing") (closing-data c all i) (member (codes "depth") (count depth) (member (codes "step") (string (codes "leaf")) no_members)))
+  line-data (Leaf depth c) all = λ i.
+      object (member (codes "closing") (closing-data c all i)
+      (member (codes "depth") (count depth) (member (codes "step") (string (codes "leaf")) no_members)))
   line-data (Endcases depth) all = refl

@@ -1,5 +1,6 @@
 -- Each line's text is that of its value in the format of lines, and the value fits.
-use Rattle.std.proofs.Common.{◌≡◌, ◌∙◌, ◌<◌, ℕ, zero, suc, Bool, true, false, List, [], ◌∷◌, ◌++◌, map, refl, sym, ap, Option, Some, None, IfSome, length, get_or, append-nil, arith}
+use Rattle.std.proofs.Common.{◌≡◌, ◌∙◌, ◌<◌, ℕ, zero, suc, Bool, true, false, List, [], ◌∷◌, ◌++◌, map, refl, sym, ap, Option, Some, None}
+use Rattle.std.proofs.Common.{IfSome, length, get_or, append-nil, arith}
 use Rattle.std.specs.Prelude.{codes, slice_index_or}
 use Rattle.std.specs.Fmt.{decimal}
 use Rattle.std.specs.List.{flat_map, list_all, AllByRecursion}
@@ -19,16 +20,22 @@ use Rattle.search_report.specs.OutcomesJson.{key_of}
 use Rattle.search_report.specs.declared.shown.Event.{Event}
 use Rattle.search_report.specs.declared.shown.Edge.{Edge}
 use Rattle.search_report.specs.Places.{Place}
-use Rattle.search_report.specs.ReasonText.{blanks, cycle_text, entry_text, event_text, hop_text, location_text, place_text, relation_name, relation_text, words_text}
-use Rattle.search_report.specs.Shown.{ShownFact, From, Before, Last, Returns, Holds, Subject, OfEvent, OfInitial, OfLocation, Closing, Uniproc, Cycle, Amid, False, NoAnswer, ByLemma}
+use Rattle.search_report.specs.ReasonText.{blanks, cycle_text, entry_text, event_text, hop_text, location_text, place_text, relation_name}
+use Rattle.search_report.specs.ReasonText.{relation_text, words_text}
+use Rattle.search_report.specs.Shown.{ShownFact, From, Before, Last, Returns, Holds, Subject, OfEvent, OfInitial, OfLocation, Closing}
+use Rattle.search_report.specs.Shown.{Uniproc, Cycle, Amid, False, NoAnswer, ByLemma}
 use Rattle.search_report.specs.ShownText.{closing_text, fact_text, facts_text, not_text, subject_text}
 use Rattle.search_report.specs.ShownText as report
 use Rattle.search_report.specs.Lines.{Line, Given, Never, Case, So, Leaf, Endcases}
 use Rattle.search_report.specs.LineText.{case_text, closed_text, line_text, question_text}
 use Rattle.formats.specs.Formats.{AnyWord, This, That, is_in, separated, IsSome, text, FitsFormat, Spells}
-use Rattle.told_reasons.specs.ReasonFormats.{access_format, answered_format, closed_format, closing_format, cycle_format, event_format, fact_format, facts_format, hop_format, key_format, kind_format, line_format, negated_format, place_format, question_format, subject_format}
+use Rattle.told_reasons.specs.ReasonFormats.{access_format, answered_format, closed_format, closing_format, cycle_format, event_format}
+use Rattle.told_reasons.specs.ReasonFormats.{fact_format, facts_format, hop_format, key_format, kind_format, line_format, negated_format}
+use Rattle.told_reasons.specs.ReasonFormats.{place_format, question_format, subject_format}
 use Rattle.told_reasons.proofs.ClaimTexts.{holds-spelled}
-use Rattle.told_reasons.specs.ShownLines.{shown_cycle, shown_closing, shown_closed, shown_question, shown_case, shown_line, IsNumberOf64Bits, EventFits, FactFits, FactsFit, EdgeFits, IsKey, PlaceFits, SubjectFits, ClosingFits, QuestionFits, CaseFits, LineFits}
+use Rattle.told_reasons.specs.ShownLines.{shown_cycle, shown_closing, shown_closed, shown_question, shown_case, shown_line}
+use Rattle.told_reasons.specs.ShownLines.{IsNumberOf64Bits, EventFits, FactFits, FactsFit, EdgeFits, IsKey, PlaceFits, SubjectFits}
+use Rattle.told_reasons.specs.ShownLines.{ClosingFits, QuestionFits, CaseFits, LineFits}
 
 -- ---- lists
 
@@ -45,7 +52,10 @@ separated-text between f g h each (x ∷ xs) =
     let more = each-text (λ y. between ++ f y) g (λ x. between ++ h x) (λ x. ap (λ (l : List ℕ). between ++ l) (each x)) xs in
     λ i. each x i ++ more i
 
-pub all-mapped : {X Y : Type 0} (P : X → Type 0) (Q : Y → Type 0) (g : X → Y) → ((x : X) → P x → Q (g x)) → (xs : List X) → AllByRecursion P xs → AllByRecursion Q (map g xs)
+pub all-mapped : {X Y : Type 0} (P : X → Type 0) (Q : Y → Type 0) (g : X → Y)
+    → ((x : X) → P x → Q (g x))
+    → (xs : List X) → AllByRecursion P xs
+    → AllByRecursion Q (map g xs)
 all-mapped P Q g each [] all = tt
 all-mapped P Q g each (x ∷ xs) all = (each x all.0, all-mapped P Q g each xs all.1)
 
@@ -86,7 +96,8 @@ module _ (t : Litmus) where
   cycle-text : (es : List Edge) → text cycle_format (shown_cycle t es) ≡ cycle_text t es
   cycle-text [] = refl
   cycle-text (e ∷ es) =
-      ap (λ (l : List ℕ). codes " " ++ (event_text t e.source ++ l)) (each-text (text hop_format) (λ d. (relation_text d.relation, event_text t d.target)) (hop_text t) (λ d. refl) (e ∷ es))
+      ap (λ (l : List ℕ). codes " " ++ (event_text t e.source ++ l))
+      (each-text (text hop_format) (λ d. (relation_text d.relation, event_text t d.target)) (hop_text t) (λ d. refl) (e ∷ es))
 
   words-text : (vs : List ℕ) → separated (codes "|") decimal vs ≡ words_text vs
   words-text [] = refl
@@ -110,7 +121,8 @@ module _ (t : Litmus) where
   question-told [] = refl
   question-told (c ∷ cs) = refl
 
-  case-told : (question : List ℕ) (answers : List (List ShownFact)) (c : Option Closing) → text answered_format (shown_case t question answers c) ≡ case_text t question answers c
+  case-told : (question : List ℕ) (answers : List (List ShownFact)) (c : Option Closing)
+      → text answered_format (shown_case t question answers c) ≡ case_text t question answers c
   case-told question answers c =
       let each = separated-text (codes " or ") (text facts_format) (map (fact_text t)) (facts_text t) facts-text answers in
       λ i. question-told question i ++ (each i ++ closed-told c i)
@@ -137,7 +149,11 @@ module _ (t : Litmus) (test : IsTest t) where
   at_text loc None = codes " " ++ slice_index_or t.locations loc []
   at_text loc (Some v) = codes " " ++ (slice_index_or t.locations loc [] ++ (codes "=" ++ decimal v))
 
-  of-kind : (letters : List ℕ) (loc : ℕ) (v : Option ℕ) → Spells kind_format letters → loc < length t.locations → IfSome v IsNumberOf64Bits → Spells access_format (letters ++ at_text loc v)
+  of-kind : (letters : List ℕ) (loc : ℕ) (v : Option ℕ)
+      → Spells kind_format letters
+      → loc < length t.locations
+      → IfSome v IsNumberOf64Bits
+      → Spells access_format (letters ++ at_text loc v)
   of-kind letters loc None k known small =
       let name = slice_index_or t.locations loc [] in
       (That (k.0, (name, This tt)), (k.1, (location-named loc known, tt)), λ i. k.2 i ++ (codes " " ++ append-nil name i))
@@ -145,7 +161,10 @@ module _ (t : Litmus) (test : IsTest t) where
       let name = slice_index_or t.locations loc [] in
       (That (k.0, (name, That v)), (k.1, (location-named loc known, small)), λ i. k.2 i ++ (codes " " ++ (name ++ (codes "=" ++ decimal v))))
 
-  access-spelled : (k : Kind) (loc : ℕ) (v : Option ℕ) → IsLocationFor t k loc → IfSome v IsNumberOf64Bits → Spells access_format (letters_of k ++ access_text k loc v)
+  access-spelled : (k : Kind) (loc : ℕ) (v : Option ℕ)
+      → IsLocationFor t k loc
+      → IfSome v IsNumberOf64Bits
+      → Spells access_format (letters_of k ++ access_text k loc v)
   access-spelled F loc None known small = (This tt, tt, refl)
   access-spelled F loc (Some v) known small = (This tt, tt, refl)
   access-spelled R loc None known small = of-kind (codes "R") loc None (This tt, tt, refl) known small
@@ -157,7 +176,12 @@ module _ (t : Litmus) (test : IsTest t) where
   access-spelled LW loc None known small = of-kind (codes "LW") loc None (That (That (That tt)), tt, refl) known small
   access-spelled LW loc (Some v) known small = of-kind (codes "LW") loc (Some v) (That (That (That tt)), tt, refl) known small
 
-  entry-spelled : (e : Entry) (v : Option ℕ) → IsNumberOf64Bits e.core.0 → IsNumberOf64Bits e.place → IsLocationFor t e.kind e.loc.0 → IfSome v IsNumberOf64Bits → Spells event_format (entry_text t e v)
+  entry-spelled : (e : Entry) (v : Option ℕ)
+      → IsNumberOf64Bits e.core.0
+      → IsNumberOf64Bits e.place
+      → IsLocationFor t e.kind e.loc.0
+      → IfSome v IsNumberOf64Bits
+      → Spells event_format (entry_text t e v)
   entry-spelled e None core place known small =
       let a = access-spelled e.kind e.loc.0 None known small in
       ((e.core.0, (e.place, a.0)), (core, (place, a.1)), λ i. codes "P" ++ (decimal e.core.0 ++ (codes ":" ++ (decimal e.place ++ (codes " " ++ a.2 i)))))
@@ -187,7 +211,10 @@ module _ (t : Litmus) (test : IsTest t) where
   value-behind : (e : Entry) (v : ℕ) → is_read e ≡ true → entry_text t e (Some v) ≡ entry_text t e None ++ (codes "=" ++ decimal v)
   value-behind e v is = by e.kind is
     where
-      by : (k : Kind) → is_read (record e { kind = k }) ≡ true → entry_text t (record e { kind = k }) (Some v) ≡ entry_text t (record e { kind = k }) None ++ (codes "=" ++ decimal v)
+      by : (k : Kind)
+          → is_read (record e { kind = k }) ≡ true
+          → entry_text t (record e { kind = k }) (Some v)
+          ≡ entry_text t (record e { kind = k }) None ++ (codes "=" ++ decimal v)
       by R is = value-flat (decimal e.core.0) (decimal e.place) (codes "R") (slice_index_or t.locations e.loc.0 []) (decimal v)
       by LR is = value-flat (decimal e.core.0) (decimal e.place) (codes "LR") (slice_index_or t.locations e.loc.0 []) (decimal v)
       by F is = absurd (true≢false (sym is))
@@ -238,8 +265,10 @@ module _ (t : Litmus) (test : IsTest t) where
 
   cycle-fits : (es : List Edge) → AllByRecursion (EdgeFits t) es → FitsFormat cycle_format (shown_cycle t es)
   cycle-fits [] all = tt
-  cycle-fits (e ∷ es) all =
-      (event-spelled e.source all.0.0, all-mapped (EdgeFits t) (FitsFormat hop_format) (λ d. (relation_text d.relation, event_text t d.target)) hop-fits (e ∷ es) all)
+  cycle-fits (e ∷ es) all = (
+    event-spelled e.source all.0.0,
+    all-mapped (EdgeFits t) (FitsFormat hop_format) (λ d. (relation_text d.relation, event_text t d.target)) hop-fits (e ∷ es) all,
+  )
 
   place-fits : (p : Place) → PlaceFits t p → FitsFormat place_format (key_of t p.named, p.values)
   place-fits p fits = (key-spelled p.named fits.0, (fits.1, fits.2))
@@ -268,9 +297,19 @@ module _ (t : Litmus) (test : IsTest t) where
   question-fits [] fits = (tt, tt, refl)
   question-fits (c ∷ cs) fits = fits
 
-  case-fits : (question : List ℕ) (answers : List (List ShownFact)) (c : Option Closing) → CaseFits t question answers c → FitsFormat answered_format (shown_case t question answers c)
-  case-fits question answers c fits =
-      (question-fits question fits.0, ((some-mapped (map (fact_text t)) answers fits.1, all-mapped (FactsFit t) (FitsFormat facts_format) (map (fact_text t)) facts-fit answers fits.2), closed-fits c fits.3))
+  case-fits : (question : List ℕ) (answers : List (List ShownFact)) (c : Option Closing)
+      → CaseFits t question answers c
+      → FitsFormat answered_format (shown_case t question answers c)
+  case-fits question answers c fits = (
+    question-fits question fits.0,
+    (
+      (
+        some-mapped (map (fact_text t)) answers fits.1,
+        all-mapped (FactsFit t) (FitsFormat facts_format) (map (fact_text t)) facts-fit answers fits.2,
+      ),
+      closed-fits c fits.3,
+    ),
+  )
 
   pub line-fits : (l : Line) → LineFits t l → FitsFormat line_format (shown_line t l)
   line-fits (Given fs) fits = facts-fit fs fits

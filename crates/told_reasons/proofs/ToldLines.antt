@@ -51,7 +51,11 @@ verdict-fits : (c : Option Condition) (allowed : Bool) → FitsFormat verdict_fo
 verdict-fits None allowed = tt
 verdict-fits (Some c) allowed = verdict-is-word _
 
-reason-fits : (model : Model) (t : Litmus) (lines : List Line) → IsTest t → AllByRecursion (LineFits t) lines → IsNumberOf64Bits (leaves_in lines) → FitsFormat reason_format (shown_reason model t lines)
+reason-fits : (model : Model) (t : Litmus) (lines : List Line)
+    → IsTest t
+    → AllByRecursion (LineFits t) lines
+    → IsNumberOf64Bits (leaves_in lines)
+    → FitsFormat reason_format (shown_reason model t lines)
 reason-fits model t lines test fits few = (
   name-fits t.name test.name_spelled,
   (

@@ -1,6 +1,7 @@
 -- The lines that `why` prints of a refutation, as a format. Events, facts, places and what questions ask of are told as their texts.
 use Rattle.std.specs.Prelude.{ℕ, List, codes}
-use Rattle.formats.specs.Formats.{LocationName, AnyWord, Member, Tagged, Entry, Object, Chain, NoStep, Format, Nothing, Number, Word, Printable, Times, Lead, Trail, Both, Either, Many, Separated, Spelled, As, fixed, optional}
+use Rattle.formats.specs.Formats.{LocationName, AnyWord, Member, Tagged, Entry, Object, Chain, NoStep, Format, Nothing, Number, Word}
+use Rattle.formats.specs.Formats.{Printable, Times, Lead, Trail, Both, Either, Many, Separated, Spelled, As, fixed, optional}
 
 -- ---- events
 
@@ -101,7 +102,8 @@ closing_format =
     (Either (in_step (codes "cycle") (Lead (codes "Cycle") cycle_format))
     (Either (in_step (codes "between") (Lead (codes "Between ") amid_format))
     (Either (in_step (codes "false") (Lead (codes "False") (as_member (codes "places") (As Object (Many place_format)))))
-    (Either (in_step (codes "none") (Lead (codes "No ") (Both (as_member (codes "question") (Word AnyWord)) (Lead (codes " ") (as_member (codes "of") (Spelled subject_format))))))
+    (Either (in_step (codes "none") (Lead (codes "No ")
+    (Both (as_member (codes "question") (Word AnyWord)) (Lead (codes " ") (as_member (codes "of") (Spelled subject_format))))))
     (in_step (codes "lemma") (Lead (codes "By lemma ") (as_member (codes "lemma") Number)))))))
 
 -- ---- lines
@@ -119,7 +121,9 @@ closed_format = optional (Lead (codes ": ") closing_format)
 
 -- `P0:1 R x=0 from initial`, `part 0:EAX=0 or x=1: By lemma 1`
 abbrev pub answered_format : Format
-answered_format = Both (as_member (codes "question") question_format) (Both (as_member (codes "answers") (Separated (codes " or ") facts_format)) (as_member (codes "closing") closed_format))
+answered_format =
+    Both (as_member (codes "question") question_format)
+    (Both (as_member (codes "answers") (Separated (codes " or ") facts_format)) (as_member (codes "closing") closed_format))
 
 abbrev pub line_ended : Format → Format
 line_ended f = Trail f (codes "\n")
@@ -127,7 +131,8 @@ line_ended f = Trail f (codes "\n")
 abbrev pub line_format : Format
 line_format =
     Either (in_step (codes "given") (Lead (codes "Given ") (line_ended (as_member (codes "facts") facts_format))))
-    (Either (in_step (codes "never") (Lead (codes "Lemma ") (Both (as_member (codes "lemma") Number) (Lead (codes " ") (line_ended (as_member (codes "facts") facts_format))))))
+    (Either (in_step (codes "never")
+    (Lead (codes "Lemma ") (Both (as_member (codes "lemma") Number) (Lead (codes " ") (line_ended (as_member (codes "facts") facts_format))))))
     (Both (as_member (codes "depth") (Times 32))
     (Either (in_step (codes "case") (Lead (codes "Case ") (line_ended answered_format)))
     (Either (in_step (codes "so") (Lead (codes "So ") (line_ended answered_format)))

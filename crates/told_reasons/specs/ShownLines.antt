@@ -14,7 +14,8 @@ use Rattle.search_report.specs.declared.shown.Event.{Event}
 use Rattle.search_report.specs.declared.shown.Edge.{Edge}
 use Rattle.search_report.specs.Places.{Place}
 use Rattle.search_report.specs.ReasonText.{event_text, model_name, relation_text, truth_asked}
-use Rattle.search_report.specs.Shown.{ShownFact, From, Before, Last, Returns, Holds, Subject, OfEvent, OfInitial, OfLocation, Closing, Uniproc, Cycle, Amid, False, NoAnswer, ByLemma}
+use Rattle.search_report.specs.Shown.{ShownFact, From, Before, Last, Returns, Holds, Subject, OfEvent, OfInitial, OfLocation, Closing}
+use Rattle.search_report.specs.Shown.{Uniproc, Cycle, Amid, False, NoAnswer, ByLemma}
 use Rattle.search_report.specs.ShownText.{fact_text, subject_text}
 use Rattle.tso_report.specs.Report.{printed_quantifier, printed_truth}
 use Rattle.search_report.specs.Verdict.{is_well, verdict_word}
@@ -23,7 +24,8 @@ use Rattle.search_report.specs.LineText.{line_text, never_lines}
 use Rattle.search_report.specs.LineJson.{line_value}
 use Rattle.formats.specs.Formats.{AnyWord, is_in, IsSome, This, That, Value, text, Spells}
 use Rattle.formats.specs.JsonData.{data_of}
-use Rattle.told_reasons.specs.ReasonFormats.{answered_format, asked_format, closed_format, closing_format, cycle_format, line_format, question_format, question_word_format, reason_format, verdict_format}
+use Rattle.told_reasons.specs.ReasonFormats.{answered_format, asked_format, closed_format, closing_format, cycle_format, line_format}
+use Rattle.told_reasons.specs.ReasonFormats.{question_format, question_word_format, reason_format, verdict_format}
 
 -- ---- what lines tell
 
@@ -176,6 +178,10 @@ DataAreOfTheFormat = (t : Litmus) (l : Line) → LineIsChained t l → data_of l
 -- what is printed tells all that it shows: the test's name, the model, how many lines close a case, what is asked, each line, and the verdict
 abbrev pub PrintedReasonsAreTold : Type 0
 PrintedReasonsAreTold =
-    (model other : Model) (t u : Litmus) (lines others : List Line) → IsTest t → IsTest u → AllByRecursion (LineFits t) lines → AllByRecursion (LineFits u) others
+    (model other : Model) (t u : Litmus) (lines others : List Line)
+    → IsTest t
+    → IsTest u
+    → AllByRecursion (LineFits t) lines
+    → AllByRecursion (LineFits u) others
     → IsNumberOf64Bits (leaves_in lines) → IsNumberOf64Bits (leaves_in others) → never_lines model t lines ≡ never_lines other u others
     → shown_reason model t lines ≡ shown_reason other u others

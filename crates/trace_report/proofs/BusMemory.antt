@@ -1,5 +1,9 @@
 -- Memory's own words, followed from step to step, are those of the bus's memory.
-use Rattle.trace_report.proofs.Vocabulary.{arith, ◌≡◌, ◌∙◌, ◌<◌, ◌≤◌, ◌+◌, ◌/◌, ◌%◌, ◌||◌, ℕ, zero, suc, Bool, true, false, if◌then◌else◌, List, [], ◌∷◌, length, map, slice_index, Option, Some, None, inl, inr, refl, sym, ap, subst, get_or_past, length-set, Choice, table_of, ProtocolKind, Caches, Running, new_machine, machine_after, line_state, number_of_lines, is_newer, is_newer_in, own_word, own_words_from, own_words}
+use Rattle.trace_report.proofs.Vocabulary.{arith, ◌≡◌, ◌∙◌, ◌<◌, ◌≤◌, ◌+◌, ◌/◌, ◌%◌, ◌||◌, ℕ, zero, suc, Bool, true, false, if◌then◌else◌}
+use Rattle.trace_report.proofs.Vocabulary.{List, [], ◌∷◌, length, map, slice_index, Option, Some, None, inl, inr, refl, sym, ap, subst}
+use Rattle.trace_report.proofs.Vocabulary.{get_or_past, length-set, Choice, table_of, ProtocolKind, Caches, Running, new_machine}
+use Rattle.trace_report.proofs.Vocabulary.{machine_after, line_state, number_of_lines, is_newer, is_newer_in, own_word, own_words_from}
+use Rattle.trace_report.proofs.Vocabulary.{own_words}
 use Rattle.std.specs.List.{range_with_len}
 use Rattle.basic_laws.proofs.Basics.{lt-or}
 use Rattle.protocol_tables.specs.Laws.{is_dirty}
@@ -53,7 +57,11 @@ newer-found : (m : Running) (line cores : ℕ) → is_newer_in m line cores ≡ 
 newer-found m line zero h = absurd (let z : ⊥ = cc in z)
 newer-found m line (suc core) h = by_test (is_newer (line_state m core line)) refl h (newer-found m line core)
   where
-    by_test : (b : Bool) → is_newer (line_state m core line) ≡ b → (b || is_newer_in m line core) ≡ true → (is_newer_in m line core ≡ true → HasNewer m line) → HasNewer m line
+    by_test : (b : Bool)
+        → is_newer (line_state m core line) ≡ b
+        → (b || is_newer_in m line core) ≡ true
+        → (is_newer_in m line core ≡ true → HasNewer m line)
+        → HasNewer m line
     by_test true q h rest = record { core = core; newer = q }
     by_test false q h rest = rest h
 
@@ -61,7 +69,10 @@ none-newer : (m : Running) (line cores core : ℕ) → is_newer_in m line cores 
 none-newer m line zero core h l = absurd (omega arith)
 none-newer m line (suc last) core h l = by_test (is_newer (line_state m last line)) refl h (none-newer m line last core)
   where
-    by_test : (b : Bool) → is_newer (line_state m last line) ≡ b → (b || is_newer_in m line last) ≡ false → (is_newer_in m line last ≡ false → core < last → is_newer (line_state m core line) ≡ false)
+    by_test : (b : Bool)
+        → is_newer (line_state m last line) ≡ b
+        → (b || is_newer_in m line last) ≡ false
+        → (is_newer_in m line last ≡ false → core < last → is_newer (line_state m core line) ≡ false)
         → is_newer (line_state m core line) ≡ false
     by_test true q h rest = absurd (let z : ⊥ = cc in z)
     by_test false q h rest = elim (lt-or last core) [
@@ -83,16 +94,33 @@ past-clean caches core line past = ap (λ (sets : Sets). is_dirty (state_of_copy
 
 -- ---- one word
 
-all-clean : (b : BusModel) (m : Running) (line core : ℕ) → IsBusOf b m → is_newer_in m line (length m.test.programs) ≡ false → is_dirty (state_of_copy (copy_at (counted_copies b) core line)) ≡ false
+all-clean : (b : BusModel) (m : Running) (line core : ℕ)
+    → IsBusOf b m
+    → is_newer_in m line (length m.test.programs) ≡ false
+    → is_dirty (state_of_copy (copy_at (counted_copies b) core line)) ≡ false
 all-clean b m line core is none = elim (lt-or (length m.test.programs) core) [
-  | inl l ↦ sym (shows-newer (line_state m core line) (state_of_copy (copy_at (counted_copies b) core line)) (is.lines core line)) ∙ none-newer m line (length m.test.programs) core none l
+  | inl l ↦
+      sym (shows-newer (line_state m core line) (state_of_copy (copy_at (counted_copies b) core line)) (is.lines core line))
+      ∙ none-newer m line (length m.test.programs) core none l
   | inr past ↦ past-clean (counted_copies b) core line (subst (λ n. n ≤ core) (sym (counted-many b.held b.caches ∙ is.cores)) past)
 ]
 
-memory-is : (kind : ProtocolKind) (m n : Running) (old new : BusModel) (loc : ℕ) → IsAlong kind m → IsBusOf old m → IsBusOf new n → IsSameMachine old new → IsCalled old new → loc < new.locations
-    → own_word n loc (word_in_lines new.shape.words (line_in old.memory) loc) (word_in_lines new.shape.words (current_words (counted_copies new) new.memory) loc) ≡ word_in_lines new.shape.words (line_in new.memory) loc
+memory-is : (kind : ProtocolKind) (m n : Running) (old new : BusModel) (loc : ℕ)
+    → IsAlong kind m
+    → IsBusOf old m
+    → IsBusOf new n
+    → IsSameMachine old new
+    → IsCalled old new
+    → loc < new.locations
+    → own_word n loc (word_in_lines new.shape.words (line_in old.memory) loc)
+    (word_in_lines new.shape.words (current_words (counted_copies new) new.memory) loc)
+    ≡ word_in_lines new.shape.words (line_in new.memory) loc
 memory-is kind m n old new loc is before after same called within =
-    ap (λ w. if is_newer_in n (loc / w) (length n.test.programs) then word_in_lines words (line_in old.memory) loc else word_in_lines words (current_words (counted_copies new) new.memory) loc) (sym shape)
+    ap (λ w.
+    if is_newer_in n (loc / w) (length n.test.programs)
+    then word_in_lines words (line_in old.memory) loc
+    else word_in_lines words (current_words (counted_copies new) new.memory) loc)
+    (sym shape)
     ∙ by_newer (is_newer_in n line (length n.test.programs)) refl
   where
     words : ℕ
@@ -111,13 +139,18 @@ memory-is kind m n old new loc is before after same called within =
     rows = ap (λ (c : Caches). c.rows) before.caches ∙ is.rows
 
     by_newer : (b : Bool) → is_newer_in n line (length n.test.programs) ≡ b
-        → (if b then word_in_lines words (line_in old.memory) loc else word_in_lines words (current_words (counted_copies new) new.memory) loc) ≡ word_in_lines words (line_in new.memory) loc
+        → (if b
+        then word_in_lines words (line_in old.memory) loc
+        else word_in_lines words (current_words (counted_copies new) new.memory) loc)
+        ≡ word_in_lines words (line_in new.memory) loc
     by_newer true q =
         let found = newer-found n line (length n.test.programs) q in
         let owner : IsOwner (counted_copies new) line found.core =
-        sym (shows-newer (line_state n found.core line) (state_of_copy (copy_at (counted_copies new) found.core line)) (after.lines found.core line)) ∙ found.newer in
+        sym (shows-newer (line_state n found.core line) (state_of_copy (copy_at (counted_copies new) found.core line)) (after.lines found.core line))
+        ∙ found.newer in
         let neat = subst (λ (c : Caches). AllNeat (number_of_lines m) c.contents) (sym before.caches) is.kept.neat in
-        sym (ap (λ (ws : Words). slice_index ws (loc % words)) (called-stale kind (number_of_lines m) old new line found.core rows before.sound after.sound neat called owner))
+        sym (ap (λ (ws : Words). slice_index ws (loc % words))
+        (called-stale kind (number_of_lines m) old new line found.core rows before.sound after.sound neat called owner))
     by_newer false q =
         sym (ap (λ (ws : Words). slice_index ws (loc % words)) ((after.sound.coherent.each line in_memory).clean (λ core. all-clean new n line core after q)))
 
@@ -130,11 +163,19 @@ listed m f g h loc (suc count) each =
     ap (λ w. w ∷ own_words_from m (loc + 1) (map f (range_with_len (loc + 1) count)) (map g (range_with_len (loc + 1) count))) (each loc (omega arith))
     ∙ ap (λ ws. h loc ∷ ws) (listed m f g h (loc + 1) count (λ l b. each l (omega (arith, b))))
 
-told : (kind : ProtocolKind) (m n : Running) (old new : BusModel) → IsAlong kind m → IsBusOf old m → IsBusOf new n → IsSameMachine old new → IsCalled old new → own_words n (memory_words_of old) ≡ memory_words_of new
+told : (kind : ProtocolKind) (m n : Running) (old new : BusModel)
+    → IsAlong kind m
+    → IsBusOf old m
+    → IsBusOf new n
+    → IsSameMachine old new
+    → IsCalled old new
+    → own_words n (memory_words_of old) ≡ memory_words_of new
 told kind m n old new is before after same called =
     ap (λ ws. own_words_from n 0 ws n.state.flat.memory) first
     ∙ (ap (λ ws. own_words_from n 0 (map (word_in_lines new.shape.words (line_in old.memory)) (range_with_len 0 new.locations)) ws) (sym after.words)
-    ∙ listed n (word_in_lines new.shape.words (line_in old.memory)) (word_in_lines new.shape.words (current_words (counted_copies new) new.memory)) (word_in_lines new.shape.words (line_in new.memory)) 0 new.locations
+    ∙ listed n (word_in_lines new.shape.words (line_in old.memory))
+    (word_in_lines new.shape.words (current_words (counted_copies new) new.memory))
+    (word_in_lines new.shape.words (line_in new.memory)) 0 new.locations
     (λ l b. memory-is kind m n old new l is before after same called (omega (arith, b))))
   where
     first : memory_words_of old ≡ map (word_in_lines new.shape.words (line_in old.memory)) (range_with_len 0 new.locations)
@@ -144,4 +185,8 @@ told kind m n old new is before after same called =
 pub told-is-the-buses : ToldMemoryIsTheBuses
 told-is-the-buses kind c t choices choice old new test words before after same called =
     told kind (after_choices (new_machine (table_of kind) c t) choices) (machine_after (after_choices (new_machine (table_of kind) c t) choices) choice) old new
-    (along kind (new_machine (table_of kind) c t) choices (record { kept = kept-first (table_of kind) c t test words (protocols-keep kind); rows = refl })) before after same called
+    (along kind (new_machine (table_of kind) c t) choices (record {
+      kept = kept-first (table_of kind) c t test words (protocols-keep kind);
+      rows = refl;
+    }))
+    before after same called

@@ -1,15 +1,24 @@
 -- What a choice does to its core's pending stores, whatever holds the bus.
-use Rattle.trace_report.proofs.Vocabulary.{◌≡◌, ◌∙◌, ℕ, zero, suc, ◌+◌, nat_lt, List, [], ◌∷◌, ◌++◌, length, drop, Option, Some, None, refl, sym, ap, arith, length-append, Litmus, action_of, CoreState, State, Effect, is_none_pending, stored, effect_by, effect_of, core_of, chosen, next_of, Attempt, as_read, after_first, BusState, effect_on, Bus, Instr, Action, Store, Fence, Lock, Entry, Choice, Step, Drain, Outcome, Committed, Buffered, Stalled, Stall, committed_at, waited_before, if-by, effect-by, drain_with, step_of}
+use Rattle.trace_report.proofs.Vocabulary.{◌≡◌, ◌∙◌, ℕ, zero, suc, ◌+◌, nat_lt, List, [], ◌∷◌, ◌++◌, length, drop, Option, Some, None, refl}
+use Rattle.trace_report.proofs.Vocabulary.{sym, ap, arith, length-append, Litmus, action_of, CoreState, State, Effect, is_none_pending}
+use Rattle.trace_report.proofs.Vocabulary.{stored, effect_by, effect_of, core_of, chosen, next_of, Attempt, as_read, after_first, BusState}
+use Rattle.trace_report.proofs.Vocabulary.{effect_on, Bus, Instr, Action, Store, Fence, Lock, Entry, Choice, Step, Drain, Outcome}
+use Rattle.trace_report.proofs.Vocabulary.{Committed, Buffered, Stalled, Stall, committed_at, waited_before, if-by, effect-by, drain_with}
+use Rattle.trace_report.proofs.Vocabulary.{step_of}
 
 -- nothing became pending, a store did, or the oldest was drained
 pub data Form (choice : Choice) (s : CoreState) (f : Effect) : Type 0 where
-  still : f.after.pending ≡ s.pending → waited_before f.outcome choice (length s.pending) ≡ length s.pending → committed_at f.outcome f.commits ≡ f.commits → Form choice s f
+  still : f.after.pending ≡ s.pending
+      → waited_before f.outcome choice (length s.pending) ≡ length s.pending
+      → committed_at f.outcome f.commits ≡ f.commits
+      → Form choice s f
   grown : (e : Entry) → f.after.pending ≡ s.pending ++ e ∷ [] → f.outcome ≡ Buffered → f.commits ≡ [] → Form choice s f
   shrunk : (core : ℕ) (e : Entry) → s.pending ≡ e ∷ f.after.pending → f.outcome ≡ Committed → choice ≡ Drain (record { 0 = core }) → Form choice s f
 
 stored-form : (depth : ℕ) (choice : Choice) (core : ℕ) (s : CoreState) (e : Entry) → choice ≡ Step (record { 0 = core }) → Form choice s (stored depth s e)
 stored-form zero choice core s e q = still refl (rw q refl) refl
-stored-form (suc n) choice core s e q = if-by (Form choice s) (nat_lt (length s.pending) (suc n)) _ _ (λ room. grown e refl refl refl) (λ full. still refl refl refl)
+stored-form (suc n) choice core s e q =
+    if-by (Form choice s) (nat_lt (length s.pending) (suc n)) _ _ (λ room. grown e refl refl refl) (λ full. still refl refl refl)
 
 step-form : (depth core : ℕ) (memory : List ℕ) (i : Option Instr) (s : CoreState) → Form (Step (record { 0 = core })) s (step_of depth memory core i s)
 step-form depth core memory None s = still refl refl refl
@@ -40,9 +49,11 @@ after-first-form a s f (grown e more is none) = grown e more is (ap (drop 1) non
 after-first-form a s f (shrunk core e less is drain) = shrunk core e less is drain
 
 -- on either bus
-pub effect-form : (bus : Bus) (t : Litmus) (depth : ℕ) (state : BusState) (a : Attempt) → Form a.choice (core_of state.flat (chosen a.choice)) (effect_on bus t depth state a).effect
+pub effect-form : (bus : Bus) (t : Litmus) (depth : ℕ) (state : BusState) (a : Attempt)
+    → Form a.choice (core_of state.flat (chosen a.choice)) (effect_on bus t depth state a).effect
 effect-form bus t depth state a =
-    effect-by (λ c f. Form c (core_of state.flat (chosen c)) f) bus t depth state a (λ needs. still refl refl refl) (λ needs. still refl refl refl) (flat-form t depth state.flat) (λ core loc q. still refl refl refl)
+    effect-by (λ c f. Form c (core_of state.flat (chosen c)) f) bus t depth state a (λ needs. still refl refl refl)
+    (λ needs. still refl refl refl) (flat-form t depth state.flat) (λ core loc q. still refl refl refl)
     (λ e. after-first-form (Step e.core) (core_of state.flat e.core.0) _ (flat-form t depth (as_read state.flat e) (Step e.core)))
 
 -- ---- what waited before it, and what came
@@ -83,17 +94,22 @@ named Committed es more h none = ap (λ ms. es ++ ms) (none refl) ∙ nothing es
     nothing (x ∷ xs) = ap (λ ys. x ∷ ys) (nothing xs)
 named _ es more h none = h
 
-pub named-is : (choice : Choice) (s : CoreState) (f : Effect) → Form choice s f → committed_at f.outcome (f.commits ++ drop (length s.pending) f.after.pending) ≡ f.commits
+pub named-is : (choice : Choice) (s : CoreState) (f : Effect)
+    → Form choice s f
+    → committed_at f.outcome (f.commits ++ drop (length s.pending) f.after.pending) ≡ f.commits
 named-is choice s f (still same waited quiet) =
     named f.outcome f.commits (drop (length s.pending) f.after.pending) quiet (λ is. ap (drop (length s.pending)) same ∙ drop-all s.pending)
 named-is choice s f (grown e more is none) =
-    named f.outcome f.commits (drop (length s.pending) f.after.pending) (ap (λ o. committed_at o f.commits) is ∙ sym none) (λ other. absurd (let z : ⊥ = cc in z))
+    named f.outcome f.commits (drop (length s.pending) f.after.pending)
+    (ap (λ o. committed_at o f.commits) is ∙ sym none) (λ other. absurd (let z : ⊥ = cc in z))
 named-is choice s f (shrunk core e less is drain) =
     named f.outcome f.commits (drop (length s.pending) f.after.pending) (ap (λ o. committed_at o f.commits) is)
     (λ other. ap (λ es. drop (length es) f.after.pending) less ∙ drop-more e f.after.pending)
 
 -- where the core isn't there, it stays as it was
-pub nothing-new : (choice : Choice) (s : CoreState) (f : Effect) → Form choice s f → committed_at f.outcome (f.commits ++ drop (length s.pending) s.pending) ≡ f.commits
+pub nothing-new : (choice : Choice) (s : CoreState) (f : Effect)
+    → Form choice s f
+    → committed_at f.outcome (f.commits ++ drop (length s.pending) s.pending) ≡ f.commits
 nothing-new choice s f form = named f.outcome f.commits (drop (length s.pending) s.pending) (quiet-form form) (λ is. drop-all s.pending)
   where
     quiet-form : Form choice s f → committed_at f.outcome f.commits ≡ f.commits

@@ -1,6 +1,11 @@
 -- What a choice makes of the copies that are sent to memory: those that its step tells, those that it counts, and those that are
 -- told already and counted later.
-use Rattle.trace_report.proofs.Vocabulary.{◌≡◌, ◌≢◌, ◌∙◌, ◌/◌, ℕ, Bool, true, false, List, Option, Some, None, refl, sym, ap, subst, chosen, MemoryAccess, NoAccess, Holder, Bus, Core, Choice, Outcome, Table, transient_of, Request, GetS, GetM, Transient, SmD, table_of_rows, TagSets, Awaited, tag_at, or_invalid, asked_for, asking, awaiting, requesting, completed, completed_in, next_in_place, whole_in, whole_by, Through, Caches, Used, IsUseFor, asking_by, is_awaited, nothing_sent, sent_by, sent_with, inl, inr, completing_by, request_for}
+use Rattle.trace_report.proofs.Vocabulary.{◌≡◌, ◌≢◌, ◌∙◌, ◌/◌, ℕ, Bool, true, false, List, Option, Some, None, refl, sym, ap, subst, chosen}
+use Rattle.trace_report.proofs.Vocabulary.{MemoryAccess, NoAccess, Holder, Bus, Core, Choice, Outcome, Table, transient_of, Request, GetS}
+use Rattle.trace_report.proofs.Vocabulary.{GetM, Transient, SmD, table_of_rows, TagSets, Awaited, tag_at, or_invalid, asked_for, asking}
+use Rattle.trace_report.proofs.Vocabulary.{awaiting, requesting, completed, completed_in, next_in_place, whole_in, whole_by, Through}
+use Rattle.trace_report.proofs.Vocabulary.{Caches, Used, IsUseFor, asking_by, is_awaited, nothing_sent, sent_by, sent_with, inl, inr}
+use Rattle.trace_report.proofs.Vocabulary.{completing_by, request_for}
 use Rattle.std.specs.Option.{option_map}
 use Rattle.multiprocessor.specs.Caches.{asking_use}
 use Rattle.protocol_tables.specs.declared.state.State.TheVariants as tag
@@ -26,7 +31,8 @@ pub data Turns (waits then_waits : Bool) (before after : Option Awaited) (told h
 
 -- ---- it is asked for
 
-awaiting-quiet : (t : Table) (request : Request) (line : ℕ) (caches : List TagSets) (s : protocol.State) → UpgradesQuietly (option_map (awaiting t request line caches) (transient_of s request))
+awaiting-quiet : (t : Table) (request : Request) (line : ℕ) (caches : List TagSets) (s : protocol.State)
+    → UpgradesQuietly (option_map (awaiting t request line caches) (transient_of s request))
 unfolding awaiting
 awaiting-quiet t GetS line caches tag.I = λ q. absurd (let z : ⊥ = cc in z)
 awaiting-quiet t GetS line caches _ = tt
@@ -37,17 +43,23 @@ awaiting-quiet t GetM line caches _ = λ q. refl
 asking-quiet : (t : Table) (request : Request) (core line : ℕ) (caches : List TagSets) → UpgradesQuietly (asking t request core line caches).awaited
 asking-quiet t request core line caches = awaiting-quiet t request line caches (or_invalid (tag_at core line caches))
 
-asks-quiet : (c : Caches) (core : ℕ) (what : MemoryAccess) → UpgradesQuietly c.awaited → UpgradesQuietly (asking_by c core what).caches.awaited × (flush_in (asking_by c core what).how ≡ None)
+asks-quiet : (c : Caches) (core : ℕ) (what : MemoryAccess)
+    → UpgradesQuietly c.awaited
+    → UpgradesQuietly (asking_by c core what).caches.awaited × (flush_in (asking_by c core what).how ≡ None)
 asks-quiet c core NoAccess quiet = (quiet, refl)
 asks-quiet c core what quiet = (asking-quiet (table_of_rows c.rows) (request_for (is_write_access what)) core _ c.contents, (asking-clean c core what).1)
 
 -- ---- it is completed
 
-completed-flush : (t : Table) (core line : ℕ) (w : Option Awaited) (caches : List TagSets) → UpgradesQuietly w → (completed t core line w caches).report.access.flushed ≡ flush_awaited w
+completed-flush : (t : Table) (core line : ℕ) (w : Option Awaited) (caches : List TagSets)
+    → UpgradesQuietly w
+    → (completed t core line w caches).report.access.flushed ≡ flush_awaited w
 completed-flush t core line None caches quiet = refl
 completed-flush t core line (Some x) caches quiet = by_transient x.transient quiet
   where
-    by_transient : (transient : Transient) → (transient ≡ SmD → x.flushed ≡ None) → (completed_in t core line transient x.state x.flushed caches).report.access.flushed ≡ x.flushed
+    by_transient : (transient : Transient)
+        → (transient ≡ SmD → x.flushed ≡ None)
+        → (completed_in t core line transient x.state x.flushed caches).report.access.flushed ≡ x.flushed
     by_transient SmD q = sym (q refl)
     by_transient _ q = refl
 
@@ -78,7 +90,9 @@ unfolding awaiting requesting
 asked-told t request line caches None = refl
 asked-told t request line caches (Some x) = refl
 
-asks-told : (c : Caches) (core : ℕ) (what : MemoryAccess) → flush_awaited c.awaited ≡ None → (sent_by (asking_by c core what).how).flushed ≡ flush_awaited (asking_by c core what).caches.awaited
+asks-told : (c : Caches) (core : ℕ) (what : MemoryAccess)
+    → flush_awaited c.awaited ≡ None
+    → (sent_by (asking_by c core what).how).flushed ≡ flush_awaited (asking_by c core what).caches.awaited
 asks-told c core NoAccess resting = sym resting
 asks-told c core what resting =
     asked-told (table_of_rows c.rows) (request_for (is_write_access what)) _ c.contents (asked_for (request_for (is_write_access what)) core _ c.contents)
@@ -96,7 +110,8 @@ whole-told t false core line caches copy None = refl
 whole-told-by : (c : Caches) (core loc : ℕ) (write : Bool) → (sent_by (whole_by c core loc write).how).flushed ≡ flush_in (whole_by c core loc write).how
 whole-told-by c core loc write =
     let line = loc / c.shape.words in
-    whole-told (table_of_rows c.rows) write core line c.contents (tag_at core line c.contents) (next_in_place (table_of_rows c.rows) write (tag_at core line c.contents))
+    whole-told (table_of_rows c.rows) write core line c.contents (tag_at core line c.contents)
+    (next_in_place (table_of_rows c.rows) write (tag_at core line c.contents))
 
 use-told : (c : Caches) (core : ℕ) (what : MemoryAccess) (u : Used) → IsUseFor c core what u → (sent_by u.how).flushed ≡ flush_in u.how
 use-told c core NoAccess u (inl is) = rw is refl
@@ -115,8 +130,12 @@ module _ (c : Caches) (a : Choice) (before after : Choice → MemoryAccess) (hol
   choice-turn on (unused is stays) = whole (rw is refl) (ap (λ (x : Used). x.caches.awaited) is) stays.waits
   choice-turn on (begun split is outcome free held same) =
       let q = asks-quiet c (chosen a) (before a) quiet in
-      asked (subst (λ (x : Used). (sent_by x.how).flushed ≡ flush_awaited x.caches.awaited) (sym is) (asks-told c (chosen a) (before a) (resting (ap is_awaited free))))
-      (ap (λ (x : Used). flush_in x.how) is ∙ q.1) (ap is_awaited free) (ap is_awaited held) (subst (λ (x : Used). UpgradesQuietly x.caches.awaited) (sym is) q.0)
+      asked (subst (λ (x : Used). (sent_by x.how).flushed ≡ flush_awaited x.caches.awaited) (sym is)
+      (asks-told c (chosen a) (before a) (resting (ap is_awaited free))))
+      (ap (λ (x : Used). flush_in x.how) is ∙ q.1) (ap is_awaited free) (ap is_awaited held)
+      (subst (λ (x : Used). UpgradesQuietly x.caches.awaited) (sym is) q.0)
   choice-turn on (ended split is some held rest) =
       let f = completes-flush c (chosen a) (before a) some quiet in
-      arrived (ap (λ (x : Used). (sent_by x.how).flushed) is ∙ ap (λ x. x.flushed) (completes-untold c (chosen a) (before a))) (ap (λ (x : Used). flush_in x.how) is ∙ f.0) (ap (λ (x : Used). x.caches.awaited) is ∙ f.1)
+      arrived (ap (λ (x : Used). (sent_by x.how).flushed) is
+      ∙ ap (λ x. x.flushed) (completes-untold c (chosen a) (before a)))
+      (ap (λ (x : Used). flush_in x.how) is ∙ f.0) (ap (λ (x : Used). x.caches.awaited) is ∙ f.1)

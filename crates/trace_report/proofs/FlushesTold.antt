@@ -1,6 +1,14 @@
 -- The flushes that a trace tells, and those that are counted.
 use Rattle.multiprocessor.specs.declared.accesses.CacheUse.TheVariants as uses
-use Rattle.trace_report.proofs.Vocabulary.{◌≡◌, ◌∙◌, ℕ, ◌+◌, ◌==◌, ◌&&◌, Bool, true, false, List, [], ◌∷◌, length, map, Option, Some, None, refl, sym, ap, subst, arith, length-replicate, length-map, Litmus, chosen, core_of, has_ended, MemoryAccess, access_of, BusRun, Core, Choice, Table, Entry, tags_in, Configuration, AllStores, start-stores, LiveIn, live-after, live-start, Caches, is_awaited, used_between, no_counts, with_access, with_forward, with_write_back, with_flush, counts_at_core, flush_counted, with_use_counted, Counts, CacheUse, Unused, Forwarded, Through, Running, new_machine, attempt_on, machine_use, machine_after, length-counted, trace_step_of, steps_from, is_sender, tells_flush, one_if, steps_that, CoresExist, cases_Bool, ended-free, inl, inr, machine_effect, IsAmong, IsFlusherAmong, IsSenderAmong}
+use Rattle.trace_report.proofs.Vocabulary.{◌≡◌, ◌∙◌, ℕ, ◌+◌, ◌==◌, ◌&&◌, Bool, true, false, List, [], ◌∷◌, length, map, Option, Some, None}
+use Rattle.trace_report.proofs.Vocabulary.{refl, sym, ap, subst, arith, length-replicate, length-map, Litmus, chosen, core_of, has_ended}
+use Rattle.trace_report.proofs.Vocabulary.{MemoryAccess, access_of, BusRun, Core, Choice, Table, Entry, tags_in, Configuration, AllStores}
+use Rattle.trace_report.proofs.Vocabulary.{start-stores, LiveIn, live-after, live-start, Caches, is_awaited, used_between, no_counts}
+use Rattle.trace_report.proofs.Vocabulary.{with_access, with_forward, with_write_back, with_flush, counts_at_core, flush_counted}
+use Rattle.trace_report.proofs.Vocabulary.{with_use_counted, Counts, CacheUse, Unused, Forwarded, Through, Running, new_machine, attempt_on}
+use Rattle.trace_report.proofs.Vocabulary.{machine_use, machine_after, length-counted, trace_step_of, steps_from, is_sender, tells_flush}
+use Rattle.trace_report.proofs.Vocabulary.{one_if, steps_that, CoresExist, cases_Bool, ended-free, inl, inr, machine_effect, IsAmong}
+use Rattle.trace_report.proofs.Vocabulary.{IsFlusherAmong, IsSenderAmong}
 use Rattle.std.proofs.Common.{length-set}
 use Rattle.snoop_bus.specs.Asks.{Awaited}
 use Rattle.snoop_bus.specs.Bus.{empty_caches}
@@ -14,7 +22,9 @@ use Rattle.trace_report.proofs.Flushes.{flush_awaited, UpgradesQuietly, Turns, w
 
 -- ---- what a choice counts
 
-sender-adds : (k : ℕ) (sender : Option Core) (cs : List Counts) → IsAmong (length cs) sender → (of (flush_counted sender cs) k).flushes ≡ (of cs k).flushes + one_if (is_sender k sender)
+sender-adds : (k : ℕ) (sender : Option Core) (cs : List Counts)
+    → IsAmong (length cs) sender
+    → (of (flush_counted sender cs) k).flushes ≡ (of cs k).flushes + one_if (is_sender k sender)
 sender-adds k None cs among = omega arith
 sender-adds k (Some core) cs among =
     added (λ (n : Counts). n.flushes) core.0 k with_flush cs true among (λ n. refl) ∙ ap (λ b. (of cs k).flushes + one_if b) (always (core.0 == k))
@@ -23,14 +33,18 @@ sender-adds k (Some core) cs among =
     always true = refl
     always false = refl
 
-counted-flush : (core k : ℕ) (how : CacheUse) (cs : List Counts) → IsFlusherAmong (length cs) how → (of (with_use_counted core how cs) k).flushes ≡ (of cs k).flushes + one_if (is_sender k (flush_in how))
+counted-flush : (core k : ℕ) (how : CacheUse) (cs : List Counts)
+    → IsFlusherAmong (length cs) how
+    → (of (with_use_counted core how cs) k).flushes ≡ (of cs k).flushes + one_if (is_sender k (flush_in how))
 counted-flush core k Unused cs among = omega arith
 counted-flush core k Forwarded cs among = kept (λ (n : Counts). n.flushes) core k with_forward cs (λ n. refl) ∙ (omega arith)
 counted-flush core k (uses.Asked request) cs among = omega arith
 counted-flush core k (Through r) cs among =
     let change : Counts → Counts = λ n. with_write_back r.access.wrote_back (with_access r.access.kind n) in
-    sender-adds k r.access.flushed (counts_at_core core change cs) (subst (λ size. IsAmong size r.access.flushed) (sym (length-set cs core (change (of cs core)))) among)
-    ∙ ap (λ n. n + one_if (is_sender k r.access.flushed)) (kept (λ (n : Counts). n.flushes) core k change cs (λ n. (through-keeps r.access.kind r.access.wrote_back n).1))
+    sender-adds k r.access.flushed (counts_at_core core change cs)
+    (subst (λ size. IsAmong size r.access.flushed) (sym (length-set cs core (change (of cs core)))) among)
+    ∙ ap (λ n. n + one_if (is_sender k r.access.flushed))
+    (kept (λ (n : Counts). n.flushes) core k change cs (λ n. (through-keeps r.access.kind r.access.wrote_back n).1))
 
 -- ---- the caches stay as many
 
@@ -55,7 +69,9 @@ pub sound-first : (table : Table) (c : Configuration) (t : Litmus) → IsSound (
 sound-first table c t = record {
   live = live-start c.bus t c.depth;
   stores = start-stores t;
-  size = length-replicate (length t.programs) no_counts ∙ sym (length-map (empty_caches (length t.programs) c.shape) (map tags_in) ∙ length-replicate (length t.programs) _);
+  size =
+      length-replicate (length t.programs) no_counts
+      ∙ sym (length-map (empty_caches (length t.programs) c.shape) (map tags_in) ∙ length-replicate (length t.programs) _);
   sender = tt;
   quiet = tt;
   resting = λ h. refl;
@@ -64,7 +80,8 @@ sound-first table c t = record {
 -- what a choice has to do with the caches
 abbrev pub UsesOf : Running → Choice → Type 0
 UsesOf m c =
-    UsesOn m.bus m.statistics.caches c (access_of m.test m.depth m.state.flat) (access_of m.test m.depth (machine_after m c).state.flat) m.state.holder (machine_after m c).state.holder
+    UsesOn m.bus m.statistics.caches c (access_of m.test m.depth m.state.flat)
+    (access_of m.test m.depth (machine_after m c).state.flat) m.state.holder (machine_after m c).state.holder
     (machine_effect m c).effect.outcome (machine_use m c)
 
 -- and its core's pending stores stay stores
@@ -73,7 +90,8 @@ uses-of m c s = choice-uses m.bus m.test m.depth m.state m.statistics.caches c s
 
 abbrev TurnsOn : Running → Choice → Type 0
 TurnsOn m c =
-    Turns (is_awaited m.state.holder) (is_awaited (machine_effect m c).holder) m.statistics.caches.awaited (machine_use m c).caches.awaited (trace_step_of m c).flushed (flush_in (machine_use m c).how)
+    Turns (is_awaited m.state.holder) (is_awaited (machine_effect m c).holder) m.statistics.caches.awaited
+    (machine_use m c).caches.awaited (trace_step_of m c).flushed (flush_in (machine_use m c).how)
 
 turn : (m : Running) (c : Choice) → IsSound m → TurnsOn m c
 unfolding trace_step_of
@@ -82,9 +100,11 @@ turn m c s =
     m.state.holder (machine_after m c).state.holder (machine_effect m c).effect.outcome (machine_use m c) s.quiet s.resting m.bus (uses-of m c s).0
 
 among-all : (m : Running) (c : Choice) → IsSound m
-    → IsFlusherAmong (length m.statistics.caches.contents) (machine_use m c).how × IsSenderAmong (length m.statistics.caches.contents) (machine_use m c).caches.awaited
+    → IsFlusherAmong (length m.statistics.caches.contents) (machine_use m c).how
+    × IsSenderAmong (length m.statistics.caches.contents) (machine_use m c).caches.awaited
 among-all m c s =
-    senders (is_awaited m.state.holder) (is_awaited (machine_effect m c).holder) m.statistics.caches (chosen c) (access_of m.test m.depth m.state.flat c) (core_of m.state.flat (chosen c)).pending
+    senders (is_awaited m.state.holder) (is_awaited (machine_effect m c).holder) m.statistics.caches (chosen c)
+    (access_of m.test m.depth m.state.flat c) (core_of m.state.flat (chosen c)).pending
     (machine_effect m c).effect.commits s.sender
 
 -- whose copy a step tells as sent is one of the cores
@@ -110,7 +130,8 @@ told-among m c s = by_turn (turn m c s)
 pub sound-after : (m : Running) (c : Choice) → IsSound m → IsSound (machine_after m c)
 sound-after m c s =
     let size : length (machine_use m c).caches.contents ≡ length m.statistics.caches.contents =
-    used-size (is_awaited m.state.holder) (is_awaited (machine_effect m c).holder) m.statistics.caches (chosen c) (access_of m.test m.depth m.state.flat c) (core_of m.state.flat (chosen c)).pending
+    used-size (is_awaited m.state.holder) (is_awaited (machine_effect m c).holder) m.statistics.caches (chosen c)
+    (access_of m.test m.depth m.state.flat c) (core_of m.state.flat (chosen c)).pending
     (machine_effect m c).effect.commits in
     let told = after-turn (turn m c s) in
     record {
@@ -122,7 +143,9 @@ sound-after m c s =
       resting = told.1;
     }
   where
-    after-turn : TurnsOn m c → UpgradesQuietly (machine_use m c).caches.awaited × (is_awaited (machine_effect m c).holder ≡ false → flush_awaited (machine_use m c).caches.awaited ≡ None)
+    after-turn : TurnsOn m c
+        → UpgradesQuietly (machine_use m c).caches.awaited
+        × (is_awaited (machine_effect m c).holder ≡ false → flush_awaited (machine_use m c).caches.awaited ≡ None)
     after-turn (whole told after waits) = (subst UpgradesQuietly (sym after) s.quiet, λ h. ap flush_awaited after ∙ s.resting (sym waits ∙ h))
     after-turn (asked told how waits next quiet) = (quiet, λ h. absurd (let z : ⊥ = cc in z))
     after-turn (arrived told how after) = (subst UpgradesQuietly (sym after) tt, λ h. ap flush_awaited after)
@@ -136,10 +159,14 @@ balance k m c s = by_turn (turn m c s)
     sent : Option Core → ℕ
     sent o = one_if (is_sender k o)
 
-    by_turn : TurnsOn m c → sent (trace_step_of m c).flushed + sent (flush_awaited m.statistics.caches.awaited) ≡ sent (flush_in (machine_use m c).how) + sent (flush_awaited (machine_use m c).caches.awaited)
+    by_turn : TurnsOn m c
+        → sent (trace_step_of m c).flushed + sent (flush_awaited m.statistics.caches.awaited)
+        ≡ sent (flush_in (machine_use m c).how) + sent (flush_awaited (machine_use m c).caches.awaited)
     by_turn (whole told after waits) =
         let x : sent (trace_step_of m c).flushed ≡ sent (flush_in (machine_use m c).how) = ap sent told in
-        let y : sent (flush_awaited (machine_use m c).caches.awaited) ≡ sent (flush_awaited m.statistics.caches.awaited) = ap (λ w. sent (flush_awaited w)) after in
+        let y : sent (flush_awaited (machine_use m c).caches.awaited)
+        ≡ sent (flush_awaited m.statistics.caches.awaited) =
+        ap (λ w. sent (flush_awaited w)) after in
         omega arith
     by_turn (asked told how waits next quiet) =
         let x : sent (trace_step_of m c).flushed ≡ sent (flush_awaited (machine_use m c).caches.awaited) = ap sent told in
@@ -158,7 +185,8 @@ waiting_for k m = one_if (is_sender k (flush_awaited m.statistics.caches.awaited
 
 -- once the test has ended nothing is
 none-waits : (m : Running) (choices : List Choice) (k : ℕ) → IsSound m → (run_of m choices).ended ≡ true → waiting_for k (end_of m choices) ≡ 0
-none-waits m [] k s over = ap (λ o. one_if (is_sender k o)) (s.resting (ap is_awaited (ended-free m.bus m.test m.depth m.state.flat m.state.holder s.live over)))
+none-waits m [] k s over =
+    ap (λ o. one_if (is_sender k o)) (s.resting (ap is_awaited (ended-free m.bus m.test m.depth m.state.flat m.state.holder s.live over)))
 none-waits m (c ∷ cs) k s over = elim (cases_Bool (has_ended m.test m.state.flat)) [
   | inl now ↦ rw now (ap (λ o. one_if (is_sender k o)) (s.resting (ap is_awaited (ended-free m.bus m.test m.depth m.state.flat m.state.holder s.live now))))
   | inr now ↦ rw now (none-waits (machine_after m c) cs k (sound-after m c s) (sym (ap (λ (r : BusRun). r.run.ended) (going m c cs now)) ∙ over))
@@ -170,7 +198,9 @@ flushes-told m choices k s there over =
     let all = summed IsSound (λ (n : Counts). n.flushes) (waiting_for k) (tells_flush k) k sound-after
     (λ m c s h. (
     let same = balance k m c s in
-    let one = counted-flush (chosen c) k (machine_use m c).how m.statistics.counts (subst (λ n. IsFlusherAmong n (machine_use m c).how) (sym s.size) (among-all m c s).0) in
+    let one =
+    counted-flush (chosen c) k (machine_use m c).how m.statistics.counts
+    (subst (λ n. IsFlusherAmong n (machine_use m c).how) (sym s.size) (among-all m c s).0) in
     omega arith)) m choices s there in
     let none = none-waits m choices k s over in
     omega arith

@@ -1,5 +1,10 @@
 -- The line that a step tells as written back is the one that gave way in its set; and where one is written back it is told.
-use Rattle.trace_report.proofs.Vocabulary.{arith, [], ◌∷◌, ◌≡◌, ◌∙◌, ◌<◌, ◌/◌, ◌==◌, ◌&&◌, ℕ, Bool, true, false, nat_lt, if◌then◌else◌, List, length, Option, Some, None, is_some, refl, sym, ap, subst, nat_tests, Litmus, IsTest, chosen, core_of, MemoryAccess, access_of, Choice, Table, table_of_rows, leaving, TagSets, tags_at, sets_of, dirty_in, Configuration, Caches, is_awaited, Running, new_machine, machine_use, machine_after, machine_effect, sets-leave, number_of_lines, among, left_in, written_line, WriteBacksAreTold, after_choices, KeepsNoCopyInI, tells_write_back}
+use Rattle.trace_report.proofs.Vocabulary.{arith, [], ◌∷◌, ◌≡◌, ◌∙◌, ◌<◌, ◌/◌, ◌==◌, ◌&&◌, ℕ, Bool, true, false, nat_lt, if◌then◌else◌}
+use Rattle.trace_report.proofs.Vocabulary.{List, length, Option, Some, None, is_some, refl, sym, ap, subst, nat_tests, Litmus, IsTest}
+use Rattle.trace_report.proofs.Vocabulary.{chosen, core_of, MemoryAccess, access_of, Choice, Table, table_of_rows, leaving, TagSets}
+use Rattle.trace_report.proofs.Vocabulary.{tags_at, sets_of, dirty_in, Configuration, Caches, is_awaited, Running, new_machine, machine_use}
+use Rattle.trace_report.proofs.Vocabulary.{machine_after, machine_effect, sets-leave, number_of_lines, among, left_in, written_line}
+use Rattle.trace_report.proofs.Vocabulary.{WriteBacksAreTold, after_choices, KeepsNoCopyInI, tells_write_back}
 use Rattle.std.specs.Option.{option_map}
 use Rattle.snoop_bus.specs.CacheContents.{departing}
 use Rattle.snoop_bus.specs.inner.CacheContents.{was_written_back}
@@ -67,8 +72,11 @@ consistent m c =
     let f = machine_effect m c in
     let caches = m.statistics.caches in
     let t = table_of_rows caches.rows in
-    each-use (λ u. IsConsistent u.how) caches refl refl (λ k loc write. whole-consistent t write k (loc / caches.shape.words) caches.contents) (chosen c) (λ loc write. asking-consistent _)
-    (λ loc. completed-consistent t (chosen c) (loc / caches.shape.words) caches.awaited caches.contents) (is_awaited m.state.holder) (is_awaited f.holder) (access_of m.test m.depth m.state.flat c)
+    each-use (λ u. IsConsistent u.how) caches refl refl
+    (λ k loc write. whole-consistent t write k (loc / caches.shape.words) caches.contents) (chosen c)
+    (λ loc write. asking-consistent _)
+    (λ loc. completed-consistent t (chosen c) (loc / caches.shape.words) caches.awaited caches.contents)
+    (is_awaited m.state.holder) (is_awaited f.holder) (access_of m.test m.depth m.state.flat c)
     (core_of m.state.flat (chosen c)).pending f.effect.commits
 
 none-written : (o : Option Departure) → was_written_back o ≡ false → written_line o ≡ None
@@ -76,14 +84,22 @@ none-written None clean = refl
 none-written (Some left) clean = ap (λ b. if b then Some left.line else None) clean
 
 -- where none was, none is told
-quiet-told : (m : Running) (c : Choice) → wrote_in (machine_use m c).how ≡ false → among (number_of_lines m) (written_line (left_in (machine_use m c).how)) ≡ None
+quiet-told : (m : Running) (c : Choice)
+    → wrote_in (machine_use m c).how ≡ false
+    → among (number_of_lines m) (written_line (left_in (machine_use m c).how)) ≡ None
 quiet-told m c clean = ap (among (number_of_lines m)) (none-written (left_in (machine_use m c).how) (consistent m c ∙ clean))
 
-pub step-told : (k : ℕ) (m : Running) (c : Choice) → IsKept m → chosen c < length m.statistics.counts → tells_write_back k (steps.trace_step_of m c) ≡ ((chosen c == k) && wrote_in (machine_use m c).how)
+pub step-told : (k : ℕ) (m : Running) (c : Choice)
+    → IsKept m
+    → chosen c < length m.statistics.counts
+    → tells_write_back k (steps.trace_step_of m c) ≡ ((chosen c == k) && wrote_in (machine_use m c).how)
 unfolding steps.trace_step_of
 step-told k m c kept there = ap (λ b. (chosen c == k) && b) (by_wrote (wrote_in (machine_use m c).how) refl)
   where
-    by_wrote : (b : Bool) → wrote_in (machine_use m c).how ≡ b → is_some (among (number_of_lines m) (written_line (left_in (machine_use m c).how))) ≡ wrote_in (machine_use m c).how
+    by_wrote : (b : Bool)
+        → wrote_in (machine_use m c).how ≡ b
+        → is_some (among (number_of_lines m) (written_line (left_in (machine_use m c).how)))
+        ≡ wrote_in (machine_use m c).how
     by_wrote true q = ap is_some (gives m c kept there q).told ∙ sym q
     by_wrote false q = ap is_some (quiet-told m c q) ∙ sym q
 
@@ -102,7 +118,10 @@ gave-way m choice kept within line told =
       dirty = subst (λ o. dirty_in (table_of_rows m.statistics.caches.rows) o ≡ true) g.last g.fills.line.writes;
     }
   where
-    wrote : (b : Bool) → wrote_in (machine_use m choice).how ≡ b → among (number_of_lines m) (written_line (left_in (machine_use m choice).how)) ≡ Some line → wrote_in (machine_use m choice).how ≡ true
+    wrote : (b : Bool)
+        → wrote_in (machine_use m choice).how ≡ b
+        → among (number_of_lines m) (written_line (left_in (machine_use m choice).how)) ≡ Some line
+        → wrote_in (machine_use m choice).how ≡ true
     wrote true q told = q
     wrote false q told = let none : None ≡ Some line = sym (quiet-told m choice q) ∙ told in absurd (let z : ⊥ = cc in z)
 
@@ -112,7 +131,11 @@ same-test : (m : Running) (choices : List Choice) → (after_choices m choices).
 same-test m [] = refl
 same-test m (c ∷ cs) = same-test (machine_after m c) cs
 
-pub write-backs-told : (table : Table) (c : Configuration) (t : Litmus) (choices : List Choice) (choice : Choice) → IsTest t → 0 < c.shape.words → KeepsNoCopyInI table → chosen choice < length t.programs
+pub write-backs-told : (table : Table) (c : Configuration) (t : Litmus) (choices : List Choice) (choice : Choice)
+    → IsTest t
+    → 0 < c.shape.words
+    → KeepsNoCopyInI table
+    → chosen choice < length t.programs
     → WriteBacksAreTold (after_choices (new_machine table c t) choices) choice
 write-backs-told table c t choices choice test words keeps within =
     let kept = kept-along (new_machine table c t) choices (kept-first table c t test words keeps) in

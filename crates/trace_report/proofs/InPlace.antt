@@ -1,5 +1,9 @@
 -- An access that needs no bus: no other cache sees it, nothing is sent to memory, and no line leaves.
-use Rattle.trace_report.proofs.Vocabulary.{◌≡◌, ◌≢◌, ◌∙◌, ◌/◌, ℕ, Bool, false, not, List, slice_index_or, Option, Some, None, is_some, inl, inr, refl, sym, subst, eqb_tells, MemoryAccess, NoAccess, Locks, needs_bus, Table, table_of_rows, TagSet, tag_of, used, TagSets, tags_at, tag_in, at_line, sets_of, used_by, tag_at, Caches, Used, not_through, hits_by, Unused, IsUseFor, no_set, absent-remove, would_hit, through, whole_by, Forwarded, Through, next_in_place, whole_in, CacheUse, Core, at_access}
+use Rattle.trace_report.proofs.Vocabulary.{◌≡◌, ◌≢◌, ◌∙◌, ◌/◌, ℕ, Bool, false, not, List, slice_index_or, Option, Some, None, is_some, inl}
+use Rattle.trace_report.proofs.Vocabulary.{inr, refl, sym, subst, eqb_tells, MemoryAccess, NoAccess, Locks, needs_bus, Table, table_of_rows}
+use Rattle.trace_report.proofs.Vocabulary.{TagSet, tag_of, used, TagSets, tags_at, tag_in, at_line, sets_of, used_by, tag_at, Caches, Used}
+use Rattle.trace_report.proofs.Vocabulary.{not_through, hits_by, Unused, IsUseFor, no_set, absent-remove, would_hit, through, whole_by}
+use Rattle.trace_report.proofs.Vocabulary.{Forwarded, Through, next_in_place, whole_in, CacheUse, Core, at_access}
 use Rattle.multiprocessor.specs.Caches.{asking_use, asking_by}
 use Rattle.snoop_bus.specs.declared.access.BusRequest.{BusRequest}
 use Rattle.snoop_bus.specs.inner.CacheContents.{was_written_back}
@@ -26,7 +30,8 @@ abbrev pub IsConsistent : CacheUse → Type 0
 IsConsistent how = was_written_back (left_in how) ≡ wrote_in how
 
 -- an ask writes nothing back, and sends nothing yet
-pub asking-clean : (c : Caches) (core : ℕ) (what : MemoryAccess) → (wrote_in (asking_by c core what).how ≡ false) × (flush_in (asking_by c core what).how ≡ None)
+pub asking-clean : (c : Caches) (core : ℕ) (what : MemoryAccess)
+    → (wrote_in (asking_by c core what).how ≡ false) × (flush_in (asking_by c core what).how ≡ None)
 asking-clean c core NoAccess = (refl, refl)
 asking-clean c core _ = by_request _
   where
@@ -41,12 +46,20 @@ tags-absent other line state found s there none = elim (eqb_tells other line) [
   | inr p ↦ rw p.0 (absent-remove line other s.tags none)
 ]
 
-sets-absent : (other line : ℕ) (state found : State) (sets : TagSets) → tag_in sets line ≡ Some found → tag_in sets other ≡ None → tag_in (at_line line (used line state) sets) other ≡ None
+sets-absent : (other line : ℕ) (state found : State) (sets : TagSets)
+    → tag_in sets line ≡ Some found
+    → tag_in sets other ≡ None
+    → tag_in (at_line line (used line state) sets) other ≡ None
 sets-absent other line state found sets there none =
-    set-at (λ s. tag_of s other ≡ None) line other (used line state) sets (λ q l. tags-absent other line state found (tags_at sets line) there (subst (λ k. tag_of (slice_index_or sets k no_set) other ≡ None) q none))
+    set-at (λ s. tag_of s other ≡ None) line other (used line state) sets
+    (λ q l.
+    tags-absent other line state found (tags_at sets line) there (subst (λ k. tag_of (slice_index_or sets k no_set) other ≡ None) q none))
     (λ q past. refl) (λ n. none)
 
-used-absent : (k other core line : ℕ) (state found : State) (caches : List TagSets) → tag_at core line caches ≡ Some found → tag_at k other caches ≡ None → tag_at k other (used_by core line state caches) ≡ None
+used-absent : (k other core line : ℕ) (state found : State) (caches : List TagSets)
+    → tag_at core line caches ≡ Some found
+    → tag_at k other caches ≡ None
+    → tag_at k other (used_by core line state caches) ≡ None
 used-absent k other core line state found caches there none =
     core-at (λ sets. tag_in sets other ≡ None) core k (at_line line (used line state)) caches
     (λ q l. sets-absent other line state found (sets_of caches core) there (subst (λ j. tag_at j other caches ≡ None) q none)) (λ q past. refl) (λ n. none)
@@ -77,7 +90,10 @@ hit-still c core loc write hit = by_next (next_in_place t write (tag_at core lin
     line : ℕ
     line = loc / c.shape.words
 
-    by_next : (o : Option State) → next_in_place t write (tag_at core line c.contents) ≡ o → not (is_some o) ≡ false → IsStill c core (whole_by c core loc write)
+    by_next : (o : Option State)
+        → next_in_place t write (tag_at core line c.contents) ≡ o
+        → not (is_some o) ≡ false
+        → IsStill c core (whole_by c core loc write)
     by_next None q hit = absurd (let z : ⊥ = cc in z)
     by_next (Some next) q hit =
         let found = there t write (tag_at core line c.contents) next q in
@@ -90,7 +106,10 @@ hit-still c core loc write hit = by_next (next_in_place t write (tag_at core lin
           unsent = refl;
         })
 
-pub use-still : (c : Caches) (core : ℕ) (what : MemoryAccess) (u : Used) → IsUseFor c core what u → needs_bus what (hits_by c core what) ≡ false → IsStill c core u
+pub use-still : (c : Caches) (core : ℕ) (what : MemoryAccess) (u : Used)
+    → IsUseFor c core what u
+    → needs_bus what (hits_by c core what) ≡ false
+    → IsStill c core u
 use-still c core NoAccess u (inl is) free = subst (IsStill c core) (sym is) (none-still c core Unused refl refl)
 use-still c core NoAccess u (inr is) free = subst (IsStill c core) (sym is) (none-still c core Forwarded refl refl)
 use-still c core (Locks loc) u is free = absurd (let z : ⊥ = cc in z)

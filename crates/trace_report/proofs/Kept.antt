@@ -1,5 +1,11 @@
 -- What a machine keeps along the choices of a run: its lines are neat, and what it awaits may come in.
-use Rattle.trace_report.proofs.Vocabulary.{arith, ◌≡◌, ◌≢◌, ◌∙◌, ◌/◌, ◌<◌, ℕ, zero, suc, Bool, true, false, List, length, map, replicate, slice_index_or, Some, inl, inr, refl, sym, ap, subst, div_ceil, div_ceil_times, length-replicate, div-mul-le_self, mul-le-mul_right, lt-or, Litmus, IsTest, chosen, MemoryAccess, NoAccess, access_of, Choice, Table, table_of_rows, rows_of, tags_in, TagSet, Configuration, no_counts, Running, new_machine, machine_use, machine_after, length-counted, AreStoresKnown, number_of_lines, KeepsNoCopyInI, IsNeat, none-neat, no-sets, no_set, AllNeat, Geometry, [], after_choices, core_of, is_awaited, ◌∷◌, machine_effect}
+use Rattle.trace_report.proofs.Vocabulary.{arith, ◌≡◌, ◌≢◌, ◌∙◌, ◌/◌, ◌<◌, ℕ, zero, suc, Bool, true, false, List, length, map, replicate}
+use Rattle.trace_report.proofs.Vocabulary.{slice_index_or, Some, inl, inr, refl, sym, ap, subst, div_ceil, div_ceil_times, length-replicate}
+use Rattle.trace_report.proofs.Vocabulary.{div-mul-le_self, mul-le-mul_right, lt-or, Litmus, IsTest, chosen, MemoryAccess, NoAccess}
+use Rattle.trace_report.proofs.Vocabulary.{access_of, Choice, Table, table_of_rows, rows_of, tags_in, TagSet, Configuration, no_counts}
+use Rattle.trace_report.proofs.Vocabulary.{Running, new_machine, machine_use, machine_after, length-counted, AreStoresKnown}
+use Rattle.trace_report.proofs.Vocabulary.{number_of_lines, KeepsNoCopyInI, IsNeat, none-neat, no-sets, no_set, AllNeat, Geometry, []}
+use Rattle.trace_report.proofs.Vocabulary.{after_choices, core_of, is_awaited, ◌∷◌, machine_effect}
 use Rattle.protocol_tables.specs.declared.state.State as protocol
 use Rattle.protocol_tables.specs.declared.state.State.TheVariants as tag
 use Rattle.trace_report.proofs.Awaiting.{HolderMayMake, IsWithin, FillsIf, neat-after, may-after, fills-by}
@@ -42,7 +48,8 @@ pub record IsKept (m : Running) : Type 0 where
 pub rows-kept : (m : Running) (c : Choice) → (machine_after m c).statistics.caches.rows ≡ m.statistics.caches.rows
 rows-kept m c =
     let f = machine_effect m c in
-    (used-machine (is_awaited m.state.holder) (is_awaited f.holder) m.statistics.caches (chosen c) (access_of m.test m.depth m.state.flat c) (core_of m.state.flat (chosen c)).pending f.effect.commits).0
+    (used-machine (is_awaited m.state.holder) (is_awaited f.holder) m.statistics.caches (chosen c)
+    (access_of m.test m.depth m.state.flat c) (core_of m.state.flat (chosen c)).pending f.effect.commits).0
 
 pub kept-after : (m : Running) (c : Choice) → IsKept m → IsKept (machine_after m c)
 kept-after m c k =
@@ -59,23 +66,34 @@ kept-after m c k =
       words = subst (λ n. 0 < n) (sym (words-kept m c)) k.words;
       cores = length-counted (chosen c) (machine_use m c).how m.statistics.counts ∙ k.cores;
       keeps = subst (λ rows. KeepsNoCopyInI (table_of_rows rows)) (sym (rows-kept m c)) k.keeps;
-      neat = subst (λ n. AllNeat n (machine_use m c).caches.contents) (sym (ap (λ n. div_ceil (length m.test.locations) n) (words-kept m c))) (neat-after m.bus caches c before after m.state.holder next (machine_effect m c).effect.outcome (machine_use m c) k.keeps k.may (number_of_lines m) uses within k.neat);
-      may = may-after m.bus caches c before after m.state.holder next (machine_effect m c).effect.outcome (machine_use m c) k.keeps k.may (number_of_lines m) uses k.neat;
+      neat =
+          subst (λ n. AllNeat n (machine_use m c).caches.contents)
+          (sym (ap (λ n. div_ceil (length m.test.locations) n) (words-kept m c)))
+          (neat-after m.bus caches c before after m.state.holder next (machine_effect m c).effect.outcome
+          (machine_use m c) k.keeps k.may (number_of_lines m) uses within k.neat);
+      may =
+          may-after m.bus caches c before after m.state.holder next (machine_effect m c).effect.outcome
+          (machine_use m c) k.keeps k.may (number_of_lines m) uses k.neat;
     }
 
 -- what a choice does that writes a line back
 pub fills-of : (m : Running) (c : Choice) → IsKept m → FillsIf m.statistics.caches (chosen c) (access_of m.test m.depth m.state.flat c) (machine_use m c)
 fills-of m c k =
-    fills-by m.bus m.statistics.caches c (access_of m.test m.depth m.state.flat) (access_of m.test m.depth (machine_after m c).state.flat) m.state.holder (machine_after m c).state.holder
+    fills-by m.bus m.statistics.caches c (access_of m.test m.depth m.state.flat)
+    (access_of m.test m.depth (machine_after m c).state.flat) m.state.holder (machine_after m c).state.holder
     (machine_effect m c).effect.outcome (machine_use m c) k.keeps k.may (uses-of m c k.sound).0
 
 -- the caches are empty at the beginning
-empty-sets : {A : Type 0} (P : ℕ → protocol.State → Type 0) (f : A → TagSet) (x : A) (count i : ℕ) → IsNeat P (f x) → IsNeat P (slice_index_or (map f (replicate count x)) i no_set)
+empty-sets : {A : Type 0} (P : ℕ → protocol.State → Type 0) (f : A → TagSet) (x : A) (count i : ℕ)
+    → IsNeat P (f x)
+    → IsNeat P (slice_index_or (map f (replicate count x)) i no_set)
 empty-sets P f x zero i h = none-neat P
 empty-sets P f x (suc count) zero h = h
 empty-sets P f x (suc count) (suc i) h = empty-sets P f x count i h
 
-empty-neat : {A : Type 0} (lines : ℕ) (f : A → TagSet) (x : A) (cores count : ℕ) → ((P : ℕ → protocol.State → Type 0) → IsNeat P (f x)) → AllNeat lines (map (map f) (replicate cores (replicate count x)))
+empty-neat : {A : Type 0} (lines : ℕ) (f : A → TagSet) (x : A) (cores count : ℕ)
+    → ((P : ℕ → protocol.State → Type 0) → IsNeat P (f x))
+    → AllNeat lines (map (map f) (replicate cores (replicate count x)))
 empty-neat lines f x zero count h core = no-sets lines
 empty-neat lines f x (suc cores) count h zero = λ i. empty-sets _ f x count i (h _)
 empty-neat lines f x (suc cores) count h (suc core) = empty-neat lines f x cores count h core

@@ -1,5 +1,6 @@
 -- How many locations a line has, and that a line past the last location has none.
-use Rattle.trace_report.proofs.Vocabulary.{◌≡◌, ℕ, ◌+◌, ◌-◌, ◌*◌, ◌≤◌, List, [], length, take, min, ap, sym, arith, drop_all, length-drop, length-take, Litmus, names_in_line, joined_by_plus, line_name}
+use Rattle.trace_report.proofs.Vocabulary.{◌≡◌, ℕ, ◌+◌, ◌-◌, ◌*◌, ◌≤◌, List, [], length, take, min, ap, sym, arith, drop_all, length-drop}
+use Rattle.trace_report.proofs.Vocabulary.{length-take, Litmus, names_in_line, joined_by_plus, line_name}
 
 -- a line past the last location has no name
 pub unnamed : (t : Litmus) (words line : ℕ) → length t.locations ≤ line * words → [] ≡ line_name t words line

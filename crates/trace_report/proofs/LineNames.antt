@@ -1,5 +1,7 @@
 -- The name of a line, made name by name.
-use Rattle.trace_report.proofs.Vocabulary.{◌≡◌, ◌∙◌, ℕ, ◌+◌, ◌<◌, ◌≤◌, List, [], ◌∷◌, ◌++◌, length, take, drop, get_or, codes, sym, ap, append_assoc, append-nil, arith, drop_of_length-le, drop_more, get_or-take, length-take, after_plus, joined_by_plus}
+use Rattle.trace_report.proofs.Vocabulary.{◌≡◌, ◌∙◌, ℕ, ◌+◌, ◌<◌, ◌≤◌, List, [], ◌∷◌, ◌++◌, length, take, drop, get_or, codes, sym, ap}
+use Rattle.trace_report.proofs.Vocabulary.{append_assoc, append-nil, arith, drop_of_length-le, drop_more, get_or-take, length-take}
+use Rattle.trace_report.proofs.Vocabulary.{after_plus, joined_by_plus}
 
 -- what is left of the first names from a place before their end
 left : (names : List (List ℕ)) (stop i : ℕ) → i < stop → i < length names → drop i (take stop names) ≡ get_or names i [] ∷ drop (i + 1) (take stop names)

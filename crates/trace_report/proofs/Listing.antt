@@ -1,9 +1,14 @@
 -- Lists of states and of changes, made one after the other.
-use Rattle.trace_report.proofs.Vocabulary.{◌≡◌, ◌∙◌, ℕ, zero, suc, ◌+◌, ◌-◌, ◌<◌, ◌≤◌, List, [], ◌∷◌, ◌++◌, length, drop, min, refl, sym, ap, append_assoc, append-nil, arith, Running, placed, line_states, placed_states_from, number_of_lines, changes_in, PlacedState, StateChange}
+use Rattle.trace_report.proofs.Vocabulary.{◌≡◌, ◌∙◌, ℕ, zero, suc, ◌+◌, ◌-◌, ◌<◌, ◌≤◌, List, [], ◌∷◌, ◌++◌, length, drop, min, refl, sym}
+use Rattle.trace_report.proofs.Vocabulary.{ap, append_assoc, append-nil, arith, Running, placed, line_states, placed_states_from}
+use Rattle.trace_report.proofs.Vocabulary.{number_of_lines, changes_in, PlacedState, StateChange}
 
 -- ---- states
 
-pub one-line : (m : Running) (core line lines : ℕ) (x : PlacedState) (before after whole : List PlacedState) → line < lines → after ≡ before ++ x ∷ [] → x ≡ placed m core line
+pub one-line : (m : Running) (core line lines : ℕ) (x : PlacedState) (before after whole : List PlacedState)
+    → line < lines
+    → after ≡ before ++ x ∷ []
+    → x ≡ placed m core line
     → before ++ line_states m core line (lines - line) ≡ whole → after ++ line_states m core (line + 1) (lines - (line + 1)) ≡ whole
 one-line m core line lines x before after whole h is x_is was =
     let rest = line_states m core (line + 1) (lines - (line + 1)) in
@@ -11,7 +16,9 @@ one-line m core line lines x before after whole h is x_is was =
     ap (λ text. text ++ rest) is ∙ (append_assoc before (x ∷ []) rest ∙ (ap (λ y. before ++ (y ∷ rest)) x_is
     ∙ (sym (ap (λ n. before ++ line_states m core line n) count) ∙ was)))
 
-pub one-core : (m : Running) (core cores : ℕ) (before after whole : List PlacedState) → core < cores → after ≡ before ++ line_states m core 0 (number_of_lines m)
+pub one-core : (m : Running) (core cores : ℕ) (before after whole : List PlacedState)
+    → core < cores
+    → after ≡ before ++ line_states m core 0 (number_of_lines m)
     → before ++ placed_states_from m core (cores - core) ≡ whole → after ++ placed_states_from m (core + 1) (cores - (core + 1)) ≡ whole
 one-core m core cores before after whole h is was =
     let rest = placed_states_from m (core + 1) (cores - (core + 1)) in

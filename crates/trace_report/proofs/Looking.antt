@@ -1,5 +1,7 @@
 -- What is looked up of a core on a machine.
-use Rattle.trace_report.proofs.Vocabulary.{◌≡◌, ◌∙◌, ℕ, zero, suc, ◌+◌, ◌-◌, ◌<◌, List, [], ◌∷◌, ◌++◌, length, take, Option, Some, None, option_map, slice_get, slice_index_or, refl, sym, ap, arith, length-append, option_and_then, unwrap_or, value_in, CoreState, idle, core_of, Entry, Running, Reg}
+use Rattle.trace_report.proofs.Vocabulary.{◌≡◌, ◌∙◌, ℕ, zero, suc, ◌+◌, ◌-◌, ◌<◌, List, [], ◌∷◌, ◌++◌, length, take, Option, Some, None}
+use Rattle.trace_report.proofs.Vocabulary.{option_map, slice_get, slice_index_or, refl, sym, ap, arith, length-append, option_and_then}
+use Rattle.trace_report.proofs.Vocabulary.{unwrap_or, value_in, CoreState, idle, core_of, Entry, Running, Reg}
 use Rattle.machine_core.specs.inner.Looking.{core_numbered, pending_at}
 use Rattle.trace_report.specs.declared.step.Given.{Given}
 use Rattle.trace_report.specs.Steps.{register_given}
@@ -30,7 +32,9 @@ given-value m core reg found value found_is value_is =
     let made : ℕ → Given = λ v. record { reg = reg; value = v } in
     ap made (value_is ∙ (ap (λ o. unwrap_or o 0) found_is ∙ register-of m core reg))
 
-pending-in : (cores : List CoreState) (i number : ℕ) → option_and_then (λ (s : CoreState). slice_get s.pending number) (slice_get cores i) ≡ slice_get (slice_index_or cores i idle).pending number
+pending-in : (cores : List CoreState) (i number : ℕ)
+    → option_and_then (λ (s : CoreState). slice_get s.pending number) (slice_get cores i)
+    ≡ slice_get (slice_index_or cores i idle).pending number
 pending-in [] i number = refl
 pending-in (s ∷ ss) zero number = refl
 pending-in (s ∷ ss) (suc i) number = pending-in ss i number
@@ -78,7 +82,10 @@ pub all-pending : (m : Running) (core n : ℕ) (done : List Entry) → n ≡ len
 all-pending m core n done many none so_far =
     so_far ∙ (ap (λ k. take k (core_of m.state.flat core).pending) (sym many) ∙ read-all n (core_of m.state.flat core).pending (none ∙ pending-of m core n))
 
-pub one-pending-fewer : (m : Running) (core n : ℕ) (done after : List Entry) (x : Entry) → n ≡ length done → Some x ≡ pending_at m core n → after ≡ done ++ x ∷ []
+pub one-pending-fewer : (m : Running) (core n : ℕ) (done after : List Entry) (x : Entry)
+    → n ≡ length done
+    → Some x ≡ pending_at m core n
+    → after ≡ done ++ x ∷ []
     → length (core_of m.state.flat core).pending - length after < length (core_of m.state.flat core).pending - length done
 one-pending-fewer m core n done after x many found pushed =
     let l = within n (core_of m.state.flat core).pending x (found ∙ pending-of m core n) in

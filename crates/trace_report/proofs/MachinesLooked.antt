@@ -1,5 +1,8 @@
 -- What is looked up on a machine, one after the other.
-use Rattle.trace_report.proofs.Vocabulary.{◌≡◌, ◌∙◌, ℕ, zero, suc, ◌+◌, ◌-◌, ◌<◌, List, [], ◌∷◌, ◌++◌, length, map, take, Some, None, option_map, slice_get, slice_index_or, refl, sym, ap, arith, length-append, length-map, unwrap_or, Data, view, Value, Litmus, CoreState, idle, core_of, Running, registers_value, store_text, cached_lines_in}
+use Rattle.trace_report.proofs.Vocabulary.{◌≡◌, ◌∙◌, ℕ, zero, suc, ◌+◌, ◌-◌, ◌<◌, List, [], ◌∷◌, ◌++◌, length, map, take, Some, None}
+use Rattle.trace_report.proofs.Vocabulary.{option_map, slice_get, slice_index_or, refl, sym, ap, arith, length-append, length-map}
+use Rattle.trace_report.proofs.Vocabulary.{unwrap_or, Data, view, Value, Litmus, CoreState, idle, core_of, Running, registers_value}
+use Rattle.trace_report.proofs.Vocabulary.{store_text, cached_lines_in}
 use Rattle.trace_report.proofs.Looking.{pending-of}
 use Rattle.machine_core.specs.inner.Looking.{core_numbered, cached_line, pending_at}
 
@@ -30,7 +33,9 @@ mapped f (x ∷ xs) (suc n) = mapped f xs n
 -- ---- values made of such a list
 
 one-more : (values after : List Value) (d : Data) → map view after ≡ map view values ++ d ∷ [] → length after ≡ length values + 1
-one-more values after d pushed = sym (length-map after view) ∙ (ap length pushed ∙ (length-append (map view values) (d ∷ []) ∙ ap (λ k. k + 1) (length-map values view)))
+one-more values after d pushed =
+    sym (length-map after view)
+    ∙ (ap length pushed ∙ (length-append (map view values) (d ∷ []) ∙ ap (λ k. k + 1) (length-map values view)))
 
 pub next-read : {A : Type 0} (f : A → Data) (xs : List A) (n : ℕ) (values after : List Value) (x : A) → n ≡ length values → Some x ≡ slice_get xs n
     → map view after ≡ map view values ++ f x ∷ [] → map view values ≡ take (length values) (map f xs) → map view after ≡ take (length after) (map f xs)
@@ -38,7 +43,9 @@ next-read f xs n values after x many found pushed so_far =
     let all = map f xs in
     let size : length after ≡ n + 1 = one-more values after (f x) pushed ∙ ap (λ k. k + 1) (sym many) in
     let there : Some (f x) ≡ slice_get all n = ap (option_map f) found ∙ mapped f xs n in
-    pushed ∙ (read-on n all (map view values) (f x) (many ∙ sym (length-map values view)) there (so_far ∙ ap (λ k. take k all) (sym many)) ∙ ap (λ k. take k all) (sym size))
+    pushed
+    ∙ (read-on n all (map view values) (f x) (many ∙ sym (length-map values view)) there (so_far ∙ ap (λ k. take k all) (sym many))
+    ∙ ap (λ k. take k all) (sym size))
 
 pub all-read : {A : Type 0} (f : A → Data) (xs : List A) (n : ℕ) (values : List Value) → n ≡ length values → None ≡ slice_get xs n
     → map view values ≡ take (length values) (map f xs) → map view values ≡ map f xs
@@ -68,11 +75,13 @@ store-at t m core number = ap (option_map (store_text t)) (pending-of m core num
 -- ---- a core's registers
 
 registers-in : (cores : List CoreState) (i : ℕ)
-    → registers_value (unwrap_or (option_map (λ (s : CoreState). s.registers) (slice_get cores i)) (0 ∷ 0 ∷ 0 ∷ 0 ∷ 0 ∷ 0 ∷ [])) ≡ registers_value (slice_index_or cores i idle).registers
+    → registers_value (unwrap_or (option_map (λ (s : CoreState). s.registers) (slice_get cores i)) (0 ∷ 0 ∷ 0 ∷ 0 ∷ 0 ∷ 0 ∷ []))
+    ≡ registers_value (slice_index_or cores i idle).registers
 registers-in [] i = refl
 registers-in (s ∷ ss) zero = refl
 registers-in (s ∷ ss) (suc i) = registers-in ss i
 
 pub registers-of : (m : Running) (core : ℕ)
-    → registers_value (unwrap_or (option_map (λ (s : CoreState). s.registers) (core_numbered m core)) (0 ∷ 0 ∷ 0 ∷ 0 ∷ 0 ∷ 0 ∷ [])) ≡ registers_value (core_of m.state.flat core).registers
+    → registers_value (unwrap_or (option_map (λ (s : CoreState). s.registers) (core_numbered m core)) (0 ∷ 0 ∷ 0 ∷ 0 ∷ 0 ∷ 0 ∷ []))
+    ≡ registers_value (core_of m.state.flat core).registers
 registers-of m core = registers-in m.state.flat.cores core

@@ -1,5 +1,14 @@
 -- The values of a trace have no float, so that their text is known.
-use Rattle.trace_report.proofs.Vocabulary.{◌≡◌, ℕ, zero, suc, ◌+◌, Bool, true, false, if◌then◌else◌, List, [], ◌∷◌, map, take, length, ◌/◌, Option, Some, None, refl, or_parts, Data, string, items_of, has_float, items_have_float, Litmus, core_of, has_ended, Choice, printed_entry, table_of, ProtocolKind, CachedLine, Configuration, Running, new_machine, machine_after, bus_holder_of, count, memory_value, order_value, ShownStep, array_of_numbers, text_or_null, array_of_texts, own_words, access_name, stall_name, line_name, names_in_line, store_text, printed_core, printed_move, printed_change, printed_request, transient_name, words_per_line, words_in_line, words_on_bus, copy_json, cached_lines_in, set_json, sets_json, core_json, cores_json, holder_json, bus_json, machine_json, stall_in, step_json, supplier_text, Sourced, sourced_by, last_or, last_step_json, step_to, steps_json, start_json, trace_json, Source}
+use Rattle.trace_report.proofs.Vocabulary.{◌≡◌, ℕ, zero, suc, ◌+◌, Bool, true, false, if◌then◌else◌, List, [], ◌∷◌, map, take, length, ◌/◌}
+use Rattle.trace_report.proofs.Vocabulary.{Option, Some, None, refl, or_parts, Data, string, items_of, has_float, items_have_float, Litmus}
+use Rattle.trace_report.proofs.Vocabulary.{core_of, has_ended, Choice, printed_entry, table_of, ProtocolKind, CachedLine, Configuration}
+use Rattle.trace_report.proofs.Vocabulary.{Running, new_machine, machine_after, bus_holder_of, count, memory_value, order_value, ShownStep}
+use Rattle.trace_report.proofs.Vocabulary.{array_of_numbers, text_or_null, array_of_texts, own_words, access_name, stall_name, line_name}
+use Rattle.trace_report.proofs.Vocabulary.{names_in_line, store_text, printed_core, printed_move, printed_change, printed_request}
+use Rattle.trace_report.proofs.Vocabulary.{transient_name, words_per_line, words_in_line, words_on_bus, copy_json, cached_lines_in}
+use Rattle.trace_report.proofs.Vocabulary.{set_json, sets_json, core_json, cores_json, holder_json, bus_json, machine_json, stall_in}
+use Rattle.trace_report.proofs.Vocabulary.{step_json, supplier_text, Sourced, sourced_by, last_or, last_step_json, step_to, steps_json}
+use Rattle.trace_report.proofs.Vocabulary.{start_json, trace_json, Source}
 use Rattle.std.specs.Option.{option_map}
 use Rattle.machine_core.specs.declared.looking.BusHolder.{BusHolder}
 use Rattle.tso_report.proofs.NoFloats.{neither, each, memory}
@@ -15,7 +24,8 @@ copy m core c =
 
 sets : (m : Running) (core set rest : ℕ) → items_have_float (items_of (sets_json m core set rest)) ≡ false
 sets m core set zero = refl
-sets m core set (suc rest) = neither (has_float (set_json m core set)) _ (each (copy_json m core) (copy m core) (cached_lines_in m core set)) (sets m core (set + 1) rest)
+sets m core set (suc rest) =
+    neither (has_float (set_json m core set)) _ (each (copy_json m core) (copy m core) (cached_lines_in m core set)) (sets m core (set + 1) rest)
 
 one_core : (m : Running) (core : ℕ) → has_float (core_json m core) ≡ false
 one_core m core =
@@ -44,7 +54,9 @@ machine m own =
     (neither (has_float (memory_value m.test own)) _ (memory m.test.locations own)
     (neither (has_float (memory_value m.test m.state.flat.memory)) false (memory m.test.locations m.state.flat.memory) refl)))
 
-one_step : (t : Litmus) (words : ℕ) (s : ShownStep) (supplied : Option Source) (after : Data) → has_float after ≡ false → has_float (step_json t words s supplied after) ≡ false
+one_step : (t : Litmus) (words : ℕ) (s : ShownStep) (supplied : Option Source) (after : Data)
+    → has_float after ≡ false
+    → has_float (step_json t words s supplied after) ≡ false
 one_step t words s supplied after h =
     let access : Option (List ℕ) = option_map access_name s.access in
     let flush : Option (List ℕ) = option_map printed_core s.flushed in
@@ -80,7 +92,8 @@ steps m own (c ∷ cs) =
     by_end true step further one all = refl
     by_end false step further one all = neither (has_float step) (items_have_float (items_of further)) one all
 
-pub trace_has_no_float : (t : Litmus) (kind : ProtocolKind) (config : Configuration) (choices : List Choice) → has_float (trace_json t kind config choices) ≡ false
+pub trace_has_no_float : (t : Litmus) (kind : ProtocolKind) (config : Configuration) (choices : List Choice)
+    → has_float (trace_json t kind config choices) ≡ false
 trace_has_no_float t kind config choices =
     let m = new_machine (table_of kind) config t in
     neither (has_float (start_json m)) _ (machine m t.words)

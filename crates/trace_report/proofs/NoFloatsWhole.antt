@@ -1,5 +1,7 @@
 -- What a trace without a float adds to the members of a run has none either, so that the text of the whole is known.
-use Rattle.trace_report.proofs.Vocabulary.{◌≡◌, false, map, Option, Some, None, refl, Data, string, Members, put, has_float, members_have_float, Litmus, Condition, text_or_null, instruction_text, program_value, programs_value, with_trace_value, ProtocolKind, Configuration}
+use Rattle.trace_report.proofs.Vocabulary.{◌≡◌, false, map, Option, Some, None, refl, Data, string, Members, put, has_float}
+use Rattle.trace_report.proofs.Vocabulary.{members_have_float, Litmus, Condition, text_or_null, instruction_text, program_value}
+use Rattle.trace_report.proofs.Vocabulary.{programs_value, with_trace_value, ProtocolKind, Configuration}
 use Rattle.std.specs.Prelude.{codes}
 use Rattle.tso_report.proofs.NoFloats.{one_more, each, run_has_no_float}
 use Rattle.tso_report.specs.Shown.{shown_run}
@@ -16,7 +18,10 @@ proposition t = by_condition t.condition
     by_condition None = refl
     by_condition (Some c) = refl
 
-pub more_has_no_float : (t : Litmus) (trace : Data) (ms : Members) → has_float trace ≡ false → members_have_float ms ≡ false → members_have_float (with_trace_value t trace ms) ≡ false
+pub more_has_no_float : (t : Litmus) (trace : Data) (ms : Members)
+    → has_float trace ≡ false
+    → members_have_float ms ≡ false
+    → members_have_float (with_trace_value t trace ms) ≡ false
 more_has_no_float t trace ms none h =
     let traced : Members = put (codes "trace") trace ms in
     let asked : Members = put (codes "proposition") (proposition_value t) traced in

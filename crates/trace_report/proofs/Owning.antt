@@ -1,5 +1,8 @@
 -- Memory's own words, one location after the other.
-use Rattle.trace_report.proofs.Vocabulary.{◌≡◌, ◌∙◌, ℕ, ◌+◌, ◌<◌, ◌≤◌, ◌/◌, Bool, if◌then◌else◌, List, [], ◌∷◌, ◌++◌, length, take, drop, get_or, slice_get, slice_set, sym, ap, arith, append_assoc, append-nil, drop_all, drop_more, drop-set-lt, take_all, take_more_set, unwrap_or-slice_get, unwrap_or, Running, is_newer_in, own_word, own_words_from}
+use Rattle.trace_report.proofs.Vocabulary.{◌≡◌, ◌∙◌, ℕ, ◌+◌, ◌<◌, ◌≤◌, ◌/◌, Bool, if◌then◌else◌, List, [], ◌∷◌, ◌++◌, length, take, drop}
+use Rattle.trace_report.proofs.Vocabulary.{get_or, slice_get, slice_set, sym, ap, arith, append_assoc, append-nil, drop_all, drop_more}
+use Rattle.trace_report.proofs.Vocabulary.{drop-set-lt, take_all, take_more_set, unwrap_or-slice_get, unwrap_or, Running, is_newer_in}
+use Rattle.trace_report.proofs.Vocabulary.{own_word, own_words_from}
 
 -- one more
 pub one-word : (m : Running) (words cores loc : ℕ) (newer : Bool) (before whole : List ℕ) (s v : ℕ)
@@ -7,7 +10,9 @@ pub one-word : (m : Running) (words cores loc : ℕ) (newer : Bool) (before whol
     → newer ≡ is_newer_in m (loc / words) cores → s ≡ unwrap_or (slice_get m.state.flat.memory loc) 0
     → v ≡ (if newer then get_or before loc 0 else s)
     → take loc before ++ own_words_from m loc (drop loc before) (drop loc m.state.flat.memory) ≡ whole
-    → take (loc + 1) (slice_set before loc v) ++ own_words_from m (loc + 1) (drop (loc + 1) (slice_set before loc v)) (drop (loc + 1) m.state.flat.memory) ≡ whole
+    → take (loc + 1) (slice_set before loc v)
+    ++ own_words_from m (loc + 1) (drop (loc + 1) (slice_set before loc v)) (drop (loc + 1) m.state.flat.memory)
+    ≡ whole
 one-word m words cores loc newer before whole s v room there words_are cores_are newer_is s_is v_is so_far =
     let seen = m.state.flat.memory in
     let rest = own_words_from m (loc + 1) (drop (loc + 1) before) (drop (loc + 1) seen) in
@@ -22,7 +27,8 @@ one-word m words cores loc newer before whole s v room there words_are cores_are
     ∙ ap (λ x. x ∷ rest) word) in
     let done : take (loc + 1) (slice_set before loc v) ≡ take loc before ++ v ∷ [] = take_more_set before loc v room in
     let left : drop (loc + 1) (slice_set before loc v) ≡ drop (loc + 1) before = drop-set-lt (loc + 1) before loc v (omega arith) in
-    (λ i. done i ++ own_words_from m (loc + 1) (left i) (drop (loc + 1) seen)) ∙ (append_assoc (take loc before) (v ∷ []) rest ∙ (sym (ap (λ l. take loc before ++ l) listed) ∙ so_far))
+    (λ i. done i ++ own_words_from m (loc + 1) (left i) (drop (loc + 1) seen))
+    ∙ (append_assoc (take loc before) (v ∷ []) rest ∙ (sym (ap (λ l. take loc before ++ l) listed) ∙ so_far))
 
 -- none are left
 pub all-words : (m : Running) (loc : ℕ) (own whole : List ℕ) → length own ≤ loc

@@ -1,5 +1,11 @@
 -- The steps of a trace, summed along its run.
-use Rattle.trace_report.proofs.Vocabulary.{◌≡◌, ◌∙◌, ℕ, suc, ◌+◌, ◌≤◌, Bool, true, false, List, [], ◌∷◌, ◌++◌, length, drop, refl, sym, ap, subst, inl, inr, get_or-set_same, get_or_past, length-set, lt-or, Litmus, CoreState, Effect, idle, core_of, chosen, start, Run, has_ended, stall_count, then_run, run, Attempt, BusState, BusRun, unheld, then_on, resting_on, run_on, run_on_from, choices_in, Bus, Atomic, Choice, Table, Configuration, Caches, use_on, state_after_on, no_statistics, Running, new_machine, attempt_on, machine_after, trace_step_of, steps_from, trace_of, committed_at, committed_in, stalls_in, TellsRun, run_traced, machine_effect}
+use Rattle.trace_report.proofs.Vocabulary.{◌≡◌, ◌∙◌, ℕ, suc, ◌+◌, ◌≤◌, Bool, true, false, List, [], ◌∷◌, ◌++◌, length, drop, refl, sym, ap}
+use Rattle.trace_report.proofs.Vocabulary.{subst, inl, inr, get_or-set_same, get_or_past, length-set, lt-or, Litmus, CoreState, Effect}
+use Rattle.trace_report.proofs.Vocabulary.{idle, core_of, chosen, start, Run, has_ended, stall_count, then_run, run, Attempt, BusState}
+use Rattle.trace_report.proofs.Vocabulary.{BusRun, unheld, then_on, resting_on, run_on, run_on_from, choices_in, Bus, Atomic, Choice, Table}
+use Rattle.trace_report.proofs.Vocabulary.{Configuration, Caches, use_on, state_after_on, no_statistics, Running, new_machine, attempt_on}
+use Rattle.trace_report.proofs.Vocabulary.{machine_after, trace_step_of, steps_from, trace_of, committed_at, committed_in, stalls_in}
+use Rattle.trace_report.proofs.Vocabulary.{TellsRun, run_traced, machine_effect}
 use Rattle.tso_terms.specs.Together.{put_together}
 use Rattle.tso_laws.specs.BusLaws.{AtomicRunsAreFlatRuns}
 use Rattle.multiprocessor.specs.Answered.{answered, answered_from}
@@ -13,15 +19,19 @@ abbrev pub run_of : Running → List Choice → Run
 run_of m choices = (run_on_from m.bus m.test m.depth m.state (answers_of m choices)).run
 
 -- what a step has committed is what its choice commits
-step-commits : (m : Running) (choice : Choice) → committed_at (trace_step_of m choice).outcome (trace_step_of m choice).entries ≡ (machine_effect m choice).effect.commits
+step-commits : (m : Running) (choice : Choice)
+    → committed_at (trace_step_of m choice).outcome (trace_step_of m choice).entries
+    ≡ (machine_effect m choice).effect.commits
 unfolding trace_step_of
 step-commits m choice = elim (lt-or (length m.state.flat.cores) (chosen choice)) [
   | inl there ↦
-      let after : core_of (machine_after m choice).state.flat (chosen choice) ≡ f.after = get_or-set_same m.state.flat.cores (chosen choice) f.after idle there in
+      let after : core_of (machine_after m choice).state.flat (chosen choice) ≡ f.after =
+      get_or-set_same m.state.flat.cores (chosen choice) f.after idle there in
       ap (λ (x : CoreState). committed_at f.outcome (f.commits ++ drop (length s.pending) x.pending)) after ∙ named-is choice s f form
   | inr past ↦
       let after : core_of (machine_after m choice).state.flat (chosen choice) ≡ s =
-      get_or_past (machine_after m choice).state.flat.cores (chosen choice) idle (subst (λ n. n ≤ chosen choice) (sym (length-set m.state.flat.cores (chosen choice) f.after)) past)
+      get_or_past (machine_after m choice).state.flat.cores (chosen choice) idle
+      (subst (λ n. n ≤ chosen choice) (sym (length-set m.state.flat.cores (chosen choice) f.after)) past)
       ∙ sym (get_or_past m.state.flat.cores (chosen choice) idle past) in
       ap (λ (x : CoreState). committed_at f.outcome (f.commits ++ drop (length s.pending) x.pending)) after ∙ nothing-new choice s f form
 ]
@@ -73,10 +83,16 @@ tells-from m (c ∷ cs) = go (has_ended m.test m.state.flat) refl (tells-from (m
         let runs : run_of m (c ∷ cs) ≡ then_run (machine_effect m c).effect (run_of (machine_after m c) cs) = ap (λ (r : BusRun). r.run) (going m c cs live) in
         let next = steps_from (machine_after m c) cs in
         record {
-          committed = ap committed_in steps ∙ (ap (λ es. es ++ committed_in next) (step-commits m c) ∙ (ap (λ es. (machine_effect m c).effect.commits ++ es) rest.committed
+          committed =
+              ap committed_in steps
+              ∙ (ap (λ es. es ++ committed_in next) (step-commits m c)
+              ∙ (ap (λ es. (machine_effect m c).effect.commits ++ es) rest.committed
               ∙ sym (ap (λ (r : Run). r.commits) runs)));
           used = ap length steps ∙ (ap (λ n. suc n) rest.used ∙ sym (ap (λ (r : Run). r.used) runs));
-          stalled = ap stalls_in steps ∙ (ap (λ o. stall_count o + stalls_in next) (step-outcome m c) ∙ (ap (λ n. stall_count (machine_effect m c).effect.outcome + n) rest.stalled
+          stalled =
+              ap stalls_in steps
+              ∙ (ap (λ o. stall_count o + stalls_in next) (step-outcome m c)
+              ∙ (ap (λ n. stall_count (machine_effect m c).effect.outcome + n) rest.stalled
               ∙ sym (ap (λ (r : Run). r.stalled) runs)));
         }
 
@@ -85,12 +101,16 @@ tells-run table c t choices =
     let told = tells-from (new_machine table c t) choices in
     record { order = ap put_together told.committed; used = told.used; stalled = told.stalled }
 
-answered-choices : (bus : Bus) (t : Litmus) (depth : ℕ) (state : BusState) (caches : Caches) (choices : List Choice) → choices_in (answered_from bus t depth state caches choices) ≡ choices
+answered-choices : (bus : Bus) (t : Litmus) (depth : ℕ) (state : BusState) (caches : Caches) (choices : List Choice)
+    → choices_in (answered_from bus t depth state caches choices) ≡ choices
 answered-choices bus t depth state caches [] = refl
 answered-choices bus t depth state caches (c ∷ cs) =
     ap (λ rest. c ∷ rest) (answered-choices bus t depth (state_after_on bus t depth state caches c) (use_on bus t depth state c caches).caches cs)
 
-pub tells-atomic : (laws : AtomicRunsAreFlatRuns) (table : Table) (c : Configuration) (t : Litmus) (choices : List Choice) → c.bus ≡ Atomic → TellsRun (trace_of table c t choices) (run t c.depth choices)
+pub tells-atomic : (laws : AtomicRunsAreFlatRuns) (table : Table) (c : Configuration) (t : Litmus)
+    (choices : List Choice)
+    → c.bus ≡ Atomic
+    → TellsRun (trace_of table c t choices) (run t c.depth choices)
 tells-atomic laws table c t choices is =
     let attempts = answered c.bus table c.shape t c.depth choices in
     let same : (run_on c.bus t c.depth attempts).run ≡ run t c.depth choices =

@@ -1,5 +1,12 @@
 -- A choice that stalled: nothing else is told of it.
-use Rattle.trace_report.proofs.Vocabulary.{◌≡◌, ◌⊎◌, inl, inr, ◌∙◌, ℕ, Bool, true, false, List, [], ◌++◌, length, drop, Option, Some, None, refl, sym, ap, Litmus, action_of, CoreState, State, effect_by, effect_of, core_of, chosen, MemoryAccess, NoAccess, access_by, step_access, access_of, next_of, Attempt, needs_bus, as_read, BusState, effect_on, Bus, Atomic, Split, Instr, Action, Move, Entry, Choice, Step, Drain, Outcome, Moved, Stalled, Stall, Caches, is_awaited, used_between, Running, machine_use, machine_after, CacheUse, Unused, states_of, changes_in, is_forwarded, access_kind_in, sent_by, left_in, written_line, among, number_of_lines, moved_at, moved_by, moved_from, buffer_if_changed, stores_on, stalled_step, step_of, effect-by, needs-some}
+use Rattle.trace_report.proofs.Vocabulary.{◌≡◌, ◌⊎◌, inl, inr, ◌∙◌, ℕ, Bool, true, false, List, [], ◌++◌, length, drop, Option, Some, None}
+use Rattle.trace_report.proofs.Vocabulary.{refl, sym, ap, Litmus, action_of, CoreState, State, effect_by, effect_of, core_of, chosen}
+use Rattle.trace_report.proofs.Vocabulary.{MemoryAccess, NoAccess, access_by, step_access, access_of, next_of, Attempt, needs_bus, as_read}
+use Rattle.trace_report.proofs.Vocabulary.{BusState, effect_on, Bus, Atomic, Split, Instr, Action, Move, Entry, Choice, Step, Drain}
+use Rattle.trace_report.proofs.Vocabulary.{Outcome, Moved, Stalled, Stall, Caches, is_awaited, used_between, Running, machine_use}
+use Rattle.trace_report.proofs.Vocabulary.{machine_after, CacheUse, Unused, states_of, changes_in, is_forwarded, access_kind_in, sent_by}
+use Rattle.trace_report.proofs.Vocabulary.{left_in, written_line, among, number_of_lines, moved_at, moved_by, moved_from, buffer_if_changed}
+use Rattle.trace_report.proofs.Vocabulary.{stores_on, stalled_step, step_of, effect-by, needs-some}
 use Rattle.machine_core.specs.Running as running
 use Rattle.trace_report.specs.Steps as steps
 use Rattle.trace_report.proofs.Effects.{stall-rests, drop-all}
@@ -27,7 +34,9 @@ flat-moves t depth state (Step core) = step-moves depth core.0 state.memory (nex
 flat-moves t depth state (Drain core) = inl (λ registers. refl)
 
 -- a move makes no access
-no-move : (depth : ℕ) (i : Option Instr) (pending : List Entry) (registers : List ℕ) → (step_access depth i pending ≡ NoAccess → ⊥) → moved_at i registers ≡ None
+no-move : (depth : ℕ) (i : Option Instr) (pending : List Entry) (registers : List ℕ)
+    → (step_access depth i pending ≡ NoAccess → ⊥)
+    → moved_at i registers ≡ None
 no-move depth None pending registers some = refl
 no-move depth (Some x) pending registers some = by_action (action_of x) some
   where
@@ -35,21 +44,29 @@ no-move depth (Some x) pending registers some = by_action (action_of x) some
     by_action (Move change) some = absurd (some refl)
     by_action _ some = refl
 
-no-move-at : (t : Litmus) (depth : ℕ) (state : State) (a : Choice) (registers : List ℕ) → (access_of t depth state a ≡ NoAccess → ⊥) → moved_from t (core_of state (chosen a)).place a registers ≡ None
+no-move-at : (t : Litmus) (depth : ℕ) (state : State) (a : Choice) (registers : List ℕ)
+    → (access_of t depth state a ≡ NoAccess → ⊥)
+    → moved_from t (core_of state (chosen a)).place a registers ≡ None
 no-move-at t depth state (Step core) registers some = no-move depth (next_of t state core.0) (core_of state core.0).pending registers some
 no-move-at t depth state (Drain core) registers some = refl
 
 pub effect-moves : (bus : Bus) (t : Litmus) (depth : ℕ) (state : BusState) (a : Attempt)
     → MovesBy t (core_of state.flat (chosen a.choice)).place a.choice (effect_on bus t depth state a).effect.outcome
 effect-moves bus t depth state a =
-    effect-by (λ c f. MovesBy t (core_of state.flat (chosen c)).place c f.outcome) bus t depth state a (λ needs. inl (unmoved needs)) (λ needs. inl (unmoved needs)) (flat-moves t depth state.flat)
-    (λ core loc q. inl (λ registers. no-move-at t depth state.flat (Step core) registers (λ none. let z : ⊥ = cc in z))) (λ e. flat-moves t depth (as_read state.flat e) (Step e.core))
+    effect-by (λ c f. MovesBy t (core_of state.flat (chosen c)).place c f.outcome) bus t depth state a
+    (λ needs. inl (unmoved needs)) (λ needs. inl (unmoved needs)) (flat-moves t depth state.flat)
+    (λ core loc q. inl (λ registers. no-move-at t depth state.flat (Step core) registers (λ none. let z : ⊥ = cc in z)))
+    (λ e. flat-moves t depth (as_read state.flat e) (Step e.core))
   where
-    unmoved : needs_bus (access_of t depth state.flat a.choice) a.hits ≡ true → (registers : List ℕ) → moved_from t (core_of state.flat (chosen a.choice)).place a.choice registers ≡ None
+    unmoved : needs_bus (access_of t depth state.flat a.choice) a.hits ≡ true
+        → (registers : List ℕ) → moved_from t (core_of state.flat (chosen a.choice)).place a.choice registers ≡ None
     unmoved needs registers = no-move-at t depth state.flat a.choice registers (needs-some (access_of t depth state.flat a.choice) a.hits needs)
 
 -- a stall moves nothing
-stall-moves : (t : Litmus) (place : ℕ) (choice : Choice) (o : Outcome) (why : Stall) (registers : List ℕ) → o ≡ Stalled why → MovesBy t place choice o → moved_from t place choice registers ≡ None
+stall-moves : (t : Litmus) (place : ℕ) (choice : Choice) (o : Outcome) (why : Stall) (registers : List ℕ)
+    → o ≡ Stalled why
+    → MovesBy t place choice o
+    → moved_from t place choice registers ≡ None
 stall-moves t place choice o why registers q (inl none) = none registers
 stall-moves t place choice o why registers q (inr is) = absurd (let z : ⊥ = cc in z)
 
@@ -62,7 +79,9 @@ used-alike false c core what pending = refl
 unused : (before after : Bool) (c : Caches) (core : ℕ) (what : MemoryAccess) (pending commits : List Entry) → after ≡ before → commits ≡ []
     → (used_between before after c core what pending commits).how ≡ Unused
 unused before after c core what pending commits same none =
-    ap (λ b. (used_between before b c core what pending commits).how) same ∙ (ap (λ es. (used_between before before c core what pending es).how) none ∙ used-alike before c core what pending)
+    ap (λ b. (used_between before b c core what pending commits).how) same
+    ∙ (ap (λ es. (used_between before before c core what pending es).how) none
+    ∙ used-alike before c core what pending)
 
 -- what a choice did that stalled and changed nothing
 pub stall-shown : (m : Running) (choice : Choice) (why : Stall) → machine_after m choice ≡ m → (running.machine_effect m choice).effect.outcome ≡ Stalled why
@@ -76,10 +95,13 @@ stall-shown m choice why same stalls =
     let stores : stores_on end choice ≡ stores_on m choice = ap (λ (n : Running). stores_on n choice) same in
     let held : is_awaited f.holder ≡ is_awaited m.state.holder = ap (λ (n : Running). is_awaited n.state.holder) same in
     let how : (machine_use m choice).how ≡ Unused =
-    unused (is_awaited m.state.holder) (is_awaited f.holder) m.statistics.caches core (access_of m.test m.depth m.state.flat choice) (core_of m.state.flat core).pending f.effect.commits held rests.commits in
+    unused (is_awaited m.state.holder) (is_awaited f.holder) m.statistics.caches core
+    (access_of m.test m.depth m.state.flat choice) (core_of m.state.flat core).pending f.effect.commits held
+    rests.commits in
     let changes : changes_in (states_of m) (states_of end) ≡ [] = ap (λ (n : Running). changes_in (states_of m) (states_of n)) same ∙ unchanged (states_of m) in
     sym (same-fields choice _ _ _ _ _ _ _ _ _ _ _ _ _ _ _ _ _ _ _ _ stalls
-    (ap (λ es. es ++ drop (length (stores_on m choice)) (stores_on end choice)) rests.commits ∙ (ap (λ es. drop (length (stores_on m choice)) es) stores ∙ drop-all (stores_on m choice)))
+    (ap (λ es. es ++ drop (length (stores_on m choice)) (stores_on end choice)) rests.commits
+    ∙ (ap (λ es. drop (length (stores_on m choice)) es) stores ∙ drop-all (stores_on m choice)))
     (stall-moves m.test (core_of m.state.flat core).place choice f.effect.outcome why (core_of end.state.flat core).registers stalls
     (effect-moves m.bus m.test m.depth m.state (running.attempt_on m choice)))
     (ap is_forwarded how) (ap access_kind_in how) (ap (λ h. (sent_by h).request) how) (ap (λ h. (sent_by h).flushed) how)

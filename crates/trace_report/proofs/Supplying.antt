@@ -1,5 +1,9 @@
 -- Where a word is found: the first core that supplies it, and memory where none does.
-use Rattle.trace_report.proofs.Vocabulary.{arith, rules, ◌≡◌, ◌≢◌, ◌∙◌, ℕ, zero, suc, ◌+◌, ◌-◌, ◌<◌, ◌/◌, ◌||◌, Bool, true, false, if◌then◌else◌, List, [], ◌∷◌, length, Option, Some, None, refl, sym, ap, subst, Choice, table_of, ProtocolKind, bus_holder, bus_holder_as, bus_holder_of, at_access, Running, awaited_at, line_state, state_with, is_newer, is_newer_in, own_word, own_words_from, supplies, supplier_from, supplier_or_memory, copy_on, SourcesAreTold, Source}
+use Rattle.trace_report.proofs.Vocabulary.{arith, rules, ◌≡◌, ◌≢◌, ◌∙◌, ℕ, zero, suc, ◌+◌, ◌-◌, ◌<◌, ◌/◌, ◌||◌, Bool, true, false}
+use Rattle.trace_report.proofs.Vocabulary.{if◌then◌else◌, List, [], ◌∷◌, length, Option, Some, None, refl, sym, ap, subst, Choice, table_of}
+use Rattle.trace_report.proofs.Vocabulary.{ProtocolKind, bus_holder, bus_holder_as, bus_holder_of, at_access, Running, awaited_at}
+use Rattle.trace_report.proofs.Vocabulary.{line_state, state_with, is_newer, is_newer_in, own_word, own_words_from, supplies, supplier_from}
+use Rattle.trace_report.proofs.Vocabulary.{supplier_or_memory, copy_on, SourcesAreTold, Source}
 use Rattle.std.specs.Prelude.{is_some, slice_index_or}
 use Rattle.tso_terms.specs.MemoryAccess.{MemoryAccess, NoAccess, Reads, Writes, Locks, access_of}
 use Rattle.tso_terms.specs.SplitMachine.{Holder, Free, HeldBy, HeldBetween}
@@ -66,9 +70,12 @@ silent m line first (suc rest) zero is within = here (supplies (copy_on m first 
     here false q e = let same : first ≡ first + 0 = omega arith in subst (λ k. supplies (copy_on m k line) ≡ false) same q
 silent m line first (suc rest) (suc n) is within =
     let there : (first + 1) + n ≡ first + suc n = omega arith in
-    subst (λ k. supplies (copy_on m k line) ≡ false) there (silent m line (first + 1) rest n (none-after (supplies (copy_on m first line)) is) (omega (arith, within)))
+    subst (λ k. supplies (copy_on m k line) ≡ false) there
+    (silent m line (first + 1) rest n (none-after (supplies (copy_on m first line)) is) (omega (arith, within)))
   where
-    none-after : (b : Bool) → (if b then Some (record { 0 = first }) else supplier_from m line (first + 1) rest) ≡ None → supplier_from m line (first + 1) rest ≡ None
+    none-after : (b : Bool)
+        → (if b then Some (record { 0 = first }) else supplier_from m line (first + 1) rest) ≡ None
+        → supplier_from m line (first + 1) rest ≡ None
     none-after true e = absurd (let z : ⊥ = cc in z)
     none-after false e = e
 
@@ -95,7 +102,9 @@ own-copy None (Some a) supplier e = let n : 1 ≡ 0 = ap number_of e in absurd (
 own-copy None None (Some core) e = let n : 2 ≡ 0 = ap number_of e in absurd (omega (arith, n))
 own-copy None None None e = let n : 3 ≡ 0 = ap number_of e in absurd (omega (arith, n))
 
-on-bus : (copy : Option protocol.State) (awaited : Option Awaited) (supplier : Option Core) → Told copy awaited supplier ≡ Bus → (copy ≡ None) × (is_some awaited ≡ true)
+on-bus : (copy : Option protocol.State) (awaited : Option Awaited) (supplier : Option Core)
+    → Told copy awaited supplier ≡ Bus
+    → (copy ≡ None) × (is_some awaited ≡ true)
 on-bus (Some s) awaited supplier e = let n : 0 ≡ 1 = ap number_of e in absurd (omega (arith, n))
 on-bus None (Some a) supplier e = (refl, refl)
 on-bus None None (Some core) e = let n : 2 ≡ 1 = ap number_of e in absurd (omega (arith, n))
@@ -108,7 +117,9 @@ at-other None (Some a) supplier other e = let n : 1 ≡ 2 = ap number_of e in ab
 at-other None None (Some core) other e = (refl, ap core_in e)
 at-other None None None other e = let n : 3 ≡ 2 = ap number_of e in absurd (omega (arith, n))
 
-in-memory : (copy : Option protocol.State) (awaited : Option Awaited) (supplier : Option Core) → Told copy awaited supplier ≡ Memory → (awaited ≡ None) × (supplier ≡ None)
+in-memory : (copy : Option protocol.State) (awaited : Option Awaited) (supplier : Option Core)
+    → Told copy awaited supplier ≡ Memory
+    → (awaited ≡ None) × (supplier ≡ None)
 in-memory (Some s) awaited supplier e = let n : 0 ≡ 3 = ap number_of e in absurd (omega (arith, n))
 in-memory None (Some a) supplier e = let n : 1 ≡ 3 = ap number_of e in absurd (omega (arith, n))
 in-memory None None (Some core) e = let n : 2 ≡ 3 = ap number_of e in absurd (omega (arith, n))
@@ -137,7 +148,9 @@ state-not-newer (Some E) h = refl
 state-not-newer (Some S) h = refl
 state-not-newer (Some I) h = refl
 
-nothing-awaited : (m : Running) (core line : ℕ) → m.statistics.caches.awaited ≡ None → awaited_at (bus_holder_of m) m.statistics.caches.shape.words core line ≡ None
+nothing-awaited : (m : Running) (core line : ℕ)
+    → m.statistics.caches.awaited ≡ None
+    → awaited_at (bus_holder_of m) m.statistics.caches.shape.words core line ≡ None
 nothing-awaited m core line none =
     ap (λ (a : Option Awaited). awaited_at (bus_holder_as m.test m.depth m.state.flat a m.state.holder) words core line) none ∙ by_holder m.state.holder
   where
@@ -148,7 +161,8 @@ nothing-awaited m core line none =
     if-none true x q = q
     if-none false x q = refl
 
-    by_access : (choice : Choice) (what : MemoryAccess) → awaited_at (at_access None (λ loc write. Some (bus_holder choice loc None)) what) words core line ≡ None
+    by_access : (choice : Choice) (what : MemoryAccess)
+        → awaited_at (at_access None (λ loc write. Some (bus_holder choice loc None)) what) words core line ≡ None
     by_access choice NoAccess = refl
     by_access choice (Reads loc) = if-none _ _ refl
     by_access choice (Writes loc) = if-none _ _ refl
@@ -159,11 +173,18 @@ nothing-awaited m core line none =
     by_holder (HeldBy choice) = by_access choice (access_of m.test m.depth m.state.flat choice)
     by_holder (HeldBetween e) = if-none _ _ refl
 
-not-newer : (m : Running) (core line : ℕ) → m.statistics.caches.awaited ≡ None → supplies (copy_on m core line) ≡ false → is_newer (line_state m core line) ≡ false
+not-newer : (m : Running) (core line : ℕ)
+    → m.statistics.caches.awaited ≡ None
+    → supplies (copy_on m core line) ≡ false
+    → is_newer (line_state m core line) ≡ false
 not-newer m core line none quiet =
-    ap (λ (a : Option Transient). is_newer (state_with a (copy_on m core line))) (nothing-awaited m core line none) ∙ state-not-newer (copy_on m core line) quiet
+    ap (λ (a : Option Transient). is_newer (state_with a (copy_on m core line))) (nothing-awaited m core line none)
+    ∙ state-not-newer (copy_on m core line) quiet
 
-none-is-newer : (m : Running) (line cores : ℕ) → m.statistics.caches.awaited ≡ None → ((core : ℕ) → core < cores → supplies (copy_on m core line) ≡ false) → is_newer_in m line cores ≡ false
+none-is-newer : (m : Running) (line cores : ℕ)
+    → m.statistics.caches.awaited ≡ None
+    → ((core : ℕ) → core < cores → supplies (copy_on m core line) ≡ false)
+    → is_newer_in m line cores ≡ false
 none-is-newer m line zero none quiet = refl
 none-is-newer m line (suc last) none quiet =
     ap (λ (b : Bool). b || is_newer_in m line last) (not-newer m last line none (quiet last (omega arith)))
@@ -186,7 +207,9 @@ abbrev supplier : Running → ℕ → Option Core
 supplier m line = supplier_from m line 0 (length m.test.programs)
 
 quiet-all : (m : Running) (line core : ℕ) → supplier m line ≡ None → core < length m.test.programs → supplies (copy_on m core line) ≡ false
-quiet-all m line core none within = let here : 0 + core ≡ core = omega arith in subst (λ k. supplies (copy_on m k line) ≡ false) here (silent m line 0 (length m.test.programs) core none within)
+quiet-all m line core none within =
+    let here : 0 + core ≡ core = omega arith in
+    subst (λ k. supplies (copy_on m k line) ≡ false) here (silent m line 0 (length m.test.programs) core none within)
 
 -- a core without a copy isn't one that supplies
 apart : (m : Running) (core line : ℕ) (other : Core) → copy_on m core line ≡ None → supplies (copy_on m other.0 line) ≡ true → other.0 ≢ core

@@ -1,5 +1,6 @@
 -- The line of a step, put together from what is written of it.
-use Rattle.trace_report.proofs.Vocabulary.{◌≡◌, ◌≢◌, ◌∙◌, ◌⊎◌, inl, inr, refl, arith, ℕ, zero, suc, ◌+◌, slice_index_or, List, [], ◌∷◌, ◌++◌, codes, sym, ap, append_assoc, Litmus, Entry, later_stores}
+use Rattle.trace_report.proofs.Vocabulary.{◌≡◌, ◌≢◌, ◌∙◌, ◌⊎◌, inl, inr, refl, arith, ℕ, zero, suc, ◌+◌, slice_index_or, List, [], ◌∷◌}
+use Rattle.trace_report.proofs.Vocabulary.{◌++◌, codes, sym, ap, append_assoc, Litmus, Entry, later_stores}
 use Rattle.std.specs.Fmt.{decimal}
 use Rattle.trace_report.specs.Lines.{store_text, stores_text}
 
@@ -13,7 +14,8 @@ pub one-store : (t : Litmus) (at : ℕ) (e : Entry) (es all : List Entry) (space
     → ((at ≡ 0) × (space ≡ [])) ⊎ ((at ≢ 0) × (space ≡ codes " ")) → name ≡ slice_index_or t.locations e.loc.0 []
     → after ≡ before ++ (space ++ (name ++ (codes "=" ++ decimal e.value)))
     → all ≡ e ∷ es → before ++ stores_from t at all ≡ whole → after ++ stores_from t (at + 1) es ≡ whole
-one-store t at e es all space name before after whole where_it_is name_is is next was = by_place at where_it_is (sym (ap (λ list. before ++ stores_from t at list) next) ∙ was)
+one-store t at e es all space name before after whole where_it_is name_is is next was =
+    by_place at where_it_is (sym (ap (λ list. before ++ stores_from t at list) next) ∙ was)
   where
     written : after ≡ before ++ (space ++ store_text t e)
     written = is ∙ ap (λ n. before ++ (space ++ (n ++ (codes "=" ++ decimal e.value)))) name_is
@@ -21,14 +23,19 @@ one-store t at e es all space name before after whole where_it_is name_is is nex
     later : (n : ℕ) → n + 1 ≡ suc n
     later n = omega arith
 
-    by_place : (n : ℕ) → ((n ≡ 0) × (space ≡ [])) ⊎ ((n ≢ 0) × (space ≡ codes " ")) → before ++ stores_from t n (e ∷ es) ≡ whole → after ++ stores_from t (n + 1) es ≡ whole
+    by_place : (n : ℕ)
+        → ((n ≡ 0) × (space ≡ [])) ⊎ ((n ≢ 0) × (space ≡ codes " "))
+        → before ++ stores_from t n (e ∷ es) ≡ whole
+        → after ++ stores_from t (n + 1) es ≡ whole
     by_place zero (inl (first, none)) so_far =
-        ap (λ text. text ++ later_stores t es) (written ∙ ap (λ s. before ++ (s ++ store_text t e)) none) ∙ (append_assoc before (store_text t e) (later_stores t es) ∙ so_far)
+        ap (λ text. text ++ later_stores t es) (written ∙ ap (λ s. before ++ (s ++ store_text t e)) none)
+        ∙ (append_assoc before (store_text t e) (later_stores t es) ∙ so_far)
     by_place (suc n) (inl (first, none)) so_far = absurd (omega (arith, first))
     by_place zero (inr (other, one)) so_far = absurd (other refl)
     by_place (suc n) (inr (other, one)) so_far =
         ap (λ place. after ++ stores_from t place es) (later (suc n))
-        ∙ (ap (λ text. text ++ later_stores t es) (written ∙ ap (λ s. before ++ (s ++ store_text t e)) one) ∙ (append_assoc before (codes " " ++ store_text t e) (later_stores t es) ∙ so_far))
+        ∙ (ap (λ text. text ++ later_stores t es) (written ∙ ap (λ s. before ++ (s ++ store_text t e)) one)
+        ∙ (append_assoc before (codes " " ++ store_text t e) (later_stores t es) ∙ so_far))
 
 -- a line of five parts, the last two of them together
 pub five-parts : (old outcome did traffic changes buffer : List ℕ) (first second third fourth fifth all : List ℕ)

@@ -1,7 +1,9 @@
 -- A machine between two choices as a JSON value. Its objects have their keys in the order of their bytes. (This project's
 -- profile.)
 use Rattle.std.specs.Prelude.{ℕ, zero, suc, ◌+◌, ◌*◌, ◌/◌, List, [], ◌∷◌, map, length, take, drop, Option, Some, None, option_map, slice_index_or, codes}
-use Rattle.trace_report.specs.Vocabulary.{array, bus_holder_of, BusHolder, chosen, core_of, count, Data, items_of, line_name, line_state, Litmus, member, memory_value, names_in_line, no_members, null, object, printed_choice, registers_value, Running, state_name, store_text, string, transient_name}
+use Rattle.trace_report.specs.Vocabulary.{array, bus_holder_of, BusHolder, chosen, core_of, count, Data, items_of, line_name, line_state}
+use Rattle.trace_report.specs.Vocabulary.{Litmus, member, memory_value, names_in_line, no_members, null, object, printed_choice}
+use Rattle.trace_report.specs.Vocabulary.{registers_value, Running, state_name, store_text, string, transient_name}
 use Rattle.protocol_tables.specs.declared.requests.Transient.{Transient}
 use Rattle.cache_set.specs.Tags.{tag_set}
 use Rattle.cache_set.specs.CacheTags.{sets_of}
@@ -45,7 +47,8 @@ core_with buffer lines place registers =
 
 abbrev pub core_json : Running → ℕ → Data
 core_json m core =
-    core_with (array_of_texts (map (store_text m.test) (core_of m.state.flat core).pending)) (array (items_of (sets_json m core 0 m.statistics.caches.shape.sets)))
+    core_with (array_of_texts (map (store_text m.test) (core_of m.state.flat core).pending))
+    (array (items_of (sets_json m core 0 m.statistics.caches.shape.sets)))
     (core_of m.state.flat core).place (registers_value (core_of m.state.flat core).registers)
 
 -- the cores from this number on, so many

@@ -1,7 +1,9 @@
 -- What a choice did as a JSON value, with the machine after it. Its keys are in the order of their bytes. (This project's
 -- profile; the texts are those of the trace's lines.)
 use Rattle.std.specs.Prelude.{ℕ, List, map, Option, Some, None, option_map, codes}
-use Rattle.trace_report.specs.Vocabulary.{access_name, Asked, boolean, Buffered, Committed, Data, line_name, Litmus, member, Moved, no_members, object, order_value, Outcome, outcome_name, printed_change, printed_choice, printed_core, printed_move, printed_request, ShownStep, Stall, stall_name, Stalled, string}
+use Rattle.trace_report.specs.Vocabulary.{access_name, Asked, boolean, Buffered, Committed, Data, line_name, Litmus, member, Moved}
+use Rattle.trace_report.specs.Vocabulary.{no_members, object, order_value, Outcome, outcome_name, printed_change, printed_choice}
+use Rattle.trace_report.specs.Vocabulary.{printed_core, printed_move, printed_request, ShownStep, Stall, stall_name, Stalled, string}
 use Rattle.trace_report.specs.JsonValues.{text_or_null, array_of_texts}
 use Rattle.trace_report.specs.Supplied.{supplier_text}
 use Rattle.trace_report.specs.declared.supplied.Source.{Source}

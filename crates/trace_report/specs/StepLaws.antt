@@ -95,7 +95,8 @@ with_seen table (Some r) sets = at_line r.line (snooped (snoop_column table r.re
 abbrev pub OthersSeeTheRequest : Running → Choice → Type 0
 OthersSeeTheRequest m choice =
     (core : ℕ) → core ≢ chosen choice
-    → sets_of (machine_after m choice).statistics.caches.contents core ≡ with_seen (table_in m) (trace_step_of m choice).request (sets_of m.statistics.caches.contents core)
+    → sets_of (machine_after m choice).statistics.caches.contents core
+    ≡ with_seen (table_in m) (trace_step_of m choice).request (sets_of m.statistics.caches.contents core)
 
 -- ---- write-backs
 

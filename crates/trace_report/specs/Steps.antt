@@ -1,6 +1,7 @@
 -- What each choice of a run did. It is told from the machine before the choice, the machine after it, and what the choice had to
 -- do with the caches. (This project's profile, after the tables of Primer, chapters 6 and 7.)
-use Rattle.std.specs.Prelude.{ℕ, zero, suc, ◌+◌, ◌/◌, ◌==◌, ◌&&◌, nat_lt, Bool, true, false, if◌then◌else◌, List, [], ◌∷◌, ◌++◌, length, drop, slice_get, Option, Some, None}
+use Rattle.std.specs.Prelude.{ℕ, zero, suc, ◌+◌, ◌/◌, ◌==◌, ◌&&◌, nat_lt, Bool, true, false, if◌then◌else◌, List, [], ◌∷◌, ◌++◌, length}
+use Rattle.std.specs.Prelude.{drop, slice_get, Option, Some, None}
 use Rattle.std.specs.Int.{div_ceil}
 use Rattle.tso_terms.specs.Litmus.{Litmus}
 use Rattle.tso_terms.specs.Actions.{action_of}

@@ -1,7 +1,8 @@
 -- The trace of a run as a JSON value: the machine before the first choice, and a step for each choice that was used, with
 -- the machine after it. (This project's profile.)
 use Rattle.std.specs.Prelude.{ℕ, if◌then◌else◌, List, [], ◌∷◌, Option, codes}
-use Rattle.trace_report.specs.Vocabulary.{array, Configuration, Data, items_of, Litmus, machine_after, member, new_machine, no_members, object, ProtocolKind, Running, ShownStep, table_of, trace_step_of}
+use Rattle.trace_report.specs.Vocabulary.{array, Configuration, Data, items_of, Litmus, machine_after, member, new_machine, no_members}
+use Rattle.trace_report.specs.Vocabulary.{object, ProtocolKind, Running, ShownStep, table_of, trace_step_of}
 use Rattle.tso_terms.specs.Runs.{has_ended}
 use Rattle.tso_terms.specs.declared.choice.Choice.{Choice}
 use Rattle.trace_report.specs.OwnWords.{own_words}

@@ -1,6 +1,7 @@
 -- What a trace says of its run, as laws: its commits are the run's order, its stalls and accesses the run's counts. A trace
 -- that told of another run than the report would break one of them.
-use Rattle.std.specs.Prelude.{ℕ, ◌+◌, ◌≡◌, ◌≢◌, ◌<◌, ◌==◌, ◌&&◌, Bool, true, false, if◌then◌else◌, List, [], ◌∷◌, ◌++◌, length, map, Option, Some, None, is_some, slice_index_or, All, Contains}
+use Rattle.std.specs.Prelude.{ℕ, ◌+◌, ◌≡◌, ◌≢◌, ◌<◌, ◌==◌, ◌&&◌, Bool, true, false, if◌then◌else◌, List, [], ◌∷◌, ◌++◌, length, map, Option}
+use Rattle.std.specs.Prelude.{Some, None, is_some, slice_index_or, All, Contains}
 use Rattle.tso_terms.specs.Litmus.{Litmus, IsTest}
 use Rattle.tso_terms.specs.FlatMachine.{chosen}
 use Rattle.tso_terms.specs.Runs.{Run, CoresExist, run, stall_count}
@@ -156,4 +157,5 @@ pub record AreTold (table : Table) (c : Configuration) (t : Litmus) (core : ℕ)
 abbrev pub AccessesAreTold : Type 0
 AccessesAreTold =
     (table : Table) (c : Configuration) (t : Litmus) (choices : List Choice) (core : ℕ) → CoresExist (length t.programs) choices
-    → AreTold table c t core (trace_of table c t choices) (run_traced table c t choices).ended (slice_index_or (counts_of c.bus table c.shape t c.depth choices) core no_counts)
+    → AreTold table c t core (trace_of table c t choices) (run_traced table c t choices).ended
+    (slice_index_or (counts_of c.bus table c.shape t c.depth choices) core no_counts)

@@ -1,7 +1,8 @@
 -- What `trace` prints as a JSON value: the members that `run` prints, and with them the programs, the condition's proposition
 -- and the trace. (This project's profile.)
 use Rattle.std.specs.Prelude.{ℕ, List, codes}
-use Rattle.trace_report.specs.Vocabulary.{Configuration, Data, Ended, Ending, Litmus, Members, object, ProtocolKind, put, run_members, shown_run, Unfinished, unfinished_members}
+use Rattle.trace_report.specs.Vocabulary.{Configuration, Data, Ended, Ending, Litmus, Members, object, ProtocolKind, put, run_members}
+use Rattle.trace_report.specs.Vocabulary.{shown_run, Unfinished, unfinished_members}
 use Rattle.serde_json.specs.Written.{compact_text}
 use Rattle.tso_terms.specs.declared.choice.Choice.{Choice}
 use Rattle.tso_report.specs.Shown.{ShownRun}

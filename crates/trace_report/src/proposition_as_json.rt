@@ -78,7 +78,8 @@ fn write_part(
     in_brackets: bool,
 ) -> Result<(), NoMemory>
     requires { NamesExist (length test.now.programs) (length test.now.locations) (claim_of part.now) }
-    ensures { OnOk result (string_bytes text.new ≡ string_bytes text.old ++ (before.now ++ bracketed_text in_brackets (proposition_text test.now (claim_of part.now)))) }
+    ensures { OnOk result (string_bytes text.new ≡ string_bytes text.old
+        ++ (before.now ++ bracketed_text in_brackets (proposition_text test.now (claim_of part.now)))) }
 {
     text.push_str(before)?;
     if in_brackets {

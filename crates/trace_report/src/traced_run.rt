@@ -58,7 +58,9 @@ pub fn traced_json(
 ) -> Result<String, NoMemory>
     requires run { FitsEnding setup.now.test.now ending.now }
     requires trace { has_float (view trace) ≡ false }
-    ensures { IfOk result (λ text. string_bytes text ≡ line_with setup.now.test.now (view trace) (ending_members setup.now.test.now setup.now.protocol setup.now.config ending.now)) }
+    ensures { IfOk result (λ text.
+        string_bytes text ≡ line_with setup.now.test.now (view trace)
+        (ending_members setup.now.test.now setup.now.protocol setup.now.config ending.now)) }
 {
     Object::from_made(alloc, ending_members(alloc, setup, ending))
         .member("trace", Ok(trace))

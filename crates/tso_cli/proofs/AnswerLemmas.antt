@@ -1,5 +1,7 @@
 -- From what an answer is to what it means.
-use Rattle.tso_cli.proofs.Vocabulary.{◌≡◌, ◌∙◌, ℕ, Bool, List, Result, Ok, Err, IfOk, OnOk, string_bytes, refl, ap, subst, sym, Status, Litmus, ProtocolKind, Configuration, Run, Counts, Ending, Ended, Unfinished, IsEndingOf, HasCounts, shown_of, run_text}
+use Rattle.tso_cli.proofs.Vocabulary.{◌≡◌, ◌∙◌, ℕ, Bool, List, Result, Ok, Err, IfOk, OnOk, string_bytes, refl, ap, subst, sym, Status}
+use Rattle.tso_cli.proofs.Vocabulary.{Litmus, ProtocolKind, Configuration, Run, Counts, Ending, Ended, Unfinished, IsEndingOf, HasCounts}
+use Rattle.tso_cli.proofs.Vocabulary.{shown_of, run_text}
 use Rattle.tso_cli.specs.RunTexts.{report_in}
 use Rattle.tso_cli.specs.inner.Answers.{Says, text_of_ending}
 use Rattle.tso_cli.specs.declared.answer.Answer.{Answer}

@@ -1,5 +1,10 @@
 -- What `check` answers, and what that means.
-use Rattle.tso_cli.proofs.Vocabulary.{◌≡◌, ◌≢◌, ℕ, false, ◌<◌, ◌≤◌, ◌^◌, List, [], length, get_or, Some, slice_get, slice_index_or, All, refl, sym, ap, subst, arith, slice_get-get_or, Litmus, IsTest, IsWhole, IsTsoExecution, StandsIn, Run, program_of, Entry, FitsTest, IsExecution, HasWord, HasAccess, IsEntryFor, IsOrderFor, SpellsOrder, HasFault, OrderFault, IsFirstBreach, Breach, ProtocolKind, Configuration, report, ShownRun, shown_of, IsCheckAnswer, IsJudgement, valid, valid_line, invalid_line, JudgesOrder, JudgesEachOrder, PrintsExecution, Status, Good}
+use Rattle.tso_cli.proofs.Vocabulary.{◌≡◌, ◌≢◌, ℕ, false, ◌<◌, ◌≤◌, ◌^◌, List, [], length, get_or, Some, slice_get, slice_index_or, All}
+use Rattle.tso_cli.proofs.Vocabulary.{refl, sym, ap, subst, arith, slice_get-get_or, Litmus, IsTest, IsWhole, IsTsoExecution, StandsIn, Run}
+use Rattle.tso_cli.proofs.Vocabulary.{program_of, Entry, FitsTest, IsExecution, HasWord, HasAccess, IsEntryFor, IsOrderFor, SpellsOrder}
+use Rattle.tso_cli.proofs.Vocabulary.{HasFault, OrderFault, IsFirstBreach, Breach, ProtocolKind, Configuration, report, ShownRun, shown_of}
+use Rattle.tso_cli.proofs.Vocabulary.{IsCheckAnswer, IsJudgement, valid, valid_line, invalid_line, JudgesOrder, JudgesEachOrder}
+use Rattle.tso_cli.proofs.Vocabulary.{PrintsExecution, Status, Good}
 use Rattle.basic_laws.specs.Types.{Kind, F}
 use Rattle.cache_set.specs.Geometry.{IsShapeWithinLimits}
 use Rattle.tso_cli.specs.CommandAnswers.{refused, judged, invalid}
@@ -59,7 +64,12 @@ valid-answer t text order _ _ real once never test short spelled execution (refu
 valid-answer t text order _ _ real once never test short spelled execution (judged other out status again is) =
     valid-judgement t other out status real (subst (IsTsoExecution t) (once t text order other test short spelled again) execution) is
 
-pub printed-is-valid : (t : Litmus) (kind : ProtocolKind) (c : Configuration) (r : Run) (out answer : List ℕ) (status : Status) → IsReal → IsOnce → IsNeverBoth → IsTest t
+pub printed-is-valid : (t : Litmus) (kind : ProtocolKind) (c : Configuration) (r : Run) (out answer : List ℕ)
+    (status : Status)
+    → IsReal
+    → IsOnce
+    → IsNeverBoth
+    → IsTest t
     → length out < 2 ^ 64 → PrintsExecution t kind c false r out → IsCheckAnswer t out answer status → (answer ≡ valid_line) × (status ≡ Good)
 printed-is-valid t kind c r out answer status real once never test short prints is =
     valid-answer t out prints.shown.order answer status real once never test short (prints.spelled refl) prints.execution is
@@ -88,8 +98,16 @@ pub order-for : (t : Litmus) (order : List Entry) → IsTest t → ((e : Entry) 
 order-for t order test fits words = λ k d lt.
     entry-for t (slice_index_or order k d) test (fits _ (k, stands-at order k d lt)) (words k d lt)
 
-pub run-spells : (t : Litmus) (kind : ProtocolKind) (c : Configuration) (r : Run) (s : ShownRun) (text : List ℕ) → IsTest t → c.depth < 2 ^ 64 → IsShapeWithinLimits c.shape
-    → ((t : Litmus) (kind : ProtocolKind) (c : Configuration) (s : ShownRun) → IsTest t → c.depth < 2 ^ 64 → IsShapeWithinLimits c.shape → IsOrderFor t s.order → SpellsOrder t (report t kind c s) s.order)
+pub run-spells : (t : Litmus) (kind : ProtocolKind) (c : Configuration) (r : Run) (s : ShownRun) (text : List ℕ)
+    → IsTest t
+    → c.depth < 2 ^ 64
+    → IsShapeWithinLimits c.shape
+    → ((t : Litmus) (kind : ProtocolKind) (c : Configuration) (s : ShownRun)
+    → IsTest t
+    → c.depth < 2 ^ 64
+    → IsShapeWithinLimits c.shape
+    → IsOrderFor t s.order
+    → SpellsOrder t (report t kind c s) s.order)
     → ((t : Litmus) (order : List Entry) (e : Entry) → IsTest t → IsWhole t order → StandsIn order e → FitsTest t e)
     → IsExecution t r → s ≡ shown_of t s.counts r → text ≡ report t kind c s → All HasWord s.order → SpellsOrder t text r.commits
 run-spells t kind c r s text test small shape law fits execution same printed words =

@@ -1,5 +1,8 @@
 -- From the bytes that were read and written to what the definitions say of the whole input.
-use Rattle.tso_cli.proofs.Vocabulary.{◌≡◌, ◌+◌, ℕ, ◌≤◌, ◌<◌, List, [], ◌∷◌, length, take, Option, Some, None, IfSome, arith, ap, refl, subst, length-take, zero, suc, SpellsTest, longest_input, parts_of, IsInputAnswer, IsAnswerTo, IsAnswer, most_read, too_large, refused, answered, InputHeadline, PartsHeadline, Headline, Settings, instructions_of, Status}
+use Rattle.tso_cli.proofs.Vocabulary.{◌≡◌, ◌+◌, ℕ, ◌≤◌, ◌<◌, List, [], ◌∷◌, length, take, Option, Some, None, IfSome, arith, ap, refl}
+use Rattle.tso_cli.proofs.Vocabulary.{subst, length-take, zero, suc, SpellsTest, longest_input, parts_of, IsInputAnswer, IsAnswerTo}
+use Rattle.tso_cli.proofs.Vocabulary.{IsAnswer, most_read, too_large, refused, answered, InputHeadline, PartsHeadline, Headline, Settings}
+use Rattle.tso_cli.proofs.Vocabulary.{instructions_of, Status}
 use Rattle.litmus_reader.specs.Spelling.{IsRefused as IsRefusedTest}
 use Rattle.command_line.specs.declared.settings.Settings.TheVariants as settings
 

@@ -1,5 +1,8 @@
 -- What is counted of runs: that it is what the headline of `counts` says, that there is one answer, and that the headline leaves one text.
-use Rattle.tso_cli.proofs.Vocabulary.{◌≡◌, ◌∙◌, ◌≤◌, ◌<◌, ◌+◌, ◌⊎◌, inl, inr, ℕ, zero, suc, Bool, true, false, List, [], ◌∷◌, length, Option, Some, None, IfSome, slice_get, refl, sym, ap, subst, arith, Litmus, Choice, IsDecidedAsChoices, IsExecution, ProtocolKind, Configuration, Plan, SpellsChoices, choices_refusal, run_under, AnswersFit, Status}
+use Rattle.tso_cli.proofs.Vocabulary.{◌≡◌, ◌∙◌, ◌≤◌, ◌<◌, ◌+◌, ◌⊎◌, inl, inr, ℕ, zero, suc, Bool, true, false, List, [], ◌∷◌, length}
+use Rattle.tso_cli.proofs.Vocabulary.{Option, Some, None, IfSome, slice_get, refl, sym, ap, subst, arith, Litmus, Choice}
+use Rattle.tso_cli.proofs.Vocabulary.{IsDecidedAsChoices, IsExecution, ProtocolKind, Configuration, Plan, SpellsChoices, choices_refusal}
+use Rattle.tso_cli.proofs.Vocabulary.{run_under, AnswersFit, Status}
 use Rattle.scheduler.specs.Refusals.{IsRefusedAsChoices}
 use Rattle.scheduler.specs.declared.fault.ChoiceFault.{ChoiceFault}
 use Rattle.cache_counts.specs.Counted.{Counted, choices_of, counted_by, counted_once}
@@ -14,10 +17,16 @@ use Rattle.tso_cli.specs.CountsHeadline.{HeadlineOfCounts, PrintsCounts}
 
 -- an order of each run that ends is an execution
 abbrev AreExecutions : Litmus → ProtocolKind → Configuration → Type 0
-AreExecutions t kind c = (choices : List Choice) → AnswersFit t kind c choices → (run_under t kind c choices).ended ≡ true → IsExecution t (run_under t kind c choices)
+AreExecutions t kind c =
+    (choices : List Choice) → AnswersFit t kind c choices
+    → (run_under t kind c choices).ended ≡ true
+    → IsExecution t (run_under t kind c choices)
 
 pub counts-mean : (t : Litmus) (kind : ProtocolKind) (c : Configuration) (plan : Option Plan) (json : Bool) (text out : List ℕ) (status : Status)
-    → IsDecidedAsChoices (length t.programs) text → AreExecutions t kind c → IsCountsAnswer t kind c plan json text out status → HeadlineOfCounts t kind c plan json text out
+    → IsDecidedAsChoices (length t.programs) text
+    → AreExecutions t kind c
+    → IsCountsAnswer t kind c plan json text out status
+    → HeadlineOfCounts t kind c plan json text out
 counts-mean t kind c (Some plan) json text out status decided law is = record {
   counted = counted_by t kind c plan;
   printed = is.text;
@@ -30,7 +39,9 @@ counts-mean t kind c None json text _ _ decided law (refused fault h) = record {
 }
 counts-mean t kind c None json text _ _ decided law (ran made spelled fit) = record {
   every_list = λ choices read.
-      subst (λ cs. PrintsCounts t kind c None json (λ i. cs) 1 (told_counts json t kind c None (counted_once t kind c made))) (decided.one_list made choices spelled read)
+      subst (λ cs.
+      PrintsCounts t kind c None json (λ i. cs) 1 (told_counts json t kind c None (counted_once t kind c made)))
+      (decided.one_list made choices spelled read)
       (record {
         counted = counted_once t kind c made;
         printed = refl;
@@ -42,7 +53,9 @@ counts-mean t kind c None json text _ _ decided law (ran made spelled fit) = rec
 
 -- ---- one answer
 
-one-of-given : (t : Litmus) (kind : ProtocolKind) (c : Configuration) (json : Bool) (text out other : List ℕ) (status again : Status) → IsDecidedAsChoices (length t.programs) text
+one-of-given : (t : Litmus) (kind : ProtocolKind) (c : Configuration) (json : Bool) (text out other : List ℕ)
+    (status again : Status)
+    → IsDecidedAsChoices (length t.programs) text
     → IsCountOfGiven t kind c json text out status → IsCountOfGiven t kind c json text other again → (out ≡ other) × (status ≡ again)
 one-of-given t kind c json text _ _ _ _ law (refused f h) (refused g k) = (ap choices_refusal (law.one_refusal f g h k), refl)
 one-of-given t kind c json text _ _ _ _ law (refused f h) (ran choices spelled fit) = absurd (law.never_both choices f spelled h)
@@ -51,8 +64,12 @@ one-of-given t kind c json text _ _ _ _ law (ran choices spelled fit) (ran other
     let same = law.one_list choices others spelled again in
     (ap (λ cs. told_counts json t kind c None (counted_once t kind c cs)) same, ap (λ cs. counts_status (counted_once t kind c cs)) same)
 
-pub one-counts-answer : (t : Litmus) (kind : ProtocolKind) (c : Configuration) (plan : Option Plan) (json : Bool) (text out other : List ℕ) (status again : Status)
-    → IsDecidedAsChoices (length t.programs) text → IsCountsAnswer t kind c plan json text out status → IsCountsAnswer t kind c plan json text other again → (out ≡ other) × (status ≡ again)
+pub one-counts-answer : (t : Litmus) (kind : ProtocolKind) (c : Configuration) (plan : Option Plan) (json : Bool)
+    (text out other : List ℕ) (status again : Status)
+    → IsDecidedAsChoices (length t.programs) text
+    → IsCountsAnswer t kind c plan json text out status
+    → IsCountsAnswer t kind c plan json text other again
+    → (out ≡ other) × (status ≡ again)
 one-counts-answer t kind c (Some plan) json text out other status again law is too = (is.text ∙ sym too.text, is.status_is ∙ sym too.status_is)
 one-counts-answer t kind c None json text out other status again law is too = one-of-given t kind c json text out other status again law is too
 
@@ -78,7 +95,10 @@ one-number number n a b p q =
     let fourth = from-some (λ x. (a.least ≤ x) × (x ≤ a.greatest)) (number q.greatest.0) b.greatest q.greatest.2 (p.within q.greatest.0 q.greatest.1) in
     same-spread a b (p.sum ∙ sym q.sum) (no-less a.least b.least second.0 first.0) (no-less a.greatest b.greatest third.1 fourth.1)
 
-one-list : (ss ts : List Spread) → length ss ≡ length ts → ((place : ℕ) (a b : Spread) → slice_get ss place ≡ Some a → slice_get ts place ≡ Some b → a ≡ b) → ss ≡ ts
+one-list : (ss ts : List Spread)
+    → length ss ≡ length ts
+    → ((place : ℕ) (a b : Spread) → slice_get ss place ≡ Some a → slice_get ts place ≡ Some b → a ≡ b)
+    → ss ≡ ts
 one-list [] [] size same = refl
 one-list [] (b ∷ ts) size same = absurd (omega arith)
 one-list (a ∷ ss) [] size same = absurd (omega arith)
@@ -133,15 +153,21 @@ module _ (t : Litmus) (kind : ProtocolKind) (c : Configuration) (plan : Option P
   one-text json choices_in runs out other p q =
       p.printed ∙ same-text json p.counted q.counted (one-count _ _ runs p.counted q.counted p.tells q.tells) ∙ sym q.printed
 
-pub one-counts-text : (t : Litmus) (kind : ProtocolKind) (c : Configuration) (plan : Option Plan) (json : Bool) (text out other : List ℕ) → IsDecidedAsChoices (length t.programs) text
+pub one-counts-text : (t : Litmus) (kind : ProtocolKind) (c : Configuration) (plan : Option Plan) (json : Bool)
+    (text out other : List ℕ)
+    → IsDecidedAsChoices (length t.programs) text
     → HeadlineOfCounts t kind c plan json text out → HeadlineOfCounts t kind c plan json text other → out ≡ other
-one-counts-text t kind c (Some plan) json text out other decided p q = one-text t kind c (Some plan) json (λ i. choices_of t plan.length (plan.from + i)) plan.seeds out other p q
+one-counts-text t kind c (Some plan) json text out other decided p q =
+    one-text t kind c (Some plan) json (λ i. choices_of t plan.length (plan.from + i)) plan.seeds out other p q
 one-counts-text t kind c None json text out other decided p q = by_text decided.always
   where
-    by_text : ((choices : List Choice) × SpellsChoices (length t.programs) text choices) ⊎ ((fault : ChoiceFault) × IsRefusedAsChoices (length t.programs) text fault) → out ≡ other
+    by_text : ((choices : List Choice) × SpellsChoices (length t.programs) text choices)
+        ⊎ ((fault : ChoiceFault) × IsRefusedAsChoices (length t.programs) text fault)
+        → out ≡ other
     by_text (inl spells) = one-text t kind c None json (λ i. spells.0) 1 out other (p.every_list spells.0 spells.1) (q.every_list spells.0 spells.1)
     by_text (inr faulty) =
-        let none : (choices : List Choice) → ¬ (SpellsChoices (length t.programs) text choices) = λ choices spelled. decided.never_both choices faulty.0 spelled faulty.1 in
+        let none : (choices : List Choice) → ¬ (SpellsChoices (length t.programs) text choices) =
+        λ choices spelled. decided.never_both choices faulty.0 spelled faulty.1 in
         let first = p.every_other none in
         let second = q.every_other none in
         first.2 ∙ ap choices_refusal (decided.one_refusal first.0 second.0 first.1 second.1) ∙ sym second.2

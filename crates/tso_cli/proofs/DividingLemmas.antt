@@ -1,5 +1,7 @@
 -- The second part of an input is no longer than the input.
-use Rattle.tso_cli.proofs.Vocabulary.{◌==◌, ◌≤◌, ℕ, Bool, true, false, cond, nat_eq, codes, List, [], ◌∷◌, length, drop, Option, Some, None, IfSome, length-drop, arith, starts_with, after_feed, after_end, after_divider, Parts, parts_at, with_byte, parts_from, parts_of}
+use Rattle.tso_cli.proofs.Vocabulary.{◌==◌, ◌≤◌, ℕ, Bool, true, false, cond, nat_eq, codes, List, [], ◌∷◌, length, drop, Option, Some, None}
+use Rattle.tso_cli.proofs.Vocabulary.{IfSome, length-drop, arith, starts_with, after_feed, after_end, after_divider, Parts, parts_at}
+use Rattle.tso_cli.proofs.Vocabulary.{with_byte, parts_from, parts_of}
 
 abbrev IsWithin : ℕ → Option (List ℕ) → Type 0
 IsWithin n o = IfSome o (λ rest. length rest ≤ n)
@@ -19,7 +21,8 @@ feed_within (c ∷ cs) = either (length (c ∷ cs)) (c == 10) (Some cs) None (om
 end_within : (cs : List ℕ) → IsWithin (length cs) (after_end cs)
 end_within [] = omega arith
 end_within (c ∷ cs) =
-    either (length (c ∷ cs)) (c == 13) (after_feed cs) (after_feed (c ∷ cs)) (weaker (length cs) (length (c ∷ cs)) (after_feed cs) (omega arith) (feed_within cs)) (feed_within (c ∷ cs))
+    either (length (c ∷ cs)) (c == 13) (after_feed cs) (after_feed (c ∷ cs))
+    (weaker (length cs) (length (c ∷ cs)) (after_feed cs) (omega arith) (feed_within cs)) (feed_within (c ∷ cs))
 
 divider_within : (text : List ℕ) → IsWithin (length text) (after_divider text)
 divider_within text =

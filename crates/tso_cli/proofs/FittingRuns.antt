@@ -1,5 +1,7 @@
 -- Runs that end fit their test, and their choices are counted.
-use Rattle.tso_cli.proofs.Vocabulary.{◌≡◌, ℕ, ◌+◌, Bool, List, [], ◌∷◌, length, suc, All, Option, Some, None, is_some, refl, ap, ◌∙◌, option_map, Litmus, Condition, words_from, Entry, HasLocation, IsOrderFor, table_of, EndedRunsFit, ChoicesAreCounted, run_under, counts-each, RunLaws}
+use Rattle.tso_cli.proofs.Vocabulary.{◌≡◌, ℕ, ◌+◌, Bool, List, [], ◌∷◌, length, suc, All, Option, Some, None, is_some, refl, ap, ◌∙◌}
+use Rattle.tso_cli.proofs.Vocabulary.{option_map, Litmus, Condition, words_from, Entry, HasLocation, IsOrderFor, table_of, EndedRunsFit}
+use Rattle.tso_cli.proofs.Vocabulary.{ChoicesAreCounted, run_under, counts-each, RunLaws}
 use Rattle.tso_cli.proofs.HeadlineLemmas.{Runs}
 use Rattle.tso_cli.proofs.Rechecked.{registers_each, choices-few, small-run}
 

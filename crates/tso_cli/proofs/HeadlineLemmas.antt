@@ -1,5 +1,14 @@
 -- The headline holds of each answer.
-use Rattle.tso_cli.proofs.Vocabulary.{◌≡◌, ◌<◌, ◌^◌, ℕ, Bool, List, ◌++◌, length, true, false, Option, Some, None, IfSome, subst, refl, arith, Litmus, IsTest, IsWhole, StandsIn, KeepsAllOrder, Bus, Atomic, Choice, Entry, FitsTest, IsExecution, IsDecidedAsChoices, IsOrderFor, SpellsOrder, Table, table_of, ProtocolKind, Configuration, IsConfigurationWithinLimits, head, report, ShownRun, IsAnswerTo, IsInputAnswer, IsAnswer, too_large, answered, run_text, IsRunAnswer, ran, IsWithinLimits, parts_of, Plan, PrintsExecution, PrintsEachRun, HeadlineOfRuns, ending_text, traced_in, IsTooLong, IsTraceAnswer, too_long, traced, PrintsTraceIn, PrintsEachTrace, HeadlineOfTraces, PrintsSweep, HeadlineOfSweeps, HeadlineOf, InputHeadline, Headline, run_by, run_under, AnswersFitBy, AnswersFit, counts_under, unfinished_run_line, report_in, unfinished_in, shown_of, Settings, instructions_of, Status, AreReadOneWay}
+use Rattle.tso_cli.proofs.Vocabulary.{◌≡◌, ◌<◌, ◌^◌, ℕ, Bool, List, ◌++◌, length, true, false, Option, Some, None, IfSome, subst, refl}
+use Rattle.tso_cli.proofs.Vocabulary.{arith, Litmus, IsTest, IsWhole, StandsIn, KeepsAllOrder, Bus, Atomic, Choice, Entry, FitsTest}
+use Rattle.tso_cli.proofs.Vocabulary.{IsExecution, IsDecidedAsChoices, IsOrderFor, SpellsOrder, Table, table_of, ProtocolKind}
+use Rattle.tso_cli.proofs.Vocabulary.{Configuration, IsConfigurationWithinLimits, head, report, ShownRun, IsAnswerTo, IsInputAnswer}
+use Rattle.tso_cli.proofs.Vocabulary.{IsAnswer, too_large, answered, run_text, IsRunAnswer, ran, IsWithinLimits, parts_of, Plan}
+use Rattle.tso_cli.proofs.Vocabulary.{PrintsExecution, PrintsEachRun, HeadlineOfRuns, ending_text, traced_in, IsTooLong, IsTraceAnswer}
+use Rattle.tso_cli.proofs.Vocabulary.{too_long, traced, PrintsTraceIn, PrintsEachTrace, HeadlineOfTraces, PrintsSweep, HeadlineOfSweeps}
+use Rattle.tso_cli.proofs.Vocabulary.{HeadlineOf, InputHeadline, Headline, run_by, run_under, AnswersFitBy, AnswersFit, counts_under}
+use Rattle.tso_cli.proofs.Vocabulary.{unfinished_run_line, report_in, unfinished_in, shown_of, Settings, instructions_of, Status}
+use Rattle.tso_cli.proofs.Vocabulary.{AreReadOneWay}
 use Rattle.tso_laws.specs.Words.{HoldsWords}
 use Rattle.cache_set.specs.Geometry.{IsShapeWithinLimits as IsShape}
 use Rattle.tso_cli.specs.Answers.{refused}
@@ -19,8 +28,11 @@ use Rattle.tso_cli.proofs.TraceLengths.{never-both}
 abbrev Spells : Litmus → ProtocolKind → Configuration → Bool → List Choice → List ℕ → Type 0
 Spells t kind c json choices out = json ≡ false → SpellsOrder t out (run_under t kind c choices).commits
 
-prints : (t : Litmus) (kind : ProtocolKind) (c : Configuration) (json : Bool) (choices : List Choice) (out : List ℕ) → IsExecution t (run_under t kind c choices)
-    → (c.depth ≡ 0 → KeepsAllOrder (run_under t kind c choices).commits) → out ≡ report_in json t kind c (shown_of t (counts_under t kind c choices) (run_under t kind c choices)) → Spells t kind c json choices out
+prints : (t : Litmus) (kind : ProtocolKind) (c : Configuration) (json : Bool) (choices : List Choice) (out : List ℕ)
+    → IsExecution t (run_under t kind c choices)
+    → (c.depth ≡ 0 → KeepsAllOrder (run_under t kind c choices).commits)
+    → out ≡ report_in json t kind c (shown_of t (counts_under t kind c choices) (run_under t kind c choices))
+    → Spells t kind c json choices out
     → PrintsExecution t kind c json (run_under t kind c choices) out
 prints t kind c json choices out e all printed spelled = record {
   shown = shown_of t (counts_under t kind c choices) (run_under t kind c choices);
@@ -42,23 +54,35 @@ written_of t kind c json choices = run_text t kind c json (counts_under t kind c
 abbrev HasEnded : Litmus → ProtocolKind → Configuration → List Choice → Type 0
 HasEnded t kind c choices = (run_under t kind c choices).ended ≡ true
 
-prints-one : (t : Litmus) (kind : ProtocolKind) (c : Configuration) (json : Bool) (choices : List Choice) (out : List ℕ) → out ≡ written_of t kind c json choices
-    → (HasEnded t kind c choices → IsExecution t (run_under t kind c choices)) → (c.depth ≡ 0 → HasEnded t kind c choices → KeepsAllOrder (run_under t kind c choices).commits)
-    → (HasEnded t kind c choices → Spells t kind c json choices out) → HasEnded t kind c choices → PrintsExecution t kind c json (run_under t kind c choices) out
-prints-one t kind c json choices out text law all spelled ended = prints t kind c json choices out (law ended) (λ none. all none ended) (rw ended at text) (spelled ended)
+prints-one : (t : Litmus) (kind : ProtocolKind) (c : Configuration) (json : Bool) (choices : List Choice) (out : List ℕ)
+    → out ≡ written_of t kind c json choices
+    → (HasEnded t kind c choices → IsExecution t (run_under t kind c choices))
+    → (c.depth ≡ 0 → HasEnded t kind c choices → KeepsAllOrder (run_under t kind c choices).commits)
+    → (HasEnded t kind c choices → Spells t kind c json choices out)
+    → HasEnded t kind c choices
+    → PrintsExecution t kind c json (run_under t kind c choices) out
+prints-one t kind c json choices out text law all spelled ended =
+    prints t kind c json choices out (law ended) (λ none. all none ended) (rw ended at text) (spelled ended)
 
 -- the choices don't end the test
 abbrev HasNotEnded : Litmus → ProtocolKind → Configuration → List Choice → Type 0
 HasNotEnded t kind c choices = (run_under t kind c choices).ended ≡ false
 
-prints-none : (t : Litmus) (kind : ProtocolKind) (c : Configuration) (json : Bool) (choices : List Choice) (out : List ℕ) → out ≡ written_of t kind c json choices
+prints-none : (t : Litmus) (kind : ProtocolKind) (c : Configuration) (json : Bool) (choices : List Choice)
+    (out : List ℕ)
+    → out ≡ written_of t kind c json choices
     → HasNotEnded t kind c choices → out ≡ unfinished_in json (run_under t kind c choices).used (run_under t kind c choices).stalled
 prints-none t kind c json choices out text unended = rw unended at text
 
-run-means : (t : Litmus) (kind : ProtocolKind) (c : Configuration) (json : Bool) (text out : List ℕ) (status : Status) → IsDecidedAsChoices (length t.programs) text
+run-means : (t : Litmus) (kind : ProtocolKind) (c : Configuration) (json : Bool) (text out : List ℕ) (status : Status)
+    → IsDecidedAsChoices (length t.programs) text
     → ((choices : List Choice) → AnswersFit t kind c choices → HasEnded t kind c choices → IsExecution t (run_under t kind c choices))
     → ((choices : List Choice) → c.depth ≡ 0 → AnswersFit t kind c choices → HasEnded t kind c choices → KeepsAllOrder (run_under t kind c choices).commits)
-    → ((choices : List Choice) (out : List ℕ) → AnswersFit t kind c choices → out ≡ written_of t kind c json choices → HasEnded t kind c choices → Spells t kind c json choices out)
+    → ((choices : List Choice) (out : List ℕ)
+    → AnswersFit t kind c choices
+    → out ≡ written_of t kind c json choices
+    → HasEnded t kind c choices
+    → Spells t kind c json choices out)
     → IsRunAnswer t kind c json text out status → PrintsEachRun t kind c json (λ choices. run_under t kind c choices) text out
 run-means t kind c json text _ _ decided law all spells (refused fault h) = record {
   every_list = λ choices spelled. absurd (decided.never_both choices fault spelled h);
@@ -89,12 +113,14 @@ is-written : (t : Litmus) (kind : ProtocolKind) (c : Configuration) (choices : L
 is-written t kind c choices ended = rw ended refl
 
 is-unfinished : (t : Litmus) (kind : ProtocolKind) (c : Configuration) (choices : List Choice) → HasNotEnded t kind c choices
-    → ending_text t (counts_under t kind c choices) (run_under t kind c choices) ≡ unfinished_run_line (run_under t kind c choices).used (run_under t kind c choices).stalled
+    → ending_text t (counts_under t kind c choices) (run_under t kind c choices)
+    ≡ unfinished_run_line (run_under t kind c choices).used (run_under t kind c choices).stalled
 is-unfinished t kind c choices unended = rw unended refl
 
 -- what is printed of choices is so, plain or as JSON
 prints-trace : (json : Bool) (t : Litmus) (kind : ProtocolKind) (c : Configuration) (choices : List Choice)
-    → (HasEnded t kind c choices → IsExecution t (run_under t kind c choices)) → (c.depth ≡ 0 → HasEnded t kind c choices → KeepsAllOrder (run_under t kind c choices).commits)
+    → (HasEnded t kind c choices → IsExecution t (run_under t kind c choices))
+    → (c.depth ≡ 0 → HasEnded t kind c choices → KeepsAllOrder (run_under t kind c choices).commits)
     → ((out : List ℕ) → out ≡ written_of t kind c json choices → HasEnded t kind c choices → Spells t kind c json choices out)
     → PrintsTraceIn json t kind c choices (run_under t kind c choices) (traced_in json t kind c choices)
 unfolding prints
@@ -103,7 +129,8 @@ prints-trace false t kind c choices law all spells =
     record {
       rest = ending_text t (counts_under t kind c choices) (run_under t kind c choices);
       printed = refl;
-      ended = λ ended. prints-one t kind c false choices out (is-written t kind c choices ended) law all (λ e. spells out (is-written t kind c choices e) e) ended;
+      ended = λ ended.
+          prints-one t kind c false choices out (is-written t kind c choices ended) law all (λ e. spells out (is-written t kind c choices e) e) ended;
       unended = is-unfinished t kind c choices;
     }
 prints-trace true t kind c choices law all spells =
@@ -117,10 +144,15 @@ prints-trace true t kind c choices law all spells =
       unended = λ unended. rw unended refl;
     }
 
-trace-means : (t : Litmus) (kind : ProtocolKind) (c : Configuration) (json : Bool) (text out : List ℕ) (status : Status) → IsDecidedAsChoices (length t.programs) text
+trace-means : (t : Litmus) (kind : ProtocolKind) (c : Configuration) (json : Bool) (text out : List ℕ) (status : Status)
+    → IsDecidedAsChoices (length t.programs) text
     → ((choices : List Choice) → AnswersFit t kind c choices → HasEnded t kind c choices → IsExecution t (run_under t kind c choices))
     → ((choices : List Choice) → c.depth ≡ 0 → AnswersFit t kind c choices → HasEnded t kind c choices → KeepsAllOrder (run_under t kind c choices).commits)
-    → ((choices : List Choice) (out : List ℕ) → AnswersFit t kind c choices → out ≡ written_of t kind c json choices → HasEnded t kind c choices → Spells t kind c json choices out)
+    → ((choices : List Choice) (out : List ℕ)
+    → AnswersFit t kind c choices
+    → out ≡ written_of t kind c json choices
+    → HasEnded t kind c choices
+    → Spells t kind c json choices out)
     → IsTraceAnswer t kind c json text out status → PrintsEachTrace t kind c json (λ choices. run_under t kind c choices) text out
 trace-means t kind c json text _ _ decided law all spells (refused fault h) = record {
   every_list = λ choices spelled short. absurd (decided.never_both choices fault spelled h);
@@ -175,33 +207,57 @@ pub record Runs : Type 0 where
       → (run_by c.bus table c t choices).ended ≡ true → KeepsAllOrder (run_by c.bus table c t choices).commits
   pub atomic : (table : Table) (c : Configuration) (t : Litmus) (choices : List Choice) → c.bus ≡ Atomic → AnswersFitBy table c t choices
   pub fits : (t : Litmus) (order : List Entry) (e : Entry) → IsTest t → IsWhole t order → StandsIn order e → FitsTest t e
-  pub report_spells : (t : Litmus) (kind : ProtocolKind) (c : Configuration) (s : ShownRun) → IsTest t → c.depth < 2 ^ 64 → IsShape c.shape → IsOrderFor t s.order → SpellsOrder t (report t kind c s) s.order
+  pub report_spells : (t : Litmus) (kind : ProtocolKind) (c : Configuration) (s : ShownRun)
+      → IsTest t
+      → c.depth < 2 ^ 64
+      → IsShape c.shape
+      → IsOrderFor t s.order
+      → SpellsOrder t (report t kind c s) s.order
 
-pub report-spells : (t : Litmus) (kind : ProtocolKind) (c : Configuration) (json : Bool) (choices : List Choice) (out : List ℕ) → Runs → IsTest t → IsConfigurationWithinLimits c
+pub report-spells : (t : Litmus) (kind : ProtocolKind) (c : Configuration) (json : Bool) (choices : List Choice)
+    (out : List ℕ)
+    → Runs
+    → IsTest t
+    → IsConfigurationWithinLimits c
     → AnswersFit t kind c choices → out ≡ written_of t kind c json choices → HasEnded t kind c choices → Spells t kind c json choices out
 report-spells t kind c true choices out laws test within fit is ended plain = absurd (let no : ⊥ = cc in no)
 report-spells t kind c false choices out laws test within fit is ended plain =
     let depth : c.depth < 2 ^ 64 = let d = within.0 in omega arith in
-    run-spells t kind c (run_under t kind c choices) (shown_of t (counts_under t kind c choices) (run_under t kind c choices)) out test depth within.1 laws.report_spells laws.fits
+    run-spells t kind c (run_under t kind c choices)
+    (shown_of t (counts_under t kind c choices) (run_under t kind c choices)) out test depth within.1 laws.report_spells
+    laws.fits
     (laws.executions (table_of kind) c t choices test fit ended) refl (rw ended at is) (laws.words (table_of kind) c t choices test fit ended).values
 
-answer-means : (s : Settings) (t : Litmus) (text out : List ℕ) (status : Status) → AreReadOneWay → Runs → Reaching → Searches → Refuting → IsWithinLimits s → IsTest t → length text < 2 ^ 64
+answer-means : (s : Settings) (t : Litmus) (text out : List ℕ) (status : Status)
+    → AreReadOneWay
+    → Runs
+    → Reaching
+    → Searches
+    → Refuting
+    → IsWithinLimits s
+    → IsTest t
+    → length text < 2 ^ 64
     → IsAnswerTo s t text out status → HeadlineOf s t text out
 answer-means (settings.Run kind c set json) t text out status texts runs reaching searches refuting within test short is =
     runs-by-bus t kind c json text out
-    (run-means t kind c json text out status (texts.decided (length t.programs) text test.some_core) (λ choices. runs.executions (table_of kind) c t choices test)
+    (run-means t kind c json text out status (texts.decided (length t.programs) text test.some_core)
+    (λ choices. runs.executions (table_of kind) c t choices test)
     (λ choices none. runs.unbuffered (table_of kind) c t choices none test)
     (λ choices out. report-spells t kind c json choices out runs test within) is)
 answer-means (settings.Trace kind c set json) t text out status texts runs reaching searches refuting within test short is =
     traces-by-bus t kind c json text out
-    (trace-means t kind c json text out status (texts.decided (length t.programs) text test.some_core) (λ choices. runs.executions (table_of kind) c t choices test)
+    (trace-means t kind c json text out status (texts.decided (length t.programs) text test.some_core)
+    (λ choices. runs.executions (table_of kind) c t choices test)
     (λ choices none. runs.unbuffered (table_of kind) c t choices none test)
     (λ choices out. report-spells t kind c json choices out runs test within) is)
 answer-means (settings.Sweep kind c set plan) t text out status texts runs reaching searches refuting within test short is =
     sweeps-by-bus t kind c plan out
-    (sweep-means t kind c plan out status (λ choices. runs.executions (table_of kind) c t choices test) (λ choices none. runs.unbuffered (table_of kind) c t choices none test) (runs.atomic (table_of kind) c t) is)
+    (sweep-means t kind c plan out status
+    (λ choices. runs.executions (table_of kind) c t choices test)
+    (λ choices none. runs.unbuffered (table_of kind) c t choices none test) (runs.atomic (table_of kind) c t) is)
 answer-means (settings.Counts kind c set plan json) t text out status texts runs reaching searches refuting within test short is =
-    counts-mean t kind c plan json text out status (texts.decided (length t.programs) text test.some_core) (λ choices. runs.executions (table_of kind) c t choices test) is
+    counts-mean t kind c plan json text out status (texts.decided (length t.programs) text test.some_core)
+    (λ choices. runs.executions (table_of kind) c t choices test) is
 answer-means (settings.Outcomes search set json assert) t text out status texts runs reaching searches refuting within test short is =
     outcomes-mean t search json assert out status reaching searches test is
 answer-means (settings.Why plan set json assert) t text out status texts runs reaching searches refuting within test short is =
@@ -224,19 +280,36 @@ input-means s input _ _ texts runs reaching searches refuting within (refused fa
 }
 input-means s input _ _ texts runs reaching searches refuting within (answered t out status small spelled is) = record {
   within = λ _. record {
-    every_test = λ other too. subst (λ (t : Litmus). HeadlineOf s t (parts_of input).rest out) (texts.one_test (instructions_of s) (parts_of input).test t other spelled too)
-        (answer-means s t (parts_of input).rest out status texts runs reaching searches refuting within (texts.test (instructions_of s) (parts_of input).test t spelled) (short_rest input small) is);
+    every_test = λ other too.
+        subst (λ (t : Litmus). HeadlineOf s t (parts_of input).rest out)
+        (texts.one_test (instructions_of s) (parts_of input).test t other spelled too)
+        (answer-means s t (parts_of input).rest out status texts runs reaching searches refuting within
+        (texts.test (instructions_of s) (parts_of input).test t spelled) (short_rest input small) is);
     every_other = λ none. absurd (none t spelled);
   };
   above = λ large. absurd (omega arith);
 }
 
-known-means : (s : Settings) (known : Option (List ℕ)) (out : List ℕ) (status : Status) → AreReadOneWay → Runs → Reaching → Searches → Refuting → IsWithinLimits s
+known-means : (s : Settings) (known : Option (List ℕ)) (out : List ℕ) (status : Status)
+    → AreReadOneWay
+    → Runs
+    → Reaching
+    → Searches
+    → Refuting
+    → IsWithinLimits s
     → IfSome known (λ input. IsInputAnswer s input out status) → IfSome known (λ input. InputHeadline s input out)
 known-means s None out status texts runs reaching searches refuting within is = tt
-known-means s (Some input) out status texts runs reaching searches refuting within is = input-means s input out status texts runs reaching searches refuting within is
+known-means s (Some input) out status texts runs reaching searches refuting within is =
+    input-means s input out status texts runs reaching searches refuting within is
 
-pub command-means : (s : Settings) (known : Option (List ℕ)) (out : List ℕ) (status : Status) → AreReadOneWay → Runs → Reaching → Searches → Refuting → IsWithinLimits s
+pub command-means : (s : Settings) (known : Option (List ℕ)) (out : List ℕ) (status : Status)
+    → AreReadOneWay
+    → Runs
+    → Reaching
+    → Searches
+    → Refuting
+    → IsWithinLimits s
     → IsAnswer s known out status → Headline s known out
 command-means (settings.Tables kind) known out status texts runs reaching searches refuting within is = is.text
-command-means s known out status texts runs reaching searches refuting within is = known-means s known out status texts runs reaching searches refuting within is
+command-means s known out status texts runs reaching searches refuting within is =
+    known-means s known out status texts runs reaching searches refuting within is

@@ -1,5 +1,7 @@
 -- An input that was put together is parts_at into its parts again.
-use Rattle.tso_cli.proofs.Vocabulary.{◌≡◌, ◌==◌, ℕ, zero, suc, Bool, true, false, cond, nat_eq, codes, List, [], ◌∷◌, ◌++◌, drop, replicate, Option, Some, None, refl, sym, ap, subst, starts_with, starts_is, after_feed, after_end, after_divider, parts_at, with_byte, parts_from, parts_of, joined_parts, HasNoDivider, EndsInFeed}
+use Rattle.tso_cli.proofs.Vocabulary.{◌≡◌, ◌==◌, ℕ, zero, suc, Bool, true, false, cond, nat_eq, codes, List, [], ◌∷◌, ◌++◌, drop, replicate}
+use Rattle.tso_cli.proofs.Vocabulary.{Option, Some, None, refl, sym, ap, subst, starts_with, starts_is, after_feed, after_end}
+use Rattle.tso_cli.proofs.Vocabulary.{after_divider, parts_at, with_byte, parts_from, parts_of, joined_parts, HasNoDivider, EndsInFeed}
 use Rattle.std.proofs.lemmas.Bool.Decides.{Decides-eqb}
 
 -- whether a line begins after the text
@@ -70,12 +72,16 @@ from_joined true (c ∷ cs) rest h begins = by_divider (after_divider (c ∷ cs)
     by_divider : (o : Option (List ℕ)) → after_divider (c ∷ cs) ≡ o
         → ((parts_from (c == 10) cs).test ≡ cs → parts_from (c == 10) (joined_parts cs rest) ≡ record { test = cs; rest = rest })
         → parts_from true (joined_parts (c ∷ cs) rest) ≡ record { test = c ∷ cs; rest = rest }
-    by_divider (Some r) e further = absurd (let none : [] ≡ c ∷ cs = subst (λ o. (parts_at o (with_byte c (parts_from (c == 10) cs))).test ≡ c ∷ cs) e h in let no : ⊥ = cc in no)
+    by_divider (Some r) e further =
+        absurd (let none : [] ≡ c ∷ cs = subst (λ o. (parts_at o (with_byte c (parts_from (c == 10) cs))).test ≡ c ∷ cs) e h in let no : ⊥ = cc in no)
     by_divider None e further =
         let whole : c ∷ (parts_from (c == 10) cs).test ≡ c ∷ cs = subst (λ o. (parts_at o (with_byte c (parts_from (c == 10) cs))).test ≡ c ∷ cs) e h in
         let tail : (parts_from (c == 10) cs).test ≡ cs = cc in
         let none : after_divider (joined_parts (c ∷ cs) rest) ≡ None = divider_more (c ∷ cs) (codes "====\n" ++ rest) begins e in
-        subst (λ o. parts_at o (with_byte c (parts_from (c == 10) (joined_parts cs rest))) ≡ record { test = c ∷ cs; rest = rest }) (sym none) (ap (with_byte c) (further tail))
+        subst (λ o.
+        parts_at o (with_byte c (parts_from (c == 10) (joined_parts cs rest)))
+        ≡ record { test = c ∷ cs; rest = rest })
+        (sym none) (ap (with_byte c) (further tail))
 
 pub joined_are_separated : (test rest : List ℕ) → EndsInFeed test → HasNoDivider test → parts_of (joined_parts test rest) ≡ record { test = test; rest = rest }
 joined_are_separated test rest ends whole =

@@ -1,5 +1,7 @@
 -- The parts of a text, from sign to sign.
-use Rattle.std.proofs.Common.{◌≡◌, ◌==◌, ◌≤◌, ◌<◌, ◌+◌, ℕ, zero, suc, Bool, true, false, cond, List, [], ◌∷◌, ◌++◌, length, take, drop, Option, None, refl, sym, ap, ◌∙◌, append_assoc, append-nil, drop-cons, take-suc, take_all, get_or, Some, subst, ◌-◌, nat_eq, length-drop, arith, slice_index}
+use Rattle.std.proofs.Common.{◌≡◌, ◌==◌, ◌≤◌, ◌<◌, ◌+◌, ℕ, zero, suc, Bool, true, false, cond, List, [], ◌∷◌, ◌++◌, length, take, drop}
+use Rattle.std.proofs.Common.{Option, None, refl, sym, ap, ◌∙◌, append_assoc, append-nil, drop-cons, take-suc, take_all, get_or, Some}
+use Rattle.std.proofs.Common.{subst, ◌-◌, nat_eq, length-drop, arith, slice_index}
 use Rattle.std.proofs.lemmas.List.{drop-drop}
 use Rattle.std.proofs.Math.Seq.{take-add}
 use Rattle.std.specs.List.{starts_with}

@@ -1,12 +1,22 @@
 -- On the atomic bus the protocol and the shape of the caches change two kinds of lines alone.
-use Rattle.tso_cli.proofs.Vocabulary.{Instructions, ◌≡◌, ◌<◌, ◌==◌, ◌+◌, ℕ, zero, suc, Bool, true, false, cond, List, [], ◌∷◌, ◌++◌, length, Some, codes, refl, sym, ap, subst, ◌∙◌, inl, inr, append_assoc, append-nil, decimal, Litmus, registers_in, Run, run, Choice, IsDecidedAsChoices, TooMany, table_of, ProtocolKind, Configuration, printed_order, ShownRun, line, head, body, test_line, machine_line, register_lines, memory_line, condition_line, choices_line, cache_lines, report, RunCounts, tally_text, Plan, EndsInFeed, choices_refusal, unfinished_run_line, report_in, unfinished_in, run_under, counts_under, shown_of, verdict, sweep_status, IsSweepAnswer, choices_of, seeded_run, with_one_run, counts_from, sweep_counts, IsAnswer, run_text, run_status, status_under, IsRunAnswer, ran, ending_text, IsTraceAnswer, traced, traced_in, FitsForm, IsTooLong, too_long, trace_text, trace_under, json_ended, json_unended, AreReadOneWay, Status, Good, Refused, Unended, atomic-run, counts-each}
+use Rattle.tso_cli.proofs.Vocabulary.{Instructions, ◌≡◌, ◌<◌, ◌==◌, ◌+◌, ℕ, zero, suc, Bool, true, false, cond, List, [], ◌∷◌, ◌++◌, length}
+use Rattle.tso_cli.proofs.Vocabulary.{Some, codes, refl, sym, ap, subst, ◌∙◌, inl, inr, append_assoc, append-nil, decimal, Litmus}
+use Rattle.tso_cli.proofs.Vocabulary.{registers_in, Run, run, Choice, IsDecidedAsChoices, TooMany, table_of, ProtocolKind, Configuration}
+use Rattle.tso_cli.proofs.Vocabulary.{printed_order, ShownRun, line, head, body, test_line, machine_line, register_lines, memory_line}
+use Rattle.tso_cli.proofs.Vocabulary.{condition_line, choices_line, cache_lines, report, RunCounts, tally_text, Plan, EndsInFeed}
+use Rattle.tso_cli.proofs.Vocabulary.{choices_refusal, unfinished_run_line, report_in, unfinished_in, run_under, counts_under, shown_of}
+use Rattle.tso_cli.proofs.Vocabulary.{verdict, sweep_status, IsSweepAnswer, choices_of, seeded_run, with_one_run, counts_from, sweep_counts}
+use Rattle.tso_cli.proofs.Vocabulary.{IsAnswer, run_text, run_status, status_under, IsRunAnswer, ran, ending_text, IsTraceAnswer, traced}
+use Rattle.tso_cli.proofs.Vocabulary.{traced_in, FitsForm, IsTooLong, too_long, trace_text, trace_under, json_ended, json_unended}
+use Rattle.tso_cli.proofs.Vocabulary.{AreReadOneWay, Status, Good, Refused, Unended, atomic-run, counts-each}
 use Rattle.multiprocessor.specs.declared.counts.Counts.{Counts}
 use Rattle.tso_report.specs.Json.{json_report}
 use Rattle.tso_report.specs.inner.JsonFrame.{other_members}
 use Rattle.command_line.specs.declared.settings.Settings.TheVariants as settings
 use Rattle.tso_cli.specs.Answers.{refused}
 use Rattle.tso_cli.specs.CommandAnswers.{text_under, refused}
-use Rattle.tso_cli.specs.Machines.{AreAtomicAtOneDepth, DifferInLines, DifferInMembers, ReportsDiffer, RunsAnswerAlike, TracesDiffer, TracesAnswerAlike, SweepsAnswerAlike, TracesDifferIn}
+use Rattle.tso_cli.specs.Machines.{AreAtomicAtOneDepth, DifferInLines, DifferInMembers, ReportsDiffer, RunsAnswerAlike, TracesDiffer}
+use Rattle.tso_cli.specs.Machines.{TracesAnswerAlike, SweepsAnswerAlike, TracesDifferIn}
 use Rattle.tso_cli.specs.Trace.{traced_text, refused, object_text}
 use Rattle.trace_report.specs.Shown.{ShownStep as Step}
 use Rattle.tso_cli.proofs.OneAnswer.{inputs-alike}
@@ -26,7 +36,9 @@ ends-test t = ends-after (codes "Test ") (line t.name) (ends-line t.name)
 -- the lines between the machine's and the caches'
 abbrev middle_lines : Litmus → ShownRun → List ℕ
 middle_lines t s =
-    printed_order t s.order ++ (register_lines 0 s.registers ++ (memory_line t s.memory ++ (condition_line t s.holds ++ choices_line s.used s.stalled s.unused)))
+    printed_order t s.order
+    ++ (register_lines 0 s.registers
+    ++ (memory_line t s.memory ++ (condition_line t s.holds ++ choices_line s.used s.stalled s.unused)))
 
 ends-choices : (used stalled unused : ℕ) → EndsInFeed (choices_line used stalled unused)
 ends-choices used stalled unused =
@@ -48,7 +60,8 @@ report-is : (t : Litmus) (kind : ProtocolKind) (c : Configuration) (s : ShownRun
     → report t kind c s ≡ test_line t ++ (machine_line kind c ++ (middle_lines t s ++ cache_lines 0 s.counts))
 report-is t kind c s =
     ap (λ (x : List ℕ). (test_line t ++ machine_line kind c) ++ x)
-    (regrouped (printed_order t s.order) (register_lines 0 s.registers) (memory_line t s.memory) (condition_line t s.holds) (choices_line s.used s.stalled s.unused) (cache_lines 0 s.counts))
+    (regrouped (printed_order t s.order) (register_lines 0 s.registers) (memory_line t s.memory)
+    (condition_line t s.holds) (choices_line s.used s.stalled s.unused) (cache_lines 0 s.counts))
     ∙ append_assoc (test_line t) (machine_line kind c) (middle_lines t s ++ cache_lines 0 s.counts)
 
 -- ---- two reports of one run, with other counts
@@ -76,11 +89,13 @@ module _ (t : Litmus) (kind other : ProtocolKind) (c d : Configuration) (counts 
     second = refl;
   }
 
-  reports-differ : (json : Bool) → ReportsDiffer json kind other c d (report_in json t kind c (shown_of t counts r)) (report_in json t other d (shown_of t others r))
+  reports-differ : (json : Bool)
+      → ReportsDiffer json kind other c d (report_in json t kind c (shown_of t counts r)) (report_in json t other d (shown_of t others r))
   reports-differ false = lines-differ
   reports-differ true = members-differ
 
-  one-run-alike : (json : Bool) → RunsAnswerAlike json kind other c d (run_text t kind c json counts r) (run_text t other d json others r) (run_status r) (run_status r)
+  one-run-alike : (json : Bool)
+      → RunsAnswerAlike json kind other c d (run_text t kind c json counts r) (run_text t other d json others r) (run_status r) (run_status r)
   one-run-alike json = by_end r.ended (reports-differ json)
     where
       by_end : (b : Bool) → ReportsDiffer json kind other c d (report_in json t kind c (shown_of t counts r)) (report_in json t other d (shown_of t others r))
@@ -110,18 +125,26 @@ never-refused false h = let no : ⊥ = cc in no
 
 ends-unfinished : (used stalled : ℕ) → EndsInFeed (unfinished_run_line used stalled)
 ends-unfinished used stalled =
-    ends-after (codes "Unfinished used=") _ (ends-after (decimal used) _ (ends-after (codes " stalled=") (line (decimal stalled)) (ends-line (decimal stalled))))
+    ends-after (codes "Unfinished used=") _
+    (ends-after (decimal used) _ (ends-after (codes " stalled=") (line (decimal stalled)) (ends-line (decimal stalled))))
 
 trace-refusals-alike : (json : Bool) (kind other : ProtocolKind) (c d : Configuration) (out again : List ℕ) → out ≡ again
     → TracesAnswerAlike json kind other c d out again Refused Refused
-trace-refusals-alike json kind other c d out again same = record { status = refl; traced = λ not_refused. absurd (not_refused refl); refused = λ is_refused. same }
+trace-refusals-alike json kind other c d out again same = record {
+  status = refl;
+  traced = λ not_refused. absurd (not_refused refl);
+  refused = λ is_refused. same;
+}
 
 refusals-alike : (json : Bool) (kind other : ProtocolKind) (c d : Configuration) (out again : List ℕ) → out ≡ again
     → RunsAnswerAlike json kind other c d out again Refused Refused
 refusals-alike json kind other c d out again same = record { status = refl; ended = λ good. absurd (let no : ⊥ = cc in no); otherwise = λ not_good. same }
 
 run-answers-alike : (t : Litmus) (kind other : ProtocolKind) (c d : Configuration) (json : Bool) (text out again : List ℕ) (status too : Status)
-    → IsDecidedAsChoices (length t.programs) text → AreAtomicAtOneDepth c d → IsRunAnswer t kind c json text out status → IsRunAnswer t other d json text again too
+    → IsDecidedAsChoices (length t.programs) text
+    → AreAtomicAtOneDepth c d
+    → IsRunAnswer t kind c json text out status
+    → IsRunAnswer t other d json text again too
     → RunsAnswerAlike json kind other c d out again status too
 run-answers-alike t kind other c d json text _ _ _ _ law shape (refused f h) (refused g k) =
     refusals-alike json kind other c d (choices_refusal f) (choices_refusal g) (ap choices_refusal (law.one_refusal f g h k))
@@ -130,12 +153,18 @@ run-answers-alike t kind other c d json text _ _ _ _ law shape (ran choices spel
 run-answers-alike t kind other c d json text _ _ _ _ law shape (ran choices spelled fit) (ran others again fit_too) =
     let out = text_under t kind c json choices in
     let status = status_under t kind c choices in
-    subst (λ (cs : List Choice). RunsAnswerAlike json kind other c d out (text_under t other d json cs) status (status_under t other d cs)) (law.one_list choices others spelled again)
-    (subst (λ (r : Run). RunsAnswerAlike json kind other c d out (run_text t other d json (counts_under t other d choices) r) status (run_status r)) (same-run t kind other c d choices shape)
-    (one-run-alike t kind other c d (counts_under t kind c choices) (counts_under t other d choices) (run_under t kind c choices) (same-cores t kind other c d choices) json))
+    subst (λ (cs : List Choice).
+    RunsAnswerAlike json kind other c d out (text_under t other d json cs) status (status_under t other d cs))
+    (law.one_list choices others spelled again)
+    (subst (λ (r : Run).
+    RunsAnswerAlike json kind other c d out (run_text t other d json (counts_under t other d choices) r) status (run_status r))
+    (same-run t kind other c d choices shape)
+    (one-run-alike t kind other c d (counts_under t kind c choices) (counts_under t other d choices)
+    (run_under t kind c choices) (same-cores t kind other c d choices) json))
 
 -- two traces of one run, with other steps and other counts
-module _ (t : Litmus) (kind other : ProtocolKind) (c d : Configuration) (steps other_steps : List Step) (counts others : List Counts) (cores : length counts ≡ length others) (r : Run) where
+module _ (t : Litmus) (kind other : ProtocolKind) (c d : Configuration) (steps other_steps : List Step)
+    (counts others : List Counts) (cores : length counts ≡ length others) (r : Run) where
   abbrev trace_with : ProtocolKind → Configuration → List Step → List ℕ → List ℕ
   trace_with named config told ending = head t named config ++ (trace_text t config.shape.words told ++ ending)
 
@@ -174,11 +203,13 @@ module _ (t : Litmus) (kind other : ProtocolKind) (c d : Configuration) (steps o
     second = ap (λ (ending : List ℕ). trace_with other d other_steps ending) (no-end (unfinished_run_line r.used r.stalled));
   }
 
-  traced-alike : TracesAnswerAlike false kind other c d (trace_with kind c steps (ending_text t counts r)) (trace_with other d other_steps (ending_text t others r)) (run_status r) (run_status r)
+  traced-alike : TracesAnswerAlike false kind other c d (trace_with kind c steps (ending_text t counts r))
+      (trace_with other d other_steps (ending_text t others r)) (run_status r) (run_status r)
   traced-alike = record { status = refl; traced = λ not_refused. traces-differ r.ended; refused = λ is_refused. absurd (never-refused r.ended is_refused) }
 
 -- two traces of one run as JSON
-module _ (t : Litmus) (kind other : ProtocolKind) (c d : Configuration) (choices : List Choice) (counts others : List Counts) (cores : length counts ≡ length others) (r : Run) where
+module _ (t : Litmus) (kind other : ProtocolKind) (c d : Configuration) (choices : List Choice)
+    (counts others : List Counts) (cores : length counts ≡ length others) (r : Run) where
   objects-differ : (b : Bool) → TracesDifferIn true kind other c d
       (cond b (json_ended t kind c choices (shown_of t counts r)) (json_unended t kind c choices r.used r.stalled))
       (cond b (json_ended t other d choices (shown_of t others r)) (json_unended t other d choices r.used r.stalled))
@@ -200,34 +231,49 @@ module _ (t : Litmus) (kind other : ProtocolKind) (c d : Configuration) (choices
     second = refl;
   })
 
-  objects-alike : TracesAnswerAlike true kind other c d (object_text t kind c choices counts r) (object_text t other d choices others r) (run_status r) (run_status r)
+  objects-alike : TracesAnswerAlike true kind other c d (object_text t kind c choices counts r)
+      (object_text t other d choices others r) (run_status r) (run_status r)
   objects-alike = record { status = refl; traced = λ not_refused. objects-differ r.ended; refused = λ is_refused. absurd (never-refused r.ended is_refused) }
 
 one-trace-alike : (json : Bool) (t : Litmus) (kind other : ProtocolKind) (c d : Configuration) (choices : List Choice) → AreAtomicAtOneDepth c d
-    → TracesAnswerAlike json kind other c d (traced_in json t kind c choices) (traced_in json t other d choices) (status_under t kind c choices) (status_under t other d choices)
+    → TracesAnswerAlike json kind other c d (traced_in json t kind c choices) (traced_in json t other d choices)
+    (status_under t kind c choices) (status_under t other d choices)
 one-trace-alike false t kind other c d choices shape =
     let out = traced_text t kind c choices in
     let status = status_under t kind c choices in
     let steps = trace_under t kind c choices in
     let other_steps = trace_under t other d choices in
     let counts = counts_under t other d choices in
-    subst (λ (r : Run). TracesAnswerAlike false kind other c d out (head t other d ++ (trace_text t d.shape.words other_steps ++ ending_text t counts r)) status (run_status r)) (same-run t kind other c d choices shape)
+    subst (λ (r : Run).
+    TracesAnswerAlike false kind other c d out
+    (head t other d ++ (trace_text t d.shape.words other_steps ++ ending_text t counts r)) status (run_status r))
+    (same-run t kind other c d choices shape)
     (traced-alike t kind other c d steps other_steps (counts_under t kind c choices) counts (same-cores t kind other c d choices) (run_under t kind c choices))
 one-trace-alike true t kind other c d choices shape =
     let out = traced_in true t kind c choices in
     let status = status_under t kind c choices in
     let counts = counts_under t other d choices in
-    subst (λ (r : Run). TracesAnswerAlike true kind other c d out (object_text t other d choices counts r) status (run_status r)) (same-run t kind other c d choices shape)
+    subst (λ (r : Run).
+    TracesAnswerAlike true kind other c d out (object_text t other d choices counts r) status (run_status r))
+    (same-run t kind other c d choices shape)
     (objects-alike t kind other c d choices (counts_under t kind c choices) counts (same-cores t kind other c d choices) (run_under t kind c choices))
 
-trace-answers-alike : (t : Litmus) (kind other : ProtocolKind) (c d : Configuration) (json : Bool) (text out again : List ℕ) (status too : Status) → 0 < length t.programs
-    → IsDecidedAsChoices (length t.programs) text → AreAtomicAtOneDepth c d → IsTraceAnswer t kind c json text out status → IsTraceAnswer t other d json text again too
+trace-answers-alike : (t : Litmus) (kind other : ProtocolKind) (c d : Configuration) (json : Bool)
+    (text out again : List ℕ) (status too : Status)
+    → 0 < length t.programs
+    → IsDecidedAsChoices (length t.programs) text
+    → AreAtomicAtOneDepth c d
+    → IsTraceAnswer t kind c json text out status
+    → IsTraceAnswer t other d json text again too
     → TracesAnswerAlike json kind other c d out again status too
 trace-answers-alike t kind other c d json text _ _ _ _ some law shape (refused f h) (refused g k) =
     trace-refusals-alike json kind other c d (choices_refusal f) (choices_refusal g) (ap choices_refusal (law.one_refusal f g h k))
-trace-answers-alike t kind other c d json text _ _ _ _ some law shape (refused f h) (too_long choices word spelled long is) = absurd (law.never_both choices f spelled h)
-trace-answers-alike t kind other c d json text _ _ _ _ some law shape (refused f h) (traced choices spelled fit short) = absurd (law.never_both choices f spelled h)
-trace-answers-alike t kind other c d json text _ _ _ _ some law shape (too_long choices word spelled long is) (refused f h) = absurd (law.never_both choices f spelled h)
+trace-answers-alike t kind other c d json text _ _ _ _ some law shape (refused f h) (too_long choices word spelled long is) =
+    absurd (law.never_both choices f spelled h)
+trace-answers-alike t kind other c d json text _ _ _ _ some law shape (refused f h) (traced choices spelled fit short) =
+    absurd (law.never_both choices f spelled h)
+trace-answers-alike t kind other c d json text _ _ _ _ some law shape (too_long choices word spelled long is) (refused f h) =
+    absurd (law.never_both choices f spelled h)
 trace-answers-alike t kind other c d json text _ _ _ _ some law shape (too_long choices word spelled long is) (too_long others word_too again longer too) =
     trace-refusals-alike json kind other c d (choices_refusal (TooMany word)) (choices_refusal (TooMany word_too))
     (ap (λ (n : ℕ). choices_refusal (TooMany n)) (one-word (length t.programs) text word word_too some is too))
@@ -235,13 +281,16 @@ trace-answers-alike t kind other c d json text _ _ _ _ some law shape (too_long 
     absurd (never-both json (run_under t other d others) short
     (subst (λ (r : Run). IsTooLong json r) (same-run t kind other c d others shape)
     (subst (λ (cs : List Choice). IsTooLong json (run_under t kind c cs)) (law.one_list choices others spelled again) long)))
-trace-answers-alike t kind other c d json text _ _ _ _ some law shape (traced choices spelled fit short) (refused f h) = absurd (law.never_both choices f spelled h)
+trace-answers-alike t kind other c d json text _ _ _ _ some law shape (traced choices spelled fit short) (refused f h) =
+    absurd (law.never_both choices f spelled h)
 trace-answers-alike t kind other c d json text _ _ _ _ some law shape (traced choices spelled fit short) (too_long others word again long is) =
     absurd (never-both json (run_under t other d others)
     (subst (λ (r : Run). FitsForm json r) (same-run t kind other c d others shape)
     (subst (λ (cs : List Choice). FitsForm json (run_under t kind c cs)) (law.one_list choices others spelled again) short)) long)
 trace-answers-alike t kind other c d json text _ _ _ _ some law shape (traced choices spelled fit short) (traced others again fit_too less) =
-    subst (λ (cs : List Choice). TracesAnswerAlike json kind other c d (traced_in json t kind c choices) (traced_in json t other d cs) (status_under t kind c choices) (status_under t other d cs))
+    subst (λ (cs : List Choice).
+    TracesAnswerAlike json kind other c d (traced_in json t kind c choices) (traced_in json t other d cs)
+    (status_under t kind c choices) (status_under t other d cs))
     (law.one_list choices others spelled again) (one-trace-alike json t kind other c d choices shape)
 
 -- what is counted of a sweep is the same
@@ -253,7 +302,10 @@ same-counts t kind other c d count from (suc n) shape =
     ∙ ap (λ (k : RunCounts). with_one_run t (seeded_run t other d count (from + n)) k) (same-counts t kind other c d count from n shape)
 
 sweep-answers-alike : (t : Litmus) (kind other : ProtocolKind) (c d : Configuration) (plan : Plan) (out again : List ℕ) (status too : Status)
-    → AreAtomicAtOneDepth c d → IsSweepAnswer t kind c plan out status → IsSweepAnswer t other d plan again too → SweepsAnswerAlike kind other c d out again status too
+    → AreAtomicAtOneDepth c d
+    → IsSweepAnswer t kind c plan out status
+    → IsSweepAnswer t other d plan again too
+    → SweepsAnswerAlike kind other c d out again status too
 sweep-answers-alike t kind other c d plan out again status too shape is is_too =
     let same : sweep_counts t kind c plan ≡ sweep_counts t other d plan = same-counts t kind other c d plan.length plan.from plan.seeds shape in
     let told : RunCounts → List ℕ = λ counts. tally_text t counts plan.from plan.length in
@@ -270,23 +322,37 @@ sweep-answers-alike t kind other c d plan out again status too shape is is_too =
       refused = λ is_refused. absurd (never-refused ((sweep_counts t kind c plan).unfinished == 0) (sym is.status_is ∙ is_refused));
     }
 
-pub runs-alike : (kind other : ProtocolKind) (c d : Configuration) (set : Instructions) (json : Bool) (input out again : List ℕ) (status too : Status) → AreReadOneWay → AreAtomicAtOneDepth c d
+pub runs-alike : (kind other : ProtocolKind) (c d : Configuration) (set : Instructions) (json : Bool)
+    (input out again : List ℕ) (status too : Status)
+    → AreReadOneWay
+    → AreAtomicAtOneDepth c d
     → IsAnswer (settings.Run kind c set json) (Some input) out status → IsAnswer (settings.Run other d set json) (Some input) again too
     → RunsAnswerAlike json kind other c d out again status too
 runs-alike kind other c d set json input out again status too law shape is is_too =
     inputs-alike (settings.Run kind c set json) (settings.Run other d set json) (RunsAnswerAlike json kind other c d) input out again status too law refl
     (λ text. refusals-alike json kind other c d text text refl)
-    (λ t text out again status too test short. run-answers-alike t kind other c d json text out again status too (law.decided (length t.programs) text test.some_core) shape) is is_too
+    (λ t text out again status too test short.
+    run-answers-alike t kind other c d json text out again status too (law.decided (length t.programs) text test.some_core) shape)
+    is is_too
 
-pub traces-alike : (kind other : ProtocolKind) (c d : Configuration) (set : Instructions) (json : Bool) (input out again : List ℕ) (status too : Status) → AreReadOneWay → AreAtomicAtOneDepth c d
+pub traces-alike : (kind other : ProtocolKind) (c d : Configuration) (set : Instructions) (json : Bool)
+    (input out again : List ℕ) (status too : Status)
+    → AreReadOneWay
+    → AreAtomicAtOneDepth c d
     → IsAnswer (settings.Trace kind c set json) (Some input) out status → IsAnswer (settings.Trace other d set json) (Some input) again too
     → TracesAnswerAlike json kind other c d out again status too
 traces-alike kind other c d set json input out again status too law shape is is_too =
     inputs-alike (settings.Trace kind c set json) (settings.Trace other d set json) (TracesAnswerAlike json kind other c d) input out again status too law refl
     (λ text. trace-refusals-alike json kind other c d text text refl)
-    (λ t text out again status too test short. trace-answers-alike t kind other c d json text out again status too test.some_core (law.decided (length t.programs) text test.some_core) shape) is is_too
+    (λ t text out again status too test short.
+    trace-answers-alike t kind other c d json text out again status too test.some_core
+    (law.decided (length t.programs) text test.some_core) shape)
+    is is_too
 
-pub sweeps-alike : (kind other : ProtocolKind) (c d : Configuration) (set : Instructions) (plan : Plan) (input out again : List ℕ) (status too : Status) → AreReadOneWay → AreAtomicAtOneDepth c d
+pub sweeps-alike : (kind other : ProtocolKind) (c d : Configuration) (set : Instructions) (plan : Plan)
+    (input out again : List ℕ) (status too : Status)
+    → AreReadOneWay
+    → AreAtomicAtOneDepth c d
     → IsAnswer (settings.Sweep kind c set plan) (Some input) out status → IsAnswer (settings.Sweep other d set plan) (Some input) again too
     → SweepsAnswerAlike kind other c d out again status too
 sweeps-alike kind other c d set plan input out again status too law shape is is_too =

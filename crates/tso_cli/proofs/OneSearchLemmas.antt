@@ -1,5 +1,12 @@
 -- What the headline decides of `outcomes`.
-use Rattle.tso_cli.proofs.Vocabulary.{◌≡◌, ◌∙◌, ◌<◌, ◌≤◌, ◌⊎◌, inl, inr, ℕ, Bool, true, false, List, [], ◌∷◌, ◌++◌, map, length, Contains, Option, Some, None, refl, sym, ap, subst, ForSome, nat_cmp, slice_cmp, IsStrictlySortedBy, length-map, HasMoreStates, Litmus, IsTest, Condition, Choice, SpellsTest, Instructions, TextFault, test_line, Named, names_shown, verdict_line, outcomes_verdict_value, Outcome, shown_values, held_in, failed_in, is_met_in, outcomes_in, OutcomesAreAlike, OutcomesOfTheSameValuesAreAlike, Search, longest_input, Parts, parts_of, test_refusal, HeadlineOfOutcomes, all, PartsHeadline, InputHeadline, AreReadOneWay, true_in, outcomes_line, state_line, by_line, outcome_lines, observation_line, true_line, condition_lines}
+use Rattle.tso_cli.proofs.Vocabulary.{◌≡◌, ◌∙◌, ◌<◌, ◌≤◌, ◌⊎◌, inl, inr, ℕ, Bool, true, false, List, [], ◌∷◌, ◌++◌, map, length, Contains}
+use Rattle.tso_cli.proofs.Vocabulary.{Option, Some, None, refl, sym, ap, subst, ForSome, nat_cmp, slice_cmp, IsStrictlySortedBy, length-map}
+use Rattle.tso_cli.proofs.Vocabulary.{HasMoreStates, Litmus, IsTest, Condition, Choice, SpellsTest, Instructions, TextFault, test_line}
+use Rattle.tso_cli.proofs.Vocabulary.{Named, names_shown, verdict_line, outcomes_verdict_value, Outcome, shown_values, held_in, failed_in}
+use Rattle.tso_cli.proofs.Vocabulary.{is_met_in, outcomes_in, OutcomesAreAlike, OutcomesOfTheSameValuesAreAlike, Search, longest_input}
+use Rattle.tso_cli.proofs.Vocabulary.{Parts, parts_of, test_refusal, HeadlineOfOutcomes, all, PartsHeadline, InputHeadline, AreReadOneWay}
+use Rattle.tso_cli.proofs.Vocabulary.{true_in, outcomes_line, state_line, by_line, outcome_lines, observation_line, true_line}
+use Rattle.tso_cli.proofs.Vocabulary.{condition_lines}
 use Rattle.litmus_reader.specs.Spelling.{IsRefused as IsRefusedTest}
 use Rattle.search_report.specs.OutcomesJson.{state_value, holds_in, observation_value}
 use Rattle.command_line.specs.declared.settings.Settings.TheVariants as settings
@@ -47,7 +54,9 @@ observed-line : (name : List ℕ) (condition : Option Condition) (a b : List Out
 observed-line name None a b held failed = refl
 observed-line name (Some c) a b held failed = rw (held c refl, failed c refl) refl
 
-numbers-line : (condition : Option Condition) (a b : List Outcome) → ForSome condition (λ c. true_in c.claim a ≡ true_in c.claim b) → true_line condition a ≡ true_line condition b
+numbers-line : (condition : Option Condition) (a b : List Outcome)
+    → ForSome condition (λ c. true_in c.claim a ≡ true_in c.claim b)
+    → true_line condition a ≡ true_line condition b
 numbers-line None a b numbers = refl
 numbers-line (Some c) a b numbers = rw (numbers c refl) refl
 
@@ -92,10 +101,16 @@ module _ (t : Litmus) (names : List Named) (depth : ℕ) (outcomes others : List
 abbrev Ascends : List (List ℕ) → Type 0
 Ascends values = IsStrictlySortedBy (slice_cmp nat_cmp) values
 
-shows-some : (t : Litmus) (s : Search) (json : Bool) (out : List ℕ) → HasMoreStates t s.depth s.states → PrintsSomeOutcomes t s json out → ShowsSomeStates t s json out
+shows-some : (t : Litmus) (s : Search) (json : Bool) (out : List ℕ)
+    → HasMoreStates t s.depth s.states
+    → PrintsSomeOutcomes t s json out
+    → ShowsSomeStates t s json out
 shows-some t s json out more p = record { outcomes = p.outcomes; more = more; some = p.some; printed = p.printed }
 
-one-search : (set : Instructions) (test : List ℕ) (t : Litmus) (s : Search) (json again : Bool) (out other : List ℕ) → OutcomesOfTheSameValuesAreAlike → IsTest t → SpellsTest set test t
+one-search : (set : Instructions) (test : List ℕ) (t : Litmus) (s : Search) (json again : Bool) (out other : List ℕ)
+    → OutcomesOfTheSameValuesAreAlike
+    → IsTest t
+    → SpellsTest set test t
     → HeadlineOfOutcomes t s json out → HeadlineOfOutcomes t s again other → AreOneSearch set test s json again out other
 one-search set test t s json again out other law is spelled (too_many more p) q = first_shows_some t spelled (shows-some t s json out more p)
 one-search set test t s json again out other law is spelled (all p) (too_many more q) = second_shows_some t spelled (shows-some t s again other more q)
@@ -123,20 +138,31 @@ one-search set test t s json again out other law is spelled (all p) (all q) =
 
 -- ---- of whole inputs
 
-parts-one-search : (s : Search) (set : Instructions) (json again assert asserted : Bool) (parts : Parts) (out other : List ℕ) → AreReadOneWay → AreDecided → OutcomesOfTheSameValuesAreAlike
-    → PartsHeadline (settings.Outcomes s set json assert) parts out → PartsHeadline (settings.Outcomes s set again asserted) parts other → AreOneSearch set parts.test s json again out other
+parts-one-search : (s : Search) (set : Instructions) (json again assert asserted : Bool) (parts : Parts)
+    (out other : List ℕ)
+    → AreReadOneWay
+    → AreDecided
+    → OutcomesOfTheSameValuesAreAlike
+    → PartsHeadline (settings.Outcomes s set json assert) parts out
+    → PartsHeadline (settings.Outcomes s set again asserted) parts other
+    → AreOneSearch set parts.test s json again out other
 parts-one-search s set json again assert asserted parts out other texts decided law p q = by_text (decided.tests set parts.test).always
   where
-    by_text : ((t : Litmus) × SpellsTest set parts.test t) ⊎ ((fault : TextFault) × IsRefusedTest set parts.test fault) → AreOneSearch set parts.test s json again out other
+    by_text : ((t : Litmus) × SpellsTest set parts.test t) ⊎ ((fault : TextFault) × IsRefusedTest set parts.test fault)
+        → AreOneSearch set parts.test s json again out other
     by_text (inl spells) =
-        one-search set parts.test spells.0 s json again out other law (texts.test set parts.test spells.0 spells.1) spells.1 (p.every_test spells.0 spells.1) (q.every_test spells.0 spells.1)
+        one-search set parts.test spells.0 s json again out other law (texts.test set parts.test spells.0 spells.1)
+        spells.1 (p.every_test spells.0 spells.1) (q.every_test spells.0 spells.1)
     by_text (inr faulty) =
         let none : (t : Litmus) → ¬ (SpellsTest set parts.test t) = λ t spelled. texts.refused_or_not set parts.test t faulty.0 spelled faulty.1 in
         let first = p.every_other none in
         let second = q.every_other none in
         one_text (first.2 ∙ ap test_refusal (texts.one_refusal set parts.test first.0 second.0 first.1 second.1) ∙ sym second.2)
 
-pub searches-one : (s : Search) (set : Instructions) (json again assert asserted : Bool) (input out other : List ℕ) → AreReadOneWay → AreDecided → OutcomesOfTheSameValuesAreAlike
+pub searches-one : (s : Search) (set : Instructions) (json again assert asserted : Bool) (input out other : List ℕ)
+    → AreReadOneWay
+    → AreDecided
+    → OutcomesOfTheSameValuesAreAlike
     → InputHeadline (settings.Outcomes s set json assert) input out → InputHeadline (settings.Outcomes s set again asserted) input other
     → AreOneSearch set (parts_of input).test s json again out other
 searches-one s set json again assert asserted input out other texts decided law p q = by_size (sizes (length input) longest_input)

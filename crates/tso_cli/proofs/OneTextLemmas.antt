@@ -1,5 +1,17 @@
 -- What the headline decides by itself.
-use Rattle.tso_cli.proofs.Vocabulary.{◌≡◌, ◌<◌, ◌≤◌, ◌^◌, ◌+◌, ◌⊎◌, inl, inr, ℕ, zero, suc, Bool, true, false, cond, List, ◌++◌, length, Option, Some, None, IfSome, Contains, refl, sym, ap, subst, ◌∙◌, arith, keys_of, bytes_eq-Decides, Litmus, IsTest, Condition, IsTsoExecution, final_words, final_registers, Run, run, Bus, Atomic, Split, Choice, Entry, SpellsTest, Instructions, instructions_of, TextFault, SpellsChoices, IsRefusedAsChoices, IsDecidedAsChoices, TooMany, SpellsOrder, HasFault, OrderFault, IsFirstBreach, Breach, ProtocolKind, Configuration, head, observation, counted_state_lines, sweep_line, ended_in, run_counts, Plan, longest_input, Parts, parts_of, test_refusal, choices_refusal, order_refusal, invalid_line, verdict, sweep_lines, PrintsExecution, PrintsEachRun, HeadlineOfRuns, seeded_order, final_values, has_values, has_truth, seeds_from, seeds_with, PrintsSweep, HeadlineOfSweeps, JudgesOrder, JudgesEachOrder, WitnessesOrder, WitnessesEachOrder, unreached, broken, HeadlineOf, PartsHeadline, InputHeadline, ShowOneExecution, AreOneRun, AreOneTrace, AreOneWitness, PrintsEachTrace, HeadlineOfTraces, PrintsTrace, PrintsTracedObject, PrintsTraceIn, trace_text, trace_under, FitsForm, IsTooLong, AreReadOneWay, Settings}
+use Rattle.tso_cli.proofs.Vocabulary.{◌≡◌, ◌<◌, ◌≤◌, ◌^◌, ◌+◌, ◌⊎◌, inl, inr, ℕ, zero, suc, Bool, true, false, cond, List, ◌++◌, length}
+use Rattle.tso_cli.proofs.Vocabulary.{Option, Some, None, IfSome, Contains, refl, sym, ap, subst, ◌∙◌, arith, keys_of, bytes_eq-Decides}
+use Rattle.tso_cli.proofs.Vocabulary.{Litmus, IsTest, Condition, IsTsoExecution, final_words, final_registers, Run, run, Bus, Atomic, Split}
+use Rattle.tso_cli.proofs.Vocabulary.{Choice, Entry, SpellsTest, Instructions, instructions_of, TextFault, SpellsChoices}
+use Rattle.tso_cli.proofs.Vocabulary.{IsRefusedAsChoices, IsDecidedAsChoices, TooMany, SpellsOrder, HasFault, OrderFault, IsFirstBreach}
+use Rattle.tso_cli.proofs.Vocabulary.{Breach, ProtocolKind, Configuration, head, observation, counted_state_lines, sweep_line, ended_in}
+use Rattle.tso_cli.proofs.Vocabulary.{run_counts, Plan, longest_input, Parts, parts_of, test_refusal, choices_refusal, order_refusal}
+use Rattle.tso_cli.proofs.Vocabulary.{invalid_line, verdict, sweep_lines, PrintsExecution, PrintsEachRun, HeadlineOfRuns, seeded_order}
+use Rattle.tso_cli.proofs.Vocabulary.{final_values, has_values, has_truth, seeds_from, seeds_with, PrintsSweep, HeadlineOfSweeps}
+use Rattle.tso_cli.proofs.Vocabulary.{JudgesOrder, JudgesEachOrder, WitnessesOrder, WitnessesEachOrder, unreached, broken, HeadlineOf}
+use Rattle.tso_cli.proofs.Vocabulary.{PartsHeadline, InputHeadline, ShowOneExecution, AreOneRun, AreOneTrace, AreOneWitness}
+use Rattle.tso_cli.proofs.Vocabulary.{PrintsEachTrace, HeadlineOfTraces, PrintsTrace, PrintsTracedObject, PrintsTraceIn, trace_text}
+use Rattle.tso_cli.proofs.Vocabulary.{trace_under, FitsForm, IsTooLong, AreReadOneWay, Settings}
 use Rattle.litmus_reader.specs.Spelling.{IsRefused as IsRefusedTest, IsDecided as IsDecidedTest}
 use Rattle.scheduler.specs.declared.fault.ChoiceFault.{ChoiceFault}
 use Rattle.tso_cli.specs.SplitRun.{split_run}
@@ -34,26 +46,44 @@ module _ (t : Litmus) (kind : ProtocolKind) (c : Configuration) (json : Bool) (o
         order = order;
         registers = registers;
         memory = memory;
-        holds = p.condition ∙ ap (λ (r : List (List ℕ)). verdict t r p.shown.memory) registers ∙ ap (λ (m : List ℕ). verdict t q.shown.registers m) memory ∙ sym q.condition;
+        holds =
+            p.condition
+            ∙ ap (λ (r : List (List ℕ)). verdict t r p.shown.memory) registers
+            ∙ ap (λ (m : List ℕ). verdict t q.shown.registers m) memory
+            ∙ sym q.condition;
       }
 
-  one-run : (run_of : List Choice → Run) (text : List ℕ) → IsDecidedAsChoices (length t.programs) text → PrintsEachRun t kind c json run_of text out → PrintsEachRun t kind c json run_of text other
+  one-run : (run_of : List Choice → Run) (text : List ℕ)
+      → IsDecidedAsChoices (length t.programs) text
+      → PrintsEachRun t kind c json run_of text out
+      → PrintsEachRun t kind c json run_of text other
       → AreOneRun kind c json out other
   one-run run_of text decided p q = by_text decided.always
     where
-      by_end : (choices : List Choice) → SpellsChoices (length t.programs) text choices → (b : Bool) → (run_of choices).ended ≡ b → AreOneRun kind c json out other
-      by_end choices spelled true ended = inr (one-execution (run_of choices) ((p.every_list choices spelled).ended ended) ((q.every_list choices spelled).ended ended))
+      by_end : (choices : List Choice)
+          → SpellsChoices (length t.programs) text choices
+          → (b : Bool) → (run_of choices).ended ≡ b
+          → AreOneRun kind c json out other
+      by_end choices spelled true ended =
+          inr (one-execution (run_of choices) ((p.every_list choices spelled).ended ended) ((q.every_list choices spelled).ended ended))
       by_end choices spelled false unended = inl ((p.every_list choices spelled).unended unended ∙ sym ((q.every_list choices spelled).unended unended))
 
-      by_text : ((choices : List Choice) × SpellsChoices (length t.programs) text choices) ⊎ ((fault : ChoiceFault) × IsRefusedAsChoices (length t.programs) text fault) → AreOneRun kind c json out other
+      by_text : ((choices : List Choice) × SpellsChoices (length t.programs) text choices)
+          ⊎ ((fault : ChoiceFault) × IsRefusedAsChoices (length t.programs) text fault)
+          → AreOneRun kind c json out other
       by_text (inl spells) = by_end spells.0 spells.1 (run_of spells.0).ended refl
       by_text (inr faulty) =
-          let none : (choices : List Choice) → ¬ (SpellsChoices (length t.programs) text choices) = λ choices spelled. decided.never_both choices faulty.0 spelled faulty.1 in
+          let none : (choices : List Choice) → ¬ (SpellsChoices (length t.programs) text choices) =
+          λ choices spelled. decided.never_both choices faulty.0 spelled faulty.1 in
           let first = p.every_other none in
           let second = q.every_other none in
           inl (first.2 ∙ ap choices_refusal (decided.one_refusal first.0 second.0 first.1 second.1) ∙ sym second.2)
 
-  one-run-on-either : (text : List ℕ) → IsDecidedAsChoices (length t.programs) text → HeadlineOfRuns t kind c json text out → HeadlineOfRuns t kind c json text other → AreOneRun kind c json out other
+  one-run-on-either : (text : List ℕ)
+      → IsDecidedAsChoices (length t.programs) text
+      → HeadlineOfRuns t kind c json text out
+      → HeadlineOfRuns t kind c json text other
+      → AreOneRun kind c json out other
   one-run-on-either text decided p q = by_bus c.bus refl
     where
       by_bus : (b : Bus) → c.bus ≡ b → AreOneRun kind c json out other
@@ -67,7 +97,11 @@ same-text kind c false out other same = inl same
 same-text kind c true out other same = inl same
 
 module _ (t : Litmus) (kind : ProtocolKind) (c : Configuration) (out other : List ℕ) where
-  one-told : (r : Run) (choices : List Choice) (b : Bool) → r.ended ≡ b → PrintsTrace t kind c choices r out → PrintsTrace t kind c choices r other → AreOneTrace kind c false out other
+  one-told : (r : Run) (choices : List Choice) (b : Bool)
+      → r.ended ≡ b
+      → PrintsTrace t kind c choices r out
+      → PrintsTrace t kind c choices r other
+      → AreOneTrace kind c false out other
   one-told r choices true ended first second = inr (record {
     t = t;
     steps = trace_under t kind c choices;
@@ -79,10 +113,15 @@ module _ (t : Litmus) (kind : ProtocolKind) (c : Configuration) (out other : Lis
   })
   one-told r choices false unended first second =
       inl (first.printed
-      ∙ ap (λ (rest : List ℕ). head t kind c ++ (trace_text t c.shape.words (trace_under t kind c choices) ++ rest)) (first.unended unended ∙ sym (second.unended unended))
+      ∙ ap (λ (rest : List ℕ). head t kind c ++ (trace_text t c.shape.words (trace_under t kind c choices) ++ rest))
+      (first.unended unended ∙ sym (second.unended unended))
       ∙ sym second.printed)
 
-  one-object : (r : Run) (choices : List Choice) (b : Bool) → r.ended ≡ b → PrintsTracedObject t kind c choices r out → PrintsTracedObject t kind c choices r other → AreOneTrace kind c true out other
+  one-object : (r : Run) (choices : List Choice) (b : Bool)
+      → r.ended ≡ b
+      → PrintsTracedObject t kind c choices r out
+      → PrintsTracedObject t kind c choices r other
+      → AreOneTrace kind c true out other
   unfolding one-execution
   one-object r choices true ended p q =
       let first = p.ended ended in
@@ -109,7 +148,10 @@ module _ (t : Litmus) (kind : ProtocolKind) (c : Configuration) (out other : Lis
       })
   one-object r choices false unended p q = inl (p.unended unended ∙ sym (q.unended unended))
 
-  one-in : (json : Bool) (r : Run) (choices : List Choice) → PrintsTraceIn json t kind c choices r out → PrintsTraceIn json t kind c choices r other → AreOneTrace kind c json out other
+  one-in : (json : Bool) (r : Run) (choices : List Choice)
+      → PrintsTraceIn json t kind c choices r out
+      → PrintsTraceIn json t kind c choices r other
+      → AreOneTrace kind c json out other
   one-in false r choices p q = one-told r choices r.ended refl p q
   one-in true r choices p q = one-object r choices r.ended refl p q
 
@@ -117,17 +159,26 @@ module _ (t : Litmus) (kind : ProtocolKind) (c : Configuration) (out other : Lis
       → PrintsEachTrace t kind c json run_of text out → PrintsEachTrace t kind c json run_of text other → AreOneTrace kind c json out other
   one-trace json run_of text some decided p q = by_text decided.always
     where
-      by_length : (choices : List Choice) → SpellsChoices (length t.programs) text choices → FitsForm json (run_of choices) ⊎ IsTooLong json (run_of choices) → AreOneTrace kind c json out other
+      by_length : (choices : List Choice)
+          → SpellsChoices (length t.programs) text choices
+          → FitsForm json (run_of choices) ⊎ IsTooLong json (run_of choices)
+          → AreOneTrace kind c json out other
       by_length choices spelled (inl short) = one-in json (run_of choices) choices (p.every_list choices spelled short) (q.every_list choices spelled short)
       by_length choices spelled (inr long) =
           let first = p.too_long choices spelled long in
           let second = q.too_long choices spelled long in
-          same-text kind c json out other (first.2 ∙ ap (λ (n : ℕ). choices_refusal (TooMany n)) (one-word (length t.programs) text first.0 second.0 some first.1 second.1) ∙ sym second.2)
+          same-text kind c json out other
+          (first.2
+          ∙ ap (λ (n : ℕ). choices_refusal (TooMany n)) (one-word (length t.programs) text first.0 second.0 some first.1 second.1)
+          ∙ sym second.2)
 
-      by_text : ((choices : List Choice) × SpellsChoices (length t.programs) text choices) ⊎ ((fault : ChoiceFault) × IsRefusedAsChoices (length t.programs) text fault) → AreOneTrace kind c json out other
+      by_text : ((choices : List Choice) × SpellsChoices (length t.programs) text choices)
+          ⊎ ((fault : ChoiceFault) × IsRefusedAsChoices (length t.programs) text fault)
+          → AreOneTrace kind c json out other
       by_text (inl spells) = by_length spells.0 spells.1 (too-long-or-not json (run_of spells.0))
       by_text (inr faulty) =
-          let none : (choices : List Choice) → ¬ (SpellsChoices (length t.programs) text choices) = λ choices spelled. decided.never_both choices faulty.0 spelled faulty.1 in
+          let none : (choices : List Choice) → ¬ (SpellsChoices (length t.programs) text choices) =
+          λ choices spelled. decided.never_both choices faulty.0 spelled faulty.1 in
           let first = p.every_other none in
           let second = q.every_other none in
           same-text kind c json out other (first.2 ∙ ap choices_refusal (decided.one_refusal first.0 second.0 first.1 second.1) ∙ sym second.2)
@@ -163,7 +214,8 @@ passed-there : (t : Litmus) (v : List ℕ) (keys : List (List ℕ)) (o : Option 
 passed-there t v keys None passed there = absurd (let no : ⊥ = cc in no)
 passed-there t v keys (Some order) passed there = subst (λ (w : List ℕ). Contains keys w) (sym ((bytes_eq-Decides v (final_values t order)).0 passed)) there
 
-has-all : (t : Litmus) (kind : ProtocolKind) (c : Configuration) (plan : Plan) (run_of : List Choice → Run) (out : List ℕ) (p : PrintsSweep t kind c plan run_of out) (v : List ℕ)
+has-all : (t : Litmus) (kind : ProtocolKind) (c : Configuration) (plan : Plan) (run_of : List Choice → Run)
+    (out : List ℕ) (p : PrintsSweep t kind c plan run_of out) (v : List ℕ)
     → 0 < seeds_with t run_of plan (has_values t v) → Contains (keys_of p.counts.states) v
 has-all t kind c plan run_of out p v some =
     let found = seed-found (λ seed. has_values t v (seeded_order t run_of plan seed)) plan.from plan.seeds some in
@@ -185,7 +237,11 @@ one-sweep t kind c plan run_of out other p q =
     p.printed
     ∙ ap (λ s. sweep_lines t kind c plan (run_counts s held failed p.counts.unfinished)) states
     ∙ ap (λ (n : ℕ). sweep_lines t kind c plan (run_counts counts.states held failed n)) unfinished
-    ∙ ap (λ (l : List ℕ). head t kind c ++ (sweep_line (ended_in counts) counts.unfinished plan.from plan.length ++ (counted_state_lines t counts.states ++ l))) last
+    ∙ ap (λ (l : List ℕ).
+    head t kind c
+    ++ (sweep_line (ended_in counts) counts.unfinished plan.from plan.length
+    ++ (counted_state_lines t counts.states ++ l)))
+    last
     ∙ sym q.printed
 
 one-sweep-on-either : (t : Litmus) (kind : ProtocolKind) (c : Configuration) (plan : Plan) (out other : List ℕ)
@@ -248,21 +304,33 @@ one-witnessed t depth text out other law decided test short p q = by_text (decid
 pub sizes : (n m : ℕ) → (n ≤ m) ⊎ (m < n)
 sizes n m = grind arith
 
-parts-one : (s : Settings) (Same : List ℕ → List ℕ → Type 0) (parts : Parts) (out other : List ℕ) → AreReadOneWay → AreDecided → ((a b : List ℕ) → a ≡ b → Same a b)
+parts-one : (s : Settings) (Same : List ℕ → List ℕ → Type 0) (parts : Parts) (out other : List ℕ)
+    → AreReadOneWay
+    → AreDecided
+    → ((a b : List ℕ) → a ≡ b → Same a b)
     → ((t : Litmus) → IsTest t → HeadlineOf s t parts.rest out → HeadlineOf s t parts.rest other → Same out other)
     → PartsHeadline s parts out → PartsHeadline s parts other → Same out other
 parts-one s Same parts out other law decided same step p q = by_text (decided.tests (instructions_of s) parts.test).always
   where
-    by_text : ((t : Litmus) × SpellsTest (instructions_of s) parts.test t) ⊎ ((fault : TextFault) × IsRefusedTest (instructions_of s) parts.test fault) → Same out other
-    by_text (inl spells) = step spells.0 (law.test (instructions_of s) parts.test spells.0 spells.1) (p.every_test spells.0 spells.1) (q.every_test spells.0 spells.1)
+    by_text : ((t : Litmus) × SpellsTest (instructions_of s) parts.test t)
+        ⊎ ((fault : TextFault) × IsRefusedTest (instructions_of s) parts.test fault)
+        → Same out other
+    by_text (inl spells) =
+        step spells.0 (law.test (instructions_of s) parts.test spells.0 spells.1) (p.every_test spells.0 spells.1) (q.every_test spells.0 spells.1)
     by_text (inr faulty) =
-        let none : (t : Litmus) → ¬ (SpellsTest (instructions_of s) parts.test t) = λ t spelled. law.refused_or_not (instructions_of s) parts.test t faulty.0 spelled faulty.1 in
+        let none : (t : Litmus) → ¬ (SpellsTest (instructions_of s) parts.test t) =
+        λ t spelled. law.refused_or_not (instructions_of s) parts.test t faulty.0 spelled faulty.1 in
         let first = p.every_other none in
         let second = q.every_other none in
         same out other (first.2 ∙ ap test_refusal (law.one_refusal (instructions_of s) parts.test first.0 second.0 first.1 second.1) ∙ sym second.2)
 
 input-one : (s : Settings) (Same : List ℕ → List ℕ → Type 0) (input out other : List ℕ) → AreReadOneWay → AreDecided → ((a b : List ℕ) → a ≡ b → Same a b)
-    → ((t : Litmus) → IsTest t → length (parts_of input).rest < 2 ^ 64 → HeadlineOf s t (parts_of input).rest out → HeadlineOf s t (parts_of input).rest other → Same out other)
+    → ((t : Litmus)
+    → IsTest t
+    → length (parts_of input).rest < 2 ^ 64
+    → HeadlineOf s t (parts_of input).rest out
+    → HeadlineOf s t (parts_of input).rest other
+    → Same out other)
     → InputHeadline s input out → InputHeadline s input other → Same out other
 input-one s Same input out other law decided same step p q = by_size (sizes (length input) longest_input)
   where
@@ -281,22 +349,34 @@ pub traces-one : (kind : ProtocolKind) (c : Configuration) (set : Instructions) 
     → InputHeadline (settings.Trace kind c set json) input out → InputHeadline (settings.Trace kind c set json) input other → AreOneTrace kind c json out other
 traces-one kind c set json input out other law decided =
     input-one (settings.Trace kind c set json) (AreOneTrace kind c json) input out other law decided (λ a b same. same-text kind c json a b same)
-    (λ t test short. one-trace-on-either t kind c out other json (parts_of input).rest test.some_core (law.decided (length t.programs) (parts_of input).rest test.some_core))
+    (λ t test short.
+    one-trace-on-either t kind c out other json (parts_of input).rest test.some_core
+    (law.decided (length t.programs) (parts_of input).rest test.some_core))
 
 pub sweeps-one : (kind : ProtocolKind) (c : Configuration) (set : Instructions) (plan : Plan) (input out other : List ℕ) → AreReadOneWay → AreDecided
     → InputHeadline (settings.Sweep kind c set plan) input out → InputHeadline (settings.Sweep kind c set plan) input other → out ≡ other
 sweeps-one kind c set plan input out other law decided =
-    input-one (settings.Sweep kind c set plan) (λ a b. a ≡ b) input out other law decided (λ a b same. same) (λ t test short. one-sweep-on-either t kind c plan out other)
+    input-one (settings.Sweep kind c set plan) (λ a b. a ≡ b) input out other law decided (λ a b same. same)
+    (λ t test short. one-sweep-on-either t kind c plan out other)
 
-pub counts-one : (kind : ProtocolKind) (c : Configuration) (set : Instructions) (plan : Option Plan) (json : Bool) (input out other : List ℕ) → AreReadOneWay → AreDecided
+pub counts-one : (kind : ProtocolKind) (c : Configuration) (set : Instructions) (plan : Option Plan) (json : Bool)
+    (input out other : List ℕ)
+    → AreReadOneWay
+    → AreDecided
     → InputHeadline (settings.Counts kind c set plan json) input out → InputHeadline (settings.Counts kind c set plan json) input other → out ≡ other
 counts-one kind c set plan json input out other law decided =
     input-one (settings.Counts kind c set plan json) (λ a b. a ≡ b) input out other law decided (λ a b same. same)
     (λ t test short. one-counts-text t kind c plan json (parts_of input).rest out other (law.decided (length t.programs) (parts_of input).rest test.some_core))
 
-pub checks-one : (set : Instructions) (input out other : List ℕ) → AreReadOneWay → AreDecided → InputHeadline (settings.Check set) input out → InputHeadline (settings.Check set) input other → out ≡ other
+pub checks-one : (set : Instructions) (input out other : List ℕ)
+    → AreReadOneWay
+    → AreDecided
+    → InputHeadline (settings.Check set) input out
+    → InputHeadline (settings.Check set) input other
+    → out ≡ other
 checks-one set input out other law decided =
-    input-one (settings.Check set) (λ a b. a ≡ b) input out other law decided (λ a b same. same) (λ t test short. one-check t (parts_of input).rest out other law decided test short)
+    input-one (settings.Check set) (λ a b. a ≡ b) input out other law decided (λ a b same. same)
+    (λ t test short. one-check t (parts_of input).rest out other law decided test short)
 
 pub witnesses-one : (depth : ℕ) (set : Instructions) (input out other : List ℕ) → AreReadOneWay → AreDecided
     → InputHeadline (settings.Witness depth set) input out → InputHeadline (settings.Witness depth set) input other → AreOneWitness depth out other

@@ -1,5 +1,8 @@
 -- What the answer of a search means.
-use Rattle.tso_cli.proofs.Vocabulary.{◌≡◌, ◌∙◌, ◌≤◌, ℕ, zero, suc, Bool, List, [], map, length, All, Contains, refl, ap, subst, arith, append-nil, All-weaker, All-contains, most_depth, Litmus, IsTest, IsTsoExecution, final_words, final_registers, Entry, SpellsChoices, printed_choices, Named, names_shown, values_at, Outcome, shown_values, Search, AreAllOutcomes, IsOutcomesAnswer, found, HeadlineOfOutcomes, all, Status}
+use Rattle.tso_cli.proofs.Vocabulary.{◌≡◌, ◌∙◌, ◌≤◌, ℕ, zero, suc, Bool, List, [], map, length, All, Contains, refl, ap, subst, arith}
+use Rattle.tso_cli.proofs.Vocabulary.{append-nil, All-weaker, All-contains, most_depth, Litmus, IsTest, IsTsoExecution, final_words}
+use Rattle.tso_cli.proofs.Vocabulary.{final_registers, Entry, SpellsChoices, printed_choices, Named, names_shown, values_at, Outcome}
+use Rattle.tso_cli.proofs.Vocabulary.{shown_values, Search, AreAllOutcomes, IsOutcomesAnswer, found, HeadlineOfOutcomes, all, Status}
 use Rattle.tso_laws.specs.Outcomes.{IsEnd, IsSequentiallyConsistent, EndsAreWhatTsoAllows, ChoicesToAnEndAreCounted}
 use Rattle.tso_cli.specs.Outcomes.{too_many}
 use Rattle.tso_cli.specs.OutcomesHeadline.{shown_after, AreExactly, AreSomeOf, too_many}
@@ -24,10 +27,14 @@ end-of t depth o lead = record {
 
 abbrev From : Litmus → ℕ → (List Entry → Type 0) → Type 0
 From t depth Allowed =
-    (registers : List (List ℕ)) (memory : List ℕ) → IsEnd t depth registers memory → (order : List Entry) × Allowed order × (final_registers t order ≡ registers) × (final_words t order ≡ memory)
+    (registers : List (List ℕ)) (memory : List ℕ)
+    → IsEnd t depth registers memory
+    → (order : List Entry) × Allowed order × (final_registers t order ≡ registers) × (final_words t order ≡ memory)
 
 -- an end has the values that are printed
-among : (t : Litmus) (names : List Named) (depth : ℕ) (outcomes : List Outcome) (Allowed : List Entry → Type 0) → All (Leads t depth) outcomes → From t depth Allowed
+among : (t : Litmus) (names : List Named) (depth : ℕ) (outcomes : List Outcome) (Allowed : List Entry → Type 0)
+    → All (Leads t depth) outcomes
+    → From t depth Allowed
     → AreSomeOf t names outcomes Allowed
 among t names depth outcomes Allowed leads from values has =
     let made = made-of (shown_values names) outcomes values has in
@@ -36,7 +43,9 @@ among t names depth outcomes Allowed leads from values has =
     (allowed.0, allowed.1, ap (λ r. values_at names r (final_words t allowed.0)) allowed.2 ∙ (ap (λ m. values_at names o.registers m) allowed.3 ∙ made.2))
 
 -- and values are printed exactly where an end has them
-exactly : (t : Litmus) (names : List Named) (depth : ℕ) (outcomes : List Outcome) (Allowed : List Entry → Type 0) → AreAllOutcomes t names depth outcomes → From t depth Allowed
+exactly : (t : Litmus) (names : List Named) (depth : ℕ) (outcomes : List Outcome) (Allowed : List Entry → Type 0)
+    → AreAllOutcomes t names depth outcomes
+    → From t depth Allowed
     → ((order : List Entry) → Allowed order → IsEnd t depth (final_registers t order) (final_words t order))
     → AreExactly t names outcomes Allowed
 exactly t names depth outcomes Allowed are from to values = (among t names depth outcomes Allowed are.reached from values, back)
@@ -55,10 +64,18 @@ from-sequential t laws test registers memory end =
     let allowed = (laws.unbuffered t registers memory test).0 end in
     (allowed.order, allowed.consistent, allowed.registers_are, allowed.memory_is)
 
-among-tso : (t : Litmus) (names : List Named) (outcomes : List Outcome) → EndsAreWhatTsoAllows → IsTest t → All (Leads t most_depth) outcomes → AreSomeOf t names outcomes (IsTsoExecution t)
+among-tso : (t : Litmus) (names : List Named) (outcomes : List Outcome)
+    → EndsAreWhatTsoAllows
+    → IsTest t
+    → All (Leads t most_depth) outcomes
+    → AreSomeOf t names outcomes (IsTsoExecution t)
 among-tso t names outcomes laws test leads = among t names most_depth outcomes (IsTsoExecution t) leads (from-tso t laws test)
 
-among-sequential : (t : Litmus) (names : List Named) (outcomes : List Outcome) → EndsAreWhatTsoAllows → IsTest t → All (Leads t 0) outcomes → AreSomeOf t names outcomes (IsSequentiallyConsistent t)
+among-sequential : (t : Litmus) (names : List Named) (outcomes : List Outcome)
+    → EndsAreWhatTsoAllows
+    → IsTest t
+    → All (Leads t 0) outcomes
+    → AreSomeOf t names outcomes (IsSequentiallyConsistent t)
 among-sequential t names outcomes laws test leads = among t names 0 outcomes (IsSequentiallyConsistent t) leads (from-sequential t laws test)
 
 exactly-tso : (t : Litmus) (names : List Named) (outcomes : List Outcome) → EndsAreWhatTsoAllows → IsTest t → AreAllOutcomes t names most_depth outcomes
@@ -100,8 +117,12 @@ outcomes-mean t s json assert _ _ reaching searches test (found outcomes are) =
       outcomes = outcomes;
       printed = refl;
       all = are;
-      tso = λ greatest. exactly-tso t (names_shown s.show t) outcomes searches.ends test (subst (λ depth. AreAllOutcomes t (names_shown s.show t) depth outcomes) greatest are);
-      sequential = λ none. exactly-sequential t (names_shown s.show t) outcomes searches.ends test (subst (λ depth. AreAllOutcomes t (names_shown s.show t) depth outcomes) none are);
+      tso = λ greatest.
+          exactly-tso t (names_shown s.show t) outcomes searches.ends test
+          (subst (λ depth. AreAllOutcomes t (names_shown s.show t) depth outcomes) greatest are);
+      sequential = λ none.
+          exactly-sequential t (names_shown s.show t) outcomes searches.ends test
+          (subst (λ depth. AreAllOutcomes t (names_shown s.show t) depth outcomes) none are);
       spelled = All-weaker (Leads t s.depth) (λ o. SpellsChoices (length t.programs) (printed_choices o.choices) o.choices)
           (λ o lead. choices-spell t s.depth o reaching searches test lead) outcomes are.reached;
     })

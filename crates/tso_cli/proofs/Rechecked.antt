@@ -1,5 +1,13 @@
 -- The report of a run is short, and what `check` answers to it.
-use Rattle.tso_cli.proofs.Vocabulary.{Instructions, ◌≡◌, ◌+◌, ◌-◌, ◌*◌, ◌≤◌, ◌^◌, ℕ, suc, Bool, true, false, cond, List, [], ◌∷◌, ◌++◌, length, All, slice_index, slice_index_or, drop, length-append, codes, refl, sym, ap, subst, ◌∙◌, arith, All-map, All-head, All-tail, All-weaker, SpellsOrder, Litmus, IsTest, IsProgram, AreRegisters, made_by, made_from, IsTsoExecution, read_values, registers_from, start, Run, has_ended, stall_count, Bus, Instr, Entry, Choice, IsExecution, SpellsTest, Table, table_of, ProtocolKind, Configuration, IsConfigurationWithinLimits, report, ShownRun, Parts, parts_of, joined_parts, valid_line, run_by, run_under, AnswersFit, counts_under, shown_of, IsInputAnswer, too_large, answered, run_text, run_status, IsRunAnswer, IsCheckAnswer, ran, Status, Good, Unended, attempts_in, length-in, run-is, RunLaws, counts-each, counts-few, AreReadOneWay}
+use Rattle.tso_cli.proofs.Vocabulary.{Instructions, ◌≡◌, ◌+◌, ◌-◌, ◌*◌, ◌≤◌, ◌^◌, ℕ, suc, Bool, true, false, cond, List, [], ◌∷◌, ◌++◌}
+use Rattle.tso_cli.proofs.Vocabulary.{length, All, slice_index, slice_index_or, drop, length-append, codes, refl, sym, ap, subst, ◌∙◌}
+use Rattle.tso_cli.proofs.Vocabulary.{arith, All-map, All-head, All-tail, All-weaker, SpellsOrder, Litmus, IsTest, IsProgram, AreRegisters}
+use Rattle.tso_cli.proofs.Vocabulary.{made_by, made_from, IsTsoExecution, read_values, registers_from, start, Run, has_ended, stall_count}
+use Rattle.tso_cli.proofs.Vocabulary.{Bus, Instr, Entry, Choice, IsExecution, SpellsTest, Table, table_of, ProtocolKind, Configuration}
+use Rattle.tso_cli.proofs.Vocabulary.{IsConfigurationWithinLimits, report, ShownRun, Parts, parts_of, joined_parts, valid_line, run_by}
+use Rattle.tso_cli.proofs.Vocabulary.{run_under, AnswersFit, counts_under, shown_of, IsInputAnswer, too_large, answered, run_text}
+use Rattle.tso_cli.proofs.Vocabulary.{run_status, IsRunAnswer, IsCheckAnswer, ran, Status, Good, Unended, attempts_in, length-in, run-is}
+use Rattle.tso_cli.proofs.Vocabulary.{RunLaws, counts-each, counts-few, AreReadOneWay}
 use Rattle.tso_terms.specs.Thread.{entries_of, entries_by, registers_by, values_after}
 use Rattle.tso_terms.specs.Actions.{action_of}
 use Rattle.tso_terms.specs.declared.action.Action.{Action}
@@ -44,13 +52,15 @@ made_few core (p ∷ ps) registers order h =
 
 order_few : (t : Litmus) (order : List Entry) → IsTest t → IsTsoExecution t order → length order ≤ 512
 order_few t order test execution =
-    let sizes : All (λ p. length p ≤ 32) t.programs = All-weaker (IsProgram (length t.locations)) (λ (p : List Instr). length p ≤ 32) (λ p fits. fits.size) t.programs test.programs_fit in
+    let sizes : All (λ p. length p ≤ 32) t.programs =
+    All-weaker (IsProgram (length t.locations)) (λ (p : List Instr). length p ≤ 32) (λ p fits. fits.size) t.programs test.programs_fit in
     let cores = test.cores in
     let count = execution.whole.count in
     let few = made_few 0 t.programs t.registers order sizes in
     omega arith
 
-pub registers_each : (core : ℕ) (programs : List (List Instr)) (registers : List (List ℕ)) (order : List Entry) → length (registers_from core programs registers order) ≡ length programs
+pub registers_each : (core : ℕ) (programs : List (List Instr)) (registers : List (List ℕ)) (order : List Entry)
+    → length (registers_from core programs registers order) ≡ length programs
 registers_each core [] registers order = refl
 registers_each core (p ∷ ps) registers order = ap suc (registers_each (core + 1) ps registers order)
 
@@ -58,13 +68,18 @@ stall_few : (o : Outcome) → stall_count o ≤ 1
 stall_few Committed = omega arith
 stall_few o = omega arith
 
-stalls_few : (bus : Bus) (t : Litmus) (depth : ℕ) (state : BusState) (xs : List Attempt) → (run_on_from bus t depth state xs).run.stalled ≤ (run_on_from bus t depth state xs).run.used
+stalls_few : (bus : Bus) (t : Litmus) (depth : ℕ) (state : BusState) (xs : List Attempt)
+    → (run_on_from bus t depth state xs).run.stalled ≤ (run_on_from bus t depth state xs).run.used
 stalls_few bus t depth state [] = omega arith
 stalls_few bus t depth state (x ∷ xs) = by_end (has_ended t state.flat) (stalls_few bus t depth (after_on bus t depth state x) xs)
   where
-    by_end : (b : Bool) → (run_on_from bus t depth (after_on bus t depth state x) xs).run.stalled ≤ (run_on_from bus t depth (after_on bus t depth state x) xs).run.used
-        → (cond b (resting_on true state (length (x ∷ xs))) (then_on (effect_on bus t depth state x) (run_on_from bus t depth (after_on bus t depth state x) xs))).run.stalled
-        ≤ (cond b (resting_on true state (length (x ∷ xs))) (then_on (effect_on bus t depth state x) (run_on_from bus t depth (after_on bus t depth state x) xs))).run.used
+    by_end : (b : Bool)
+        → (run_on_from bus t depth (after_on bus t depth state x) xs).run.stalled
+        ≤ (run_on_from bus t depth (after_on bus t depth state x) xs).run.used
+        → (cond b (resting_on true state (length (x ∷ xs)))
+        (then_on (effect_on bus t depth state x) (run_on_from bus t depth (after_on bus t depth state x) xs))).run.stalled
+        ≤ (cond b (resting_on true state (length (x ∷ xs)))
+        (then_on (effect_on bus t depth state x) (run_on_from bus t depth (after_on bus t depth state x) xs))).run.used
     by_end true h = omega arith
     by_end false h = let one = stall_few (effect_on bus t depth state x).effect.outcome in omega arith
 
@@ -73,7 +88,9 @@ pub record FewChoices (n : ℕ) (r : Run) : Type 0 where
   pub count : r.used + r.unused ≡ n
   pub stalls : r.stalled ≤ r.used
 
-pub choices-few : (table : Table) (c : Configuration) (t : Litmus) (choices : List Choice) → RunLaws → FewChoices (length choices) (run_by c.bus table c t choices)
+pub choices-few : (table : Table) (c : Configuration) (t : Litmus) (choices : List Choice)
+    → RunLaws
+    → FewChoices (length choices) (run_by c.bus table c t choices)
 choices-few table c t choices laws =
     subst (λ (r : Run). FewChoices (length choices) r) (sym (run-is table c t choices laws.atomic))
     (record {
@@ -81,7 +98,12 @@ choices-few table c t choices laws =
       stalls = stalls_few c.bus t c.depth (unheld (start t)) (attempts_in table c t choices);
     })
 
-pub small-run : (t : Litmus) (kind : ProtocolKind) (c : Configuration) (choices : List Choice) → Runs → RunLaws → IsTest t → length choices ≤ 100000 → AnswersFit t kind c choices
+pub small-run : (t : Litmus) (kind : ProtocolKind) (c : Configuration) (choices : List Choice)
+    → Runs
+    → RunLaws
+    → IsTest t
+    → length choices ≤ 100000
+    → AnswersFit t kind c choices
     → (run_under t kind c choices).ended ≡ true → IsSmall t (shown_of t (counts_under t kind c choices) (run_under t kind c choices))
 small-run t kind c choices laws runs test few fit ended =
     let r = run_under t kind c choices in
@@ -109,7 +131,12 @@ small-run t kind c choices laws runs test few fit ended =
 
 -- what is known of reports, as this file uses it
 abbrev pub AreShort : Type 0
-AreShort = (t : Litmus) (kind : ProtocolKind) (c : Configuration) (s : ShownRun) → IsTest t → IsConfigurationWithinLimits c → IsSmall t s → length (report t kind c s) ≤ longest_report
+AreShort =
+    (t : Litmus) (kind : ProtocolKind) (c : Configuration) (s : ShownRun)
+    → IsTest t
+    → IsConfigurationWithinLimits c
+    → IsSmall t s
+    → length (report t kind c s) ≤ longest_report
 
 record Ended (kind : ProtocolKind) (c : Configuration) (set : Instructions) (input out : List ℕ) : Type 0 where
   t : Litmus
@@ -127,7 +154,9 @@ good-ended t r good = by_end r.ended refl
     by_end true e = e
     by_end false e = absurd (let other : Unended ≡ Good = subst (λ b. cond b Good Unended ≡ Good) e good in let no : ⊥ = cc in no)
 
-run-ended : (t : Litmus) (kind : ProtocolKind) (c : Configuration) (set : Instructions) (input out : List ℕ) (status : Status) → SpellsTest set (parts_of input).test t
+run-ended : (t : Litmus) (kind : ProtocolKind) (c : Configuration) (set : Instructions) (input out : List ℕ)
+    (status : Status)
+    → SpellsTest set (parts_of input).test t
     → status ≡ Good → IsRunAnswer t kind c false (parts_of input).rest out status → Ended kind c set input out
 run-ended t kind c set input _ _ spelled good (refused fault h) = absurd (let no : ⊥ = cc in no)
 run-ended t kind c set input _ _ spelled good (ran choices read fit) =
@@ -139,8 +168,14 @@ input-ended kind c set input _ _ good (too_large large) = absurd (let no : ⊥ =
 input-ended kind c set input _ _ good (refused fault small is) = absurd (let no : ⊥ = cc in no)
 input-ended kind c set input _ _ good (answered t out status small spelled is) = run-ended t kind c set input out status spelled good is
 
-checked : (set : Instructions) (test out input answer : List ℕ) (status : Status) (t : Litmus) (order : List Entry) → AreReadOneWay → input ≡ joined_parts test out
-    → parts_of (joined_parts test out) ≡ record { test = test; rest = out } → length out ≤ longest_report → SpellsTest set test t → SpellsOrder t out order → IsTsoExecution t order
+checked : (set : Instructions) (test out input answer : List ℕ) (status : Status) (t : Litmus) (order : List Entry)
+    → AreReadOneWay
+    → input ≡ joined_parts test out
+    → parts_of (joined_parts test out) ≡ record { test = test; rest = out }
+    → length out ≤ longest_report
+    → SpellsTest set test t
+    → SpellsOrder t out order
+    → IsTsoExecution t order
     → IsInputAnswer (settings.Check set) input answer status → (answer ≡ valid_line) × (status ≡ Good)
 checked set test out input _ _ t order laws same separated short spelled spells execution (too_large large) =
     let size : length test ≤ 65536 = laws.short set test t spelled in
@@ -161,18 +196,24 @@ ended-short kind c set input out texts runs laws short within e =
     let test = texts.test set (parts_of input).test e.t e.spelled in
     let printed : out ≡ report e.t kind c (shown_of e.t (counts_under e.t kind c e.choices) (run_under e.t kind c e.choices)) = rw e.ended at e.is in
     subst (λ (o : List ℕ). length o ≤ longest_report) (sym printed)
-    (short e.t kind c (shown_of e.t (counts_under e.t kind c e.choices) (run_under e.t kind c e.choices)) test within (small-run e.t kind c e.choices runs laws test e.few e.fit e.ended))
+    (short e.t kind c (shown_of e.t (counts_under e.t kind c e.choices) (run_under e.t kind c e.choices)) test within
+    (small-run e.t kind c e.choices runs laws test e.few e.fit e.ended))
 
 pub printed-short : (kind : ProtocolKind) (c : Configuration) (set : Instructions) (input out : List ℕ) → AreReadOneWay → Runs → RunLaws → AreShort
     → IsConfigurationWithinLimits c → IsInputAnswer (settings.Run kind c set false) input out Good → length out ≤ longest_report
-printed-short kind c set input out texts runs laws short within is = ended-short kind c set input out texts runs laws short within (input-ended kind c set input out Good refl is)
+printed-short kind c set input out texts runs laws short within is =
+    ended-short kind c set input out texts runs laws short within (input-ended kind c set input out Good refl is)
 
 pub rechecked : (kind : ProtocolKind) (c : Configuration) (set : Instructions) (input out answer : List ℕ) (status : Status) → AreReadOneWay → Runs → RunLaws
     → AreShort → IsConfigurationWithinLimits c → parts_of (joined_parts (parts_of input).test out) ≡ record { test = (parts_of input).test; rest = out }
-    → IsInputAnswer (settings.Run kind c set false) input out Good → IsInputAnswer (settings.Check set) (joined_parts (parts_of input).test out) answer status → (answer ≡ valid_line) × (status ≡ Good)
+    → IsInputAnswer (settings.Run kind c set false) input out Good
+    → IsInputAnswer (settings.Check set) (joined_parts (parts_of input).test out) answer status
+    → (answer ≡ valid_line) × (status ≡ Good)
 rechecked kind c set input out answer status texts runs laws short within separated is answered_so =
     let e = input-ended kind c set input out Good refl is in
     let test = texts.test set (parts_of input).test e.t e.spelled in
     let size : length out ≤ longest_report = ended-short kind c set input out texts runs laws short within e in
-    checked set (parts_of input).test out (joined_parts (parts_of input).test out) answer status e.t (run_under e.t kind c e.choices).commits texts refl separated size e.spelled
-    (report-spells e.t kind c false e.choices out runs test within e.fit e.is e.ended refl) (runs.executions (table_of kind) c e.t e.choices test e.fit e.ended).order answered_so
+    checked set (parts_of input).test out (joined_parts (parts_of input).test out) answer status e.t
+    (run_under e.t kind c e.choices).commits texts refl separated size e.spelled
+    (report-spells e.t kind c false e.choices out runs test within e.fit e.is e.ended refl)
+    (runs.executions (table_of kind) c e.t e.choices test e.fit e.ended).order answered_so

@@ -1,5 +1,11 @@
 -- What `witness` prints, and what `run` answers to it.
-use Rattle.tso_cli.proofs.Vocabulary.{◌≡◌, ◌*◌, ◌≤◌, ◌<◌, ℕ, Bool, true, List, [], ◌∷◌, ◌++◌, length, codes, length-append, refl, sym, ap, subst, ◌∙◌, arith, decimal, Litmus, IsTest, IsTsoExecution, chosen, run, CoresExist, Atomic, Entry, Choice, choices_along, LeadTo, needed, Instructions, SpellsTest, SpellsChoices, printed_choice, printed_after, printed_choices, SpellsOrder, table_of, ProtocolKind, Configuration, IsConfigurationWithinLimits, Parts, parts_of, joined_parts, run_under, counts_under, report_in, shown_of, witness_line, IsWitness, IsWitnessAnswer, reached, too_small, invalid, judged, IsInputAnswer, too_large, answered, IsRunAnswer, ran, Status, Good, atomic-run, AreReadOneWay}
+use Rattle.tso_cli.proofs.Vocabulary.{◌≡◌, ◌*◌, ◌≤◌, ◌<◌, ℕ, Bool, true, List, [], ◌∷◌, ◌++◌, length, codes, length-append, refl, sym, ap}
+use Rattle.tso_cli.proofs.Vocabulary.{subst, ◌∙◌, arith, decimal, Litmus, IsTest, IsTsoExecution, chosen, run, CoresExist, Atomic, Entry}
+use Rattle.tso_cli.proofs.Vocabulary.{Choice, choices_along, LeadTo, needed, Instructions, SpellsTest, SpellsChoices, printed_choice}
+use Rattle.tso_cli.proofs.Vocabulary.{printed_after, printed_choices, SpellsOrder, table_of, ProtocolKind, Configuration}
+use Rattle.tso_cli.proofs.Vocabulary.{IsConfigurationWithinLimits, Parts, parts_of, joined_parts, run_under, counts_under, report_in}
+use Rattle.tso_cli.proofs.Vocabulary.{shown_of, witness_line, IsWitness, IsWitnessAnswer, reached, too_small, invalid, judged}
+use Rattle.tso_cli.proofs.Vocabulary.{IsInputAnswer, too_large, answered, IsRunAnswer, ran, Status, Good, atomic-run, AreReadOneWay}
 use Rattle.std.proofs.lemmas.Fmt.{length-decimal-le}
 use Rattle.tso_terms.specs.declared.choice.Choice.TheVariants.{Step, Drain}
 use Rattle.litmus_reader.specs.Spelling.{IsRefused as IsRefusedTest}
@@ -12,8 +18,12 @@ use Rattle.tso_cli.proofs.WitnessLemmas.{Reaching, choices-few, line-spells}
 -- ---- the line of choices is short
 
 choice-short : (c : Choice) → chosen c < 8 → length (printed_choice c) ≤ 5
-choice-short (Step core) small = let digits = length-decimal-le 1 core.0 (omega arith) (omega arith) (omega arith) in omega (arith, length-append (decimal core.0) (codes "s"))
-choice-short (Drain core) small = let digits = length-decimal-le 1 core.0 (omega arith) (omega arith) (omega arith) in omega (arith, length-append (decimal core.0) (codes "d"))
+choice-short (Step core) small =
+    let digits = length-decimal-le 1 core.0 (omega arith) (omega arith) (omega arith) in
+    omega (arith, length-append (decimal core.0) (codes "s"))
+choice-short (Drain core) small =
+    let digits = length-decimal-le 1 core.0 (omega arith) (omega arith) (omega arith) in
+    omega (arith, length-append (decimal core.0) (codes "d"))
 
 after-short : (cores : ℕ) (cs : List Choice) → cores ≤ 8 → CoresExist cores cs → length (printed_after cs) ≤ 6 * length cs
 after-short cores [] few there = omega arith
@@ -62,7 +72,10 @@ test-found : (set : Instructions) (t : Litmus) (depth : ℕ) (input out : List �
 test-found set t depth input _ _ spelled good (refused fault h) = absurd (let no : ⊥ = cc in no)
 test-found set t depth input _ _ spelled good (judged order out status spells is) = order-found set t depth order input out status spelled spells good is
 
-found : (set : Instructions) (depth : ℕ) (input out : List ℕ) (status : Status) → status ≡ Good → IsInputAnswer (settings.Witness depth set) input out status → Found set depth input out
+found : (set : Instructions) (depth : ℕ) (input out : List ℕ) (status : Status)
+    → status ≡ Good
+    → IsInputAnswer (settings.Witness depth set) input out status
+    → Found set depth input out
 found set depth input _ _ good (too_large large) = absurd (let no : ⊥ = cc in no)
 found set depth input _ _ good (refused fault small is) = absurd (let no : ⊥ = cc in no)
 found set depth input _ _ good (answered t out status small spelled is) = test-found set t depth input out status spelled good is
@@ -73,7 +86,10 @@ abbrev pub Replays : ProtocolKind → Configuration → Bool → Litmus → List
 Replays kind c json t choices answer status =
     (answer ≡ report_in json t kind c (shown_of t (counts_under t kind c choices) (run t c.depth choices))) × (status ≡ Good)
 
-replays : (kind : ProtocolKind) (c : Configuration) (json : Bool) (t : Litmus) (choices : List Choice) (out answer : List ℕ) (status : Status) → AreReadOneWay → IsTest t
+replays : (kind : ProtocolKind) (c : Configuration) (json : Bool) (t : Litmus) (choices : List Choice)
+    (out answer : List ℕ) (status : Status)
+    → AreReadOneWay
+    → IsTest t
     → SpellsChoices (length t.programs) out choices → c.bus ≡ Atomic → (run t c.depth choices).ended ≡ true
     → IsRunAnswer t kind c json out answer status → Replays kind c json t choices answer status
 replays kind c json t choices out _ _ laws test spells atomic ended (refused fault h) =
@@ -84,7 +100,9 @@ replays kind c json t choices out _ _ laws test spells atomic ended (ran others 
     atomic-run (table_of kind) c t others atomic ∙ ap (λ (cs : List Choice). run t c.depth cs) same in
     rw (flat, same, ended) (refl, refl)
 
-pub replayed-joined : (kind : ProtocolKind) (c : Configuration) (set : Instructions) (json : Bool) (test out input answer : List ℕ) (status : Status) (t : Litmus) (choices : List Choice) → AreReadOneWay
+pub replayed-joined : (kind : ProtocolKind) (c : Configuration) (set : Instructions) (json : Bool)
+    (test out input answer : List ℕ) (status : Status) (t : Litmus) (choices : List Choice)
+    → AreReadOneWay
     → input ≡ joined_parts test out → parts_of (joined_parts test out) ≡ record { test = test; rest = out } → length out ≤ 4000 → SpellsTest set test t
     → SpellsChoices (length t.programs) out choices → c.bus ≡ Atomic → (run t c.depth choices).ended ≡ true
     → IsInputAnswer (settings.Run kind c set json) input answer status → Replays kind c json t choices answer status
@@ -101,9 +119,15 @@ replayed-joined kind c set json test out input _ _ t choices laws same separated
     replays kind c json t choices out answer status laws (laws.test set test t spelled) spells atomic ended
     (subst (λ (u : Litmus). IsRunAnswer u kind c json out answer status) one (subst (λ text. IsRunAnswer other kind c json text answer status) second is))
 
-pub replayed : (kind : ProtocolKind) (c : Configuration) (set : Instructions) (json : Bool) (input out answer : List ℕ) (status : Status) → AreReadOneWay → Reaching → c.bus ≡ Atomic → IsConfigurationWithinLimits c
+pub replayed : (kind : ProtocolKind) (c : Configuration) (set : Instructions) (json : Bool) (input out answer : List ℕ)
+    (status : Status)
+    → AreReadOneWay
+    → Reaching
+    → c.bus ≡ Atomic
+    → IsConfigurationWithinLimits c
     → parts_of (joined_parts (parts_of input).test out) ≡ record { test = (parts_of input).test; rest = out }
-    → IsInputAnswer (settings.Witness c.depth set) input out Good → IsInputAnswer (settings.Run kind c set json) (joined_parts (parts_of input).test out) answer status
+    → IsInputAnswer (settings.Witness c.depth set) input out Good
+    → IsInputAnswer (settings.Run kind c set json) (joined_parts (parts_of input).test out) answer status
     → ReportsOrder kind c set json (parts_of input) answer × (status ≡ Good)
 replayed kind c set json input out answer status texts reaching atomic within separated is answered_so =
     let f = found set c.depth input out Good refl is in
@@ -113,7 +137,9 @@ replayed kind c set json input out answer status texts reaching atomic within se
     let spells : SpellsChoices (length f.t.programs) out choices =
     subst (λ text. SpellsChoices (length f.t.programs) text choices) (sym f.is) (line-spells f.t c.depth choices f.order reaching test lead) in
     let short : length out ≤ 4000 = subst (λ (text : List ℕ). length text ≤ 4000) (sym f.is) (line-short f.t c.depth choices f.order reaching test lead) in
-    let answers = replayed-joined kind c set json (parts_of input).test out (joined_parts (parts_of input).test out) answer status f.t choices texts refl separated short f.test_spelled spells atomic lead.ended answered_so in (
+    let answers =
+    replayed-joined kind c set json (parts_of input).test out (joined_parts (parts_of input).test out) answer status
+    f.t choices texts refl separated short f.test_spelled spells atomic lead.ended answered_so in (
       record {
         t = f.t;
         order = f.order;

@@ -1,5 +1,9 @@
 -- Lists of states in ascending order that count alike are one list.
-use Rattle.tso_cli.proofs.Vocabulary.{◌≡◌, ◌<◌, ℕ, zero, suc, Bool, true, false, cond, List, [], ◌∷◌, Option, Some, None, is_some, Ordering, Less, Equal, Greater, All, Contains, refl, sym, ap, subst, ◌∙◌, arith, AllByRecursion, IsStrictlySortedBy, unwrap_or, is_eq, nat_cmp, ordering_reverse, slice_cmp, is_at, lookup, keys_of, All-head, All-tail, All-weaker, get_or_from_slice_get, slice_get_within, bytes_eq-Decides, count_of_runs, States, Ascend, all-map, same-values}
+use Rattle.tso_cli.proofs.Vocabulary.{◌≡◌, ◌<◌, ℕ, zero, suc, Bool, true, false, cond, List, [], ◌∷◌, Option, Some, None, is_some, Ordering}
+use Rattle.tso_cli.proofs.Vocabulary.{Less, Equal, Greater, All, Contains, refl, sym, ap, subst, ◌∙◌, arith, AllByRecursion}
+use Rattle.tso_cli.proofs.Vocabulary.{IsStrictlySortedBy, unwrap_or, is_eq, nat_cmp, ordering_reverse, slice_cmp, is_at, lookup, keys_of}
+use Rattle.tso_cli.proofs.Vocabulary.{All-head, All-tail, All-weaker, get_or_from_slice_get, slice_get_within, bytes_eq-Decides}
+use Rattle.tso_cli.proofs.Vocabulary.{count_of_runs, States, Ascend, all-map, same-values}
 use Rattle.std.proofs.lemmas.Cmp.{nat_list_cmp_total, eq_by_cmp_equiv}
 use Rattle.std.proofs.lemmas.Map.Entries.{place_from_lookup}
 use Rattle.std.proofs.lemmas.Map.Text.{is_eq-slice_cmp}
@@ -46,9 +50,17 @@ pub same-states : (es fs : States) → Ascend es → Ascend fs → All (λ e. 0 
 unfolding IsStrictlySortedBy
 same-states [] [] s r p q h = refl
 same-states [] (f ∷ fs) s r p q h =
-    absurd (let some = All-head (λ (e : List ℕ × ℕ). 0 < e.1) f fs q in let here = at-head f fs in let same : 0 ≡ count_of_runs f.0 (f ∷ fs) = h f.0 in omega arith)
+    absurd (let some =
+    All-head (λ (e : List ℕ × ℕ). 0 < e.1) f fs q in
+    let here = at-head f fs in
+    let same : 0 ≡ count_of_runs f.0 (f ∷ fs) = h f.0 in
+    omega arith)
 same-states (e ∷ es) [] s r p q h =
-    absurd (let some = All-head (λ (e : List ℕ × ℕ). 0 < e.1) e es p in let here = at-head e es in let same : count_of_runs e.0 (e ∷ es) ≡ 0 = h e.0 in omega arith)
+    absurd (let some =
+    All-head (λ (e : List ℕ × ℕ). 0 < e.1) e es p in
+    let here = at-head e es in
+    let same : count_of_runs e.0 (e ∷ es) ≡ 0 = h e.0 in
+    omega arith)
 same-states (e ∷ es) (f ∷ fs) s r p q h =
     by (R e.0 f.0) refl
     (λ tails. same-states es fs s.1 r.1 (All-tail (λ (e : List ℕ × ℕ). 0 < e.1) e es p) (All-tail (λ (e : List ℕ × ℕ). 0 < e.1) f fs q) tails)
@@ -91,7 +103,9 @@ counts-are es number each complete v = by (lookup (is_at (R v)) es) refl
         let place = place_from_lookup (is_at (R v)) es n h in
         let k = place.1 in
         let here : (0 < n) × (n ≡ number k) =
-        subst (λ (e : List ℕ × ℕ). (0 < e.1) × (e.1 ≡ number e.0)) (get_or_from_slice_get es place.0 (k, n) (k, n) place.2) (each place.0 (k, n) (slice_get_within es place.0 (k, n) place.2)) in
+        subst (λ (e : List ℕ × ℕ). (0 < e.1) × (e.1 ≡ number e.0))
+        (get_or_from_slice_get es place.0 (k, n) (k, n) place.2)
+        (each place.0 (k, n) (slice_get_within es place.0 (k, n) place.2)) in
         let found : count_of_runs v es ≡ n = ap (λ (o : Option ℕ). unwrap_or o 0) h in
         found ∙ here.1 ∙ ap (λ (w : List ℕ). number w) (sym (same-values v k place.3))
 

@@ -1,5 +1,7 @@
 -- From the last step of a test's trace to what is answered to an input; the status of a run that left its test.
-use Rattle.tso_cli.proofs.Vocabulary.{◌≡◌, ◌≤◌, ℕ, List, length, refl, Litmus, Run, SpellsTest, ProtocolKind, Configuration, Instructions, answered, run_status, longest_input, parts_of, IsEndingOf, IsStepAnswer, IsLastStep, told, Status, Refused, Ending, Ended, Unfinished}
+use Rattle.tso_cli.proofs.Vocabulary.{◌≡◌, ◌≤◌, ℕ, List, length, refl, Litmus, Run, SpellsTest, ProtocolKind, Configuration, Instructions}
+use Rattle.tso_cli.proofs.Vocabulary.{answered, run_status, longest_input, parts_of, IsEndingOf, IsStepAnswer, IsLastStep, told, Status}
+use Rattle.tso_cli.proofs.Vocabulary.{Refused, Ending, Ended, Unfinished}
 use Rattle.tso_cli.specs.Step as answer
 use Rattle.tso_cli.specs.inner.Step.{refused}
 use Rattle.tso_cli.specs.inner.Trace.{status_in}

@@ -1,5 +1,13 @@
 -- What is counted of a sweep, and what that means: the final states of TSO executions.
-use Rattle.tso_cli.proofs.Vocabulary.{◌≡◌, ◌<◌, ◌≤◌, ◌⊎◌, inl, inr, ◌+◌, ℕ, zero, suc, Bool, true, false, not, cond, List, Option, Some, None, IfSome, is_none, All, Contains, refl, sym, ap, subst, ◌∙◌, arith, bytes_eq-Decides, option_map, keys_of, registers_in, Litmus, IsTsoExecution, KeepsAllOrder, Condition, truth_of, final_words, final_registers, Run, Atomic, Choice, Entry, IsExecution, ProtocolKind, Configuration, RunCounts, with_state_counted, with_verdict, values_in, count_of_runs, runs_in, counted_state_line, Plan, run_under, AnswersFit, verdict, IsSweepAnswer, choices_of, seeded_run, with_one_run, counts_from, sweep_counts, final_values, has_values, has_truth, seeds_from, HasPart, PrintsSweep, Status, States, Ascend, EachGiven, count-with, ascend-none, each-counted, counted-there, values-left, one, states-judged, unfinished-judged, held-judged, failed-judged, ascend-run, given-run, runs-with}
+use Rattle.tso_cli.proofs.Vocabulary.{◌≡◌, ◌<◌, ◌≤◌, ◌⊎◌, inl, inr, ◌+◌, ℕ, zero, suc, Bool, true, false, not, cond, List, Option, Some}
+use Rattle.tso_cli.proofs.Vocabulary.{None, IfSome, is_none, All, Contains, refl, sym, ap, subst, ◌∙◌, arith, bytes_eq-Decides, option_map}
+use Rattle.tso_cli.proofs.Vocabulary.{keys_of, registers_in, Litmus, IsTsoExecution, KeepsAllOrder, Condition, truth_of, final_words}
+use Rattle.tso_cli.proofs.Vocabulary.{final_registers, Run, Atomic, Choice, Entry, IsExecution, ProtocolKind, Configuration, RunCounts}
+use Rattle.tso_cli.proofs.Vocabulary.{with_state_counted, with_verdict, values_in, count_of_runs, runs_in, counted_state_line, Plan}
+use Rattle.tso_cli.proofs.Vocabulary.{run_under, AnswersFit, verdict, IsSweepAnswer, choices_of, seeded_run, with_one_run, counts_from}
+use Rattle.tso_cli.proofs.Vocabulary.{sweep_counts, final_values, has_values, has_truth, seeds_from, HasPart, PrintsSweep, Status, States}
+use Rattle.tso_cli.proofs.Vocabulary.{Ascend, EachGiven, count-with, ascend-none, each-counted, counted-there, values-left, one}
+use Rattle.tso_cli.proofs.Vocabulary.{states-judged, unfinished-judged, held-judged, failed-judged, ascend-run, given-run, runs-with}
 use Rattle.std.specs.Prelude.{bytes_eq}
 use Rattle.tso_cli.proofs.SweptLines.{each-line}
 
@@ -14,28 +22,42 @@ states-with : (t : Litmus) (r : Run) (c : RunCounts) (v : List ℕ) → (r.ended
 states-with t r c v law = by_end r.ended law
   where
     by_end : (b : Bool) → (b ≡ true → IsExecution t r)
-        → count_of_runs v (cond b (with_verdict (verdict t (registers_in r.state) r.state.memory) (with_state_counted (values-left t r) c)) (record c { unfinished = c.unfinished + 1 })).states
+        → count_of_runs v (cond b
+        (with_verdict (verdict t (registers_in r.state) r.state.memory) (with_state_counted (values-left t r) c))
+        (record c { unfinished = c.unfinished + 1 })).states
         ≡ count_of_runs v c.states + one (has_values t v (cond b (Some r.commits) None))
     by_end true law =
         let e = law refl in
         ap (λ (s : States). count_of_runs v s) (states-judged (verdict t (registers_in r.state) r.state.memory) (with_state_counted (values-left t r) c))
         ∙ count-with v (values-left t r) c.states
-        ∙ ap (λ (w : List ℕ). count_of_runs v c.states + one (bytes_eq v w)) (ap (λ (g : List (List ℕ)). values_in t g r.state.memory) e.registers ∙ ap (λ (m : List ℕ). values_in t (final_registers t r.commits) m) e.memory)
+        ∙ ap (λ (w : List ℕ). count_of_runs v c.states + one (bytes_eq v w))
+        (ap (λ (g : List (List ℕ)). values_in t g r.state.memory) e.registers
+        ∙ ap (λ (m : List ℕ). values_in t (final_registers t r.commits) m) e.memory)
     by_end false law = omega arith
 
 unfinished-with : (t : Litmus) (r : Run) (c : RunCounts) → (with_one_run t r c).unfinished ≡ c.unfinished + one (is_none (order_in r))
 unfinished-with t r c = by_end r.ended
   where
-    by_end : (b : Bool) → (cond b (with_verdict (verdict t (registers_in r.state) r.state.memory) (with_state_counted (values-left t r) c)) (record c { unfinished = c.unfinished + 1 })).unfinished
+    by_end : (b : Bool)
+        → (cond b
+        (with_verdict (verdict t (registers_in r.state) r.state.memory) (with_state_counted (values-left t r) c))
+        (record c { unfinished = c.unfinished + 1 })).unfinished
         ≡ c.unfinished + one (is_none (cond b (Some r.commits) None))
-    by_end true = let same : (with_verdict (verdict t (registers_in r.state) r.state.memory) (with_state_counted (values-left t r) c)).unfinished ≡ c.unfinished = unfinished-judged _ _ in omega arith
+    by_end true =
+        let same : (with_verdict (verdict t (registers_in r.state) r.state.memory)
+        (with_state_counted (values-left t r) c)).unfinished
+        ≡ c.unfinished =
+        unfinished-judged _ _ in
+        omega arith
     by_end false = refl
 
 -- the truth of the condition where a run ended
 abbrev truth-left : Condition → Run → Bool
 truth-left k r = truth_of (registers_in r.state) r.state.memory k.claim
 
-same-truth : (t : Litmus) (k : Condition) (r : Run) → IsExecution t r → truth-left k r ≡ truth_of (final_registers t r.commits) (final_words t r.commits) k.claim
+same-truth : (t : Litmus) (k : Condition) (r : Run)
+    → IsExecution t r
+    → truth-left k r ≡ truth_of (final_registers t r.commits) (final_words t r.commits) k.claim
 same-truth t k r e =
     ap (λ (g : List (List ℕ)). truth_of g r.state.memory k.claim) e.registers ∙ ap (λ (m : List ℕ). truth_of (final_registers t r.commits) m k.claim) e.memory
 
@@ -44,7 +66,9 @@ held-with : (t : Litmus) (r : Run) (c : RunCounts) (k : Condition) → t.conditi
 held-with t r c k is law = by_end r.ended law
   where
     by_end : (b : Bool) → (b ≡ true → IsExecution t r)
-        → (cond b (with_verdict (verdict t (registers_in r.state) r.state.memory) (with_state_counted (values-left t r) c)) (record c { unfinished = c.unfinished + 1 })).held
+        → (cond b
+        (with_verdict (verdict t (registers_in r.state) r.state.memory) (with_state_counted (values-left t r) c))
+        (record c { unfinished = c.unfinished + 1 })).held
         ≡ c.held + one (has_truth t k.claim true (cond b (Some r.commits) None))
     by_end true law =
         ap (λ (o : Option Condition). (with_verdict (option_map (λ (k : Condition). truth-left k r) o) (with_state_counted (values-left t r) c)).held) is
@@ -56,7 +80,9 @@ failed-with : (t : Litmus) (r : Run) (c : RunCounts) (k : Condition) → t.condi
 failed-with t r c k is law = by_end r.ended law
   where
     by_end : (b : Bool) → (b ≡ true → IsExecution t r)
-        → (cond b (with_verdict (verdict t (registers_in r.state) r.state.memory) (with_state_counted (values-left t r) c)) (record c { unfinished = c.unfinished + 1 })).failed
+        → (cond b
+        (with_verdict (verdict t (registers_in r.state) r.state.memory) (with_state_counted (values-left t r) c))
+        (record c { unfinished = c.unfinished + 1 })).failed
         ≡ c.failed + one (has_truth t k.claim false (cond b (Some r.commits) None))
     by_end true law =
         ap (λ (o : Option Condition). (with_verdict (option_map (λ (k : Condition). truth-left k r) o) (with_state_counted (values-left t r) c)).failed) is
@@ -86,7 +112,9 @@ abbrev AreExecutionsFrom : Litmus → ProtocolKind → Configuration → ℕ →
 AreExecutionsFrom t kind c count from seeds =
     (n : ℕ) → n < seeds → (seeded_run t kind c count (from + n)).ended ≡ true → IsExecution t (seeded_run t kind c count (from + n))
 
-fewer : (t : Litmus) (kind : ProtocolKind) (c : Configuration) (count from n : ℕ) → AreExecutionsFrom t kind c count from (suc n) → AreExecutionsFrom t kind c count from n
+fewer : (t : Litmus) (kind : ProtocolKind) (c : Configuration) (count from n : ℕ)
+    → AreExecutionsFrom t kind c count from (suc n)
+    → AreExecutionsFrom t kind c count from n
 fewer t kind c count from n law = λ k l. law k (omega arith)
 
 last : (t : Litmus) (kind : ProtocolKind) (c : Configuration) (count from n : ℕ) → AreExecutionsFrom t kind c count from (suc n)
@@ -166,7 +194,8 @@ among t order_of states from n seeds counts below = by_end (order_of (from + n))
         let v = final_values t order in
         let has : has_values t v (order_of (from + n)) ≡ true =
         ap (λ (o : Option (List Entry)). has_values t v o) e ∙ (bytes_eq-Decides v v).1 refl in
-        let some : 0 < seeds_from (λ seed. has_values t v (order_of seed)) from seeds = seeds-some (λ seed. has_values t v (order_of seed)) from n seeds below has in
+        let some : 0 < seeds_from (λ seed. has_values t v (order_of seed)) from seeds =
+        seeds-some (λ seed. has_values t v (order_of seed)) from n seeds below has in
         counted-there v states (subst (λ (k : ℕ). 0 < k) (sym (counts v)) some)
 
 where-there-is : (o : Option Condition) (P : Condition → Type 0) → ((k : Condition) → o ≡ Some k → P k) → IfSome o P
@@ -175,7 +204,11 @@ where-there-is (Some k) P f = f k refl
 
 pub sweep-means : (t : Litmus) (kind : ProtocolKind) (c : Configuration) (plan : Plan) (out : List ℕ) (status : Status)
     → ((choices : List Choice) → AnswersFit t kind c choices → (run_under t kind c choices).ended ≡ true → IsExecution t (run_under t kind c choices))
-    → ((choices : List Choice) → c.depth ≡ 0 → AnswersFit t kind c choices → (run_under t kind c choices).ended ≡ true → KeepsAllOrder (run_under t kind c choices).commits)
+    → ((choices : List Choice)
+    → c.depth ≡ 0
+    → AnswersFit t kind c choices
+    → (run_under t kind c choices).ended ≡ true
+    → KeepsAllOrder (run_under t kind c choices).commits)
     → ((choices : List Choice) → c.bus ≡ Atomic → AnswersFit t kind c choices)
     → IsSweepAnswer t kind c plan out status → PrintsSweep t kind c plan (λ choices. run_under t kind c choices) out
 sweep-means t kind c plan out status executions all fit is =
@@ -191,9 +224,16 @@ sweep-means t kind c plan out status executions all fit is =
       every_seed = λ atomic seed. execution-is t (seeded_run t kind c count seed) (executions (choices_of t count seed) (fit (choices_of t count seed) atomic));
       unbuffered = λ none n l. all-order-is (seeded_run t kind c count (from + n)) (all (choices_of t count (from + n)) none (is.answers n l));
       ascending = ascend t kind c count from seeds;
-      lines = subst (λ (o : List ℕ). All (λ state. HasPart o (counted_state_line t state)) (sweep_counts t kind c plan).states) (sym is.text) (each-line t kind c plan (sweep_counts t kind c plan));
-      complete = λ n l. among t (λ seed. order_in (seeded_run t kind c count seed)) (sweep_counts t kind c plan).states from n seeds (λ v. found t kind c count from v seeds law) l;
-      states = each-counted (sweep_counts t kind c plan).states _ (ascend t kind c count from seeds) (given t kind c count from seeds) (λ v. found t kind c count from v seeds law);
+      lines =
+          subst
+          (λ (o : List ℕ). All (λ state. HasPart o (counted_state_line t state)) (sweep_counts t kind c plan).states)
+          (sym is.text) (each-line t kind c plan (sweep_counts t kind c plan));
+      complete = λ n l.
+          among t (λ seed. order_in (seeded_run t kind c count seed)) (sweep_counts t kind c plan).states from n seeds
+          (λ v. found t kind c count from v seeds law) l;
+      states =
+          each-counted (sweep_counts t kind c plan).states _ (ascend t kind c count from seeds)
+          (given t kind c count from seeds) (λ v. found t kind c count from v seeds law);
       held = where-there-is t.condition _ (λ k there. held-are t kind c count from k there seeds law);
       failed = where-there-is t.condition _ (λ k there. failed-are t kind c count from k there seeds law);
       unfinished = unfinished-are t kind c count from seeds;

@@ -1,5 +1,7 @@
 -- A trace, written line by line as the choices are made.
-use Rattle.tso_cli.proofs.Vocabulary.{◌≡◌, ◌∙◌, ℕ, ◌+◌, List, [], ◌∷◌, ◌++◌, length, refl, sym, ap, arith, append_assoc, append-nil, codes, string_bytes, Litmus, Choice, Table, Configuration, Running, new_machine, machine_after, trace_step_of, steps_from, trace_of, trace_step_line, step_lines, end_line, trace_text, told_step}
+use Rattle.tso_cli.proofs.Vocabulary.{◌≡◌, ◌∙◌, ℕ, ◌+◌, List, [], ◌∷◌, ◌++◌, length, refl, sym, ap, arith, append_assoc, append-nil, codes}
+use Rattle.tso_cli.proofs.Vocabulary.{string_bytes, Litmus, Choice, Table, Configuration, Running, new_machine, machine_after}
+use Rattle.tso_cli.proofs.Vocabulary.{trace_step_of, steps_from, trace_of, trace_step_line, step_lines, end_line, trace_text, told_step}
 use Rattle.protocol_tables.specs.PrintedTable.{line}
 use Rattle.machine_runs.specs.inner.Observed.{Watched, none_left, over, next, IsWatched}
 use Rattle.trace_report.specs.declared.telling.Told.{Told}
@@ -21,7 +23,10 @@ none-told o m number choices first none = record {
   text = sym (append-nil (string_bytes o.text)) ∙ sym (ap (λ ss. string_bytes o.text ++ step_lines o.test.now o.config.shape.words number ss) none);
 }
 
-all-told : (o last : Teller) (m left : Running) (number : ℕ) (choices : List Choice) → o.made + 1 ≡ number → Watched Tells o m number choices last left → AllTold o last m number choices
+all-told : (o last : Teller) (m left : Running) (number : ℕ) (choices : List Choice)
+    → o.made + 1 ≡ number
+    → Watched Tells o m number choices last left
+    → AllTold o last m number choices
 all-told o _ m _ number _ first (none_left _ _ _) = none-told o m number [] first refl
 all-told o _ m _ number [] first (over _ _ _ _ ended) = none-told o m number [] first refl
 all-told o _ m _ number (c ∷ cs) first (over _ _ _ _ ended) = none-told o m number (c ∷ cs) first (rw ended refl)
@@ -32,7 +37,10 @@ all-told o last m left number _ first (next _ mid _ _ _ _ c rest live one w) =
     let told = all-told mid last (machine_after m c) left (number + 1) rest (ap (λ n. n + 1) one.number) w in
     let more : steps_from m (c ∷ rest) ≡ step ∷ steps = rw live refl in
     record {
-      made = let size : length (steps_from m (c ∷ rest)) ≡ length steps + 1 = ap length more ∙ (omega arith) in let so_far = told.made in omega (arith, size, so_far);
+      made =
+          let size : length (steps_from m (c ∷ rest)) ≡ length steps + 1 = ap length more ∙ (omega arith) in
+          let so_far = told.made in
+          omega (arith, size, so_far);
       text = told.text
           ∙ (ap (λ (u : Litmus). string_bytes mid.text ++ step_lines u mid.config.shape.words (number + 1) steps) one.test
           ∙ (ap (λ (g : Configuration). string_bytes mid.text ++ step_lines o.test.now g.shape.words (number + 1) steps) one.config
@@ -42,7 +50,10 @@ all-told o last m left number _ first (next _ mid _ _ _ _ c rest live one w) =
     }
 
 -- `Trace`, the lines, `Endtrace` and their number
-pub trace-told : (table : Table) (config : Configuration) (t : Litmus) (old new : Teller) (choices : List Choice) → old.made ≡ 0 → old.test.now ≡ t → old.config ≡ config
+pub trace-told : (table : Table) (config : Configuration) (t : Litmus) (old new : Teller) (choices : List Choice)
+    → old.made ≡ 0
+    → old.test.now ≡ t
+    → old.config ≡ config
     → IsWatched Opens Tells Closes old (new_machine table config t) choices new
     → string_bytes new.text ≡ string_bytes old.text ++ trace_text t config.shape.words (trace_of table config t choices)
 trace-told table config t old new choices none test same w =

@@ -1,5 +1,7 @@
 -- The text of a trace, put together of what was written.
-use Rattle.tso_cli.proofs.Vocabulary.{◌≡◌, ℕ, true, List, ◌++◌, refl, sym, ap, ◌∙◌, append_assoc, Litmus, Run, Counts, Choice, Configuration, ProtocolKind, Good, Unended, Ended, Unfinished, IsEndingOf, HasCounts, run_under, counts_under, status_under, body, shown_of, ending_text, traced_in}
+use Rattle.tso_cli.proofs.Vocabulary.{◌≡◌, ℕ, true, List, ◌++◌, refl, sym, ap, ◌∙◌, append_assoc, Litmus, Run, Counts, Choice}
+use Rattle.tso_cli.proofs.Vocabulary.{Configuration, ProtocolKind, Good, Unended, Ended, Unfinished, IsEndingOf, HasCounts, run_under}
+use Rattle.tso_cli.proofs.Vocabulary.{counts_under, status_under, body, shown_of, ending_text, traced_in}
 use Rattle.machine_runs.specs.declared.driving.Ending.{Ending}
 use Rattle.tso_report.specs.Shown.{ShownRun}
 use Rattle.trace_report.specs.TraceJson.{trace_json}

@@ -1,5 +1,8 @@
 -- How many choices a run uses, and the word that says the first one too many.
-use Rattle.tso_cli.proofs.Vocabulary.{◌≡◌, ◌≤◌, ◌<◌, ℕ, Bool, true, false, ◌⊎◌, inl, inr, suc, List, [], ◌∷◌, length, Result, Option, Some, None, Err, refl, sym, ap, subst, ◌∙◌, arith, Litmus, start, Run, has_ended, Choice, TooMany, Table, table_of, ProtocolKind, Configuration, run_by, run_under, IsEndingOf, FitsForm, IsTooLong, Ended, Unfinished}
+use Rattle.tso_cli.proofs.Vocabulary.{◌≡◌, ◌≤◌, ◌<◌, ℕ, Bool, true, false, ◌⊎◌, inl, inr, suc, List, [], ◌∷◌, length, Result, Option, Some}
+use Rattle.tso_cli.proofs.Vocabulary.{None, Err, refl, sym, ap, subst, ◌∙◌, arith, Litmus, start, Run, has_ended, Choice, TooMany, Table}
+use Rattle.tso_cli.proofs.Vocabulary.{table_of, ProtocolKind, Configuration, run_by, run_under, IsEndingOf, FitsForm, IsTooLong, Ended}
+use Rattle.tso_cli.proofs.Vocabulary.{Unfinished}
 use Rattle.std.specs.Prelude.{IsSome, IfSome, if◌then◌else◌}
 use Rattle.tso_terms.specs.EitherBus.{BusState, unheld, effect_on, after_on, resting_on, then_on, run_on_from}
 use Rattle.tso_terms.specs.SplitMachine.{Attempt}
@@ -21,7 +24,10 @@ used-on bus t d state [] = omega arith
 used-on bus t d state (a ∷ rest) = go (has_ended t state.flat) (used-on bus t d (after_on bus t d state a) rest)
   where
     go : (b : Bool) → (run_on_from bus t d (after_on bus t d state a) rest).run.used ≤ length rest
-        → (if b then resting_on true state (suc (length rest)) else then_on (effect_on bus t d state a) (run_on_from bus t d (after_on bus t d state a) rest)).run.used ≤ suc (length rest)
+        → (if b
+        then resting_on true state (suc (length rest))
+        else then_on (effect_on bus t d state a) (run_on_from bus t d (after_on bus t d state a) rest)).run.used
+        ≤ suc (length rest)
     go true h = omega arith
     go false h = omega (arith, h)
 
@@ -76,19 +82,27 @@ is-short t kind c choices e used found is ending none there = by_length (too-lon
     by_length (inl short) = short
     by_length (inr long) =
         let same = sym (is ∙ used-is t (run_under t kind c choices) e ending) in
-        let some : IsSome found = there (subst (λ (n : ℕ). n ≤ length choices) same (used-within t kind c choices)) (subst (λ (n : ℕ). most_steps < n) same long.1) in
+        let some : IsSome found =
+        there (subst (λ (n : ℕ). n ≤ length choices) same (used-within t kind c choices)) (subst (λ (n : ℕ). most_steps < n) same long.1) in
         absurd (never-none found none some)
 
 -- how it is measured, then
 pub is-measured : (t : Litmus) (kind : ProtocolKind) (c : Configuration) (choices : List Choice) (e : Ending) (text : List ℕ) (used : ℕ) (found : Option ℕ)
-    → used ≡ used_in e → IsEndingOf t (run_under t kind c choices) e → IfSome found (λ word. (most_steps < used) × IsWordOfChoice (length t.programs) text most_steps word)
+    → used ≡ used_in e
+    → IsEndingOf t (run_under t kind c choices) e
+    → IfSome found (λ word. (most_steps < used) × IsWordOfChoice (length t.programs) text most_steps word)
     → (used ≤ length choices → most_steps < used → IsSome found) → IsMeasured t (run_under t kind c choices) text found
 is-measured t kind c choices e text used None is ending said there = is-short t kind c choices e used None is ending refl there
 is-measured t kind c choices e text used (Some word) is ending said there = (is-too-long t (run_under t kind c choices) e used is ending said.0, said.1)
 
 -- one word says a choice
-pub one-word : (cores : ℕ) (text : List ℕ) (word other : ℕ) → 0 < cores → IsWordOfChoice cores text most_steps word → IsWordOfChoice cores text most_steps other → word ≡ other
-one-word cores text word other some is too = one-fault word other _ (stops cores _ most_steps word some (omega arith) is) (stops cores _ most_steps other some (omega arith) too)
+pub one-word : (cores : ℕ) (text : List ℕ) (word other : ℕ)
+    → 0 < cores
+    → IsWordOfChoice cores text most_steps word
+    → IsWordOfChoice cores text most_steps other
+    → word ≡ other
+one-word cores text word other some is too =
+    one-fault word other _ (stops cores _ most_steps word some (omega arith) is) (stops cores _ most_steps other some (omega arith) too)
   where
     one-fault : (n m : ℕ) (r : Result (List Choice) ChoiceFault) → r ≡ Err (TooMany n) → r ≡ Err (TooMany m) → n ≡ m
     one-fault n m r same again = cc

@@ -1,5 +1,9 @@
 -- The names that the proofs of this crate bring in from definitions and from crates below; each file takes its own from here.
-pub use Rattle.std.proofs.Common.{◌≡◌, ◌<◌, ◌≤◌, ◌⊎◌, inl, inr, ◌+◌, ℕ, zero, suc, Bool, true, false, not, cond, List, Option, Some, None, IfSome, is_none, All, Contains, refl, sym, ap, subst, ◌∙◌, arith, ◌^◌, length, ◌≢◌, ◌*◌, IsTrue, [], ◌∷◌, ◌++◌, map, get_or, slice_get, slice_index_or, take, length-take, ◌==◌, nat_eq, codes, drop, replicate, ◌-◌, slice_index, length-append, append_assoc, append-nil, is_some, Ordering, Less, Equal, Greater, string_bytes, Ok, Result, Err, IfOk, OnOk, length-drop, drop-cons, add-one, rules}
+pub use Rattle.std.proofs.Common.{◌≡◌, ◌<◌, ◌≤◌, ◌⊎◌, inl, inr, ◌+◌, ℕ, zero, suc, Bool, true, false, not, cond, List, Option, Some, None}
+pub use Rattle.std.proofs.Common.{IfSome, is_none, All, Contains, refl, sym, ap, subst, ◌∙◌, arith, ◌^◌, length, ◌≢◌, ◌*◌, IsTrue, [], ◌∷◌}
+pub use Rattle.std.proofs.Common.{◌++◌, map, get_or, slice_get, slice_index_or, take, length-take, ◌==◌, nat_eq, codes, drop, replicate}
+pub use Rattle.std.proofs.Common.{◌-◌, slice_index, length-append, append_assoc, append-nil, is_some, Ordering, Less, Equal, Greater}
+pub use Rattle.std.proofs.Common.{string_bytes, Ok, Result, Err, IfOk, OnOk, length-drop, drop-cons, add-one, rules}
 pub use Rattle.std.proofs.lemmas.Slice.Eq.{bytes_eq-Decides, starts_is}
 pub use Rattle.std.specs.Option.{option_map, ForSome, unwrap_or}
 pub use Rattle.std.specs.Map.{keys_of, lookup}
@@ -14,7 +18,9 @@ pub use Rattle.basic_laws.specs.Types.{Atomic, Split, Choice, Entry, Instr, Stor
 pub use Rattle.tso_laws.specs.EndedRuns.{IsExecution, End}
 pub use Rattle.protocol_tables.specs.declared.kind.ProtocolKind.{ProtocolKind}
 pub use Rattle.multiprocessor.specs.Configuration.{Configuration, IsConfigurationWithinLimits}
-pub use Rattle.tso_report.specs.Tally.{RunCounts, with_state_counted, with_verdict, values_in, count_of_runs, runs_in, counted_state_line, tally_text, counted_state_lines, sweep_line, ended_in, observation, run_counts, looked_at, shown_value}
+pub use Rattle.tso_report.specs.Tally.{RunCounts, with_state_counted, with_verdict, values_in, count_of_runs, runs_in, counted_state_line}
+pub use Rattle.tso_report.specs.Tally.{tally_text, counted_state_lines, sweep_line, ended_in, observation, run_counts, looked_at}
+pub use Rattle.tso_report.specs.Tally.{shown_value}
 pub use Rattle.scheduler.specs.Plan.{Plan}
 pub use Rattle.machine_runs.specs.Runs.{run_under, AnswersFit, counts_under, run_by, AnswersFitBy}
 pub use Rattle.machine_runs.specs.Simulation.{verdict, IsEndingOf, drains, shown_of, HasCounts}
@@ -26,7 +32,8 @@ pub use Rattle.sweep_runs.proofs.StateLemmas.{States, Ascend, EachGiven, count-w
 pub use Rattle.sweep_runs.proofs.RunsCounted.{values-left, one, states-judged, unfinished-judged, held-judged, failed-judged, ascend-run, given-run, runs-with}
 pub use Rattle.scheduler.specs.Refusals.{IsDecidedAsChoices, IsRefusedAsChoices}
 pub use Rattle.scheduler.specs.declared.fault.ChoiceFault.TheVariants.{TooMany}
-pub use Rattle.tso_cli.specs.Dividing.{parts_of, joined_parts, after_feed, after_end, after_divider, parts_at, with_byte, parts_from, HasNoDivider, EndsInFeed, Parts}
+pub use Rattle.tso_cli.specs.Dividing.{parts_of, joined_parts, after_feed, after_end, after_divider, parts_at, with_byte, parts_from}
+pub use Rattle.tso_cli.specs.Dividing.{HasNoDivider, EndsInFeed, Parts}
 pub use Rattle.tso_cli.specs.Lines.{test_refusal, choices_refusal, unfinished_run_line, input_refusal, depth_line}
 pub use Rattle.tso_cli.specs.CheckLines.{order_refusal, invalid_line, valid_line}
 pub use Rattle.tso_cli.specs.Answers.{IsAnswerTo, IsInputAnswer, IsAnswer, too_large, answered, IsPrinted, refused, most_read}
@@ -52,7 +59,8 @@ pub use Rattle.tso_cli.specs.declared.answer.Status.TheVariants.{Good, Refused, 
 pub use Rattle.std.proofs.lemmas.List.{length-map, drop-drop, nil_from_length}
 pub use Rattle.tso_report.specs.declared.named.Named.{Named}
 pub use Rattle.tso_report.specs.ShownNames.{names_shown, values_at}
-pub use Rattle.search_report.specs.Outcomes.{Outcome, shown_values, held_in, failed_in, is_met_in, true_in, outcomes_line, state_line, by_line, outcome_lines, observation_line, true_line, condition_lines}
+pub use Rattle.search_report.specs.Outcomes.{Outcome, shown_values, held_in, failed_in, is_met_in, true_in, outcomes_line, state_line}
+pub use Rattle.search_report.specs.Outcomes.{by_line, outcome_lines, observation_line, true_line, condition_lines}
 pub use Rattle.command_line.specs.Search.{Search}
 pub use Rattle.tso_cli.specs.Outcomes.{AreAllOutcomes, AreSomeOutcomes, IsOutcomesAnswer, found, is_claimed_of, too_many}
 pub use Rattle.tso_cli.specs.OutcomesHeadline.{HeadlineOfOutcomes, all}
@@ -70,7 +78,8 @@ pub use Rattle.tso_terms.specs.Standing.{StandsIn}
 pub use Rattle.tso_laws.specs.Entries.{FitsTest}
 pub use Rattle.order_builder.specs.Spelling.{IsOrderFor, SpellsOrder, HasAccess, IsEntryFor, HasFault}
 pub use Rattle.protocol_tables.specs.Tables.{Table, table_of}
-pub use Rattle.tso_report.specs.Report.{head, report, line, body, test_line, machine_line, register_lines, memory_line, condition_line, choices_line, cache_lines}
+pub use Rattle.tso_report.specs.Report.{head, report, line, body, test_line, machine_line, register_lines, memory_line, condition_line}
+pub use Rattle.tso_report.specs.Report.{choices_line, cache_lines}
 pub use Rattle.tso_report.specs.Shown.{ShownRun}
 pub use Rattle.tso_cli.specs.RunHeadline.{PrintsExecution, PrintsEachRun, HeadlineOfRuns}
 pub use Rattle.tso_cli.specs.TraceHeadline.{PrintsTraceIn, PrintsEachTrace, HeadlineOfTraces, PrintsTrace, PrintsTracedObject}

@@ -1,5 +1,9 @@
 -- What the answer of `why` means.
-use Rattle.tso_cli.proofs.Vocabulary.{◌≡◌, ℕ, Bool, true, false, not, List, [], length, Option, Some, None, refl, sym, ap, subst, arith, append-nil, Litmus, IsTest, Claim, Condition, NamesExist, truth_of, final_words, final_registers, registers_in, run, Choice, Entry, LeadTo, End, IsExecutionOf, depth_of, SpellsChoices, printed_choices, Explanation, IsWhyAnswer, Status, PrintsRefutation, PrintsExecutionOf, HeadlineOfReasons}
+use Rattle.tso_cli.proofs.Vocabulary.{◌≡◌, ℕ, Bool, true, false, not, List, [], length, Option, Some, None, refl, sym, ap, subst, arith}
+use Rattle.tso_cli.proofs.Vocabulary.{append-nil, Litmus, IsTest, Claim, Condition, NamesExist, truth_of, final_words, final_registers}
+use Rattle.tso_cli.proofs.Vocabulary.{registers_in, run, Choice, Entry, LeadTo, End, IsExecutionOf, depth_of, SpellsChoices}
+use Rattle.tso_cli.proofs.Vocabulary.{printed_choices, Explanation, IsWhyAnswer, Status, PrintsRefutation, PrintsExecutionOf}
+use Rattle.tso_cli.proofs.Vocabulary.{HeadlineOfReasons}
 use Rattle.basic_laws.specs.Types.{Quantifier, Forall}
 use Rattle.refutation_laws.specs.Refutations.{asked_claim}
 use Rattle.short_refutations.specs.Refutations.{Lemma, Node, refutes}
@@ -30,16 +34,21 @@ not-false : (b : Bool) → not b ≡ true → b ≡ false
 not-false false q = refl
 not-false true q = absurd (let z : ⊥ = cc in z)
 
-so-when : (condition : Option Condition) (registers : List (List ℕ)) (memory : List ℕ) → truth_of registers memory (asked_claim condition) ≡ true → IsSoIn condition registers memory
+so-when : (condition : Option Condition) (registers : List (List ℕ)) (memory : List ℕ)
+    → truth_of registers memory (asked_claim condition) ≡ true
+    → IsSoIn condition registers memory
 so-when None registers memory q = tt
 so-when (Some c) registers memory q = by-quantifier c.quantifier c.claim q
   where
-    by-quantifier : (quantifier : Quantifier) (claim : Claim) → truth_of registers memory (asked_claim (Some (record { quantifier = quantifier; claim = claim }))) ≡ true
+    by-quantifier : (quantifier : Quantifier) (claim : Claim)
+        → truth_of registers memory (asked_claim (Some (record { quantifier = quantifier; claim = claim }))) ≡ true
         → truth_of registers memory claim ≡ truth_asked quantifier
     by-quantifier Forall claim q = not-false (truth_of registers memory claim) q
     by-quantifier quantifier claim q = q
 
-true-when : (condition : Option Condition) (registers : List (List ℕ)) (memory : List ℕ) → IsSoIn condition registers memory → truth_of registers memory (asked_claim condition) ≡ true
+true-when : (condition : Option Condition) (registers : List (List ℕ)) (memory : List ℕ)
+    → IsSoIn condition registers memory
+    → truth_of registers memory (asked_claim condition) ≡ true
 true-when None registers memory q = refl
 true-when (Some c) registers memory q = by-quantifier c.quantifier c.claim q
   where
@@ -48,12 +57,17 @@ true-when (Some c) registers memory q = by-quantifier c.quantifier c.claim q
     by-quantifier Forall claim q = ap not q
     by-quantifier quantifier claim q = q
 
-never-so : (condition : Option Condition) (registers : List (List ℕ)) (memory : List ℕ) → truth_of registers memory (asked_claim condition) ≡ false → ¬ IsSoIn condition registers memory
+never-so : (condition : Option Condition) (registers : List (List ℕ)) (memory : List ℕ)
+    → truth_of registers memory (asked_claim condition) ≡ false
+    → ¬ IsSoIn condition registers memory
 never-so condition registers memory q so = let p = true-when condition registers memory so in let z : ⊥ = cc in z
 
 -- ---- a refutation
 
-no-run : (model : Model) (t : Litmus) (lemmas : List Lemma) (tree : List Node) (depth : ℕ) (choices : List Choice) → Refuting → IsTest t → refutes model t (asked_claim t.condition) lemmas tree ≡ true
+no-run : (model : Model) (t : Litmus) (lemmas : List Lemma) (tree : List Node) (depth : ℕ) (choices : List Choice)
+    → Refuting
+    → IsTest t
+    → refutes model t (asked_claim t.condition) lemmas tree ≡ true
     → IsDepthOf model depth → End t depth choices → ¬ IsSoIn t.condition (registers_in (run t depth choices).state) (run t depth choices).state.memory
 no-run Tso t lemmas tree depth choices laws test refuted is ended =
     never-so t.condition (registers_in (run t depth choices).state) (run t depth choices).state.memory
@@ -63,7 +77,10 @@ no-run Sequential t lemmas tree depth choices laws test refuted is ended =
     (λ over. never-so t.condition (registers_in (run t 0 choices).state) (run t 0 choices).state.memory
     (laws.sequential t (asked_claim t.condition) lemmas tree choices test (laws.names t test) refuted over)) ended
 
-pub refutation-means : (t : Litmus) (model : Model) (json : Bool) (lemmas : List Lemma) (tree : List Node) → Refuting → IsTest t → refutes model t (asked_claim t.condition) lemmas tree ≡ true
+pub refutation-means : (t : Litmus) (model : Model) (json : Bool) (lemmas : List Lemma) (tree : List Node)
+    → Refuting
+    → IsTest t
+    → refutes model t (asked_claim t.condition) lemmas tree ≡ true
     → PrintsRefutation t model json (short_refutation_in json model t lemmas tree)
 refutation-means t model json lemmas tree laws test refuted = record {
   lemmas = lemmas;
@@ -85,7 +102,11 @@ led-choices-spell t depth choices order reaching test lead =
     subst (λ text. SpellsChoices (length t.programs) text choices) (append-nil (printed_choices choices))
     (reaching.spelled (length t.programs) choices [] (omega arith) lead.cores (omega arith) refl)
 
-pub execution-means : (t : Litmus) (e : Explanation) (json : Bool) (out : List ℕ) → Reaching → IsTest t → IsAllowedAnswer t e json out → PrintsExecutionOf t e.model json out
+pub execution-means : (t : Litmus) (e : Explanation) (json : Bool) (out : List ℕ)
+    → Reaching
+    → IsTest t
+    → IsAllowedAnswer t e json out
+    → PrintsExecutionOf t e.model json out
 execution-means t e json out reaching test is = record {
   order = is.order;
   choices = is.choices;

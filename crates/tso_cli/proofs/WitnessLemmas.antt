@@ -1,5 +1,10 @@
 -- What `witness` answers, and what that means.
-use Rattle.tso_cli.proofs.Vocabulary.{◌≡◌, ◌≢◌, ◌+◌, ◌*◌, ◌≤◌, ◌<◌, ◌^◌, ℕ, zero, suc, true, false, IsTrue, List, [], ◌∷◌, ◌++◌, length, All, refl, sym, ap, subst, ◌∙◌, arith, list_all, All-head, All-tail, All-weaker, most_depth, Litmus, IsTest, IsProgram, IsTsoExecution, run, CoresExist, Instr, StoreImm, Entry, Choice, choices_along, LeadTo, needed, End, SpellsChoices, printed_choices, WitnessesOrder, WitnessesEachOrder, unreached, broken, IsDepth, IsEndingOf, drains, witness_line, IsWitness, IsWitnessAnswer, too_small, invalid, judged, Ending, Ended, Unfinished, Status, Good, AreReadOneWay}
+use Rattle.tso_cli.proofs.Vocabulary.{◌≡◌, ◌≢◌, ◌+◌, ◌*◌, ◌≤◌, ◌<◌, ◌^◌, ℕ, zero, suc, true, false, IsTrue, List, [], ◌∷◌, ◌++◌, length}
+use Rattle.tso_cli.proofs.Vocabulary.{All, refl, sym, ap, subst, ◌∙◌, arith, list_all, All-head, All-tail, All-weaker, most_depth, Litmus}
+use Rattle.tso_cli.proofs.Vocabulary.{IsTest, IsProgram, IsTsoExecution, run, CoresExist, Instr, StoreImm, Entry, Choice, choices_along}
+use Rattle.tso_cli.proofs.Vocabulary.{LeadTo, needed, End, SpellsChoices, printed_choices, WitnessesOrder, WitnessesEachOrder, unreached}
+use Rattle.tso_cli.proofs.Vocabulary.{broken, IsDepth, IsEndingOf, drains, witness_line, IsWitness, IsWitnessAnswer, too_small, invalid}
+use Rattle.tso_cli.proofs.Vocabulary.{judged, Ending, Ended, Unfinished, Status, Good, AreReadOneWay}
 use Rattle.tso_laws.specs.Counting.{is_plain_store, stores_in, instructions, stores_of_all}
 use Rattle.scheduler.specs.Limits.{most_choices}
 use Rattle.scheduler.specs.Words.{is_space}
@@ -9,8 +14,16 @@ use Rattle.tso_cli.proofs.CheckLemmas.{IsReal}
 
 -- what the crates below say of choices that reach an order
 pub record Reaching : Type 0 where
-  pub lead : (t : Litmus) (depth : ℕ) (order : List Entry) → IsTest t → IsTsoExecution t order → needed order ≤ depth → LeadTo t depth (choices_along t order) order
-  pub never : (t : Litmus) (depth : ℕ) (order : List Entry) (choices : List Choice) → IsTest t → 0 < depth → depth < needed order → (run t depth choices).commits ≢ order
+  pub lead : (t : Litmus) (depth : ℕ) (order : List Entry)
+      → IsTest t
+      → IsTsoExecution t order
+      → needed order ≤ depth
+      → LeadTo t depth (choices_along t order) order
+  pub never : (t : Litmus) (depth : ℕ) (order : List Entry) (choices : List Choice)
+      → IsTest t
+      → 0 < depth
+      → depth < needed order
+      → (run t depth choices).commits ≢ order
   pub counted : (t : Litmus) (depth : ℕ) (choices : List Choice) → End t depth choices
       → (run t depth choices).used ≡ (run t depth choices).stalled + (instructions t.programs + drains t depth)
   pub spelled : (cores : ℕ) (choices : List Choice) (white : List ℕ) → cores < 2 ^ 64 → CoresExist cores choices → length choices ≤ most_choices
@@ -41,12 +54,17 @@ drains-few t (suc n) = omega arith
 -- one choice for each instruction, and one more for each plain store
 pub work-within : (t : Litmus) → IsTest t → instructions t.programs + stores_of_all t.programs ≤ 512
 work-within t test =
-    let sizes : All (λ p. length p ≤ 32) t.programs = All-weaker (IsProgram (length t.locations)) (λ (p : List Instr). length p ≤ 32) (λ p fits. fits.size) t.programs test.programs_fit in
+    let sizes : All (λ p. length p ≤ 32) t.programs =
+    All-weaker (IsProgram (length t.locations)) (λ (p : List Instr). length p ≤ 32) (λ p fits. fits.size) t.programs test.programs_fit in
     let cores = test.cores in
     let work = work-few t.programs sizes in
     omega arith
 
-pub choices-few : (t : Litmus) (depth : ℕ) (choices : List Choice) (order : List Entry) → Reaching → IsTest t → LeadTo t depth choices order → length choices ≤ 512
+pub choices-few : (t : Litmus) (depth : ℕ) (choices : List Choice) (order : List Entry)
+    → Reaching
+    → IsTest t
+    → LeadTo t depth choices order
+    → length choices ≤ 512
 choices-few t depth choices order laws test lead =
     let work = work-within t test in
     let count = laws.counted t depth choices lead.ended in

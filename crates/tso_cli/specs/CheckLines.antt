@@ -1,7 +1,8 @@
 -- The lines that `check` writes: that an order is valid, or its first breach with the entries concerned.
 use Rattle.std.specs.Prelude.{ℕ, List, [], ◌++◌, slice_index_or, codes}
 use Rattle.std.specs.Fmt.{decimal}
-use Rattle.tso_cli.specs.Vocabulary.{Breach, Entry, Extra, letters_of, Litmus, Missing, NoMemory, NotAdjacent, OrderFault, printed_entry, ProgramOrder, ReadValue, Twice, WrongValue}
+use Rattle.tso_cli.specs.Vocabulary.{Breach, Entry, Extra, letters_of, Litmus, Missing, NoMemory, NotAdjacent, OrderFault, printed_entry}
+use Rattle.tso_cli.specs.Vocabulary.{ProgramOrder, ReadValue, Twice, WrongValue}
 use Rattle.basic_laws.specs.Types.{Kind, F}
 use Rattle.tso_report.specs.Report.{line}
 use Rattle.order_builder.specs.declared.fault.OrderFault.TheVariants as orders

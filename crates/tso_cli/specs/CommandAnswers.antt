@@ -1,6 +1,8 @@
 -- The answers of `run` and `check` to a test and the second part of an input: what is written, and the status.
 use Rattle.std.specs.Prelude.{ℕ, Bool, if◌then◌else◌, List, length}
-use Rattle.tso_cli.specs.Vocabulary.{AnswersFit, Breach, Choice, ChoiceFault, Configuration, Counts, counts_under, Entry, HasFault, IsFirstBreach, IsRefusedAsChoices, IsTsoExecution, Litmus, OrderFault, ProtocolKind, Run, run_under, shown_of, SpellsChoices, SpellsOrder}
+use Rattle.tso_cli.specs.Vocabulary.{AnswersFit, Breach, Choice, ChoiceFault, Configuration, Counts, counts_under, Entry, HasFault}
+use Rattle.tso_cli.specs.Vocabulary.{IsFirstBreach, IsRefusedAsChoices, IsTsoExecution, Litmus, OrderFault, ProtocolKind, Run, run_under}
+use Rattle.tso_cli.specs.Vocabulary.{shown_of, SpellsChoices, SpellsOrder}
 use Rattle.tso_cli.specs.Lines.{choices_refusal}
 use Rattle.tso_cli.specs.RunTexts.{report_in, unfinished_in}
 use Rattle.tso_cli.specs.CheckLines.{order_refusal, valid_line, invalid_line}

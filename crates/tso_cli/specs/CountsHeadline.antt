@@ -1,7 +1,8 @@
 -- What `counts` prints: of each number of a core its sum, the least and the greatest over the runs that ended, and over no other. Where
 -- no run ended there is no number. (Primer, chapters 2, 6 and 7, for what the numbers count.)
 use Rattle.std.specs.Prelude.{ℕ, ◌+◌, ◌*◌, ◌<◌, ◌≡◌, Bool, true, List, length, Option, Some, None}
-use Rattle.tso_cli.specs.Vocabulary.{Choice, ChoiceFault, Configuration, IsRefusedAsChoices, IsTsoExecution, Litmus, Plan, ProtocolKind, run_under, SpellsChoices}
+use Rattle.tso_cli.specs.Vocabulary.{Choice, ChoiceFault, Configuration, IsRefusedAsChoices, IsTsoExecution, Litmus, Plan, ProtocolKind}
+use Rattle.tso_cli.specs.Vocabulary.{run_under, SpellsChoices}
 use Rattle.cache_counts.specs.Counted.{choices_of, Counted, numbers_under}
 use Rattle.cache_counts.specs.Laws.{TellsRuns}
 use Rattle.tso_cli.specs.Counts.{told_counts}

@@ -25,7 +25,8 @@ AreRunAgain kind c set json test t choices order =
     → ReportsExecution t kind c json order answer × (status ≡ Good)
 
 -- of the given test a refutation was printed, or an execution whose choices are run again so
-pub data IsExplained (kind : ProtocolKind) (c : Configuration) (set : Instructions) (json : Bool) (model : Model) (told : Bool) (test out : List ℕ) : Type 0 where
+pub data IsExplained (kind : ProtocolKind) (c : Configuration) (set : Instructions) (json : Bool) (model : Model)
+    (told : Bool) (test out : List ℕ) : Type 0 where
   never : (t : Litmus) → SpellsTest set test t → PrintsRefutation t model told out → IsExplained kind c set json model told test out
   allowed : (t : Litmus) → SpellsTest set test t → (said : PrintsExecutionOf t model told out)
       → AreRunAgain kind c set json test t said.choices said.order → IsExplained kind c set json model told test out

@@ -1,6 +1,8 @@
 -- What may be shown of a run of a test, and what may be counted of its runs; and that the runs of a machine keep to it.
 use Rattle.std.specs.Prelude.{ℕ, ◌≡◌, ◌+◌, ◌<◌, ◌≤◌, ◌^◌, true, if◌then◌else◌, List, length, All, is_some}
-use Rattle.tso_cli.specs.Vocabulary.{AnswersFit, Choice, Configuration, counts_under, ended_in, IsRunOf, IsTest, Litmus, looked_at, most_seeds, Named, Plan, ProtocolKind, run_under, RunCounts, runs_in, shown_of, ShownRun, sweep_counts, SweepAnswersFit}
+use Rattle.tso_cli.specs.Vocabulary.{AnswersFit, Choice, Configuration, counts_under, ended_in, IsRunOf, IsTest, Litmus, looked_at}
+use Rattle.tso_cli.specs.Vocabulary.{most_seeds, Named, Plan, ProtocolKind, run_under, RunCounts, runs_in, shown_of, ShownRun, sweep_counts}
+use Rattle.tso_cli.specs.Vocabulary.{SweepAnswersFit}
 use Rattle.tso_terms.specs.Registers.{IsWord}
 use Rattle.scheduler.specs.Limits.{most_choices}
 use Rattle.tso_report.specs.Limits.{IsSmall}

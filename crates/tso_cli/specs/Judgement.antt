@@ -1,7 +1,8 @@
 -- What `check` and `witness` print of an order: that it is valid exactly where it is a TSO execution, and else its first
 -- breach; a witness choices that reach it, or the depth that it needs. (Primer, chapter 4, for the axioms.)
 use Rattle.std.specs.Prelude.{ℕ, ◌≡◌, ◌≢◌, ◌↔◌, List, length}
-use Rattle.tso_cli.specs.Vocabulary.{Breach, Choice, Entry, HasFault, IsFirstBreach, IsTsoExecution, LeadTo, Litmus, OrderFault, run, SpellsChoices, SpellsOrder}
+use Rattle.tso_cli.specs.Vocabulary.{Breach, Choice, Entry, HasFault, IsFirstBreach, IsTsoExecution, LeadTo, Litmus, OrderFault, run}
+use Rattle.tso_cli.specs.Vocabulary.{SpellsChoices, SpellsOrder}
 use Rattle.tso_laws.specs.Depth.{needed}
 use Rattle.tso_cli.specs.CheckLines.{order_refusal, valid_line, invalid_line}
 use Rattle.tso_cli.specs.Lines.{depth_line}

@@ -2,7 +2,8 @@
 -- caches: one text, into which each puts its own `Machine` and `Cache` lines, or members, and nothing else. (This project's
 -- profile.)
 use Rattle.std.specs.Prelude.{ℕ, ◌≡◌, ◌≢◌, ◌⊎◌, Bool, true, false, List, ◌++◌, length}
-use Rattle.tso_cli.specs.Vocabulary.{Atomic, cache_lines, cache_value, Choice, Configuration, head, json_ended, json_report, json_unended, Litmus, machine_line, machine_value, ProtocolKind, ShownRun, trace_text}
+use Rattle.tso_cli.specs.Vocabulary.{Atomic, cache_lines, cache_value, Choice, Configuration, head, json_ended, json_report, json_unended}
+use Rattle.tso_cli.specs.Vocabulary.{Litmus, machine_line, machine_value, ProtocolKind, ShownRun, trace_text}
 use Rattle.tso_cli.specs.Dividing.{EndsInFeed}
 use Rattle.tso_cli.specs.declared.answer.Status.{Status}
 use Rattle.tso_cli.specs.declared.answer.Status.TheVariants.{Good, Refused}

@@ -1,7 +1,8 @@
 -- What the headline leaves open of `outcomes`: two texts of which it holds, each as lines or as JSON. They show the same states of the
 -- input's own test, and differ in the choices that lead there alone; or one of them says that it shows some of them.
 use Rattle.std.specs.Prelude.{ℕ, ◌≡◌, Bool, List, [], map}
-use Rattle.tso_cli.specs.Vocabulary.{HasMoreStates, Instructions, Litmus, names_shown, Outcome, outcomes_in, OutcomesAreAlike, Search, SpellsTest, unfinished_search_in}
+use Rattle.tso_cli.specs.Vocabulary.{HasMoreStates, Instructions, Litmus, names_shown, Outcome, outcomes_in, OutcomesAreAlike, Search}
+use Rattle.tso_cli.specs.Vocabulary.{SpellsTest, unfinished_search_in}
 use Rattle.tso_cli.specs.Outcomes.{AreSomeOutcomes}
 
 -- the same state, with no choices

@@ -1,7 +1,8 @@
 -- What the headline leaves open: two texts of which it holds. Where it leaves one text alone, nothing that is printed can
 -- go wrong unnoticed.
 use Rattle.std.specs.Prelude.{ℕ, ◌≡◌, ◌⊎◌, Bool, true, false, List, ◌++◌, length}
-use Rattle.tso_cli.specs.Vocabulary.{Choice, Configuration, Entry, head, json_ended, json_report, LeadTo, Litmus, names_shown, Outcome, outcomes_in, OutcomesAreAlike, ProtocolKind, Search, Settings, ShownRun, SpellsChoices, trace_text}
+use Rattle.tso_cli.specs.Vocabulary.{Choice, Configuration, Entry, head, json_ended, json_report, LeadTo, Litmus, names_shown, Outcome}
+use Rattle.tso_cli.specs.Vocabulary.{outcomes_in, OutcomesAreAlike, ProtocolKind, Search, Settings, ShownRun, SpellsChoices, trace_text}
 use Rattle.tso_cli.specs.OneSearch.{ShowsSomeStates}
 use Rattle.tso_cli.specs.RunTexts.{report_in}
 use Rattle.trace_report.specs.Shown.{ShownStep as Step}

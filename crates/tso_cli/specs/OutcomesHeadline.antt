@@ -2,7 +2,9 @@
 -- (Primer, chapter 4, for the axioms, and chapter 3 for sequential consistency.)
 use Rattle.std.specs.Prelude.{ℕ, ◌≡◌, ◌↔◌, Bool, List, length, map, All, Contains}
 use Rattle.tso_terms.specs.Limits.{most_depth}
-use Rattle.tso_cli.specs.Vocabulary.{Entry, final_registers, final_words, HasMoreStates, IsTsoExecution, Litmus, Named, names_shown, Outcome, outcomes_in, printed_choices, Search, shown_values, SpellsChoices, unfinished_search_in, values_at}
+use Rattle.tso_cli.specs.Vocabulary.{Entry, final_registers, final_words, HasMoreStates, IsTsoExecution, Litmus, Named, names_shown}
+use Rattle.tso_cli.specs.Vocabulary.{Outcome, outcomes_in, printed_choices, Search, shown_values, SpellsChoices, unfinished_search_in}
+use Rattle.tso_cli.specs.Vocabulary.{values_at}
 use Rattle.tso_cli.specs.Outcomes.{AreAllOutcomes, AreSomeOutcomes}
 use Rattle.tso_laws.specs.Outcomes.{IsSequentiallyConsistent}
 

@@ -1,7 +1,8 @@
 -- The choices that `outcomes` prints, handed to `run`: they end in the state that was printed, so every state can be seen
 -- to come up.
 use Rattle.std.specs.Prelude.{◌≡◌, ◌⊎◌, ℕ, Bool, List, All, Some}
-use Rattle.tso_cli.specs.Vocabulary.{Configuration, Instructions, Litmus, Named, names_shown, Outcome, outcomes_in, printed_choices, ProtocolKind, Search, shown_values, ShownRun, SpellsTest, unfinished_search_in, values_at}
+use Rattle.tso_cli.specs.Vocabulary.{Configuration, Instructions, Litmus, Named, names_shown, Outcome, outcomes_in, printed_choices}
+use Rattle.tso_cli.specs.Vocabulary.{ProtocolKind, Search, shown_values, ShownRun, SpellsTest, unfinished_search_in, values_at}
 use Rattle.command_line.specs.declared.settings.Settings.TheVariants as settings
 use Rattle.tso_cli.specs.Answers.{IsAnswer}
 use Rattle.tso_cli.specs.Dividing.{joined_parts}

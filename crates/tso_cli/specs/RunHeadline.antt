@@ -1,7 +1,9 @@
 -- What `run` prints: a TSO execution of the test, with what it leaves.
 -- (Primer, chapter 4, for the axioms; x86-TSO, section 3, for fences and locked instructions.)
 use Rattle.std.specs.Prelude.{ℕ, ◌≡◌, Bool, true, false, List, length}
-use Rattle.tso_cli.specs.Vocabulary.{Atomic, Choice, ChoiceFault, Configuration, final_registers, final_words, IsRefusedAsChoices, IsTsoExecution, KeepsAllOrder, Litmus, ProtocolKind, Run, run, ShownRun, SpellsChoices, SpellsOrder, Split, verdict}
+use Rattle.tso_cli.specs.Vocabulary.{Atomic, Choice, ChoiceFault, Configuration, final_registers, final_words, IsRefusedAsChoices}
+use Rattle.tso_cli.specs.Vocabulary.{IsTsoExecution, KeepsAllOrder, Litmus, ProtocolKind, Run, run, ShownRun, SpellsChoices, SpellsOrder}
+use Rattle.tso_cli.specs.Vocabulary.{Split, verdict}
 use Rattle.tso_cli.specs.SplitRun.{split_run}
 use Rattle.tso_cli.specs.Lines.{choices_refusal}
 use Rattle.tso_cli.specs.RunTexts.{report_in, unfinished_in}

@@ -1,6 +1,7 @@
 -- The answer of `step`, which the page asks for after each choice: of the trace that `trace --json` prints, the last step alone.
 use Rattle.std.specs.Prelude.{ℕ, ◌≤◌, true, List, length}
-use Rattle.tso_cli.specs.Vocabulary.{AnswersFit, Choice, Configuration, Instructions, json_last_step, Litmus, longest_input, ProtocolKind, run_under, SpellsChoices, SpellsTest}
+use Rattle.tso_cli.specs.Vocabulary.{AnswersFit, Choice, Configuration, Instructions, json_last_step, Litmus, longest_input, ProtocolKind}
+use Rattle.tso_cli.specs.Vocabulary.{run_under, SpellsChoices, SpellsTest}
 use Rattle.command_line.specs.declared.settings.Settings.TheVariants as settings
 use Rattle.tso_cli.specs.Answers.{IsInputAnswer}
 use Rattle.tso_cli.specs.CommandAnswers.{status_under}

@@ -1,7 +1,10 @@
 -- What `sweep` prints: how many runs, one for each seed, left which final state. (Primer, chapter 4, for the axioms.)
-use Rattle.std.specs.Prelude.{ℕ, zero, suc, ◌+◌, ◌<◌, ◌≡◌, Bool, true, false, not, if◌then◌else◌, List, ◌++◌, bytes_eq, All, Contains, Option, Some, None, IfSome, is_none}
+use Rattle.std.specs.Prelude.{ℕ, zero, suc, ◌+◌, ◌<◌, ◌≡◌, Bool, true, false, not, if◌then◌else◌, List, ◌++◌, bytes_eq, All, Contains}
+use Rattle.std.specs.Prelude.{Option, Some, None, IfSome, is_none}
 use Rattle.std.specs.Map.{keys_of}
-use Rattle.tso_cli.specs.Vocabulary.{Ascend, Atomic, Choice, choices_of, Claim, Configuration, counted_state_line, Entry, final_registers, final_words, IsTsoExecution, KeepsAllOrder, Litmus, Plan, ProtocolKind, Run, run, RunCounts, runs_in, Split, truth_of, values_in}
+use Rattle.tso_cli.specs.Vocabulary.{Ascend, Atomic, Choice, choices_of, Claim, Configuration, counted_state_line, Entry, final_registers}
+use Rattle.tso_cli.specs.Vocabulary.{final_words, IsTsoExecution, KeepsAllOrder, Litmus, Plan, ProtocolKind, Run, run, RunCounts, runs_in}
+use Rattle.tso_cli.specs.Vocabulary.{Split, truth_of, values_in}
 use Rattle.tso_cli.specs.SplitRun.{split_run}
 use Rattle.tso_cli.specs.Sweep.{sweep_lines}
 

@@ -1,6 +1,8 @@
 -- The answer of `trace`: what `run` answers, with what each choice did: after the first two lines, or in members of its own.
 use Rattle.std.specs.Prelude.{ℕ, ◌≡◌, ◌<◌, ◌≤◌, Bool, true, false, if◌then◌else◌, List, ◌++◌, length}
-use Rattle.tso_cli.specs.Vocabulary.{AnswersFit, body, Choice, ChoiceFault, Configuration, Counts, counts_under, head, IsRefusedAsChoices, IsWordOfChoice, json_ended, json_unended, Litmus, most_steps, ProtocolKind, Run, run_under, shown_of, SpellsChoices, trace_text, trace_under}
+use Rattle.tso_cli.specs.Vocabulary.{AnswersFit, body, Choice, ChoiceFault, Configuration, Counts, counts_under, head, IsRefusedAsChoices}
+use Rattle.tso_cli.specs.Vocabulary.{IsWordOfChoice, json_ended, json_unended, Litmus, most_steps, ProtocolKind, Run, run_under, shown_of}
+use Rattle.tso_cli.specs.Vocabulary.{SpellsChoices, trace_text, trace_under}
 use Rattle.scheduler.specs.declared.fault.ChoiceFault.TheVariants.{TooMany}
 use Rattle.tso_cli.specs.Lines.{choices_refusal, unfinished_run_line}
 use Rattle.tso_cli.specs.declared.answer.Status.{Status}

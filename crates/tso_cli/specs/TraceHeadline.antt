@@ -1,7 +1,8 @@
 -- What `trace` prints: what `run` prints of a run, with what each choice of that very run did. A trace of another run would
 -- explain nothing.
 use Rattle.std.specs.Prelude.{ℕ, ◌≡◌, Bool, true, false, List, ◌++◌, length}
-use Rattle.tso_cli.specs.Vocabulary.{Atomic, Choice, ChoiceFault, Configuration, head, IsRefusedAsChoices, json_ended, json_unended, Litmus, most_steps, ProtocolKind, Run, run, SpellsChoices, Split, trace_text}
+use Rattle.tso_cli.specs.Vocabulary.{Atomic, Choice, ChoiceFault, Configuration, head, IsRefusedAsChoices, json_ended, json_unended, Litmus}
+use Rattle.tso_cli.specs.Vocabulary.{most_steps, ProtocolKind, Run, run, SpellsChoices, Split, trace_text}
 use Rattle.scheduler.specs.WordOfChoice.{IsWordOfChoice}
 use Rattle.scheduler.specs.declared.fault.ChoiceFault.TheVariants.{TooMany}
 use Rattle.trace_report.specs.Steps.{trace_under}

@@ -1,7 +1,9 @@
 -- What `why` prints: why what a test asks is so in no execution of the model, or an execution in which it is, and how to get there.
 -- (Primer, chapter 4, for the axioms of TSO, and chapter 3 for sequential consistency; Herding Cats, section 4, for the refutation.)
 use Rattle.std.specs.Prelude.{ℕ, ◌<◌, ◌≡◌, Bool, true, List, length, Option, Some, None}
-use Rattle.tso_cli.specs.Vocabulary.{Choice, HasMoreCases, Condition, Entry, Explanation, final_registers, final_words, LeadTo, Litmus, Model, most_cases, printed_choices, run, short_refutation_in, ShowsExecution, SpellsChoices, truth_of, unfinished_cases_in}
+use Rattle.tso_cli.specs.Vocabulary.{Choice, HasMoreCases, Condition, Entry, Explanation, final_registers, final_words, LeadTo, Litmus}
+use Rattle.tso_cli.specs.Vocabulary.{Model, most_cases, printed_choices, run, short_refutation_in, ShowsExecution, SpellsChoices, truth_of}
+use Rattle.tso_cli.specs.Vocabulary.{unfinished_cases_in}
 use Rattle.tso_terms.specs.FlatMachine.{registers_in}
 use Rattle.tso_laws.specs.EndedRuns.{End}
 use Rattle.refutation_laws.specs.Models.{IsExecutionOf, depth_of}

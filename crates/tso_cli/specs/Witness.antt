@@ -1,7 +1,9 @@
 -- The answer of `witness`: the choices that reach an order, or the depth that it needs, or its first breach. (Primer,
 -- chapter 4.)
 use Rattle.std.specs.Prelude.{ℕ, ◌≡◌, ◌<◌, ◌≤◌, Bool, List}
-use Rattle.tso_cli.specs.Vocabulary.{Breach, Choice, choices_along, Configuration, Ended, Ending, Entry, HasFault, Instructions, IsEndingOf, IsFirstBreach, IsTsoExecution, Litmus, OrderFault, ProtocolKind, run, ShownRun, SpellsOrder, Unfinished}
+use Rattle.tso_cli.specs.Vocabulary.{Breach, Choice, choices_along, Configuration, Ended, Ending, Entry, HasFault, Instructions, IsEndingOf}
+use Rattle.tso_cli.specs.Vocabulary.{IsFirstBreach, IsTsoExecution, Litmus, OrderFault, ProtocolKind, run, ShownRun, SpellsOrder}
+use Rattle.tso_cli.specs.Vocabulary.{Unfinished}
 use Rattle.tso_laws.specs.Depth.{needed}
 use Rattle.scheduler.specs.Printed.{printed_choices}
 use Rattle.litmus_reader.specs.Spelling.{SpellsTest}

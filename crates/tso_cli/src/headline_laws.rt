@@ -44,7 +44,8 @@ pub fn headlines_leave_one_text()
     ensures outcomes { (search : Search) (set : Instructions) (json again assert asserted : Bool) (input out other : List ℕ)
         → InputHeadline (Settings.Outcomes search set json assert) input out → InputHeadline (Settings.Outcomes search set again asserted) input other
         → AreOneSearch set (parts_of input).test search json again out other }
-    ensures reasons { (plan another : Explanation) (set : Instructions) (json again assert asserted : Bool) (input out other : List ℕ) → plan.model ≡ another.model
+    ensures reasons { (plan another : Explanation) (set : Instructions) (json again assert asserted : Bool) (input out other : List ℕ)
+        → plan.model ≡ another.model
         → InputHeadline (Settings.Why plan set json assert) input out → InputHeadline (Settings.Why another set again asserted) input other
         → AreOneReason set (parts_of input).test plan another json again out other }
 {

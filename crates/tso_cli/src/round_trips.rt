@@ -154,7 +154,8 @@ pub fn searches_reach_their_states()
 /// of success, whatever the protocol and the shape of the caches: no choice stalled, and none was left over. Where none is printed, a
 /// refutation is.
 pub fn reasons_reach_their_executions()
-    ensures { (kind : ProtocolKind) (c : Configuration) (set : Instructions) (plan : Explanation) (json told assert : Bool) (input out : List ℕ) (status : Status)
+    ensures { (kind : ProtocolKind) (c : Configuration) (set : Instructions) (plan : Explanation)
+        (json told assert : Bool) (input out : List ℕ) (status : Status)
         → c.bus ≡ Atomic → c.depth ≡ depth_of plan.model → IsWithinLimits (Settings.Run kind c set json) → IsJoinable (parts_of input).test
         → IsPrinted status → IsAnswer (Settings.Why plan set told assert) (Some input) out status
         → IsExplained kind c set json plan.model told (parts_of input).test out }

@@ -4,7 +4,14 @@ use Rattle.tso_laws.specs.Dead.{unless_used, before_change, before_taking}
 use Rattle.basic_laws.specs.Types.{Held, Replace, Negate, CompareExchange, Change, Keep, Set, Swap}
 use Rattle.tso_terms.specs.declared.action.Update.TheVariants.{Combine}
 use Rattle.tso_laws.proofs.Clearing.{update-live}
-use Rattle.tso_laws.proofs.EagerVocabulary.{◌≡◌, ℕ, ◌+◌, zero, suc, List, [], ◌∷◌, ◌++◌, Bool, true, false, Option, Some, None, length, slice_get, slice_set, slice_index, slice_index_or, drop, arith, ap, sym, ◌∙◌, refl, subst, if◌then◌else◌, nat_lt, drop-at, index_of, action_of, Litmus, entry, value_of, updated, CoreState, State, Effect, idle, program_of, core_of, effect_by, step_of, drain_of, effect_of, applied, after_choice, memory_after, is_none_pending, stored, stalled, when_drained, locked, load_value, chosen, W, LR, LW, Instr, Action, Store, Load, Move, Fence, Lock, Entry, Choice, Step, Drain, Stall, Buffered, Reg, Loc, Update, dead_before, dead_at, cleared, hidden_of, forgotten_core, forgotten_cores, forgotten, AreAlike, cases_Bool, inl, inr}
+use Rattle.tso_laws.proofs.EagerVocabulary.{◌≡◌, ℕ, ◌+◌, zero, suc, List, [], ◌∷◌, ◌++◌, Bool, true, false, Option, Some, None, length}
+use Rattle.tso_laws.proofs.EagerVocabulary.{slice_get, slice_set, slice_index, slice_index_or, drop, arith, ap, sym, ◌∙◌, refl, subst}
+use Rattle.tso_laws.proofs.EagerVocabulary.{if◌then◌else◌, nat_lt, drop-at, index_of, action_of, Litmus, entry, value_of, updated}
+use Rattle.tso_laws.proofs.EagerVocabulary.{CoreState, State, Effect, idle, program_of, core_of, effect_by, step_of, drain_of, effect_of}
+use Rattle.tso_laws.proofs.EagerVocabulary.{applied, after_choice, memory_after, is_none_pending, stored, stalled, when_drained, locked}
+use Rattle.tso_laws.proofs.EagerVocabulary.{load_value, chosen, W, LR, LW, Instr, Action, Store, Load, Move, Fence, Lock, Entry, Choice}
+use Rattle.tso_laws.proofs.EagerVocabulary.{Step, Drain, Stall, Buffered, Reg, Loc, Update, dead_before, dead_at, cleared, hidden_of}
+use Rattle.tso_laws.proofs.EagerVocabulary.{forgotten_core, forgotten_cores, forgotten, AreAlike, cases_Bool, inl, inr}
 use Rattle.tso_terms.specs.declared.choice.Stall.TheVariants as stall
 use Rattle.tso_laws.proofs.Clearing.{clear-none, write-dead, write-any, read-live, operand-live}
 
@@ -23,7 +30,8 @@ core-is : (s : CoreState) (n : ℕ) (ps : List Entry) → s.place ≡ n → s.pe
 core-is s n ps q e = ap (λ z. core z s.registers s.pending) q ∙ ap (λ z. core n s.registers z) e
 
 -- two cores at one place with one list of pending stores, of which the registers that aren't dead there are the same
-module _ (p : List Instr) (hidden : List Bool) (n : ℕ) (ps : List Entry) (rs ss : List ℕ) (same : cleared (dead_at (drop n p) hidden) rs ≡ cleared (dead_at (drop n p) hidden) ss) where
+module _ (p : List Instr) (hidden : List Bool) (n : ℕ) (ps : List Entry) (rs ss : List ℕ)
+    (same : cleared (dead_at (drop n p) hidden) rs ≡ cleared (dead_at (drop n p) hidden) ss) where
   abbrev later : List Bool
   later = dead_at (drop (n + 1) p) hidden
 
@@ -51,7 +59,9 @@ module _ (p : List Instr) (hidden : List Bool) (n : ℕ) (ps : List Entry) (rs s
   takes None word h = h
   takes (Some reg) word h = write-dead later rs ss (index_of reg) word h
 
-  lock-agrees : (k : ℕ) (loc : Loc) (target : Option Reg) (word v w : ℕ) → v ≡ w → cleared (before_taking target later) rs ≡ cleared (before_taking target later) ss
+  lock-agrees : (k : ℕ) (loc : Loc) (target : Option Reg) (word v w : ℕ)
+      → v ≡ w
+      → cleared (before_taking target later) rs ≡ cleared (before_taking target later) ss
       → Agree p hidden (locked k (core n rs ps) loc target word v) (locked k (core n ss ps) loc target word w)
   lock-agrees k loc target word v w q h =
       waits-agree stall.Lock _ _ (record {
@@ -61,7 +71,9 @@ module _ (p : List Instr) (hidden : List Bool) (n : ℕ) (ps : List Entry) (rs s
       })
 
   -- a move whose update reads the register's own value
-  keeps : (update : Update) (reg : Reg) → cleared (unless_used update (slice_set later (index_of reg) false)) rs ≡ cleared (unless_used update (slice_set later (index_of reg) false)) ss
+  keeps : (update : Update) (reg : Reg)
+      → cleared (unless_used update (slice_set later (index_of reg) false)) rs
+      ≡ cleared (unless_used update (slice_set later (index_of reg) false)) ss
       → cleared later (changed (Set reg update) rs) ≡ cleared later (changed (Set reg update) ss)
   keeps update reg h =
       let w = update-live update (slice_set later (index_of reg) false) rs ss h in
@@ -78,7 +90,9 @@ module _ (p : List Instr) (hidden : List Bool) (n : ℕ) (ps : List Entry) (rs s
   sets Negate reg h = keeps Negate reg h
   sets (CompareExchange other) reg h = keeps (CompareExchange other) reg h
 
-  changes : (change : Change) → cleared (before_change change later) rs ≡ cleared (before_change change later) ss → cleared later (changed change rs) ≡ cleared later (changed change ss)
+  changes : (change : Change)
+      → cleared (before_change change later) rs ≡ cleared (before_change change later) ss
+      → cleared later (changed change rs) ≡ cleared later (changed change ss)
   changes Keep h = h
   changes (Set reg update) h = sets update reg h
   changes (Swap reg other) h =
@@ -94,7 +108,12 @@ module _ (p : List Instr) (hidden : List Bool) (n : ℕ) (ps : List Entry) (rs s
   by-action d k memory (Store loc operand) h =
       let w = operand-live operand later rs ss h in store-agrees d _ _ (ap (λ v. entry k n W loc v) w.0) w.1
   by-action d k memory (Load reg loc) h =
-      record { outcome = refl; commits = refl; after = ap (λ z. core (n + 1) z ps) (write-dead later rs ss (index_of reg) (load_value memory (core n rs ps) loc.0) h) }
+      record {
+        outcome = refl;
+        commits = refl;
+        after =
+            ap (λ z. core (n + 1) z ps) (write-dead later rs ss (index_of reg) (load_value memory (core n rs ps) loc.0) h);
+      }
   by-action d k memory (Move change) h =
       record { outcome = refl; commits = refl; after = ap (λ z. core (n + 1) z ps) (changes change h) }
   by-action d k memory Fence h =
@@ -102,7 +121,8 @@ module _ (p : List Instr) (hidden : List Bool) (n : ℕ) (ps : List Entry) (rs s
   by-action d k memory (Lock loc reg update) h =
       let w = update-live update (before_taking reg later) rs ss h in lock-agrees k loc reg (slice_index memory loc.0) _ _ (w.0 (slice_index memory loc.0)) w.1
 
-  step-agrees : (d k : ℕ) (memory : List ℕ) → Agree p hidden (step_of d memory k (slice_get p n) (core n rs ps)) (step_of d memory k (slice_get p n) (core n ss ps))
+  step-agrees : (d k : ℕ) (memory : List ℕ)
+      → Agree p hidden (step_of d memory k (slice_get p n) (core n rs ps)) (step_of d memory k (slice_get p n) (core n ss ps))
   step-agrees d k memory = go (slice_get p n) refl
     where
       go : (i : Option Instr) → slice_get p n ≡ i → Agree p hidden (step_of d memory k i (core n rs ps)) (step_of d memory k i (core n ss ps))
@@ -153,10 +173,14 @@ cores-at t hidden (s ∷ ss) n (suc k) =
 
 pub core-at : (t : Litmus) (hidden : List (List Bool)) (s : State) (k : ℕ)
     → core_of (forgotten t hidden s) k ≡ forgotten_core (program_of t k) (hidden_of hidden k) (core_of s k)
-core-at t hidden s k = cores-at t hidden s.cores 0 k ∙ (let q : 0 + k ≡ k = omega arith in ap (λ j. forgotten_core (program_of t j) (hidden_of hidden j) (core_of s k)) q)
+core-at t hidden s k =
+    cores-at t hidden s.cores 0 k
+    ∙ (let q : 0 + k ≡ k =
+    omega arith in ap (λ j. forgotten_core (program_of t j) (hidden_of hidden j) (core_of s k)) q)
 
 cores-set : (t : Litmus) (hidden : List (List Bool)) (ss : List CoreState) (n k : ℕ) (c : CoreState)
-    → forgotten_cores t hidden n (slice_set ss k c) ≡ slice_set (forgotten_cores t hidden n ss) k (forgotten_core (program_of t (n + k)) (hidden_of hidden (n + k)) c)
+    → forgotten_cores t hidden n (slice_set ss k c)
+    ≡ slice_set (forgotten_cores t hidden n ss) k (forgotten_core (program_of t (n + k)) (hidden_of hidden (n + k)) c)
 cores-set t hidden [] n k c = refl
 cores-set t hidden (s ∷ ss) n zero c =
     let q : n ≡ n + 0 = omega arith in ap (λ j. forgotten_core (program_of t j) (hidden_of hidden j) c ∷ forgotten_cores t hidden (n + 1) ss) q
@@ -166,22 +190,33 @@ cores-set t hidden (s ∷ ss) n (suc k) c =
     (cores-set t hidden ss (n + 1) k c ∙ ap (λ j. slice_set (forgotten_cores t hidden (n + 1) ss) k (forgotten_core (program_of t j) (hidden_of hidden j) c)) q)
 
 applied-is : (t : Litmus) (hidden : List (List Bool)) (s : State) (k : ℕ) (f : Effect)
-    → forgotten t hidden (applied s k f) ≡ record { memory = memory_after f.commits s.memory; cores = slice_set (forgotten t hidden s).cores k (forgotten_core (program_of t k) (hidden_of hidden k) f.after) }
+    → forgotten t hidden (applied s k f)
+    ≡ record {
+      memory = memory_after f.commits s.memory;
+      cores = slice_set (forgotten t hidden s).cores k (forgotten_core (program_of t k) (hidden_of hidden k) f.after);
+    }
 applied-is t hidden s k f =
     ap (λ cs. record { memory = memory_after f.commits s.memory; cores = cs })
     (cores-set t hidden s.cores 0 k f.after
-    ∙ (let q : 0 + k ≡ k = omega arith in ap (λ j. slice_set (forgotten_cores t hidden 0 s.cores) k (forgotten_core (program_of t j) (hidden_of hidden j) f.after)) q))
+    ∙ (let q : 0 + k ≡ k =
+    omega arith in
+    ap (λ j. slice_set (forgotten_cores t hidden 0 s.cores) k (forgotten_core (program_of t j) (hidden_of hidden j) f.after)) q))
 
 module _ (t : Litmus) (hidden : List (List Bool)) (s r : State) (h : AreAlike t hidden s r) where
   memory-same : s.memory ≡ r.memory
   memory-same = ap (λ z. z.memory) h
 
-  pub cores-alike : (k : ℕ) → forgotten_core (program_of t k) (hidden_of hidden k) (core_of s k) ≡ forgotten_core (program_of t k) (hidden_of hidden k) (core_of r k)
+  pub cores-alike : (k : ℕ)
+      → forgotten_core (program_of t k) (hidden_of hidden k) (core_of s k)
+      ≡ forgotten_core (program_of t k) (hidden_of hidden k) (core_of r k)
   cores-alike k = sym (core-at t hidden s k) ∙ ap (λ z. core_of z k) h ∙ core-at t hidden r k
 
   agree : (d : ℕ) (c : Choice) → Agree (program_of t (chosen c)) (hidden_of hidden (chosen c)) (effect_of t d s c) (effect_of t d r c)
   agree d (Step k) =
-      subst (λ m. Agree (program_of t k.0) (hidden_of hidden k.0) (effect_of t d s (Step k)) (step_of d m k.0 (slice_get (program_of t k.0) (core_of r k.0).place) (core_of r k.0))) memory-same
+      subst (λ m.
+      Agree (program_of t k.0) (hidden_of hidden k.0) (effect_of t d s (Step k))
+      (step_of d m k.0 (slice_get (program_of t k.0) (core_of r k.0).place) (core_of r k.0)))
+      memory-same
       (steps-agree (program_of t k.0) (hidden_of hidden k.0) (core_of s k.0) (core_of r k.0) (cores-alike k.0) d k.0 s.memory)
   agree d (Drain k) = drains-agree (program_of t k.0) (hidden_of hidden k.0) (core_of s k.0) (core_of r k.0) (cores-alike k.0)
 
@@ -193,8 +228,25 @@ module _ (t : Litmus) (hidden : List (List Bool)) (s r : State) (h : AreAlike t 
       let k : ℕ = chosen c in
       let w = agree d c in
       applied-is t hidden s k (effect_of t d s c)
-      ∙ ap (λ es. record { memory = memory_after es s.memory; cores = slice_set (forgotten t hidden s).cores k (forgotten_core (program_of t k) (hidden_of hidden k) (effect_of t d s c).after) }) w.commits
-      ∙ ap (λ m. record { memory = memory_after (effect_of t d r c).commits m; cores = slice_set (forgotten t hidden s).cores k (forgotten_core (program_of t k) (hidden_of hidden k) (effect_of t d s c).after) }) memory-same
+      ∙ ap (λ es.
+      record {
+        memory = memory_after es s.memory;
+        cores =
+            slice_set (forgotten t hidden s).cores k (forgotten_core (program_of t k) (hidden_of hidden k) (effect_of t d s c).after);
+      })
+      w.commits
+      ∙ ap (λ m.
+      record {
+        memory = memory_after (effect_of t d r c).commits m;
+        cores =
+            slice_set (forgotten t hidden s).cores k (forgotten_core (program_of t k) (hidden_of hidden k) (effect_of t d s c).after);
+      })
+      memory-same
       ∙ ap (λ z. record { memory = memory_after (effect_of t d r c).commits r.memory; cores = slice_set (forgotten t hidden s).cores k z }) w.after
-      ∙ ap (λ z. record { memory = memory_after (effect_of t d r c).commits r.memory; cores = slice_set z.cores k (forgotten_core (program_of t k) (hidden_of hidden k) (effect_of t d r c).after) }) h
+      ∙ ap (λ z.
+      record {
+        memory = memory_after (effect_of t d r c).commits r.memory;
+        cores = slice_set z.cores k (forgotten_core (program_of t k) (hidden_of hidden k) (effect_of t d r c).after);
+      })
+      h
       ∙ sym (applied-is t hidden r k (effect_of t d r c))

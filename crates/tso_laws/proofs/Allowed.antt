@@ -1,5 +1,8 @@
 -- The ends of runs are what TSO allows.
-use Rattle.tso_laws.proofs.EndsVocabulary.{◌≡◌, ◌<◌, ℕ, List, ap, sym, ◌∙◌, refl, most_depth, Litmus, IsTest, final_words, final_registers, run, Choice, Entry, End, IsExecution, IsReached, RunsReachExactlyTheExecutions, IsEnd, IsAllowedAtDepth, IsAllowedByTso, IsAllowedSequentially, UnbufferedRunsReachExactlyTheSequentiallyConsistent, EndsAreWhatTsoAllows}
+use Rattle.tso_laws.proofs.EndsVocabulary.{◌≡◌, ◌<◌, ℕ, List, ap, sym, ◌∙◌, refl, most_depth, Litmus, IsTest, final_words, final_registers}
+use Rattle.tso_laws.proofs.EndsVocabulary.{run, Choice, Entry, End, IsExecution, IsReached, RunsReachExactlyTheExecutions, IsEnd}
+use Rattle.tso_laws.proofs.EndsVocabulary.{IsAllowedAtDepth, IsAllowedByTso, IsAllowedSequentially}
+use Rattle.tso_laws.proofs.EndsVocabulary.{UnbufferedRunsReachExactlyTheSequentiallyConsistent, EndsAreWhatTsoAllows}
 
 module _ (exactly : RunsReachExactlyTheExecutions) (sequential : UnbufferedRunsReachExactlyTheSequentiallyConsistent)
     (ended : (t : Litmus) (depth : ℕ) (choices : List Choice) → IsTest t → End t depth choices → IsExecution t (run t depth choices)) where
@@ -10,7 +13,13 @@ module _ (exactly : RunsReachExactlyTheExecutions) (sequential : UnbufferedRunsR
   end-of : (t : Litmus) (d : ℕ) (order : List Entry) → IsTest t → IsReached t d order → IsEnd t d (final_registers t order) (final_words t order)
   end-of t d order test h =
       let x = ended t d h.choices test h.ended in
-      record { choices = h.choices; cores = h.cores; ended = h.ended; registers_are = x.registers ∙ ap (final_registers t) h.commits; memory_is = x.memory ∙ ap (final_words t) h.commits }
+      record {
+        choices = h.choices;
+        cores = h.cores;
+        ended = h.ended;
+        registers_are = x.registers ∙ ap (final_registers t) h.commits;
+        memory_is = x.memory ∙ ap (final_words t) h.commits;
+      }
 
   is-end : (t : Litmus) (d : ℕ) (r s : List (List ℕ)) (m n : List ℕ) → r ≡ s → m ≡ n → IsEnd t d r m → IsEnd t d s n
   is-end t d r s m n p q h = record { choices = h.choices; cores = h.cores; ended = h.ended; registers_are = h.registers_are ∙ p; memory_is = h.memory_is ∙ q }
@@ -19,7 +28,13 @@ module _ (exactly : RunsReachExactlyTheExecutions) (sequential : UnbufferedRunsR
   to-allowed t d r m test p h =
       let x = ended t d h.choices test h.ended in
       let e = (exactly.by_depth t d (run t d h.choices).commits test p).0 (reached t d r m h) in
-      record { order = (run t d h.choices).commits; execution = e.0; depth_needed = e.1; registers_are = sym x.registers ∙ h.registers_are; memory_is = sym x.memory ∙ h.memory_is }
+      record {
+        order = (run t d h.choices).commits;
+        execution = e.0;
+        depth_needed = e.1;
+        registers_are = sym x.registers ∙ h.registers_are;
+        memory_is = sym x.memory ∙ h.memory_is;
+      }
 
   from-allowed : (t : Litmus) (d : ℕ) (r : List (List ℕ)) (m : List ℕ) → IsTest t → 0 < d → IsAllowedAtDepth t d r m → IsEnd t d r m
   from-allowed t d r m test p h =
@@ -29,7 +44,12 @@ module _ (exactly : RunsReachExactlyTheExecutions) (sequential : UnbufferedRunsR
   to-tso t r m test h =
       let x = ended t most_depth h.choices test h.ended in
       let e = (exactly.at_the_greatest t (run t most_depth h.choices).commits test).0 (reached t most_depth r m h) in
-      record { order = (run t most_depth h.choices).commits; execution = e; registers_are = sym x.registers ∙ h.registers_are; memory_is = sym x.memory ∙ h.memory_is }
+      record {
+        order = (run t most_depth h.choices).commits;
+        execution = e;
+        registers_are = sym x.registers ∙ h.registers_are;
+        memory_is = sym x.memory ∙ h.memory_is;
+      }
 
   from-tso : (t : Litmus) (r : List (List ℕ)) (m : List ℕ) → IsTest t → IsAllowedByTso t r m → IsEnd t most_depth r m
   from-tso t r m test h =

@@ -1,5 +1,12 @@
 -- Along the whole order, and the moves at the end.
-use Rattle.tso_laws.proofs.Vocabulary.{max, ◌≡◌, ◌≢◌, ◌<◌, ◌≤◌, ℕ, ◌+◌, ◌-◌, zero, suc, List, [], ◌∷◌, ◌++◌, true, false, length, slice_index, slice_index_or, drop, arith, ap, sym, ◌∙◌, append_assoc, refl, ◌⊎◌, inl, inr, add-one, subst, get_or-set_same, get_or-set_other, length-set, Litmus, is_store, is_load, rank, is_store_kind, made_by, read_values, Entry, Instr, Choice, decide, lt-or, max-first, max-second, state_after, commits_of, core_of, CoreState, State, program_of, effect_of, chosen, after_choice, start, step, CoresExist, has_ended, run_from, stall_count, steps, drained, choices_for, places_after, last_steps, choices_from, beginnings, choices_along, LeadTo, Member, drop-end, done-at, all-done, starts-idle, length-starts, false_from_ne_true}
+use Rattle.tso_laws.proofs.Vocabulary.{max, ◌≡◌, ◌≢◌, ◌<◌, ◌≤◌, ℕ, ◌+◌, ◌-◌, zero, suc, List, [], ◌∷◌, ◌++◌, true, false, length}
+use Rattle.tso_laws.proofs.Vocabulary.{slice_index, slice_index_or, drop, arith, ap, sym, ◌∙◌, append_assoc, refl, ◌⊎◌, inl, inr, add-one}
+use Rattle.tso_laws.proofs.Vocabulary.{subst, get_or-set_same, get_or-set_other, length-set, Litmus, is_store, is_load, rank, is_store_kind}
+use Rattle.tso_laws.proofs.Vocabulary.{made_by, read_values, Entry, Instr, Choice, decide, lt-or, max-first, max-second, state_after}
+use Rattle.tso_laws.proofs.Vocabulary.{commits_of, core_of, CoreState, State, program_of, effect_of, chosen, after_choice, start, step}
+use Rattle.tso_laws.proofs.Vocabulary.{CoresExist, has_ended, run_from, stall_count, steps, drained, choices_for, places_after, last_steps}
+use Rattle.tso_laws.proofs.Vocabulary.{choices_from, beginnings, choices_along, LeadTo, Member, drop-end, done-at, all-done, starts-idle}
+use Rattle.tso_laws.proofs.Vocabulary.{length-starts, false_from_ne_true}
 use Rattle.tso_laws.proofs.OneList.{Queued}
 use Rattle.tso_laws.proofs.CoreInvariant.{left, trace}
 use Rattle.tso_laws.proofs.MachineInvariant.{world-start}
@@ -12,7 +19,9 @@ use Rattle.tso_laws.proofs.NextEntry.{x-in-order, only-stores, held-fits, place-
 
 not-twice : (front back : List Entry) (x : Entry) → Distinct (front ++ (x ∷ back)) → Member x front → ⊥
 not-twice [] back x d m = m
-not-twice (y ∷ ys) back x d (inl q) = let a = each-of (Apart y) x (ys ++ (x ∷ back)) d.0 (in-middle ys) in a (ap (λ z. z.core.0) (sym q)) (ap (λ z. rank z) (sym q))
+not-twice (y ∷ ys) back x d (inl q) =
+    let a = each-of (Apart y) x (ys ++ (x ∷ back)) d.0 (in-middle ys) in
+    a (ap (λ z. z.core.0) (sym q)) (ap (λ z. rank z) (sym q))
   where
     in-middle : (zs : List Entry) → Member x (zs ++ (x ∷ back))
     in-middle [] = inl refl
@@ -20,21 +29,31 @@ not-twice (y ∷ ys) back x d (inl q) = let a = each-of (Apart y) x (ys ++ (x �
 not-twice (y ∷ ys) back x d (inr m) = not-twice ys back x d.1 m
 
 -- an entry at the head of the back that its core has passed is a pending store
-issued-store : (d : ℕ) (t : Litmus) (order front back : List Entry) (state : State) (x : Entry) → Good d t order → Stands d t order front (x ∷ back) state → x.core.0 < length t.programs
+issued-store : (d : ℕ) (t : Litmus) (order front back : List Entry) (state : State) (x : Entry)
+    → Good d t order
+    → Stands d t order front (x ∷ back) state
+    → x.core.0 < length t.programs
     → x.place < (core_of state x.core.0).place → is_store x ≡ true
 issued-store d t order front back state x g st l p =
     let k : ℕ = x.core.0 in
     let s : CoreState = core_of state k in
     let h = holds-of d t order front (x ∷ back) state k st l in
     let trace : made_by k (program_of t k) (first_of t k) order ≡ h.done ++ left k (program_of t k) s order =
-    subst (λ z. made_by k (program_of t k) (first_of t k) z ≡ h.done ++ left k (program_of t k) s z) (sym st.is) (trace d k (program_of t k) (first_of t k) t.words front s h (x ∷ back)) in
-    let mine : Member x (h.done ++ left k (program_of t k) s order) = subst (λ z. Member x z) trace (g.in_made x (x-in-order d t order front back state x x st (inl refl))).1 in
+    subst (λ z. made_by k (program_of t k) (first_of t k) z ≡ h.done ++ left k (program_of t k) s z) (sym st.is)
+    (trace d k (program_of t k) (first_of t k) t.words front s h (x ∷ back)) in
+    let mine : Member x (h.done ++ left k (program_of t k) s order) =
+    subst (λ z. Member x z) trace (g.in_made x (x-in-order d t order front back state x x st (inl refl))).1 in
     elim (member-split x h.done _ mine) [
       | inl a ↦ elim (member-split x front s.pending (each-of (λ z. Member z (front ++ s.pending)) x h.done h.sees.members a)) [
         | inl b ↦ absurd (not-twice front back x (subst (λ z. Distinct z) st.is g.distinct) b)
         | inr b ↦ ap is_store_kind (each-of (Queued k (length t.words)) x s.pending h.queued b).kind
       ]
-      | inr a ↦ absurd (let f = (each-of (λ z. (z.core.0 ≡ k) × (s.place ≤ z.place)) x _ (entries-from k s.place (drop s.place (program_of t k)) s.registers (read_values k s.place (drop s.place (program_of t k)) order)) a).1 in omega (arith, f, p))
+      | inr a ↦
+          absurd (let f =
+          (each-of (λ z. (z.core.0 ≡ k) × (s.place ≤ z.place)) x _
+          (entries-from k s.place (drop s.place (program_of t k)) s.registers (read_values k s.place (drop s.place (program_of t k)) order))
+          a).1 in
+          omega (arith, f, p))
     ]
 
 pub record Placed (t : Litmus) (places : List ℕ) (state : State) : Type 0 where
@@ -42,7 +61,9 @@ pub record Placed (t : Litmus) (places : List ℕ) (state : State) : Type 0 wher
   pub each : (k : ℕ) → k < length t.programs → slice_index places k ≡ (core_of state k).place
 
 pub placed-after : (t : Litmus) (places : List ℕ) (state next : State) (x : Entry) → Placed t places state → x.core.0 < length t.programs
-    → (core_of next x.core.0).place ≡ max (slice_index places x.core.0) (x.place + 1) → ((j : ℕ) → j ≢ x.core.0 → core_of next j ≡ core_of state j) → Placed t (places_after places x) next
+    → (core_of next x.core.0).place ≡ max (slice_index places x.core.0) (x.place + 1)
+    → ((j : ℕ) → j ≢ x.core.0 → core_of next j ≡ core_of state j)
+    → Placed t (places_after places x) next
 placed-after t places state next x h l p o = record {
   size = length-set places x.core.0 _ ∙ h.size;
   each = λ j i. elim (decide j x.core.0) [
@@ -75,22 +96,28 @@ abbrev pub More : ℕ → Litmus → List Entry → List Entry → Entry → Lis
 More d t order front x back state cs n = OneMore d t order front x back state cs n ⊎ TwoMore d t order front x back state cs n
 
 -- the choices for the entry at the head of the back
-pub entry-more : (d : ℕ) (t : Litmus) (order front back : List Entry) (state : State) (places : List ℕ) (x : Entry) → Good d t order → Stands d t order front (x ∷ back) state → Placed t places state
+pub entry-more : (d : ℕ) (t : Litmus) (order front back : List Entry) (state : State) (places : List ℕ) (x : Entry)
+    → Good d t order
+    → Stands d t order front (x ∷ back) state
+    → Placed t places state
     → x.core.0 < length t.programs → More d t order front x back state (choices_for places x) (max (slice_index places x.core.0) (x.place + 1))
 entry-more d t order front back state places x g st h l = elim (lt-or (core_of state x.core.0).place x.place) [
   | inl p ↦ inl (issued p)
   | inr p ↦ ahead p
 ]
   where
-    issued : x.place < (core_of state x.core.0).place → OneMore d t order front x back state (choices_for places x) (max (slice_index places x.core.0) (x.place + 1))
+    issued : x.place < (core_of state x.core.0).place
+        → OneMore d t order front x back state (choices_for places x) (max (slice_index places x.core.0) (x.place + 1))
     issued p =
         let w = issued-store d t order front back state x g st l p in
         let e = h.each x.core.0 l in
         let none : (x.place + 1) - (core_of state x.core.0).place ≡ 0 = omega arith in
-        let n : max (core_of state x.core.0).place (x.place + 1) ≡ (core_of state x.core.0).place = max-first (core_of state x.core.0).place (x.place + 1) (omega arith) in
+        let n : max (core_of state x.core.0).place (x.place + 1) ≡ (core_of state x.core.0).place =
+        max-first (core_of state x.core.0).place (x.place + 1) (omega arith) in
         record { goes = rw (e, none, n, w) (drain-goes d t order front back state x g st l w p) }
 
-    ahead : (core_of state x.core.0).place ≤ x.place → More d t order front x back state (choices_for places x) (max (slice_index places x.core.0) (x.place + 1))
+    ahead : (core_of state x.core.0).place ≤ x.place
+        → More d t order front x back state (choices_for places x) (max (slice_index places x.core.0) (x.place + 1))
     ahead p =
         let k : ℕ = x.core.0 in
         let m : ℕ = x.place - (core_of state k).place in
@@ -98,10 +125,17 @@ entry-more d t order front back state places x g st h l = elim (lt-or (core_of s
         let count : (x.place + 1) - (core_of state k).place ≡ m + 1 = omega arith in
         let n : max (core_of state k).place (x.place + 1) ≡ x.place + 1 = max-second (core_of state k).place (x.place + 1) (omega arith) in
         let u = place-below d t order x g (x-in-order d t order front back state x x st (inl refl)) in
-        let to = quiet-steps d t order front (x ∷ back) state k x.place m g st l (omega arith) (omega arith) (only-stores d t order front back state x g st l) (held-fits d t order front back state x g st l (is_load x) refl) in
+        let to =
+        quiet-steps d t order front (x ∷ back) state k x.place m g st l (omega arith) (omega arith)
+        (only-stores d t order front back state x g st l)
+        (held-fits d t order front back state x g st l (is_load x) refl) in
         let next = step-onward d t order (front ++ []) back (state_after t d state (steps k m)) x g to.stands l to.place in
         rw (e, count, n, steps-more k m, append_assoc (steps k m) (step k ∷ []) (drained x)) (elim next [
-          | inl o ↦ inl (record { goes = goes-append d t order front [] (x ∷ []) (x ∷ back) back state k x.place (x.place + 1) (steps k m) (step k ∷ drained x) to o.goes })
+          | inl o ↦
+              inl (record {
+                goes =
+                    goes-append d t order front [] (x ∷ []) (x ∷ back) back state k x.place (x.place + 1) (steps k m) (step k ∷ drained x) to o.goes;
+              })
           | inr o ↦ inr (record {
             other = o.other;
             rest = o.rest;
@@ -110,7 +144,10 @@ entry-more d t order front back state places x g st h l = elim (lt-or (core_of s
             place = o.place;
             store = o.store;
             now = refl;
-            goes = rw o.load (goes-append d t order front [] (x ∷ (o.other ∷ [])) (x ∷ back) o.rest state k x.place (x.place + 1) (steps k m) (step k ∷ []) to o.goes);
+            goes =
+                rw o.load
+                (goes-append d t order front [] (x ∷ (o.other ∷ [])) (x ∷ back) o.rest state k x.place (x.place + 1)
+                (steps k m) (step k ∷ []) to o.goes);
           })
         ])
 
@@ -120,7 +157,10 @@ pub record Leads (d : ℕ) (t : Litmus) (back : List Entry) (state : State) (cs 
   pub commits : commits_of t d state cs ≡ back
   pub ended : has_ended t (state_after t d state cs) ≡ true
 
-leads-append : (d : ℕ) (t : Litmus) (done back : List Entry) (state : State) (xs ys : List Choice) → AllTake t d state xs → commits_of t d state xs ≡ done → Leads d t back (state_after t d state xs) ys
+leads-append : (d : ℕ) (t : Litmus) (done back : List Entry) (state : State) (xs ys : List Choice)
+    → AllTake t d state xs
+    → commits_of t d state xs ≡ done
+    → Leads d t back (state_after t d state xs) ys
     → Leads d t (done ++ back) state (xs ++ ys)
 leads-append d t done back state xs ys a c h = record {
   takes = takes-append t d state xs ys a h.takes;
@@ -128,13 +168,26 @@ leads-append d t done back state xs ys a c h = record {
   ended = rw (after-append t d state xs ys) h.ended;
 }
 
-done-all : (d : ℕ) (t : Litmus) (order front : List Entry) (state : State) → Stands d t order front [] state → ((k : ℕ) → k < length t.programs → (core_of state k).place ≡ length (program_of t k)) → has_ended t state ≡ true
+done-all : (d : ℕ) (t : Litmus) (order front : List Entry) (state : State)
+    → Stands d t order front [] state
+    → ((k : ℕ) → k < length t.programs → (core_of state k).place ≡ length (program_of t k))
+    → has_ended t state ≡ true
 done-all d t order front state st f = all-done t.programs state.cores (λ k l. let i : k < length t.programs = (let n = st.world.size in omega arith) in
-    done-now d (program_of t k) (core_of state k) (rw (f k i, drop-end (program_of t k) (length (program_of t k)) refl, st.waits k i) (omega arith)) (st.within k i))
+    done-now d (program_of t k) (core_of state k)
+    (rw (
+      f k i,
+      drop-end (program_of t k) (length (program_of t k)) refl,
+      st.waits k i,
+    ) (omega arith)) (st.within k i))
 
 -- the moves that are left at the end
-finals : (d : ℕ) (t : Litmus) (order front : List Entry) (ps : List (List Instr)) (c : ℕ) (state : State) (places : List ℕ) → Good d t order → Stands d t order front [] state
-    → ((j : ℕ) → c ≤ j → j < length t.programs → slice_index places j ≡ (core_of state j).place) → ((j : ℕ) → slice_index_or ps j [] ≡ program_of t (c + j)) → c + length ps ≡ length t.programs
+finals : (d : ℕ) (t : Litmus) (order front : List Entry) (ps : List (List Instr)) (c : ℕ) (state : State)
+    (places : List ℕ)
+    → Good d t order
+    → Stands d t order front [] state
+    → ((j : ℕ) → c ≤ j → j < length t.programs → slice_index places j ≡ (core_of state j).place)
+    → ((j : ℕ) → slice_index_or ps j [] ≡ program_of t (c + j))
+    → c + length ps ≡ length t.programs
     → ((j : ℕ) → j < c → (core_of state j).place ≡ length (program_of t j)) → Leads d t [] state (last_steps c ps places)
 finals d t order front [] c state places g st same prog n f =
     record { takes = tt; commits = refl; ended = done-all d t order front state st (λ k l. f k (omega arith)) }
@@ -155,14 +208,26 @@ finals d t order front (p ∷ ps) c state places g st same prog n f =
       | inr h ↦ ap (λ z. z.place) (one.others j h) ∙ f j (omega arith)
     ]))
 
-nothing-more : (places : List ℕ) (x y : Entry) → y.core.0 ≡ x.core.0 → y.place ≡ x.place → is_store y ≡ false → x.core.0 < length places → slice_index places x.core.0 ≡ x.place + 1 → choices_for places y ≡ []
+nothing-more : (places : List ℕ) (x y : Entry)
+    → y.core.0 ≡ x.core.0
+    → y.place ≡ x.place
+    → is_store y ≡ false
+    → x.core.0 < length places
+    → slice_index places x.core.0 ≡ x.place + 1
+    → choices_for places y ≡ []
 nothing-more places x y c p w l e = rw (c, e, p, w) (let z : (x.place + 1) - (x.place + 1) ≡ 0 = omega arith in rw z refl)
 
 -- along the order
-pub leads : (d : ℕ) (t : Litmus) (order : List Entry) (fuel : ℕ) (front back : List Entry) (state : State) (places : List ℕ) → length back ≤ fuel → Good d t order → Stands d t order front back state → Placed t places state
+pub leads : (d : ℕ) (t : Litmus) (order : List Entry) (fuel : ℕ) (front back : List Entry) (state : State)
+    (places : List ℕ)
+    → length back ≤ fuel
+    → Good d t order
+    → Stands d t order front back state
+    → Placed t places state
     → Leads d t back state (choices_from t places back)
 leads d t order fuel front [] state places b g st h =
-    finals d t order front t.programs 0 state places g st (λ j a l. h.each j l) (λ j. ap (λ z. program_of t z) (let z : j ≡ 0 + j = omega arith in z)) (omega arith) (λ j a. absurd (omega arith))
+    finals d t order front t.programs 0 state places g st (λ j a l. h.each j l)
+    (λ j. ap (λ z. program_of t z) (let z : j ≡ 0 + j = omega arith in z)) (omega arith) (λ j a. absurd (omega arith))
 leads d t order zero front (x ∷ back) state places b g st h = absurd (omega arith)
 leads d t order (suc fuel) front (x ∷ back) state places b g st h =
     let l = (g.in_made x (x-in-order d t order front back state x x st (inl refl))).0 in
@@ -174,12 +239,18 @@ leads d t order (suc fuel) front (x ∷ back) state places b g st h =
           let next : State = state_after t d state (choices_for places x) in
           let first = placed-after t places state next x h l o.goes.place o.goes.others in
           let at = first.each x.core.0 l ∙ o.goes.place ∙ o.now in
-          let none : choices_for (places_after places x) o.other ≡ [] = nothing-more (places_after places x) x o.other o.core o.place o.store (rw first.size l) at in
+          let none : choices_for (places_after places x) o.other ≡ [] =
+          nothing-more (places_after places x) x o.other o.core o.place o.store (rw first.size l) at in
           let second = placed-after t (places_after places x) next next o.other first (rw o.core l)
-          (rw o.core (o.goes.place ∙ o.now ∙ sym (larger-same (slice_index (places_after places x) x.core.0) x.place o.other.place at o.place))) (λ j e. refl) in
-          let rest = leads d t order fuel (front ++ (x ∷ (o.other ∷ []))) o.rest next (places_after (places_after places x) o.other) (let n : length back ≡ suc (length o.rest) = ap length o.is in omega arith) g o.goes.stands second in
+          (rw o.core (o.goes.place ∙ o.now ∙ sym (larger-same (slice_index (places_after places x) x.core.0) x.place o.other.place at o.place)))
+          (λ j e. refl) in
+          let rest =
+          leads d t order fuel (front ++ (x ∷ (o.other ∷ []))) o.rest next
+          (places_after (places_after places x) o.other)
+          (let n : length back ≡ suc (length o.rest) = ap length o.is in omega arith) g o.goes.stands second in
           let all : Leads d t (x ∷ (o.other ∷ o.rest)) state (choices_for places x ++ choices_from t (places_after (places_after places x) o.other) o.rest) =
-          leads-append d t (x ∷ (o.other ∷ [])) o.rest state (choices_for places x) (choices_from t (places_after (places_after places x) o.other) o.rest) o.goes.takes o.goes.commits rest in
+          leads-append d t (x ∷ (o.other ∷ [])) o.rest state (choices_for places x)
+          (choices_from t (places_after (places_after places x) o.other) o.rest) o.goes.takes o.goes.commits rest in
           with-other o.other o.rest back o.is none all
     ]
   where
@@ -193,7 +264,10 @@ leads d t order (suc fuel) front (x ∷ back) state places b g st h =
         (subst (λ z. Leads d t (x ∷ (y ∷ rest)) state (choices_for places x ++ (z ++ choices_from t (places_after (places_after places x) y) rest))) (sym n) a)
 
 -- where each choice takes effect, the run uses them all
-not-ended : (t : Litmus) (d : ℕ) (state : State) (a : Choice) → chosen a < length state.cores → stall_count (effect_of t d state a).outcome ≡ 0 → has_ended t state ≡ false
+not-ended : (t : Litmus) (d : ℕ) (state : State) (a : Choice)
+    → chosen a < length state.cores
+    → stall_count (effect_of t d state a).outcome ≡ 0
+    → has_ended t state ≡ false
 not-ended t d state a l o = false_from_ne_true (has_ended t state) (λ h.
     let u = done-undone d (program_of t (chosen a)) (core_of state (chosen a)) (done-at t.programs state.cores (chosen a) h l) in
     elim (choice-changes t d state a) [ inl w ↦ (let m = w.less in let z : ⊥ = omega arith in z) | inr w ↦ (let s = w.stalled in let z : ⊥ = cc in z) ])
@@ -205,12 +279,22 @@ pub record Whole (t : Litmus) (d : ℕ) (state : State) (cs : List Choice) : Typ
   pub stalled : (run_from t d state cs).stalled ≡ 0
   pub unused : (run_from t d state cs).unused ≡ 0
 
-takes-whole : (t : Litmus) (d : ℕ) (state : State) (cs : List Choice) → length state.cores ≡ length t.programs → AllTake t d state cs → has_ended t (state_after t d state cs) ≡ true → Whole t d state cs
+takes-whole : (t : Litmus) (d : ℕ) (state : State) (cs : List Choice)
+    → length state.cores ≡ length t.programs
+    → AllTake t d state cs
+    → has_ended t (state_after t d state cs) ≡ true
+    → Whole t d state cs
 takes-whole t d state [] n a e = record { ended = e; commits = refl; used = refl; stalled = refl; unused = refl }
 takes-whole t d state (c ∷ cs) n a e =
     let h = takes-whole t d (after_choice t d state c) cs (size-kept t d state c ∙ n) a.2 e in
     let f = not-ended t d state c (rw n a.0) a.1 in
-    record { ended = rw f h.ended; commits = rw f (ap (λ z. (effect_of t d state c).commits ++ z) h.commits); used = rw f (ap suc h.used); stalled = rw (f, a.1) (let z = h.stalled in omega arith); unused = rw f h.unused }
+    record {
+      ended = rw f h.ended;
+      commits = rw f (ap (λ z. (effect_of t d state c).commits ++ z) h.commits);
+      used = rw f (ap suc h.used);
+      stalled = rw (f, a.1) (let z = h.stalled in omega arith);
+      unused = rw f h.unused;
+    }
 
 takes-exist : (t : Litmus) (d : ℕ) (state : State) (cs : List Choice) → AllTake t d state cs → CoresExist (length t.programs) cs
 takes-exist t d state [] a = tt
@@ -234,7 +318,17 @@ witness-leads d t order g =
       waits = λ k l. (idle_at k).1 ∙ sym (held-none k (core_of (start t) k).place order (λ e m c w. let z = (idle_at k).0 in omega arith));
       within = λ k l. let z = (idle_at k).0 in omega arith;
     } in
-    let h : Placed t (beginnings t.programs) (start t) = record { size = length-beginnings t.programs; each = λ k l. beginning t.programs k ∙ sym (idle_at k).0 } in
+    let h : Placed t (beginnings t.programs) (start t) = record {
+      size = length-beginnings t.programs;
+      each = λ k l. beginning t.programs k ∙ sym (idle_at k).0;
+    } in
     let w = leads d t order (length order) [] order (start t) (beginnings t.programs) (omega arith) g st h in
     let r = takes-whole t d (start t) (choices_along t order) (length-starts 0 t.programs t.registers) w.takes w.ended in
-    record { cores = takes-exist t d (start t) (choices_along t order) w.takes; ended = r.ended; commits = r.commits ∙ w.commits; used = r.used; stalled = r.stalled; unused = r.unused }
+    record {
+      cores = takes-exist t d (start t) (choices_along t order) w.takes;
+      ended = r.ended;
+      commits = r.commits ∙ w.commits;
+      used = r.used;
+      stalled = r.stalled;
+      unused = r.unused;
+    }

@@ -1,6 +1,11 @@
 -- A choice outside a stubborn set beside those of the set: it stalls, or the set stays stubborn and the choice may be made after any of
 -- the set as well as before it.
-use Rattle.tso_laws.proofs.EagerVocabulary.{◌≡◌, ◌≢◌, ◌<◌, ◌≤◌, ℕ, List, [], ◌∷◌, Bool, true, false, Some, length, slice_get, slice_index, ap, sym, ◌∙◌, refl, subst, inl, inr, get_or-set_same, get_or-set_other, action_of, Litmus, CoreState, State, idle, program_of, core_of, effect_by, step_of, drain_of, effect_of, chosen, memory_after, applied, after_choice, Action, Store, Load, Move, Fence, Lock, Entry, Choice, Step, Drain, decide, ChoiceSet, has_step, has_drain, has_choice, IsHeldBack, OthersAreHeldBack, IsApartBy, IsApartStep, IsApartDrain, IsStubborn}
+use Rattle.tso_laws.proofs.EagerVocabulary.{◌≡◌, ◌≢◌, ◌<◌, ◌≤◌, ℕ, List, [], ◌∷◌, Bool, true, false, Some, length, slice_get, slice_index}
+use Rattle.tso_laws.proofs.EagerVocabulary.{ap, sym, ◌∙◌, refl, subst, inl, inr, get_or-set_same, get_or-set_other, action_of, Litmus}
+use Rattle.tso_laws.proofs.EagerVocabulary.{CoreState, State, idle, program_of, core_of, effect_by, step_of, drain_of, effect_of, chosen}
+use Rattle.tso_laws.proofs.EagerVocabulary.{memory_after, applied, after_choice, Action, Store, Load, Move, Fence, Lock, Entry, Choice}
+use Rattle.tso_laws.proofs.EagerVocabulary.{Step, Drain, decide, ChoiceSet, has_step, has_drain, has_choice, IsHeldBack, OthersAreHeldBack}
+use Rattle.tso_laws.proofs.EagerVocabulary.{IsApartBy, IsApartStep, IsApartDrain, IsStubborn}
 use Rattle.tso_terms.specs.declared.choice.Stall.TheVariants as stall
 use Rattle.tso_laws.proofs.Places.{set-set-other, Silent, Only, silent-same, elsewhere, only-elsewhere, commute}
 use Rattle.tso_laws.proofs.Avoiding.{by-wait, by-store}
@@ -51,7 +56,8 @@ module _ (d : ℕ) (t : Litmus) (set : ChoiceSet) (s : State) (st : IsStubborn d
       subst (λ i. HeldZone d t set s k.0 (step_of d s.memory k.0 i (core_of s k.0)).commits) (sym h.stands) (zone-by k.0 (action_of h.next) h.held)
   zone-of (Drain k) q =
       let h = st.drains_apart k.0 q in
-      subst (λ f. HeldZone d t set s k.0 f.commits) (sym (drain-is (core_of s k.0) h.oldest h.later h.pending)) (at_one h.oldest.loc.0 ((λ w. refl), tt) h.others)
+      subst (λ f. HeldZone d t set s k.0 f.commits) (sym (drain-is (core_of s k.0) h.oldest h.later h.pending))
+      (at_one h.oldest.loc.0 ((λ w. refl), tt) h.others)
 
   module _ (c : Choice) (out : has_choice set c ≡ false) (present : chosen c < length s.cores) where
     passes : (loads : Bool) (l k : ℕ) → chosen c ≢ k → OthersAreHeldBack d loads l t set s k → Passes loads l d t s c
@@ -60,16 +66,26 @@ module _ (d : ℕ) (t : Litmus) (set : ChoiceSet) (s : State) (st : IsStubborn d
     pub others-held-after : (loads : Bool) (l k : ℕ) → OthersAreHeldBack d loads l t set s k → OthersAreHeldBack d loads l t set (after_choice t d s c) k
     others-held-after loads l k h j o = elim (decide j (chosen c)) [
       | inl q ↦ subst (λ z. HeldAt loads l (after_choice t d s c) z) (sym q)
-          (subst (λ z. IsHeldBack d loads l (program_of t (chosen c)) z (has_step set (chosen c)) (has_drain set (chosen c))) (sym (get_or-set_same s.cores (chosen c) (effect_of t d s c).after idle present))
+          (subst (λ z.
+          IsHeldBack d loads l (program_of t (chosen c)) z (has_step set (chosen c)) (has_drain set (chosen c)))
+          (sym (get_or-set_same s.cores (chosen c) (effect_of t d s c).after idle present))
           (held-after loads l d t set s c out (subst (λ z. HeldAt loads l s z) q (h j o))))
-      | inr n ↦ subst (λ z. IsHeldBack d loads l (program_of t j) z (has_step set j) (has_drain set j)) (sym (get_or-set_other s.cores (chosen c) j (effect_of t d s c).after idle n)) (h j o)
+      | inr n ↦
+          subst (λ z. IsHeldBack d loads l (program_of t j) z (has_step set j) (has_drain set j))
+          (sym (get_or-set_other s.cores (chosen c) j (effect_of t d s c).after idle n)) (h j o)
     ]
 
-    read-kept : (loads : Bool) (l k : ℕ) → chosen c ≢ k → OthersAreHeldBack d loads l t set s k → slice_index (after_choice t d s c).memory l ≡ slice_index s.memory l
+    read-kept : (loads : Bool) (l k : ℕ)
+        → chosen c ≢ k
+        → OthersAreHeldBack d loads l t set s k
+        → slice_index (after_choice t d s c).memory l ≡ slice_index s.memory l
     read-kept loads l k n h = elsewhere l (effect_of t d s c).commits s.memory (passes loads l k n h).writes
 
     -- a choice of the set that is of another core does the same after it
-    action-kept : (k : ℕ) (a : Action) → chosen c ≢ k → IsApartBy d t set s k a → effect_by d (after_choice t d s c).memory k a (core_of s k) ≡ effect_by d s.memory k a (core_of s k)
+    action-kept : (k : ℕ) (a : Action)
+        → chosen c ≢ k
+        → IsApartBy d t set s k a
+        → effect_by d (after_choice t d s c).memory k a (core_of s k) ≡ effect_by d s.memory k a (core_of s k)
     action-kept k (Store loc operand) n h = refl
     action-kept k (Load reg loc) n h = action-same d k _ _ (Load reg loc) (core_of s k) (read-kept false loc.0 k n h)
     action-kept k (Move change) n h = refl
@@ -90,30 +106,42 @@ module _ (d : ℕ) (t : Litmus) (set : ChoiceSet) (s : State) (st : IsStubborn d
         ∙ sym (ap (λ i. step_of d s.memory k.0 i (core_of s k.0)) h.stands)
 
     -- and so does this choice after it
-    outside-same : (m : Choice) → chosen c ≢ chosen m → HeldZone d t set s (chosen m) (effect_of t d s m).commits → effect_of t d (after_choice t d s m) c ≡ effect_of t d s c
+    outside-same : (m : Choice)
+        → chosen c ≢ chosen m
+        → HeldZone d t set s (chosen m) (effect_of t d s m).commits
+        → effect_of t d (after_choice t d s m) c ≡ effect_of t d s c
     outside-same m n (quiet h) = go c n
       where
         go : (c : Choice) → chosen c ≢ chosen m → effect_of t d (after_choice t d s m) c ≡ effect_of t d s c
         go (Drain j) n = ap drain_of (core-stays d t s j.0 m (λ q. n (sym q)))
-        go (Step j) n = step-same d j.0 (after_choice t d s m).memory s.memory (program_of t j.0) (core_of s j.0) (core_of (after_choice t d s m) j.0) (core-stays d t s j.0 m (λ q. n (sym q)))
+        go (Step j) n =
+            step-same d j.0 (after_choice t d s m).memory s.memory (program_of t j.0) (core_of s j.0)
+            (core_of (after_choice t d s m) j.0) (core-stays d t s j.0 m (λ q. n (sym q)))
             (λ x q. same-all (action_of x) _ _ (silent-same (effect_of t d s m).commits s.memory h))
     outside-same m n (at_one l h o) = (passes true l (chosen m) n o).reads refl (after_choice t d s m) (core-stays d t s (chosen c) m (λ q. n (sym q)))
         (λ i k. elsewhere i (effect_of t d s m).commits s.memory (only-elsewhere l i (effect_of t d s m).commits k h))
 
     memory-either : (m : Choice) → chosen c ≢ chosen m → HeldZone d t set s (chosen m) (effect_of t d s m).commits
-        → memory_after (effect_of t d s m).commits (memory_after (effect_of t d s c).commits s.memory) ≡ memory_after (effect_of t d s c).commits (memory_after (effect_of t d s m).commits s.memory)
+        → memory_after (effect_of t d s m).commits (memory_after (effect_of t d s c).commits s.memory)
+        ≡ memory_after (effect_of t d s c).commits (memory_after (effect_of t d s m).commits s.memory)
     memory-either m n (quiet h) =
         silent-same (effect_of t d s m).commits _ h ∙ sym (ap (memory_after (effect_of t d s c).commits) (silent-same (effect_of t d s m).commits s.memory h))
     memory-either m n (at_one l h o) = commute l (effect_of t d s m).commits (effect_of t d s c).commits s.memory h (passes true l (chosen m) n o).writes
 
-    swaps-other : (m : Choice) → chosen c ≢ chosen m → has_choice set m ≡ true → after_choice t d (after_choice t d s c) m ≡ after_choice t d (after_choice t d s m) c
+    swaps-other : (m : Choice)
+        → chosen c ≢ chosen m
+        → has_choice set m ≡ true
+        → after_choice t d (after_choice t d s c) m ≡ after_choice t d (after_choice t d s m) c
     swaps-other m n q =
         let w = zone-of m q in
         ap (λ f. applied (after_choice t d s c) (chosen m) f) (member-same m n q)
         ∙ state-is _ _ _ _ (memory-either m n w) (set-set-other s.cores (chosen c) (chosen m) (effect_of t d s c).after (effect_of t d s m).after n)
         ∙ sym (ap (λ f. applied (after_choice t d s m) (chosen c) f) (outside-same m n w))
       where
-        state-is : (m n : List ℕ) (cs ds : List CoreState) → m ≡ n → cs ≡ ds → record { memory = m; cores = cs } ≡ (let z : State = record { memory = n; cores = ds } in z)
+        state-is : (m n : List ℕ) (cs ds : List CoreState)
+            → m ≡ n
+            → cs ≡ ds
+            → record { memory = m; cores = cs } ≡ (let z : State = record { memory = n; cores = ds } in z)
         state-is m n cs ds p q = rw (p, q) refl
 
     -- the set stays stubborn

@@ -1,5 +1,9 @@
 -- A run is a run of all choices of a beginning of the list.
-use Rattle.tso_laws.proofs.Vocabulary.{◌≡◌, ◌≤◌, ◌<◌, ℕ, ◌+◌, List, [], ◌∷◌, ◌++◌, true, length, take, arith, ap, sym, ◌∙◌, refl, subst, ◌==◌, slice_get_within, get_or_from_slice_get, Litmus, KeepsAllOrder, and-right, Instr, Choice, is_none_pending, core_of, CoreState, State, idle, program_of, effect_of, after_choice, start, needed, IsExecution, state_after, commits_of, is_done, has_ended, Run, run, run_from, cases_Bool, inl, inr, done-at}
+use Rattle.tso_laws.proofs.Vocabulary.{◌≡◌, ◌≤◌, ◌<◌, ℕ, ◌+◌, List, [], ◌∷◌, ◌++◌, true, length, take, arith, ap, sym, ◌∙◌, refl, subst}
+use Rattle.tso_laws.proofs.Vocabulary.{◌==◌, slice_get_within, get_or_from_slice_get, Litmus, KeepsAllOrder, and-right, Instr, Choice}
+use Rattle.tso_laws.proofs.Vocabulary.{is_none_pending, core_of, CoreState, State, idle, program_of, effect_of, after_choice, start, needed}
+use Rattle.tso_laws.proofs.Vocabulary.{IsExecution, state_after, commits_of, is_done, has_ended, Run, run, run_from, cases_Bool, inl, inr}
+use Rattle.tso_laws.proofs.Vocabulary.{done-at}
 use Rattle.tso_laws.proofs.Folds.{needed-is, HasEnded, HasLocations}
 use Rattle.tso_laws.proofs.MachineInvariant.{MachineInvariant, world-run, world-start}
 use Rattle.tso_laws.proofs.Final.{ended_is_tso, ended_has_registers, memory-list, keeps_all, world-needs}

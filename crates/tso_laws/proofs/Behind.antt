@@ -2,7 +2,11 @@
 use Rattle.tso_terms.specs.FlatMachine.{advanced_to}
 use Rattle.basic_laws.specs.Types.{Change}
 use Rattle.tso_terms.specs.Thread.{changed}
-use Rattle.tso_laws.proofs.EndsVocabulary.{◌≡◌, ◌<◌, ℕ, ◌+◌, zero, suc, List, [], ◌∷◌, ◌++◌, Some, slice_get, slice_set, slice_index_or, length, ◌⊎◌, arith, ap, sym, ◌∙◌, subst, refl, get_or-set_same, action_of, Litmus, entry, value_of, CoreState, State, idle, advanced, advanced_with, moved, step_of, core_of, program_of, effect_of, after_choice, applied, step, Instr, Loc, Reg, Operand, Store, Move, Entry, W, CoresExist, state_after, commits_of, steps}
+use Rattle.tso_laws.proofs.EndsVocabulary.{◌≡◌, ◌<◌, ℕ, ◌+◌, zero, suc, List, [], ◌∷◌, ◌++◌, Some, slice_get, slice_set, slice_index_or}
+use Rattle.tso_laws.proofs.EndsVocabulary.{length, ◌⊎◌, arith, ap, sym, ◌∙◌, subst, refl, get_or-set_same, action_of, Litmus, entry}
+use Rattle.tso_laws.proofs.EndsVocabulary.{value_of, CoreState, State, idle, advanced, advanced_with, moved, step_of, core_of, program_of}
+use Rattle.tso_laws.proofs.EndsVocabulary.{effect_of, after_choice, applied, step, Instr, Loc, Reg, Operand, Store, Move, Entry, W}
+use Rattle.tso_laws.proofs.EndsVocabulary.{CoresExist, state_after, commits_of, steps}
 
 -- so many register moves lead from the one core to the other
 abbrev pub Moves : List Instr → ℕ → CoreState → CoreState → Type 0
@@ -11,9 +15,18 @@ Moves p (suc n) a b =
     (i : Instr) × (change : Change) × (slice_get p a.place ≡ Some i) × (action_of i ≡ Move change)
     × Moves p n (advanced_to a (changed change a.registers)) b
 
-pub moves-more : (p : List Instr) (n : ℕ) (a b : CoreState) (i : Instr) (change : Change) → Moves p n a b → slice_get p b.place ≡ Some i → action_of i ≡ Move change
+pub moves-more : (p : List Instr) (n : ℕ) (a b : CoreState) (i : Instr) (change : Change)
+    → Moves p n a b
+    → slice_get p b.place ≡ Some i
+    → action_of i ≡ Move change
     → Moves p (suc n) a (advanced_to b (changed change b.registers))
-moves-more p zero a b i change q at is = (i, change, subst (λ z. slice_get p z.place ≡ Some i) (sym q) at, is, ap (λ z. advanced_to z (changed change z.registers)) q)
+moves-more p zero a b i change q at is = (
+  i,
+  change,
+  subst (λ z. slice_get p z.place ≡ Some i) (sym q) at,
+  is,
+  ap (λ z. advanced_to z (changed change z.registers)) q,
+)
 moves-more p (suc n) a b i change m at is = (m.0, m.1, m.2, m.3, moves-more p n (advanced_to a (changed m.1 a.registers)) b i change m.4 at is)
 
 pub moves-place : (p : List Instr) (n : ℕ) (a b : CoreState) → Moves p n a b → b.place ≡ a.place + n
@@ -77,14 +90,24 @@ pub record Moved (d : ℕ) (t : Litmus) (s : State) (k n : ℕ) (b : CoreState) 
   pub none : commits_of t d s (steps k n) ≡ []
   pub state : state_after t d s (steps k n) ≡ with_core s k b
 
-pub moves-made : (d : ℕ) (t : Litmus) (k n : ℕ) (s : State) (a b : CoreState) → k < length s.cores → core_of s k ≡ a → Moves (program_of t k) n a b → Moved d t s k n b
-moves-made d t k zero s a b l e m = record { none = refl; state = ap (λ cs. record { memory = s.memory; cores = cs }) (sym (set-same s.cores k) ∙ ap (λ z. slice_set s.cores k z) (e ∙ m)) }
+pub moves-made : (d : ℕ) (t : Litmus) (k n : ℕ) (s : State) (a b : CoreState)
+    → k < length s.cores
+    → core_of s k ≡ a
+    → Moves (program_of t k) n a b
+    → Moved d t s k n b
+moves-made d t k zero s a b l e m = record {
+  none = refl;
+  state =
+      ap (λ cs. record { memory = s.memory; cores = cs }) (sym (set-same s.cores k) ∙ ap (λ z. slice_set s.cores k z) (e ∙ m));
+}
 moves-made d t k (suc n) s a b l e m =
     let next : CoreState = advanced_to a (changed m.1 a.registers) in
     let f : effect_of t d s (step k) ≡ moved a (changed m.1 a.registers) =
     ap (λ z. step_of d s.memory k (slice_get (program_of t k) z.place) z) e ∙ ap (λ i. step_of d s.memory k i a) m.2 ∙ rw m.3 refl in
     let s2 : after_choice t d s (step k) ≡ with_core s k next = ap (λ z. applied s k z) f in
-    let r = moves-made d t k n (with_core s k next) next b (let w = length-set s.cores k next in omega (arith, w, l)) (get_or-set_same s.cores k next idle l) m.4 in
+    let r =
+    moves-made d t k n (with_core s k next) next b (let w = length-set s.cores k next in omega (arith, w, l))
+    (get_or-set_same s.cores k next idle l) m.4 in
     record {
       none = ap (λ z. z.commits ++ commits_of t d (after_choice t d s (step k)) (steps k n)) f ∙ ap (λ z. commits_of t d z (steps k n)) s2 ∙ r.none;
       state = ap (λ z. state_after t d z (steps k n)) s2 ∙ r.state ∙ ap (λ cs. record { memory = s.memory; cores = cs }) (set-set s.cores k next b);

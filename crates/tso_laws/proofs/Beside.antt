@@ -1,5 +1,12 @@
 -- An eager choice beside any other choice.
-use Rattle.tso_laws.proofs.EagerVocabulary.{◌≡◌, ◌<◌, ◌≤◌, ℕ, ◌+◌, zero, suc, List, [], ◌∷◌, Bool, true, false, Option, Some, None, length, slice_get, slice_index_or, arith, ap, sym, ◌∙◌, refl, subst, inl, inr, nat_lt, if◌then◌else◌, get_or-set_same, length-set, nat_tests, action_of, location_of, Litmus, IsTest, KnownLocation, CoreState, State, Effect, idle, program_of, core_of, effect_by, step_of, drain_of, effect_of, chosen, applied, after_choice, started, start, stored, stalled, when_drained, is_none_pending, step, drain, IfSome, Reg, Loc, Instr, Action, Store, Load, Move, Fence, Lock, Entry, Choice, Step, Drain, Stall, decide, lt-or, Avoids, OthersAvoid, IsEagerBy, IsEagerStep, IsEagerDrain, IsEager, IsDead, IsSized, cases_Bool, set-get_or, no-program, no-core, ◌⊎◌}
+use Rattle.tso_laws.proofs.EagerVocabulary.{◌≡◌, ◌<◌, ◌≤◌, ℕ, ◌+◌, zero, suc, List, [], ◌∷◌, Bool, true, false, Option, Some, None, length}
+use Rattle.tso_laws.proofs.EagerVocabulary.{slice_get, slice_index_or, arith, ap, sym, ◌∙◌, refl, subst, inl, inr, nat_lt, if◌then◌else◌}
+use Rattle.tso_laws.proofs.EagerVocabulary.{get_or-set_same, length-set, nat_tests, action_of, location_of, Litmus, IsTest, KnownLocation}
+use Rattle.tso_laws.proofs.EagerVocabulary.{CoreState, State, Effect, idle, program_of, core_of, effect_by, step_of, drain_of, effect_of}
+use Rattle.tso_laws.proofs.EagerVocabulary.{chosen, applied, after_choice, started, start, stored, stalled, when_drained, is_none_pending}
+use Rattle.tso_laws.proofs.EagerVocabulary.{step, drain, IfSome, Reg, Loc, Instr, Action, Store, Load, Move, Fence, Lock, Entry, Choice}
+use Rattle.tso_laws.proofs.EagerVocabulary.{Step, Drain, Stall, decide, lt-or, Avoids, OthersAvoid, IsEagerBy, IsEagerStep, IsEagerDrain}
+use Rattle.tso_laws.proofs.EagerVocabulary.{IsEager, IsDead, IsSized, cases_Bool, set-get_or, no-program, no-core, ◌⊎◌}
 use Rattle.tso_terms.specs.declared.choice.Stall.TheVariants as stall
 use Rattle.tso_laws.proofs.Places.{length-memory}
 use Rattle.tso_laws.proofs.Avoiding.{holding}
@@ -20,7 +27,10 @@ drain-empty s q = ap (λ xs. drain_of (holding s xs)) q ∙ sym (ap (λ xs. stal
 
 pub store-full : (n : ℕ) (s : CoreState) (e : Entry) → 0 < n → n ≤ length s.pending → stored n s e ≡ stalled stall.Full s
 store-full zero s e p l = absurd (let z : ⊥ = omega (arith, p) in z)
-store-full (suc n) s e p l = elim (cases_Bool (nat_lt (length s.pending) (suc n))) [ inl q ↦ absurd (let z : ⊥ = grind (arith, nat_tests, l, q) in z) | inr q ↦ rw q refl ]
+store-full (suc n) s e p l = elim (cases_Bool (nat_lt (length s.pending) (suc n))) [
+  | inl q ↦ absurd (let z : ⊥ = grind (arith, nat_tests, l, q) in z)
+  | inr q ↦ rw q refl
+]
 
 pub stall-same : (s : State) (k : ℕ) (f : Effect) (why : Stall) → f ≡ stalled why (core_of s k) → applied s k f ≡ s
 stall-same s k f why q = ap (λ g. applied s k g) q ∙ ap (λ cs. record { memory = s.memory; cores = cs }) (set-get_or s.cores k idle)
@@ -60,12 +70,17 @@ eager-alive d t s e z h dead = go e h (eager-present d t s e z h) (dead e)
     go : (e : Choice) → IsEager d t s e → chosen e < length s.cores → after_choice t d s e ≡ s → ⊥
     go (Step k) h l q =
         let f : Effect = effect_of t d s (step k.0) in
-        let same : (core_of s k.0).place ≡ f.after.place = ap (λ z. (core_of z k.0).place) (sym q) ∙ ap (λ c. c.place) (get_or-set_same s.cores k.0 f.after idle l) in
-        let on : f.after.place ≡ (core_of s k.0).place + 1 = ap (λ i. (step_of d s.memory k.0 i (core_of s k.0)).after.place) h.stands ∙ moved-on (action_of h.next) k.0 h.eager in
+        let same : (core_of s k.0).place ≡ f.after.place =
+        ap (λ z. (core_of z k.0).place) (sym q) ∙ ap (λ c. c.place) (get_or-set_same s.cores k.0 f.after idle l) in
+        let on : f.after.place ≡ (core_of s k.0).place + 1 =
+        ap (λ i. (step_of d s.memory k.0 i (core_of s k.0)).after.place) h.stands
+        ∙ moved-on (action_of h.next) k.0 h.eager in
         let y : ⊥ = omega (arith, same, on) in y
     go (Drain k) h l q =
         let f : Effect = effect_of t d s (drain k.0) in
-        let same : length (core_of s k.0).pending ≡ length f.after.pending = ap (λ z. length (core_of z k.0).pending) (sym q) ∙ ap (λ c. length c.pending) (get_or-set_same s.cores k.0 f.after idle l) in
+        let same : length (core_of s k.0).pending ≡ length f.after.pending =
+        ap (λ z. length (core_of z k.0).pending) (sym q)
+        ∙ ap (λ c. length c.pending) (get_or-set_same s.cores k.0 f.after idle l) in
         let fewer : length f.after.pending ≡ length h.later = ap (λ z. length z.after.pending) (drain-is (core_of s k.0) h.oldest h.later h.pending) in
         let more : length (core_of s k.0).pending ≡ suc (length h.later) = ap length h.pending in
         let y : ⊥ = omega (arith, same, fewer, more) in y
@@ -85,11 +100,19 @@ sized-start t test = record { words = test.words_given; cores = go 0 t.programs 
 
 -- ---- another choice of the same core
 
-others-kept : (loads : Bool) (l d : ℕ) (t : Litmus) (s : State) (k : ℕ) (c : Choice) → chosen c ≡ k → OthersAvoid loads l t s k → OthersAvoid loads l t (after_choice t d s c) k
+others-kept : (loads : Bool) (l d : ℕ) (t : Litmus) (s : State) (k : ℕ) (c : Choice)
+    → chosen c ≡ k
+    → OthersAvoid loads l t s k
+    → OthersAvoid loads l t (after_choice t d s c) k
 others-kept loads l d t s k c q h j n = subst (λ z. Avoids loads l (program_of t j) z) (sym (core-stays d t s j c (λ y. n (sym y ∙ q)))) (h j n)
 
 -- the test gives the location of each instruction a word
-location-known : (t : Litmus) (s : State) (k i : ℕ) (x : Instr) → IsTest t → IsSized t s → k < length t.programs → slice_get (program_of t k) i ≡ Some x → KnownLocation (length s.memory) x
+location-known : (t : Litmus) (s : State) (k i : ℕ) (x : Instr)
+    → IsTest t
+    → IsSized t s
+    → k < length t.programs
+    → slice_get (program_of t k) i ≡ Some x
+    → KnownLocation (length s.memory) x
 location-known t s k i x test z l e =
     let w = z.words in
     let r = at (program_of t k) i x e in
@@ -105,7 +128,10 @@ module _ (d : ℕ) (t : Litmus) (test : IsTest t) (s : State) (sized : IsSized t
   within = let n = sized.cores in omega (arith, n, present)
 
   -- a load's location has a word
-  pub loads : (x : Instr) (reg : Reg) (loc : Loc) → slice_get (program_of t k) (core_of s k).place ≡ Some x → action_of x ≡ Load reg loc → loc.0 < length s.memory
+  pub loads : (x : Instr) (reg : Reg) (loc : Loc)
+      → slice_get (program_of t k) (core_of s k).place ≡ Some x
+      → action_of x ≡ Load reg loc
+      → loc.0 < length s.memory
   loads x reg loc at e = subst (λ a. IfSome (location_of a) (λ l. l.0 < length s.memory)) e (location-known t s k (core_of s k).place x test sized within at)
 
   -- an eager step, and the core's drain
@@ -147,13 +173,23 @@ module _ (d : ℕ) (t : Litmus) (test : IsTest t) (s : State) (sized : IsSized t
 
   -- with something pending the core's step stalls, or doesn't wait
   pub stalls-or-goes : (p : Entry) (ps : List Entry) → 0 < d → (core_of s k).pending ≡ p ∷ ps
-      → (after_choice t d s (step k) ≡ s) ⊎ ((x : Instr) × (slice_get (program_of t k) (core_of s k).place ≡ Some x) × Goes d s.memory (core_of s k) (action_of x))
+      → (after_choice t d s (step k) ≡ s)
+      ⊎ ((x : Instr)
+      × (slice_get (program_of t k) (core_of s k).place ≡ Some x)
+      × Goes d s.memory (core_of s k) (action_of x))
   stalls-or-goes p ps buffers q = go (slice_get (program_of t k) (core_of s k).place) refl
     where
       Either : Type 0
-      Either = (after_choice t d s (step k) ≡ s) ⊎ ((x : Instr) × (slice_get (program_of t k) (core_of s k).place ≡ Some x) × Goes d s.memory (core_of s k) (action_of x))
+      Either =
+          (after_choice t d s (step k) ≡ s)
+          ⊎ ((x : Instr)
+          × (slice_get (program_of t k) (core_of s k).place ≡ Some x)
+          × Goes d s.memory (core_of s k) (action_of x))
 
-      stops : (why : Stall) (x : Instr) → slice_get (program_of t k) (core_of s k).place ≡ Some x → effect_by d s.memory k (action_of x) (core_of s k) ≡ stalled why (core_of s k) → Either
+      stops : (why : Stall) (x : Instr)
+          → slice_get (program_of t k) (core_of s k).place ≡ Some x
+          → effect_by d s.memory k (action_of x) (core_of s k) ≡ stalled why (core_of s k)
+          → Either
       stops why x at e = inl (stall-same s k (effect_of t d s (step k)) why (ap (λ i. step_of d s.memory k i (core_of s k)) at ∙ e))
 
       passes : (x : Instr) (a : Action) → slice_get (program_of t k) (core_of s k).place ≡ Some x → action_of x ≡ a → Goes d s.memory (core_of s k) a → Either
@@ -167,7 +203,8 @@ module _ (d : ℕ) (t : Litmus) (test : IsTest t) (s : State) (sized : IsSized t
       by-action x (Load reg loc) at e = passes x (Load reg loc) at e (loads x reg loc at e)
       by-action x (Move change) at e = passes x (Move change) at e tt
       by-action x Fence at e = stops stall.Fence x at (ap (λ a. effect_by d s.memory k a (core_of s k)) e ∙ waits-when stall.Fence (core_of s k) _ p ps q)
-      by-action x (Lock loc reg update) at e = stops stall.Lock x at (ap (λ a. effect_by d s.memory k a (core_of s k)) e ∙ waits-when stall.Lock (core_of s k) _ p ps q)
+      by-action x (Lock loc reg update) at e =
+          stops stall.Lock x at (ap (λ a. effect_by d s.memory k a (core_of s k)) e ∙ waits-when stall.Lock (core_of s k) _ p ps q)
 
       go : (i : Option Instr) → slice_get (program_of t k) (core_of s k).place ≡ i → Either
       go None at = inl (stall-same s k (effect_of t d s (step k)) stall.Done (ap (λ i. step_of d s.memory k i (core_of s k)) at))
@@ -180,7 +217,13 @@ module _ (d : ℕ) (t : Litmus) (test : IsTest t) (s : State) (sized : IsSized t
     | inr (x, at, g) ↦
         let r = front-stepped d t s k x h.oldest h.later present at h.pending g in
         commutes (record {
-          eager = record { oldest = h.oldest; later = r.0; pending = r.1; others = others-kept true h.oldest.loc.0 d t s k (step k) refl h.others; buffered = h.buffered };
+          eager = record {
+            oldest = h.oldest;
+            later = r.0;
+            pending = r.1;
+            others = others-kept true h.oldest.loc.0 d t s k (step k) refl h.others;
+            buffered = h.buffered;
+          };
           same = sym (either-way d t s k x h.oldest h.later present at h.pending g);
         })
   ]

@@ -1,14 +1,23 @@
 -- What every choice keeps: all that is pending are plain stores, and what holds the bus still has its access to make.
-use Rattle.tso_laws.proofs.BusVocabulary.{◌≡◌, ◌≢◌, ℕ, List, [], ◌∷◌, ◌++◌, Option, Some, None, Bool, true, false, slice_get, slice_index, ap, sym, ◌∙◌, refl, inl, inr, subst, if◌then◌else◌, filter, Litmus, is_write, writes_to, CoreState, State, Effect, program_of, step_of, drain_of, effect_of, chosen, core_of, applied, start, action_of, MemoryAccess, NoAccess, Writes, Locks, load_access, access_by, step_access, drain_access, next_of, access_of, same_choice, load_part, Loc, Instr, Action, Load, Lock, Entry, Choice, Step, Drain, drain_with, HasRead, test-true, Each, each-append, each-map, starts-idle}
+use Rattle.tso_laws.proofs.BusVocabulary.{◌≡◌, ◌≢◌, ℕ, List, [], ◌∷◌, ◌++◌, Option, Some, None, Bool, true, false, slice_get, slice_index}
+use Rattle.tso_laws.proofs.BusVocabulary.{ap, sym, ◌∙◌, refl, inl, inr, subst, if◌then◌else◌, filter, Litmus, is_write, writes_to}
+use Rattle.tso_laws.proofs.BusVocabulary.{CoreState, State, Effect, program_of, step_of, drain_of, effect_of, chosen, core_of, applied}
+use Rattle.tso_laws.proofs.BusVocabulary.{start, action_of, MemoryAccess, NoAccess, Writes, Locks, load_access, access_by, step_access}
+use Rattle.tso_laws.proofs.BusVocabulary.{drain_access, next_of, access_of, same_choice, load_part, Loc, Instr, Action, Load, Lock, Entry}
+use Rattle.tso_laws.proofs.BusVocabulary.{Choice, Step, Drain, drain_with, HasRead, test-true, Each, each-append, each-map, starts-idle}
 use Rattle.tso_laws.proofs.Cores.{core-cases, memory-kept}
 use Rattle.tso_laws.proofs.Steps.{IsStore, IsPlain, StepForm, stalls, buffers, makes, pairs, step-form, choice-plain, choice-pair}
 
 abbrev pub AllStores : State → Type 0
 AllStores state = (k : ℕ) → Each (IsStore k) (core_of state k).pending
 
-step-stores : (core : ℕ) (memory : List ℕ) (i : Option Instr) (what : MemoryAccess) (s : CoreState) (f : Effect) → StepForm core memory i what s f → Each (IsStore core) s.pending → Each (IsStore core) f.after.pending
+step-stores : (core : ℕ) (memory : List ℕ) (i : Option Instr) (what : MemoryAccess) (s : CoreState) (f : Effect)
+    → StepForm core memory i what s f
+    → Each (IsStore core) s.pending
+    → Each (IsStore core) f.after.pending
 step-stores core memory i what s f (stalls w) h = subst (λ z. Each (IsStore core) z.after.pending) (sym w.is) h
-step-stores core memory i what s f (buffers w) h = subst (λ z. Each (IsStore core) z.after.pending) (sym w.is) (each-append (IsStore core) s.pending (w.store ∷ []) h (w.is_store, tt))
+step-stores core memory i what s f (buffers w) h =
+    subst (λ z. Each (IsStore core) z.after.pending) (sym w.is) (each-append (IsStore core) s.pending (w.store ∷ []) h (w.is_store, tt))
 step-stores core memory i what s f (makes w) h = subst (λ z. Each (IsStore core) z) (sym w.pending) h
 step-stores core memory i what s f (pairs loc q w) h = subst (λ z. Each (IsStore core) z) (sym w.pending) h
 
@@ -17,12 +26,16 @@ drain-stores core s [] e h = h
 drain-stores core s (p ∷ ps) e h = (subst (λ z. Each (IsStore core) z) e h).1
 
 effect-stores : (t : Litmus) (depth : ℕ) (state : State) (a : Choice) → AllStores state → Each (IsStore (chosen a)) (effect_of t depth state a).after.pending
-effect-stores t depth state (Step c) h = step-stores c.0 state.memory (next_of t state c.0) _ (core_of state c.0) _ (step-form depth c.0 state.memory (next_of t state c.0) (core_of state c.0)) (h c.0)
+effect-stores t depth state (Step c) h =
+    step-stores c.0 state.memory (next_of t state c.0) _ (core_of state c.0) _
+    (step-form depth c.0 state.memory (next_of t state c.0) (core_of state c.0)) (h c.0)
 effect-stores t depth state (Drain c) h = drain-stores c.0 (core_of state c.0) (core_of state c.0).pending refl (h c.0)
 
 pub choice-stores : (t : Litmus) (depth : ℕ) (state : State) (a : Choice) → AllStores state → AllStores (applied state (chosen a) (effect_of t depth state a))
 choice-stores t depth state a h k = elim (core-cases state (chosen a) k (effect_of t depth state a)) [
-  | inl w ↦ subst (λ z. Each (IsStore k) z.pending) (sym w.2) (subst (λ z. Each (IsStore z) (effect_of t depth state a).after.pending) (sym w.0) (effect-stores t depth state a h))
+  | inl w ↦
+      subst (λ z. Each (IsStore k) z.pending) (sym w.2)
+      (subst (λ z. Each (IsStore z) (effect_of t depth state a).after.pending) (sym w.0) (effect-stores t depth state a h))
   | inr w ↦ subst (λ z. Each (IsStore k) z.pending) (sym w) (h k)
 ]
 
@@ -41,7 +54,9 @@ load-drained loc y ys = go (writes_to loc.0 y)
     go true n = absurd (n refl)
     go false n = refl
 
-step-drained : (depth : ℕ) (i : Option Instr) (y : Entry) (ys : List Entry) → step_access depth i (y ∷ ys) ≢ NoAccess → step_access depth i ys ≡ step_access depth i (y ∷ ys)
+step-drained : (depth : ℕ) (i : Option Instr) (y : Entry) (ys : List Entry)
+    → step_access depth i (y ∷ ys) ≢ NoAccess
+    → step_access depth i ys ≡ step_access depth i (y ∷ ys)
 step-drained depth None y ys n = refl
 step-drained depth (Some x) y ys n = by_action (action_of x) n
   where
@@ -54,7 +69,10 @@ step-drained depth (Some x) y ys n = by_action (action_of x) n
 abbrev step_in : Litmus → ℕ → ℕ → CoreState → MemoryAccess
 step_in t depth core s = step_access depth (slice_get (program_of t core) s.place) s.pending
 
-after-drain : (t : Litmus) (depth core : ℕ) (s : CoreState) (q : List Entry) → s.pending ≡ q → step_in t depth core s ≢ NoAccess → step_in t depth core (drain_with s q).after ≡ step_in t depth core s
+after-drain : (t : Litmus) (depth core : ℕ) (s : CoreState) (q : List Entry)
+    → s.pending ≡ q
+    → step_in t depth core s ≢ NoAccess
+    → step_in t depth core (drain_with s q).after ≡ step_in t depth core s
 after-drain t depth core s [] e n = refl
 after-drain t depth core s (y ∷ ys) e n =
     let i : Option Instr = slice_get (program_of t core) s.place in
@@ -65,7 +83,9 @@ drain-longer : (q : List Entry) (e : Entry) → drain_access q ≢ NoAccess → 
 drain-longer [] e n = absurd (n refl)
 drain-longer (p ∷ ps) e n = refl
 
-after-step : (core : ℕ) (memory : List ℕ) (i : Option Instr) (what : MemoryAccess) (s : CoreState) (f : Effect) → StepForm core memory i what s f → drain_access s.pending ≢ NoAccess
+after-step : (core : ℕ) (memory : List ℕ) (i : Option Instr) (what : MemoryAccess) (s : CoreState) (f : Effect)
+    → StepForm core memory i what s f
+    → drain_access s.pending ≢ NoAccess
     → drain_access f.after.pending ≡ drain_access s.pending
 after-step core memory i what s f (stalls w) n = ap (λ z. drain_access z.after.pending) w.is
 after-step core memory i what s f (buffers w) n = ap (λ z. drain_access z.after.pending) w.is ∙ drain-longer s.pending w.store n
@@ -94,7 +114,8 @@ access-kept t depth state (Step c) (Drain d) n h =
 access-kept t depth state (Drain c) (Step d) n h =
     elim (core-cases state d.0 c.0 (effect_of t depth state (Step d))) [
       | inl w ↦ ap (λ s. drain_access s.pending) (w.2 ∙ ap (λ k. (step_of depth state.memory k (next_of t state k) (core_of state k)).after) (sym w.0))
-          ∙ after-step c.0 state.memory (next_of t state c.0) _ (core_of state c.0) _ (step-form depth c.0 state.memory (next_of t state c.0) (core_of state c.0)) n
+          ∙ after-step c.0 state.memory (next_of t state c.0) _ (core_of state c.0) _
+          (step-form depth c.0 state.memory (next_of t state c.0) (core_of state c.0)) n
       | inr w ↦ ap (λ s. drain_access s.pending) w
     ]
 
@@ -109,7 +130,10 @@ pub reader-empty : (t : Litmus) (depth : ℕ) (state : State) (e : Entry) → Ha
 reader-empty t depth state e r = (choice-pair t depth state e.core.0 e.loc r.access).empty
 
 -- a drain of it finds nothing
-drained : (t : Litmus) (depth : ℕ) (state : State) (e : Entry) (core : ℕ) → HasRead t depth state e → core ≡ e.core.0 → drain_of (core_of state core) ≡ drain_with (core_of state core) []
+drained : (t : Litmus) (depth : ℕ) (state : State) (e : Entry) (core : ℕ)
+    → HasRead t depth state e
+    → core ≡ e.core.0
+    → drain_of (core_of state core) ≡ drain_with (core_of state core) []
 drained t depth state e core r q = ap (λ p. drain_with (core_of state core) p) (ap (λ k. (core_of state k).pending) q ∙ reader-empty t depth state e r)
 
 reader-kept : (t : Litmus) (depth : ℕ) (state : State) (e : Entry) (b : Choice) → HasRead t depth state e → same_choice (Step e.core) b ≡ false
@@ -126,7 +150,10 @@ reader-kept t depth state e (Drain d) r h =
     ]
 
 -- another choice that writes nothing to its location
-pub reading-kept : (t : Litmus) (depth : ℕ) (state : State) (e : Entry) (b : Choice) → AllStores state → HasRead t depth state e → same_choice (Step e.core) b ≡ false
+pub reading-kept : (t : Litmus) (depth : ℕ) (state : State) (e : Entry) (b : Choice)
+    → AllStores state
+    → HasRead t depth state e
+    → same_choice (Step e.core) b ≡ false
     → ((l : Loc) → access_of t depth state b ≢ Locks l) → ((l : Loc) → access_of t depth state b ≡ Writes l → l.0 ≢ e.loc.0)
     → HasRead t depth (applied state (chosen b) (effect_of t depth state b)) e
 reading-kept t depth state e b stores r h n w =

@@ -1,5 +1,6 @@
 -- Registers with 0 in those that are dead, and what is written and read of them.
-use Rattle.tso_laws.proofs.EagerVocabulary.{◌≡◌, ℕ, zero, suc, List, [], ◌∷◌, Bool, true, false, slice_set, slice_index, if◌then◌else◌, ap, refl, index_of, value_of, Operand, Number, Held, unless_read, cleared}
+use Rattle.tso_laws.proofs.EagerVocabulary.{◌≡◌, ℕ, zero, suc, List, [], ◌∷◌, Bool, true, false, slice_set, slice_index, if◌then◌else◌, ap}
+use Rattle.tso_laws.proofs.EagerVocabulary.{refl, index_of, value_of, Operand, Number, Held, unless_read, cleared}
 use Rattle.std.specs.Prelude.{◌==◌}
 use Rattle.std.proofs.Common.{◌∙◌}
 use Rattle.tso_terms.specs.Thread.{updated, combined}

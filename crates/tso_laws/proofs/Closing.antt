@@ -1,5 +1,10 @@
 -- Closed states miss none of the ended ones, but for dead registers and exchanges of cores that are alike.
-use Rattle.tso_laws.proofs.EagerVocabulary.{◌≡◌, ◌<◌, ◌⊎◌, ℕ, zero, suc, List, [], ◌∷◌, ◌++◌, Bool, true, length, inl, inr, refl, ap, sym, ◌∙◌, subst, Litmus, IsTest, State, start, chosen, after_choice, run, Choice, state_after, RunsStopWhereTheyEnd, lt-or, IsEager, IsDead, Reaches, IsSized, forgotten, AreAlike, exchanged_choice, exchanged, exchanged_by, IsOneOf, AreOf, AreAllAlike, IsExchangeable, LeadsEagerly, IsAmongStates, IsCovered, AreClosed, IsPartlyExpanded, ArePartlyClosed, IsAlikeOneOf}
+use Rattle.tso_laws.proofs.EagerVocabulary.{◌≡◌, ◌<◌, ◌⊎◌, ℕ, zero, suc, List, [], ◌∷◌, ◌++◌, Bool, true, length, inl, inr, refl, ap, sym}
+use Rattle.tso_laws.proofs.EagerVocabulary.{◌∙◌, subst, Litmus, IsTest, State, start, chosen, after_choice, run, Choice, state_after}
+use Rattle.tso_laws.proofs.EagerVocabulary.{RunsStopWhereTheyEnd, lt-or, IsEager, IsDead, Reaches, IsSized, forgotten, AreAlike}
+use Rattle.tso_laws.proofs.EagerVocabulary.{exchanged_choice, exchanged, exchanged_by, IsOneOf, AreOf, AreAllAlike, IsExchangeable}
+use Rattle.tso_laws.proofs.EagerVocabulary.{LeadsEagerly, IsAmongStates, IsCovered, AreClosed, IsPartlyExpanded, ArePartlyClosed}
+use Rattle.tso_laws.proofs.EagerVocabulary.{IsAlikeOneOf}
 use Rattle.tso_laws.proofs.Waits.{eager-first}
 use Rattle.tso_laws.proofs.Alike.{alike-after}
 use Rattle.tso_laws.proofs.EagerAlike.{eager-alike, stubborn-alike}
@@ -33,7 +38,11 @@ module _ (d : ℕ) (t : Litmus) (hidden : List (List Bool)) (pair : ℕ × ℕ) 
   reaches-one zero s last z q = ap (exchanged pair) q
   reaches-one (suc n) s last z (inl h) = inl (reaches-one n s last z h)
   reaches-one (suc n) s last z (inr (c, h)) =
-      inr (exchanged_choice pair c, subst (λ y. Reaches d t n y (exchanged pair last)) (sym (law.after d s c z.cores)) (reaches-one n (after_choice t d s c) last (sized-after d t s c z) h))
+      inr (
+        exchanged_choice pair c,
+        subst (λ y. Reaches d t n y (exchanged pair last)) (sym (law.after d s c z.cores))
+            (reaches-one n (after_choice t d s c) last (sized-after d t s c z) h),
+      )
 
 -- ---- some exchanges, one after the other
 
@@ -57,12 +66,20 @@ module _ (d : ℕ) (t : Litmus) (hidden : List (List Bool)) (pairs : List (ℕ �
   dead-by [] h last z dead = dead
   dead-by (e ∷ es) h last z dead = dead-by es h.1 (exchanged e last) (sized-one d t hidden e (law e h.0) last z) (dead-one d t hidden e (law e h.0) last z dead)
 
-  reaches-by : (es : List (ℕ × ℕ)) → AreOf pairs es → (n : ℕ) (s last : State) → IsSized t s → Reaches d t n s last → Reaches d t n (exchanged_by es s) (exchanged_by es last)
+  reaches-by : (es : List (ℕ × ℕ))
+      → AreOf pairs es
+      → (n : ℕ) (s last : State)
+      → IsSized t s
+      → Reaches d t n s last
+      → Reaches d t n (exchanged_by es s) (exchanged_by es last)
   reaches-by [] h n s last z r = r
   reaches-by (e ∷ es) h n s last z r =
       reaches-by es h.1 n (exchanged e s) (exchanged e last) (sized-one d t hidden e (law e h.0) s z) (reaches-one d t hidden e (law e h.0) n s last z r)
 
-  forgotten-by : (es : List (ℕ × ℕ)) → AreOf pairs es → (s : State) → length s.cores ≡ length t.programs → forgotten t hidden (exchanged_by es s) ≡ exchanged_by es (forgotten t hidden s)
+  forgotten-by : (es : List (ℕ × ℕ))
+      → AreOf pairs es
+      → (s : State) → length s.cores ≡ length t.programs
+      → forgotten t hidden (exchanged_by es s) ≡ exchanged_by es (forgotten t hidden s)
   forgotten-by [] h s n = refl
   forgotten-by (e ∷ es) h s n = forgotten-by es h.1 (exchanged e s) (cores-exchanged e s ∙ n) ∙ ap (exchanged_by es) ((law e h.0).dead s n)
 
@@ -76,7 +93,13 @@ module _ (d : ℕ) (t : Litmus) (hidden : List (List Bool)) (pairs : List (ℕ �
 -- ---- the states of a closed list
 
 module _ (d : ℕ) (t : Litmus) (test : IsTest t) where
-  eager-one : (last : State) → IsDead d t last → (n : ℕ) (s : State) (e : Choice) → IsSized t s → IsEager d t s e → Reaches d t n s last → Reaches d t n (after_choice t d s e) last
+  eager-one : (last : State)
+      → IsDead d t last
+      → (n : ℕ) (s : State) (e : Choice)
+      → IsSized t s
+      → IsEager d t s e
+      → Reaches d t n s last
+      → Reaches d t n (after_choice t d s e) last
   eager-one last dead zero s e z h q = absurd (eager-alive d t s e z h (subst (λ y. IsDead d t y) (sym q) dead))
   eager-one last dead (suc n) s e z h r = inl (eager-first d t (beside d t test) (eager-alive d t) (sized-after d t) last dead n s e z h r)
 
@@ -102,7 +125,10 @@ module _ (d : ℕ) (t : Litmus) (test : IsTest t) where
 
     module _ (pairs : List (ℕ × ℕ)) (all : AreAllAlike t hidden pairs) (states : List State) (closed : ArePartlyClosed d t hidden pairs states) where
       -- what exchanges make of the state is alike one of the list, so the state is too
-      unexchanged : (es : List (ℕ × ℕ)) → AreOf pairs es → (last : State) → IsAlikeOneOf t hidden pairs states (exchanged_by es last) → IsAlikeOneOf t hidden pairs states last
+      unexchanged : (es : List (ℕ × ℕ))
+          → AreOf pairs es
+          → (last : State) → IsAlikeOneOf t hidden pairs states (exchanged_by es last)
+          → IsAlikeOneOf t hidden pairs states last
       unexchanged es h last w = record {
         exchanges = es ++ w.exchanges;
         of_pairs = of-append pairs es w.exchanges h w.of_pairs;
@@ -113,14 +139,27 @@ module _ (d : ℕ) (t : Litmus) (test : IsTest t) where
 
       -- that a state of the list stands for each that differs from it in dead registers alone
       abbrev StandsFor : ℕ → Type 0
-      StandsFor n = (last : State) → IsDead d t last → (s u : State) → IsAmongStates states s → IsSized t u → AreAlike t hidden s u → Reaches d t n u last → IsAlikeOneOf t hidden pairs states last
+      StandsFor n =
+          (last : State) → IsDead d t last
+          → (s u : State) → IsAmongStates states s
+          → IsSized t u
+          → AreAlike t hidden s u
+          → Reaches d t n u last
+          → IsAlikeOneOf t hidden pairs states last
 
       -- so does one that is in the list once cores are exchanged
-      turned : (n : ℕ) → StandsFor n → (last : State) → IsDead d t last → (s : State) (es : List (ℕ × ℕ)) → AreOf pairs es → IsAmongStates states (exchanged_by es (forgotten t hidden s)) → Follows last n s
+      turned : (n : ℕ)
+          → StandsFor n
+          → (last : State) → IsDead d t last
+          → (s : State) (es : List (ℕ × ℕ))
+          → AreOf pairs es
+          → IsAmongStates states (exchanged_by es (forgotten t hidden s))
+          → Follows last n s
           → IsAlikeOneOf t hidden pairs states last
       turned n later last dead s es h m f =
           let there = reaches-sized d t n f.real last f.sized f.reaches in
-          let n2 : length (forgotten t hidden s).cores ≡ length t.programs = length-forgotten t hidden 0 s.cores ∙ sized-alike d t hidden pairs all s f.real f.alike f.sized.cores in
+          let n2 : length (forgotten t hidden s).cores ≡ length t.programs =
+          length-forgotten t hidden 0 s.cores ∙ sized-alike d t hidden pairs all s f.real f.alike f.sized.cores in
           unexchanged es h last
           (later (exchanged_by es last) (dead-by d t hidden pairs all es h last there dead) (exchanged_by es (forgotten t hidden s)) (exchanged_by es f.real) m
           (sized-by d t hidden pairs all es h f.real f.sized)
@@ -128,8 +167,16 @@ module _ (d : ℕ) (t : Litmus) (test : IsTest t) where
           (reaches-by d t hidden pairs all es h n f.real last f.sized f.reaches))
 
       -- one choice, and then what is left of the way
-      taken : (n : ℕ) → StandsFor n → (last : State) → IsDead d t last → (s u : State) → IsAmongStates states s → IsSized t u → AreAlike t hidden s u → (c : Choice) → Reaches d t n (after_choice t d u c) last
-          → (chosen c < length t.programs → (after_choice t d s c ≡ s) ⊎ IsCovered d t hidden pairs states (after_choice t d s c)) → IsAlikeOneOf t hidden pairs states last
+      taken : (n : ℕ)
+          → StandsFor n
+          → (last : State) → IsDead d t last
+          → (s u : State) → IsAmongStates states s
+          → IsSized t u
+          → AreAlike t hidden s u
+          → (c : Choice) → Reaches d t n (after_choice t d u c) last
+          → (chosen c < length t.programs
+          → (after_choice t d s c ≡ s) ⊎ IsCovered d t hidden pairs states (after_choice t d s c))
+          → IsAlikeOneOf t hidden pairs states last
       taken n later last dead s u m z a c h each =
           let after = alike-after t hidden s u a d c in
           let sized = sized-after d t u c z in
@@ -139,7 +186,12 @@ module _ (d : ℕ) (t : Litmus) (test : IsTest t) where
               | inl q ↦ later last dead s (after_choice t d u c) m sized (subst (λ y. AreAlike t hidden y (after_choice t d u c)) q after) h
               | inr v ↦
                   turned n later last dead v.last v.exchanges v.of_pairs v.among
-                  (along last dead n (after_choice t d s c) v.last v.eager v.leads (record { real = after_choice t d u c; sized = sized; alike = after; reaches = h }))
+                  (along last dead n (after_choice t d s c) v.last v.eager v.leads (record {
+                    real = after_choice t d u c;
+                    sized = sized;
+                    alike = after;
+                    reaches = h;
+                  }))
             ]
           ]
 
@@ -164,14 +216,24 @@ module _ (d : ℕ) (t : Litmus) (test : IsTest t) where
           turned n (within n) last dead f.last f.exchanges f.of_pairs f.among
           (along last dead n (start t) f.last f.eager f.leads (record { real = start t; sized = sized-start t test; alike = refl; reaches = h }))
 
-pub partly-miss-none : RunsStopWhereTheyEnd → (d : ℕ) (t : Litmus) (hidden : List (List Bool)) (pairs : List (ℕ × ℕ)) (states : List State) (choices : List Choice) → IsTest t
-    → AreAllAlike t hidden pairs → ArePartlyClosed d t hidden pairs states → (run t d choices).ended ≡ true → IsAlikeOneOf t hidden pairs states (run t d choices).state
+pub partly-miss-none : RunsStopWhereTheyEnd
+    → (d : ℕ) (t : Litmus) (hidden : List (List Bool)) (pairs : List (ℕ × ℕ)) (states : List State) (choices : List Choice)
+    → IsTest t
+    → AreAllAlike t hidden pairs
+    → ArePartlyClosed d t hidden pairs states
+    → (run t d choices).ended ≡ true
+    → IsAlikeOneOf t hidden pairs states (run t d choices).state
 partly-miss-none law d t hidden pairs states choices test all closed e =
     let r : State = (run t d choices).state in
     from-start d t test hidden pairs all states closed r (λ c. (law.nothing_more t d choices c e).same) (length choices)
     (subst (λ y. Reaches d t (length choices) (start t) y) (sym (law.stops t d choices).all_state) (reaches-after d t (start t) choices))
 
-pub miss-none : RunsStopWhereTheyEnd → (d : ℕ) (t : Litmus) (hidden : List (List Bool)) (pairs : List (ℕ × ℕ)) (states : List State) (choices : List Choice) → IsTest t
-    → AreAllAlike t hidden pairs → AreClosed d t hidden pairs states → (run t d choices).ended ≡ true → IsAlikeOneOf t hidden pairs states (run t d choices).state
+pub miss-none : RunsStopWhereTheyEnd
+    → (d : ℕ) (t : Litmus) (hidden : List (List Bool)) (pairs : List (ℕ × ℕ)) (states : List State) (choices : List Choice)
+    → IsTest t
+    → AreAllAlike t hidden pairs
+    → AreClosed d t hidden pairs states
+    → (run t d choices).ended ≡ true
+    → IsAlikeOneOf t hidden pairs states (run t d choices).state
 miss-none law d t hidden pairs states choices test all closed e =
     partly-miss-none law d t hidden pairs states choices test all (record { first = closed.first; each = λ s m. inl (closed.each s m) }) e

@@ -1,12 +1,20 @@
 -- The cores of a state: what an effect of one leaves of each, and when they are done.
-use Rattle.tso_laws.proofs.BusVocabulary.{◌≡◌, ◌≢◌, ◌<◌, ℕ, List, [], ◌∷◌, Bool, true, false, length, slice_get, slice_set, slice_index, None, arith, ap, sym, ◌∙◌, refl, ◌⊎◌, inl, inr, ◌==◌, if◌then◌else◌, get_or-set_same, get_or-set_other, get_or_past, set-get_or, slice_get_past, nat_tests, length-set, is_write, is_none_pending, CoreState, State, Effect, idle, core_of, memory_after, applied, is_done, Instr, Entry, Outcome, decide, lt-or, test-true, and-left, and-right, Each}
+use Rattle.tso_laws.proofs.BusVocabulary.{◌≡◌, ◌≢◌, ◌<◌, ℕ, List, [], ◌∷◌, Bool, true, false, length, slice_get, slice_set, slice_index}
+use Rattle.tso_laws.proofs.BusVocabulary.{None, arith, ap, sym, ◌∙◌, refl, ◌⊎◌, inl, inr, ◌==◌, if◌then◌else◌, get_or-set_same}
+use Rattle.tso_laws.proofs.BusVocabulary.{get_or-set_other, get_or_past, set-get_or, slice_get_past, nat_tests, length-set, is_write}
+use Rattle.tso_laws.proofs.BusVocabulary.{is_none_pending, CoreState, State, Effect, idle, core_of, memory_after, applied, is_done, Instr}
+use Rattle.tso_laws.proofs.BusVocabulary.{Entry, Outcome, decide, lt-or, test-true, and-left, and-right, Each}
 
 -- after an effect of a core, each core is as before, or is that one
-pub core-cases : (state : State) (c k : ℕ) (f : Effect) → ((k ≡ c) × (c < length state.cores) × (core_of (applied state c f) k ≡ f.after)) ⊎ (core_of (applied state c f) k ≡ core_of state k)
+pub core-cases : (state : State) (c k : ℕ) (f : Effect)
+    → ((k ≡ c) × (c < length state.cores) × (core_of (applied state c f) k ≡ f.after))
+    ⊎ (core_of (applied state c f) k ≡ core_of state k)
 core-cases state c k f = elim (decide k c) [
   | inl q ↦ elim (lt-or (length state.cores) c) [
     | inl l ↦ inl (q, l, rw q (get_or-set_same state.cores c f.after idle l))
-    | inr l ↦ inr (rw q (get_or_past (slice_set state.cores c f.after) c idle (rw (length-set state.cores c f.after) l) ∙ sym (get_or_past state.cores c idle l)))
+    | inr l ↦
+        inr (rw q (get_or_past (slice_set state.cores c f.after) c idle (rw (length-set state.cores c f.after) l)
+        ∙ sym (get_or_past state.cores c idle l)))
   ]
   | inr n ↦ inr (get_or-set_other state.cores c k f.after idle n)
 ]
@@ -19,7 +27,9 @@ pub quiet-same : (state : State) (c : ℕ) (o : Outcome) → applied state c (qu
 quiet-same state c o = ap (λ z. record { memory = state.memory; cores = z }) (set-get_or state.cores c idle)
 
 -- a word to which nothing is written stays
-pub memory-kept : (es : List Entry) (memory : List ℕ) (l : ℕ) → Each (λ e. is_write e ≡ true → l ≢ e.loc.0) es → slice_index (memory_after es memory) l ≡ slice_index memory l
+pub memory-kept : (es : List Entry) (memory : List ℕ) (l : ℕ)
+    → Each (λ e. is_write e ≡ true → l ≢ e.loc.0) es
+    → slice_index (memory_after es memory) l ≡ slice_index memory l
 memory-kept [] memory l h = refl
 memory-kept (e ∷ es) memory l h = memory-kept es (if is_write e then slice_set memory e.loc.0 e.value else memory) l h.1 ∙ first (is_write e) refl
   where

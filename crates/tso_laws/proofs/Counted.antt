@@ -1,5 +1,10 @@
 -- A run on either bus, and the flat machine's run that follows it, choice by choice: what both use, stall and leave over.
-use Rattle.tso_laws.proofs.BusVocabulary.{◌≡◌, ◌<◌, ℕ, ◌+◌, Bool, true, false, if◌then◌else◌, List, [], ◌∷◌, ◌++◌, length, take, arith, ap, sym, ◌∙◌, refl, subst, append_assoc, append-nil, Litmus, State, effect_of, after_choice, chosen, applied, Run, has_ended, stall_count, then_run, run_from, CoresExist, Holder, Free, Attempt, BusState, BusRun, effect_on, after_on, resting_on, then_on, run_on_from, choices_in, HitsFit, put_together, Bus, Choice, state_after, commits_of, HolderFits, waiting, made_for_bus, wait_for_bus}
+use Rattle.tso_laws.proofs.BusVocabulary.{◌≡◌, ◌<◌, ℕ, ◌+◌, Bool, true, false, if◌then◌else◌, List, [], ◌∷◌, ◌++◌, length, take, arith, ap}
+use Rattle.tso_laws.proofs.BusVocabulary.{sym, ◌∙◌, refl, subst, append_assoc, append-nil, Litmus, State, effect_of, after_choice, chosen}
+use Rattle.tso_laws.proofs.BusVocabulary.{applied, Run, has_ended, stall_count, then_run, run_from, CoresExist, Holder, Free, Attempt}
+use Rattle.tso_laws.proofs.BusVocabulary.{BusState, BusRun, effect_on, after_on, resting_on, then_on, run_on_from, choices_in, HitsFit}
+use Rattle.tso_laws.proofs.BusVocabulary.{put_together, Bus, Choice, state_after, commits_of, HolderFits, waiting, made_for_bus}
+use Rattle.tso_laws.proofs.BusVocabulary.{wait_for_bus}
 use Rattle.tso_laws.proofs.BusWaiting.{AllStores}
 use Rattle.tso_laws.proofs.Moving.{moved}
 use Rattle.tso_laws.proofs.Following.{Counts, for_bus, as_flat, Goes, choice-goes}
@@ -80,7 +85,9 @@ goes-on bus t depth state a rest r q g h = by_count g.choices g.counted g.now (g
           unused = ap (λ (z : Run). z.unused) same ∙ h.unused;
         }
 
-pub run-follows-from : (bus : Bus) (t : Litmus) (depth : ℕ) (state : BusState) (attempts : List Attempt) → AllStores state.flat → HolderFits bus t depth state.flat state.holder
+pub run-follows-from : (bus : Bus) (t : Litmus) (depth : ℕ) (state : BusState) (attempts : List Attempt)
+    → AllStores state.flat
+    → HolderFits bus t depth state.flat state.holder
     → HitsFit bus t depth state attempts → FollowsFrom bus t depth state attempts (run_on_from bus t depth state attempts)
 run-follows-from bus t depth state [] stores fits hits = rests bus t depth state [] (has_ended t state.flat) 0 refl
 run-follows-from bus t depth state (a ∷ rest) stores fits hits =
@@ -90,6 +97,8 @@ run-follows-from bus t depth state (a ∷ rest) stores fits hits =
     go : (b : Bool) → has_ended t state.flat ≡ b → Goes bus t depth state.flat (chosen a.choice) state.holder (effect_on bus t depth state a)
         → FollowsFrom bus t depth (after_on bus t depth state a) rest (run_on_from bus t depth (after_on bus t depth state a) rest)
         → FollowsFrom bus t depth state (a ∷ rest)
-        (if b then resting_on true state (length (a ∷ rest)) else then_on (effect_on bus t depth state a) (run_on_from bus t depth (after_on bus t depth state a) rest))
+        (if b
+        then resting_on true state (length (a ∷ rest))
+        else then_on (effect_on bus t depth state a) (run_on_from bus t depth (after_on bus t depth state a) rest))
     go true q g h = rests bus t depth state (a ∷ rest) true (length (a ∷ rest)) q
     go false q g h = goes-on bus t depth state a rest (run_on_from bus t depth (after_on bus t depth state a) rest) q g h

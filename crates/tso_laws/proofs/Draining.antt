@@ -1,5 +1,6 @@
 -- What waits until nothing is pending, and drains, by cases.
-use Rattle.tso_laws.proofs.Vocabulary.{◌≡◌, List, [], ◌∷◌, take, drop, if◌then◌else◌, refl, CoreState, Effect, is_none_pending, stalled, when_drained, drain_of, Entry, Stall, Committed}
+use Rattle.tso_laws.proofs.Vocabulary.{◌≡◌, List, [], ◌∷◌, take, drop, if◌then◌else◌, refl, CoreState, Effect, is_none_pending, stalled}
+use Rattle.tso_laws.proofs.Vocabulary.{when_drained, drain_of, Entry, Stall, Committed}
 use Rattle.tso_terms.specs.declared.choice.Stall.TheVariants as stall
 
 pub waits-or-acts : (P : Effect → Type 0) (why : Stall) (s : CoreState) (f : Effect) → (s.pending ≡ [] → P f) → P (stalled why s) → P (when_drained why s f)
@@ -17,7 +18,9 @@ pub drains : (P : Effect → Type 0) (s : CoreState) → P (stalled stall.Empty 
     → ((x : Entry) (xs : List Entry) → s.pending ≡ x ∷ xs → P (record { outcome = Committed; after = without s xs; commits = x ∷ [] })) → P (drain_of s)
 drains P s none some = go s.pending refl
   where
-    go : (q : List Entry) → s.pending ≡ q → P (if is_none_pending q then stalled stall.Empty s else record { outcome = Committed; after = without s (drop 1 q); commits = take 1 q })
+    go : (q : List Entry)
+        → s.pending ≡ q
+        → P (if is_none_pending q then stalled stall.Empty s else record { outcome = Committed; after = without s (drop 1 q); commits = take 1 q })
     go [] e = none
     go (x ∷ xs) e = some x xs e
 

@@ -1,6 +1,10 @@
 -- A choice is eager by places, pending stores and programs alone: so it is in each of two states that differ in dead registers. And so is a
 -- set of choices stubborn.
-use Rattle.tso_laws.proofs.EagerVocabulary.{◌≡◌, ◌<◌, ℕ, List, Bool, true, false, length, slice_get, arith, ap, sym, ◌∙◌, subst, action_of, Litmus, CoreState, State, program_of, core_of, Instr, Action, Store, Load, Move, Fence, Lock, Choice, Step, Drain, Avoids, OthersAvoid, IsEagerBy, IsEager, hidden_of, AreAlike, ◌≤◌, inl, inr, ChoiceSet, has_step, has_drain, IsHeldBack, away, by_drain, by_step, OthersAreHeldBack, IsApartBy, IsStubborn}
+use Rattle.tso_laws.proofs.EagerVocabulary.{◌≡◌, ◌<◌, ℕ, List, Bool, true, false, length, slice_get, arith, ap, sym, ◌∙◌, subst, action_of}
+use Rattle.tso_laws.proofs.EagerVocabulary.{Litmus, CoreState, State, program_of, core_of, Instr, Action, Store, Load, Move, Fence, Lock}
+use Rattle.tso_laws.proofs.EagerVocabulary.{Choice, Step, Drain, Avoids, OthersAvoid, IsEagerBy, IsEager, hidden_of, AreAlike, ◌≤◌, inl}
+use Rattle.tso_laws.proofs.EagerVocabulary.{inr, ChoiceSet, has_step, has_drain, IsHeldBack, away, by_drain, by_step, OthersAreHeldBack}
+use Rattle.tso_laws.proofs.EagerVocabulary.{IsApartBy, IsStubborn}
 use Rattle.tso_laws.proofs.Alike.{place-same, pending-same, cores-alike}
 
 avoids-same : (loads : Bool) (l : ℕ) (p : List Instr) (s r : CoreState) → s.place ≡ r.place → s.pending ≡ r.pending → Avoids loads l p s → Avoids loads l p r
@@ -41,7 +45,9 @@ module _ (t : Litmus) (hidden : List (List Bool)) (s r : State) (h : AreAlike t 
   }
 
   module _ (d : ℕ) (set : ChoiceSet) where
-    held-same : (loads : Bool) (l j : ℕ) → IsHeldBack d loads l (program_of t j) (core_of s j) (has_step set j) (has_drain set j) → IsHeldBack d loads l (program_of t j) (core_of r j) (has_step set j) (has_drain set j)
+    held-same : (loads : Bool) (l j : ℕ)
+        → IsHeldBack d loads l (program_of t j) (core_of s j) (has_step set j) (has_drain set j)
+        → IsHeldBack d loads l (program_of t j) (core_of r j) (has_step set j) (has_drain set j)
     held-same loads l j (away v) = away (avoids-same loads l (program_of t j) (core_of s j) (core_of r j) (place j) (pending j) v)
     held-same loads l j (by_drain b w q) = by_drain b (w.0, w.1, ap (λ z. slice_get z w.0) (sym (pending j)) ∙ w.2, w.3) q
     held-same loads l j (by_step w q) = by_step (λ i e at. w i e (ap (λ z. slice_get z i) (pending j) ∙ at)) q

@@ -1,5 +1,11 @@
 -- What a choice outside a stubborn set does beside a location that a choice of the set reads or writes.
-use Rattle.tso_laws.proofs.EagerVocabulary.{◌≡◌, ◌≢◌, ◌<◌, ℕ, zero, suc, List, [], ◌∷◌, ◌++◌, Bool, true, false, Option, None, Some, length, slice_get, slice_index, arith, ap, sym, ◌∙◌, refl, subst, nat_lt, inl, inr, if◌then◌else◌, filter, action_of, Litmus, last_value, writes_to, entry, value_of, CoreState, State, program_of, core_of, effect_by, step_of, drain_of, effect_of, chosen, loaded, stalled, R, W, Instr, Action, Store, Load, Move, Fence, Lock, Entry, Choice, Step, Drain, step, meets, Avoids, ChoiceSet, has_step, has_drain, has_choice, HasPending, HasNonePending, IsHeldBack, away, by_drain, by_step, decide}
+use Rattle.tso_laws.proofs.EagerVocabulary.{◌≡◌, ◌≢◌, ◌<◌, ℕ, zero, suc, List, [], ◌∷◌, ◌++◌, Bool, true, false, Option, None, Some, length}
+use Rattle.tso_laws.proofs.EagerVocabulary.{slice_get, slice_index, arith, ap, sym, ◌∙◌, refl, subst, nat_lt, inl, inr, if◌then◌else◌}
+use Rattle.tso_laws.proofs.EagerVocabulary.{filter, action_of, Litmus, last_value, writes_to, entry, value_of, CoreState, State, program_of}
+use Rattle.tso_laws.proofs.EagerVocabulary.{core_of, effect_by, step_of, drain_of, effect_of, chosen, loaded, stalled, R, W, Instr, Action}
+use Rattle.tso_laws.proofs.EagerVocabulary.{Store, Load, Move, Fence, Lock, Entry, Choice, Step, Drain, step, meets, Avoids, ChoiceSet}
+use Rattle.tso_laws.proofs.EagerVocabulary.{has_step, has_drain, has_choice, HasPending, HasNonePending, IsHeldBack, away, by_drain}
+use Rattle.tso_laws.proofs.EagerVocabulary.{by_step, decide}
 use Rattle.tso_terms.specs.declared.choice.Stall.TheVariants as stall
 use Rattle.tso_laws.proofs.Places.{NotAt}
 use Rattle.tso_laws.proofs.Avoiding.{buffered, by-wait, by-drain}
@@ -12,13 +18,17 @@ forwards : (l : ℕ) (es : List Entry) (v w i : ℕ) (e : Entry) → slice_get e
 forwards l [] v w i e q h = absurd (let z : ⊥ = cc in z)
 forwards l (x ∷ xs) v w zero e q h = first (writes_to l x) (let z : x ≡ e = cc in ap (writes_to l) z ∙ h)
   where
-    first : (b : Bool) → b ≡ true → last_value (if b then x ∷ filter (writes_to l) xs else filter (writes_to l) xs) v ≡ last_value (if b then x ∷ filter (writes_to l) xs else filter (writes_to l) xs) w
+    first : (b : Bool)
+        → b ≡ true
+        → last_value (if b then x ∷ filter (writes_to l) xs else filter (writes_to l) xs) v
+        ≡ last_value (if b then x ∷ filter (writes_to l) xs else filter (writes_to l) xs) w
     first true q = refl
     first false q = absurd (let z : ⊥ = cc in z)
 forwards l (x ∷ xs) v w (suc i) e q h = later (writes_to l x) (forwards l xs v w i e q h)
   where
     later : (b : Bool) → last_value (filter (writes_to l) xs) v ≡ last_value (filter (writes_to l) xs) w
-        → last_value (if b then x ∷ filter (writes_to l) xs else filter (writes_to l) xs) v ≡ last_value (if b then x ∷ filter (writes_to l) xs else filter (writes_to l) xs) w
+        → last_value (if b then x ∷ filter (writes_to l) xs else filter (writes_to l) xs) v
+        ≡ last_value (if b then x ∷ filter (writes_to l) xs else filter (writes_to l) xs) w
     later true q = refl
     later false q = q
 
@@ -59,10 +69,16 @@ module _ (l d k : ℕ) (s : CoreState) (h : HasPending l s) where
   silent-by memory (Lock loc reg update) b =
       by-wait (λ f. NotAt l f.commits) stall.Lock s _ (λ none. absurd (let r = pending-some l s h in let q = r.2 in let z : ⊥ = cc in z)) tt
 
-  same-by : (memory other : List ℕ) (a : Action) → ((m : ℕ) → m ≢ l → slice_index memory m ≡ slice_index other m) → effect_by d memory k a s ≡ effect_by d other k a s
+  same-by : (memory other : List ℕ) (a : Action)
+      → ((m : ℕ) → m ≢ l → slice_index memory m ≡ slice_index other m)
+      → effect_by d memory k a s ≡ effect_by d other k a s
   same-by memory other (Store loc operand) f = refl
   same-by memory other (Load reg loc) f = ap (λ v. loaded s reg (entry k s.place R loc v)) (elim (decide loc.0 l) [
-    | inl q ↦ subst (λ n. last_value (filter (writes_to n) s.pending) (slice_index memory n) ≡ last_value (filter (writes_to n) s.pending) (slice_index other n)) (sym q)
+    | inl q ↦
+        subst (λ n.
+        last_value (filter (writes_to n) s.pending) (slice_index memory n)
+        ≡ last_value (filter (writes_to n) s.pending) (slice_index other n))
+        (sym q)
         (forwards l s.pending (slice_index memory l) (slice_index other l) h.0 h.1 h.2 h.3)
     | inr n ↦ ap (λ w. last_value (filter (writes_to loc.0) s.pending) w) (f loc.0 n)
   ])
@@ -103,7 +119,10 @@ module _ (loads : Bool) (l d : ℕ) (t : Litmus) (set : ChoiceSet) (s : State) w
   away-passes : (c : Choice) → Avoids loads l (program_of t (chosen c)) (core_of s (chosen c)) → Passes loads l d t s c
   away-passes c v = record { writes = choice-avoids loads l d t s c v; reads = λ all z q f. go c v all z q f }
     where
-      go : (c : Choice) → Avoids loads l (program_of t (chosen c)) (core_of s (chosen c)) → loads ≡ true → (z : State) → core_of z (chosen c) ≡ core_of s (chosen c)
+      go : (c : Choice)
+          → Avoids loads l (program_of t (chosen c)) (core_of s (chosen c))
+          → loads ≡ true
+          → (z : State) → core_of z (chosen c) ≡ core_of s (chosen c)
           → ((m : ℕ) → m ≢ l → slice_index z.memory m ≡ slice_index s.memory m) → effect_of t d z c ≡ effect_of t d s c
       go (Drain j) v all z q f = ap drain_of q
       go (Step j) v all z q f = step-same d j.0 z.memory s.memory (program_of t j.0) (core_of s j.0) (core_of z j.0) q
@@ -112,7 +131,9 @@ module _ (loads : Bool) (l d : ℕ) (t : Litmus) (set : ChoiceSet) (s : State) w
   pending-passes : (j : ℕ) → 0 < d → HasPending l (core_of s j) → Passes loads l d t s (step j)
   pending-passes j b h = record {
     writes = writes (slice_get (program_of t j) (core_of s j).place);
-    reads = λ all z q f. ap (λ r. step_of d z.memory j (slice_get (program_of t j) r.place) r) q ∙ reads z.memory f (slice_get (program_of t j) (core_of s j).place);
+    reads = λ all z q f.
+        ap (λ r. step_of d z.memory j (slice_get (program_of t j) r.place) r) q
+        ∙ reads z.memory f (slice_get (program_of t j) (core_of s j).place);
   }
     where
       writes : (i : Option Instr) → NotAt l (step_of d s.memory j i (core_of s j)).commits

@@ -1,5 +1,11 @@
 -- Each choice takes something off what is left, or changes nothing, whatever the caches answer.
-use Rattle.tso_laws.proofs.BusVocabulary.{◌≡◌, ◌≢◌, ◌≤◌, ℕ, ◌+◌, suc, List, [], ◌∷◌, length, arith, ap, sym, ◌∙◌, refl, ◌⊎◌, inl, inr, subst, length-set, set-get_or, Litmus, State, Effect, idle, effect_of, chosen, core_of, program_of, applied, start, stall_count, MemoryAccess, NoAccess, Locks, access_of, Holder, Free, HeldBy, HeldBetween, Attempt, BusEffect, acts, asks, begins, load_part, reads_first, completes, as_read, after_first, writes_last, split_effect, BusState, unheld, effect_on, after_on, Bus, Atomic, Split, Loc, Entry, Choice, Step, Outcome, Committed, Asked, state_on, starts-idle, length-starts}
+use Rattle.tso_laws.proofs.BusVocabulary.{◌≡◌, ◌≢◌, ◌≤◌, ℕ, ◌+◌, suc, List, [], ◌∷◌, length, arith, ap, sym, ◌∙◌, refl, ◌⊎◌, inl, inr}
+use Rattle.tso_laws.proofs.BusVocabulary.{subst, length-set, set-get_or, Litmus, State, Effect, idle, effect_of, chosen, core_of}
+use Rattle.tso_laws.proofs.BusVocabulary.{program_of, applied, start, stall_count, MemoryAccess, NoAccess, Locks, access_of, Holder, Free}
+use Rattle.tso_laws.proofs.BusVocabulary.{HeldBy, HeldBetween, Attempt, BusEffect, acts, asks, begins, load_part, reads_first, completes}
+use Rattle.tso_laws.proofs.BusVocabulary.{as_read, after_first, writes_last, split_effect, BusState, unheld, effect_on, after_on, Bus}
+use Rattle.tso_laws.proofs.BusVocabulary.{Atomic, Split, Loc, Entry, Choice, Step, Outcome, Committed, Asked, state_on, starts-idle}
+use Rattle.tso_laws.proofs.BusVocabulary.{length-starts}
 use Rattle.tso_laws.proofs.Cores.{core-cases, quiet, quiet-same}
 use Rattle.tso_laws.proofs.BusWaiting.{access-kept}
 use Rattle.tso_laws.proofs.Following.{needs-some}
@@ -52,7 +58,9 @@ abbrev pub Does : Bus → Litmus → ℕ → State → ℕ → Holder → BusEff
 Does bus t d state c holder g = Moves bus t d state c holder g ⊎ Rests state c holder g
 
 -- an effect that takes more off than the holder changes
-paid-moves : (bus : Bus) (t : Litmus) (d : ℕ) (state : State) (c n : ℕ) (holder next : Holder) (f : Effect) → Live bus t d state holder → Paid (program_of t c) (core_of state c) (suc n) f
+paid-moves : (bus : Bus) (t : Litmus) (d : ℕ) (state : State) (c n : ℕ) (holder next : Holder) (f : Effect)
+    → Live bus t d state holder
+    → Paid (program_of t c) (core_of state c) (suc n) f
     → credit holder ≤ n + credit next → HolderWaits bus t d (applied state c f) next → Moves bus t d state c holder (acts f next)
 paid-moves bus t d state c n holder next f live w l holding = record {
   took = w.took;
@@ -64,16 +72,24 @@ paid-moves bus t d state c n holder next f live w l holding = record {
   };
 }
 
-held-on : (t : Litmus) (d : ℕ) (state : State) (a : Choice) (holder : Holder) → HolderWaits Split t d state holder → IsOther holder a → HolderWaits Split t d (applied state (chosen a) (effect_of t d state a)) holder
+held-on : (t : Litmus) (d : ℕ) (state : State) (a : Choice) (holder : Holder)
+    → HolderWaits Split t d state holder
+    → IsOther holder a
+    → HolderWaits Split t d (applied state (chosen a) (effect_of t d state a)) holder
 held-on t d state a Free h o = tt
 held-on t d state a (HeldBy choice) h o = λ q. h (sym (access-kept t d state choice a h o) ∙ q)
 held-on t d state a (HeldBetween e) h o = access-kept t d state (Step e.core) a (λ q. let z : ⊥ = cc in z) o ∙ h
 
 -- the state of the cores and memory stays
-still : (t : Litmus) (d : ℕ) (state : State) (c : ℕ) (o : Outcome) (holder : Holder) → Live Split t d state holder → Live Split t d (applied state c (quiet o (core_of state c))) holder
+still : (t : Litmus) (d : ℕ) (state : State) (c : ℕ) (o : Outcome) (holder : Holder)
+    → Live Split t d state holder
+    → Live Split t d (applied state c (quiet o (core_of state c))) holder
 still t d state c o holder live = subst (λ z. Live Split t d z holder) (sym (quiet-same state c o)) live
 
-asks-does : (t : Litmus) (d : ℕ) (state : State) (a : Choice) (holder : Holder) → Live Split t d state holder → access_of t d state a ≢ NoAccess → Does Split t d state (chosen a) holder (asks (core_of state (chosen a)) a holder)
+asks-does : (t : Litmus) (d : ℕ) (state : State) (a : Choice) (holder : Holder)
+    → Live Split t d state holder
+    → access_of t d state a ≢ NoAccess
+    → Does Split t d state (chosen a) holder (asks (core_of state (chosen a)) a holder)
 asks-does t d state a Free live n = inl (record {
   took = refl;
   less = rw (set-get_or state.cores (chosen a) idle) (omega arith);
@@ -86,11 +102,16 @@ price-some NoAccess = omega arith
 price-some _ = omega arith
 
 -- it pays at least so much
-paid-less : (t : Litmus) (state : State) (c m n : ℕ) (f : Effect) → n ≤ m → Paid (program_of t c) (core_of state c) m f → Paid (program_of t c) (core_of state c) n f
+paid-less : (t : Litmus) (state : State) (c m n : ℕ) (f : Effect)
+    → n ≤ m
+    → Paid (program_of t c) (core_of state c) m f
+    → Paid (program_of t c) (core_of state c) n f
 paid-less t state c m n f l w = record { took = w.took; less = let h = w.less in omega arith; within = w.within }
 
 -- a choice that acts as on the flat machine, and leaves the holder
-acts-does : (bus : Bus) (t : Litmus) (d : ℕ) (state : State) (a : Choice) (holder : Holder) → Live bus t d state holder → HolderWaits bus t d (applied state (chosen a) (effect_of t d state a)) holder
+acts-does : (bus : Bus) (t : Litmus) (d : ℕ) (state : State) (a : Choice) (holder : Holder)
+    → Live bus t d state holder
+    → HolderWaits bus t d (applied state (chosen a) (effect_of t d state a)) holder
     → Does bus t d state (chosen a) holder (acts (effect_of t d state a) holder)
 acts-does bus t d state a holder live holding = elim (choice-pays t d state a) [
   | inl w ↦ inl (paid-moves bus t d state (chosen a) 0 holder holder (effect_of t d state a) live
@@ -98,9 +119,13 @@ acts-does bus t d state a holder live holding = elim (choice-pays t d state a) [
   | inr w ↦ inr (rw w.is (record { stalled = refl; same = quiet-same state (chosen a) Asked; same_holder = refl; none = refl }))
 ]
 
-begins-does : (t : Litmus) (d : ℕ) (state : State) (a : Attempt) (holder : Holder) → Live Split t d state holder → IsOther holder a.choice → Does Split t d state (chosen a.choice) holder (begins t d state a holder)
+begins-does : (t : Litmus) (d : ℕ) (state : State) (a : Attempt) (holder : Holder)
+    → Live Split t d state holder
+    → IsOther holder a.choice
+    → Does Split t d state (chosen a.choice) holder (begins t d state a holder)
 begins-does t d state a holder live o =
-    begins-by (λ g. Does Split t d state (chosen a.choice) holder g) t d state a holder (λ q. asks-does t d state a.choice holder live (needs-some (access_of t d state a.choice) a.hits q))
+    begins-by (λ g. Does Split t d state (chosen a.choice) holder g) t d state a holder
+    (λ q. asks-does t d state a.choice holder live (needs-some (access_of t d state a.choice) a.hits q))
     (λ q. acts-does Split t d state a.choice holder live (held-on t d state a.choice holder live.holding o))
 
 reads-moves : (t : Litmus) (d : ℕ) (state : State) (c : Core) (loc : Loc) → Live Split t d state (HeldBy (Step c)) → access_of t d state (Step c) ≡ Locks loc
@@ -112,12 +137,16 @@ reads-moves t d state c loc live q = record {
 }
 
 -- the holder's next choice takes effect
-pub completes-moves : (t : Litmus) (d : ℕ) (state : State) (a : Choice) → Live Split t d state (HeldBy a) → Moves Split t d state (chosen a) (HeldBy a) (completes t d state a (access_of t d state a))
+pub completes-moves : (t : Litmus) (d : ℕ) (state : State) (a : Choice)
+    → Live Split t d state (HeldBy a)
+    → Moves Split t d state (chosen a) (HeldBy a) (completes t d state a (access_of t d state a))
 completes-moves t d state a live =
     completes-by (λ c g. Live Split t d state (HeldBy c) → Moves Split t d state (chosen c) (HeldBy c) g) t d state a
     (λ n live. (
     paid-moves Split t d state (chosen a) 1 (HeldBy a) Free (effect_of t d state a) live
-    (paid-less t state (chosen a) (price (access_of t d state a)) 2 (effect_of t d state a) (price-access (access_of t d state a) live.holding) (access-pays t d state a live.holding)) (omega arith) tt
+    (paid-less t state (chosen a) (price (access_of t d state a)) 2 (effect_of t d state a)
+    (price-access (access_of t d state a) live.holding) (access-pays t d state a live.holding))
+    (omega arith) tt
     )) (λ core loc q live. reads-moves t d state core loc live q) live
 
 -- a locked instruction that has read pays for all its choices as it writes
@@ -125,15 +154,22 @@ pub writes-pay : (t : Litmus) (d : ℕ) (state : State) (e : Entry) → access_o
     → Paid (program_of t e.core.0) (core_of state e.core.0) 3 (after_first (effect_of t d (as_read state e) (Step e.core)))
 writes-pay t d state e q =
     let f : Effect = effect_of t d (as_read state e) (Step e.core) in
-    let w : Paid (program_of t e.core.0) (core_of state e.core.0) (price (access_of t d state (Step e.core))) f = access-pays t d (as_read state e) (Step e.core) (λ h. let z : ⊥ = cc in z) in
+    let w : Paid (program_of t e.core.0) (core_of state e.core.0) (price (access_of t d state (Step e.core))) f =
+    access-pays t d (as_read state e) (Step e.core) (λ h. let z : ⊥ = cc in z) in
     let n : price (access_of t d state (Step e.core)) ≡ 3 = ap price q in
     record { took = w.took; less = let l = w.less in omega arith; within = w.within }
 
-pub writes-moves : (t : Litmus) (d : ℕ) (state : State) (e : Entry) → Live Split t d state (HeldBetween e) → Moves Split t d state e.core.0 (HeldBetween e) (writes_last t d state e)
+pub writes-moves : (t : Litmus) (d : ℕ) (state : State) (e : Entry)
+    → Live Split t d state (HeldBetween e)
+    → Moves Split t d state e.core.0 (HeldBetween e) (writes_last t d state e)
 writes-moves t d state e live =
-    paid-moves Split t d state e.core.0 2 (HeldBetween e) Free (after_first (effect_of t d (as_read state e) (Step e.core))) live (writes-pay t d state e live.holding) (omega arith) tt
+    paid-moves Split t d state e.core.0 2 (HeldBetween e) Free
+    (after_first (effect_of t d (as_read state e) (Step e.core))) live (writes-pay t d state e live.holding)
+    (omega arith) tt
 
-split-does : (t : Litmus) (d : ℕ) (state : State) (a : Attempt) (holder : Holder) → Live Split t d state holder → Does Split t d state (chosen a.choice) holder (split_effect t d state a holder)
+split-does : (t : Litmus) (d : ℕ) (state : State) (a : Attempt) (holder : Holder)
+    → Live Split t d state holder
+    → Does Split t d state (chosen a.choice) holder (split_effect t d state a holder)
 split-does t d state a holder live =
     split-by (λ h c g. Live Split t d state h → Does Split t d state (chosen c) h g) t d state a holder (λ h other live. begins-does t d state a h live other)
     (λ asked live. inl (completes-moves t d state asked live)) (λ e live. inl (writes-moves t d state e live)) live
@@ -141,22 +177,31 @@ split-does t d state a holder live =
 abbrev pub LiveIn : Bus → Litmus → ℕ → BusState → Type 0
 LiveIn bus t d state = Live bus t d state.flat state.holder
 
-pub choice-does : (bus : Bus) (t : Litmus) (d : ℕ) (state : BusState) (a : Attempt) → LiveIn bus t d state → Does bus t d state.flat (chosen a.choice) state.holder (effect_on bus t d state a)
+pub choice-does : (bus : Bus) (t : Litmus) (d : ℕ) (state : BusState) (a : Attempt)
+    → LiveIn bus t d state
+    → Does bus t d state.flat (chosen a.choice) state.holder (effect_on bus t d state a)
 choice-does Split t d state a live = split-does t d state.flat a state.holder live
 choice-does Atomic t d state a live = go state.holder live
   where
-    go : (holder : Holder) → Live Atomic t d state.flat holder → Does Atomic t d state.flat (chosen a.choice) holder (acts (effect_of t d state.flat a.choice) holder)
+    go : (holder : Holder)
+        → Live Atomic t d state.flat holder
+        → Does Atomic t d state.flat (chosen a.choice) holder (acts (effect_of t d state.flat a.choice) holder)
     go Free live = acts-does Atomic t d state.flat a.choice Free live tt
     go _ live = absurd live.holding
 
 -- ---- choices one after the other
 
 -- a stall leaves the whole state
-pub stays-here : (bus : Bus) (t : Litmus) (d : ℕ) (state : BusState) (a : Attempt) → Rests state.flat (chosen a.choice) state.holder (effect_on bus t d state a) → after_on bus t d state a ≡ state
+pub stays-here : (bus : Bus) (t : Litmus) (d : ℕ) (state : BusState) (a : Attempt)
+    → Rests state.flat (chosen a.choice) state.holder (effect_on bus t d state a)
+    → after_on bus t d state a ≡ state
 stays-here bus t d state a w = rw (w.same, w.same_holder) refl
 
 pub live-after : (bus : Bus) (t : Litmus) (d : ℕ) (state : BusState) (a : Attempt) → LiveIn bus t d state → LiveIn bus t d (after_on bus t d state a)
-live-after bus t d state a live = elim (choice-does bus t d state a live) [ inl m ↦ m.live | inr w ↦ subst (λ z. LiveIn bus t d z) (sym (stays-here bus t d state a w)) live ]
+live-after bus t d state a live = elim (choice-does bus t d state a live) [
+  | inl m ↦ m.live
+  | inr w ↦ subst (λ z. LiveIn bus t d z) (sym (stays-here bus t d state a w)) live
+]
 
 pub live-on : (bus : Bus) (t : Litmus) (d : ℕ) (state : BusState) (xs : List Attempt) → LiveIn bus t d state → LiveIn bus t d (state_on bus t d state xs)
 live-on bus t d state [] live = live

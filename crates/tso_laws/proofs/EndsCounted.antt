@@ -1,8 +1,12 @@
 -- All choices to an end are as many.
-use Rattle.tso_laws.proofs.EndsVocabulary.{◌≡◌, ◌<◌, ◌+◌, ℕ, List, length, arith, Litmus, Choice, instructions, stores_of_all, RunsAreCounted, RunsStopWhereTheyEnd, LeadToEnd, ChoicesToAnEndAreCounted}
+use Rattle.tso_laws.proofs.EndsVocabulary.{◌≡◌, ◌<◌, ◌+◌, ℕ, List, length, arith, Litmus, Choice, instructions, stores_of_all}
+use Rattle.tso_laws.proofs.EndsVocabulary.{RunsAreCounted, RunsStopWhereTheyEnd, LeadToEnd, ChoicesToAnEndAreCounted}
 
 module _ (count : RunsAreCounted) (stop : RunsStopWhereTheyEnd) where
-  buffered : (t : Litmus) (d : ℕ) (cs : List Choice) (r : List (List ℕ)) (m : List ℕ) → 0 < d → LeadToEnd t d cs r m → length cs ≡ instructions t.programs + stores_of_all t.programs
+  buffered : (t : Litmus) (d : ℕ) (cs : List Choice) (r : List (List ℕ)) (m : List ℕ)
+      → 0 < d
+      → LeadToEnd t d cs r m
+      → length cs ≡ instructions t.programs + stores_of_all t.programs
   buffered t d cs r m p h =
       let a = (stop.stops t d cs).count in
       let b = count.buffered t d cs p h.ended in

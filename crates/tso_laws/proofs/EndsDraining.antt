@@ -1,5 +1,10 @@
 -- What is pending is committed before the end.
-use Rattle.tso_laws.proofs.EndsVocabulary.{◌≡◌, ◌<◌, ℕ, zero, suc, Bool, true, false, List, [], ◌∷◌, ◌++◌, Option, Some, None, slice_get, length, inl, inr, ◌⊎◌, if◌then◌else◌, nat_lt, arith, sym, subst, refl, get_or-set_same, get_or-set_other, length-set, decide, Member, action_of, Litmus, CoreState, State, Effect, idle, is_none_pending, stalled, stored, when_drained, effect_by, step_of, drain_of, core_of, program_of, effect_of, chosen, after_choice, Instr, Action, Store, Load, Move, Fence, Lock, Entry, Choice, Step, Drain, Stall, state_after, commits_of}
+use Rattle.tso_laws.proofs.EndsVocabulary.{◌≡◌, ◌<◌, ℕ, zero, suc, Bool, true, false, List, [], ◌∷◌, ◌++◌, Option, Some, None, slice_get}
+use Rattle.tso_laws.proofs.EndsVocabulary.{length, inl, inr, ◌⊎◌, if◌then◌else◌, nat_lt, arith, sym, subst, refl, get_or-set_same}
+use Rattle.tso_laws.proofs.EndsVocabulary.{get_or-set_other, length-set, decide, Member, action_of, Litmus, CoreState, State, Effect, idle}
+use Rattle.tso_laws.proofs.EndsVocabulary.{is_none_pending, stalled, stored, when_drained, effect_by, step_of, drain_of, core_of}
+use Rattle.tso_laws.proofs.EndsVocabulary.{program_of, effect_of, chosen, after_choice, Instr, Action, Store, Load, Move, Fence, Lock}
+use Rattle.tso_laws.proofs.EndsVocabulary.{Entry, Choice, Step, Drain, Stall, state_after, commits_of}
 
 member-left : (e : Entry) (xs ys : List Entry) → Member e xs → Member e (xs ++ ys)
 member-left e [] ys m = absurd m
@@ -22,14 +27,19 @@ stored-lasts (suc n) s x e m = go (nat_lt (length s.pending) (suc n)) refl
     go true q = rw q (member-left e s.pending (x ∷ []) m)
     go false q = rw q m
 
-drained-lasts : (why : Stall) (s : CoreState) (f : Effect) (e : Entry) → f.after.pending ≡ s.pending → Member e s.pending → Member e (when_drained why s f).after.pending
+drained-lasts : (why : Stall) (s : CoreState) (f : Effect) (e : Entry)
+    → f.after.pending ≡ s.pending
+    → Member e s.pending
+    → Member e (when_drained why s f).after.pending
 drained-lasts why s f e q m = go (is_none_pending s.pending)
   where
     go : (b : Bool) → Member e (if b then f else stalled why s).after.pending
     go true = subst (λ z. Member e z) (sym q) m
     go false = m
 
-step-lasts : (d : ℕ) (memory : List ℕ) (k : ℕ) (i : Option Instr) (s : CoreState) (e : Entry) → Member e s.pending → Member e (step_of d memory k i s).after.pending
+step-lasts : (d : ℕ) (memory : List ℕ) (k : ℕ) (i : Option Instr) (s : CoreState) (e : Entry)
+    → Member e s.pending
+    → Member e (step_of d memory k i s).after.pending
 step-lasts d memory k None s e m = m
 step-lasts d memory k (Some i) s e m = by (action_of i)
   where

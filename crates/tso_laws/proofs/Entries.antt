@@ -1,5 +1,8 @@
 -- Orders of entries with one more in the middle, as one core sees them.
-use Rattle.tso_laws.proofs.Vocabulary.{◌≡◌, ◌<◌, ◌≤◌, ℕ, suc, List, [], ◌∷◌, ◌++◌, Bool, true, false, length, slice_index, arith, sym, ◌∙◌, append_assoc, refl, subst, ◌==◌, ◌&&◌, if◌then◌else◌, nat_tests, same_kind, is_write, is_read, is_before, may_be_passed, writes_to, is_store, is_load, is_write_kind, is_read_kind, read_value, is_at, and-true, Entry, Kind, R, LR, Each, each-insert, each-left, append-nil, cases_Bool, inl, inr}
+use Rattle.tso_laws.proofs.Vocabulary.{◌≡◌, ◌<◌, ◌≤◌, ℕ, suc, List, [], ◌∷◌, ◌++◌, Bool, true, false, length, slice_index, arith, sym, ◌∙◌}
+use Rattle.tso_laws.proofs.Vocabulary.{append_assoc, refl, subst, ◌==◌, ◌&&◌, if◌then◌else◌, nat_tests, same_kind, is_write, is_read}
+use Rattle.tso_laws.proofs.Vocabulary.{is_before, may_be_passed, writes_to, is_store, is_load, is_write_kind, is_read_kind, read_value}
+use Rattle.tso_laws.proofs.Vocabulary.{is_at, and-true, Entry, Kind, R, LR, Each, each-insert, each-left, append-nil, cases_Bool, inl, inr}
 use Rattle.tso_laws.proofs.Folds.{last_word, last_own, passed}
 
 -- where y comes after x in the order, and before it in the program of core c, y is a store and x a load
@@ -10,7 +13,11 @@ abbrev pub Ordered : ℕ → ℕ → List Entry → Type 0
 Ordered d c [] = Unit {0}
 Ordered d c (x ∷ xs) = Each (λ y. Fine d c x y) xs × Ordered d c xs
 
-pub ordered-insert : (d c : ℕ) (xs ys : List Entry) (e : Entry) → Ordered d c (xs ++ ys) → Each (λ x. Fine d c x e) xs → Each (λ y. Fine d c e y) ys → Ordered d c ((xs ++ (e ∷ [])) ++ ys)
+pub ordered-insert : (d c : ℕ) (xs ys : List Entry) (e : Entry)
+    → Ordered d c (xs ++ ys)
+    → Each (λ x. Fine d c x e) xs
+    → Each (λ y. Fine d c e y) ys
+    → Ordered d c ((xs ++ (e ∷ [])) ++ ys)
 ordered-insert d c [] ys e h a b = (b, h)
 ordered-insert d c (x ∷ xs) ys e h a b = (each-insert (λ y. Fine d c x y) xs ys e h.0 a.0, ordered-insert d c xs ys e h.1 a.1 b)
 
@@ -30,7 +37,9 @@ pub due-writes : (c : ℕ) (words : List ℕ) (front xs : List Entry) → Each (
 due-writes c words front [] h = tt
 due-writes c words front (x ∷ xs) h = (λ k r. absurd (let w : is_read x ≡ false = not_both x.kind h.0 in cc), due-writes c words (front ++ (x ∷ [])) xs h.1)
 
-pub last_own-insert : (x : Entry) (xs ys : List Entry) (e : Entry) (v : ℕ) → (writes_to x.loc.0 e && is_before e x) ≡ false → last_own x ((xs ++ (e ∷ [])) ++ ys) v ≡ last_own x (xs ++ ys) v
+pub last_own-insert : (x : Entry) (xs ys : List Entry) (e : Entry) (v : ℕ)
+    → (writes_to x.loc.0 e && is_before e x) ≡ false
+    → last_own x ((xs ++ (e ∷ [])) ++ ys) v ≡ last_own x (xs ++ ys) v
 last_own-insert x [] ys e v h = rw h refl
 last_own-insert x (y ∷ xs) ys e v h = last_own-insert x xs ys e _ h
 
@@ -72,7 +81,10 @@ count-insert-other c [] ys e h = rw h refl
 count-insert-other c (x ∷ xs) ys e h = rw (count-insert-other c xs ys e h) refl
 
 -- the value read at a place that the front has not come to is that of the entry
-pub read_value-after : (c place : ℕ) (kind : Kind) (xs ys : List Entry) (e : Entry) → Each (λ x. x.core.0 ≡ c → x.place < place) xs → is_at c place kind e ≡ true → read_value c place kind (xs ++ (e ∷ ys)) ≡ e.value
+pub read_value-after : (c place : ℕ) (kind : Kind) (xs ys : List Entry) (e : Entry)
+    → Each (λ x. x.core.0 ≡ c → x.place < place) xs
+    → is_at c place kind e ≡ true
+    → read_value c place kind (xs ++ (e ∷ ys)) ≡ e.value
 read_value-after c place kind [] ys e h r = rw r refl
 read_value-after c place kind (x ∷ xs) ys e h r =
     let n : is_at c place kind x ≡ false = other c place kind x h.0 in rw n (read_value-after c place kind xs ys e h.1 r)

@@ -1,5 +1,14 @@
 -- Two cores that are alike, exchanged: what the one did the other does.
-use Rattle.tso_laws.proofs.EagerVocabulary.{◌≡◌, ◌<◌, ◌≤◌, ℕ, ◌+◌, zero, suc, List, [], ◌∷◌, ◌++◌, Bool, true, false, Option, Some, None, length, map, slice_get, slice_set, slice_index, slice_index_or, if◌then◌else◌, inl, inr, nat_lt, arith, ap, sym, ◌∙◌, refl, subst, ◌==◌, ◌&&◌, get_or-set_same, get_or-set_other, length-set, length-map, map-append, action_of, last_value, Litmus, writes_to, entry, value_of, with_value, CoreState, State, Effect, idle, program_of, core_of, effect_by, step_of, drain_of, effect_of, chosen, applied, after_choice, memory_after, started, start, is_none_pending, stored, stalled, when_drained, is_done, has_ended, W, Instr, Loc, Action, Store, Load, Move, Fence, Lock, Entry, Choice, Step, Drain, Stall, Buffered, decide, lt-or, hidden_of, forgotten_core, forgotten_cores, forgotten, CoresAreAlike, exchanged_core, exchanged_choice, exchanged_entry, renamed, exchanged, IsExchangeable, cases_Bool, length-starts, all-done, done-at, set_past}
+use Rattle.tso_laws.proofs.EagerVocabulary.{◌≡◌, ◌<◌, ◌≤◌, ℕ, ◌+◌, zero, suc, List, [], ◌∷◌, ◌++◌, Bool, true, false, Option, Some, None}
+use Rattle.tso_laws.proofs.EagerVocabulary.{length, map, slice_get, slice_set, slice_index, slice_index_or, if◌then◌else◌, inl, inr, nat_lt}
+use Rattle.tso_laws.proofs.EagerVocabulary.{arith, ap, sym, ◌∙◌, refl, subst, ◌==◌, ◌&&◌, get_or-set_same, get_or-set_other, length-set}
+use Rattle.tso_laws.proofs.EagerVocabulary.{length-map, map-append, action_of, last_value, Litmus, writes_to, entry, value_of, with_value}
+use Rattle.tso_laws.proofs.EagerVocabulary.{CoreState, State, Effect, idle, program_of, core_of, effect_by, step_of, drain_of, effect_of}
+use Rattle.tso_laws.proofs.EagerVocabulary.{chosen, applied, after_choice, memory_after, started, start, is_none_pending, stored, stalled}
+use Rattle.tso_laws.proofs.EagerVocabulary.{when_drained, is_done, has_ended, W, Instr, Loc, Action, Store, Load, Move, Fence, Lock, Entry}
+use Rattle.tso_laws.proofs.EagerVocabulary.{Choice, Step, Drain, Stall, Buffered, decide, lt-or, hidden_of, forgotten_core, forgotten_cores}
+use Rattle.tso_laws.proofs.EagerVocabulary.{forgotten, CoresAreAlike, exchanged_core, exchanged_choice, exchanged_entry, renamed, exchanged}
+use Rattle.tso_laws.proofs.EagerVocabulary.{IsExchangeable, cases_Bool, length-starts, all-done, done-at, set_past}
 use Rattle.std.proofs.Common.{filter}
 use Rattle.tso_terms.specs.declared.choice.Stall.TheVariants as stall
 use Rattle.tso_laws.proofs.Alike.{core-at}
@@ -22,36 +31,47 @@ module _ (pair : ℕ × ℕ) where
   none-pending (e ∷ es) = refl
 
   waits : (why : Stall) (s : CoreState) (f g : Effect) → Renames pair f g → Renames pair (when_drained why s f) (when_drained why (renamed pair s) g)
-  waits why s f g h = subst (λ b. Renames pair (when_drained why s f) (if b then g else stalled why (renamed pair s))) (sym (none-pending s.pending)) (go (is_none_pending s.pending))
+  waits why s f g h =
+      subst (λ b. Renames pair (when_drained why s f) (if b then g else stalled why (renamed pair s)))
+      (sym (none-pending s.pending)) (go (is_none_pending s.pending))
     where
       go : (b : Bool) → Renames pair (if b then f else stalled why s) (if b then g else stalled why (renamed pair s))
       go true = h
       go false = stays why s
 
-  store : (d k : ℕ) (s : CoreState) (loc : Loc) (v : ℕ) → Renames pair (stored d s (entry k s.place W loc v)) (stored d (renamed pair s) (entry (exchanged_core pair k) s.place W loc v))
+  store : (d k : ℕ) (s : CoreState) (loc : Loc) (v : ℕ)
+      → Renames pair (stored d s (entry k s.place W loc v)) (stored d (renamed pair s) (entry (exchanged_core pair k) s.place W loc v))
   store zero k s loc v = record { outcome = refl; after = refl; memory = λ words. refl }
   store (suc d) k s loc v =
       let e : Entry = entry k s.place W loc v in
       let x : Entry = exchanged_entry pair e in
-      subst (λ n. Renames pair (stored (suc d) s e) (if nat_lt n (suc d) then buffered (renamed pair s) x else stalled stall.Full (renamed pair s))) (sym (length-map s.pending (exchanged_entry pair)))
+      subst (λ n.
+      Renames pair (stored (suc d) s e) (if nat_lt n (suc d) then buffered (renamed pair s) x else stalled stall.Full (renamed pair s)))
+      (sym (length-map s.pending (exchanged_entry pair)))
       (go e (nat_lt (length s.pending) (suc d)))
     where
       buffered : CoreState → Entry → Effect
       buffered r e = record { outcome = Buffered; after = record { place = r.place + 1; registers = r.registers; pending = r.pending ++ e ∷ [] }; commits = [] }
 
-      go : (e : Entry) (b : Bool) → Renames pair (if b then buffered s e else stalled stall.Full s) (if b then buffered (renamed pair s) (exchanged_entry pair e) else stalled stall.Full (renamed pair s))
+      go : (e : Entry) (b : Bool)
+          → Renames pair (if b then buffered s e else stalled stall.Full s)
+          (if b then buffered (renamed pair s) (exchanged_entry pair e) else stalled stall.Full (renamed pair s))
       go e true = record {
         outcome = refl;
-        after = ap (λ z. let r : CoreState = record { place = s.place + 1; registers = s.registers; pending = z } in r) (sym (map-append (exchanged_entry pair) s.pending (e ∷ [])));
+        after =
+            ap (λ z. let r : CoreState = record { place = s.place + 1; registers = s.registers; pending = z } in r)
+            (sym (map-append (exchanged_entry pair) s.pending (e ∷ [])));
         memory = λ words. refl;
       }
       go e false = stays stall.Full s
 
-  value-same : (loc : ℕ) (es : List Entry) (w : ℕ) → last_value (filter (writes_to loc) (map (exchanged_entry pair) es)) w ≡ last_value (filter (writes_to loc) es) w
+  value-same : (loc : ℕ) (es : List Entry) (w : ℕ)
+      → last_value (filter (writes_to loc) (map (exchanged_entry pair) es)) w ≡ last_value (filter (writes_to loc) es) w
   value-same loc [] w = refl
   value-same loc (e ∷ es) w = elim (cases_Bool (writes_to loc e)) [ inl is ↦ rw is (value-same loc es e.value) | inr is ↦ rw is (value-same loc es w) ]
 
-  by-action : (d k : ℕ) (memory : List ℕ) (a : Action) (s : CoreState) → Renames pair (effect_by d memory k a s) (effect_by d memory (exchanged_core pair k) a (renamed pair s))
+  by-action : (d k : ℕ) (memory : List ℕ) (a : Action) (s : CoreState)
+      → Renames pair (effect_by d memory k a s) (effect_by d memory (exchanged_core pair k) a (renamed pair s))
   by-action d k memory (Store loc operand) s = store d k s loc (value_of s.registers operand)
   by-action d k memory (Load reg loc) s = record {
     outcome = refl;
@@ -65,7 +85,8 @@ module _ (pair : ℕ × ℕ) where
   by-action d k memory Fence s = waits stall.Fence s _ _ (record { outcome = refl; after = refl; memory = λ words. refl })
   by-action d k memory (Lock loc reg update) s = waits stall.Lock s _ _ (record { outcome = refl; after = refl; memory = λ words. refl })
 
-  by-step : (d k : ℕ) (memory : List ℕ) (i : Option Instr) (s : CoreState) → Renames pair (step_of d memory k i s) (step_of d memory (exchanged_core pair k) i (renamed pair s))
+  by-step : (d k : ℕ) (memory : List ℕ) (i : Option Instr) (s : CoreState)
+      → Renames pair (step_of d memory k i s) (step_of d memory (exchanged_core pair k) i (renamed pair s))
   by-step d k memory None s = stays stall.Done s
   by-step d k memory (Some i) s = by-action d k memory (action_of i) s
 
@@ -91,9 +112,14 @@ same-test false false f g = refl
 
 -- ---- the first state
 
-started-at : (c : ℕ) (ps : List (List Instr)) (rs : List (List ℕ)) (k : ℕ) → k < length ps → slice_index_or (started c ps rs) k idle ≡ record { place = 0; registers = slice_index_or rs (c + k) []; pending = [] }
+started-at : (c : ℕ) (ps : List (List Instr)) (rs : List (List ℕ)) (k : ℕ)
+    → k < length ps
+    → slice_index_or (started c ps rs) k idle
+    ≡ record { place = 0; registers = slice_index_or rs (c + k) []; pending = [] }
 started-at c [] rs k l = absurd (let z : ⊥ = omega (arith, l) in z)
-started-at c (p ∷ ps) rs zero l = let q : c ≡ c + 0 = omega arith in ap (λ z. let s : CoreState = record { place = 0; registers = slice_index_or rs z []; pending = [] } in s) q
+started-at c (p ∷ ps) rs zero l =
+    let q : c ≡ c + 0 = omega arith in
+    ap (λ z. let s : CoreState = record { place = 0; registers = slice_index_or rs z []; pending = [] } in s) q
 started-at c (p ∷ ps) rs (suc k) l =
     let q : (c + 1) + k ≡ c + suc k = omega arith in
     started-at (c + 1) ps rs k (omega (arith, l)) ∙ ap (λ z. let s : CoreState = record { place = 0; registers = slice_index_or rs z []; pending = [] } in s) q
@@ -128,7 +154,9 @@ module _ (t : Litmus) (hidden : List (List Bool)) (pair : ℕ × ℕ) (h : Cores
     effect d (Step k) =
         let x : ℕ = exchanged_core pair k.0 in
         subst (λ z. Renames pair (effect_of t d s (Step k)) (step_of d s.memory x (slice_get (program_of t x) z.place) z)) (sym (its-core k.0))
-        (subst (λ p. Renames pair (effect_of t d s (Step k)) (step_of d s.memory x (slice_get p (core_of s k.0).place) (renamed pair (core_of s k.0)))) (sym (program-same k.0))
+        (subst (λ p.
+        Renames pair (effect_of t d s (Step k)) (step_of d s.memory x (slice_get p (core_of s k.0).place) (renamed pair (core_of s k.0))))
+        (sym (program-same k.0))
         (by-step pair d k.0 s.memory (slice_get (program_of t k.0) (core_of s k.0).place) (core_of s k.0)))
     effect d (Drain k) = subst (λ z. Renames pair (effect_of t d s (Drain k)) (drain_of z)) (sym (its-core k.0)) (by-drain pair (core_of s k.0))
 
@@ -159,7 +187,11 @@ module _ (t : Litmus) (hidden : List (List Bool)) (pair : ℕ × ℕ) (h : Cores
             ∙ ap (λ z. (exchanged pair (let r : State = record { memory = s.memory; cores = z } in r)).cores) (sym (set_past s.cores m f.after l))
 
         within : m < length s.cores → slice_set (exchanged pair s).cores (exchanged_core pair m) g.after ≡ (exchanged pair changed).cores
-        within l = same-cores _ _ (length-set (exchanged pair s).cores (exchanged_core pair m) g.after ∙ n ∙ sym (cores-exchanged pair changed ∙ changed-sized)) each
+        within l =
+            same-cores _ _ (length-set (exchanged pair s).cores (exchanged_core pair m) g.after
+            ∙ n
+            ∙ sym (cores-exchanged pair changed ∙ changed-sized))
+            each
           where
             x : ℕ
             x = exchanged_core pair m
@@ -172,13 +204,17 @@ module _ (t : Litmus) (hidden : List (List Bool)) (pair : ℕ × ℕ) (h : Cores
             each : (k : ℕ) → slice_index_or (slice_set (exchanged pair s).cores x g.after) k idle ≡ core_of (exchanged pair changed) k
             each k = elim (decide k x) [
               | inl q ↦
-                  ap (λ z. slice_index_or (slice_set (exchanged pair s).cores x g.after) z idle) q ∙ get_or-set_same (exchanged pair s).cores x g.after idle x-within ∙ r.after
-                  ∙ sym (core-exchanged pair changed first second k ∙ ap (λ z. renamed pair (core_of changed z)) (ap (exchanged_core pair) q ∙ core-twice pair m)
+                  ap (λ z. slice_index_or (slice_set (exchanged pair s).cores x g.after) z idle) q
+                  ∙ get_or-set_same (exchanged pair s).cores x g.after idle x-within
+                  ∙ r.after
+                  ∙ sym (core-exchanged pair changed first second k
+                  ∙ ap (λ z. renamed pair (core_of changed z)) (ap (exchanged_core pair) q ∙ core-twice pair m)
                   ∙ ap (renamed pair) (get_or-set_same s.cores m f.after idle l))
               | inr v ↦
                   get_or-set_other (exchanged pair s).cores x k g.after idle v ∙ core k
                   ∙ sym (core-exchanged pair changed first second k
-                  ∙ ap (renamed pair) (get_or-set_other s.cores m (exchanged_core pair k) f.after idle (λ e. v (sym (core-twice pair k) ∙ ap (exchanged_core pair) e))))
+                  ∙ ap (renamed pair) (get_or-set_other s.cores m (exchanged_core pair k) f.after idle
+                  (λ e. v (sym (core-twice pair k) ∙ ap (exchanged_core pair) e))))
             ]
 
     after : (d : ℕ) (c : Choice) → after_choice t d (exchanged pair s) (exchanged_choice pair c) ≡ exchanged pair (after_choice t d s c)
@@ -196,10 +232,15 @@ module _ (t : Litmus) (hidden : List (List Bool)) (pair : ℕ × ℕ) (h : Cores
 
     dead : forgotten t hidden (exchanged pair s) ≡ exchanged pair (forgotten t hidden s)
     dead = same-state _ _ _ _ refl (same-cores _ _
-        (length-forgotten t hidden 0 (exchanged pair s).cores ∙ cores-exchanged pair s ∙ sym (cores-exchanged pair (forgotten t hidden s) ∙ length-forgotten t hidden 0 s.cores)) (λ k.
+        (length-forgotten t hidden 0 (exchanged pair s).cores
+        ∙ cores-exchanged pair s
+        ∙ sym (cores-exchanged pair (forgotten t hidden s) ∙ length-forgotten t hidden 0 s.cores))
+        (λ k.
         core-at t hidden (exchanged pair s) k ∙ ap (forgotten_core (program_of t k) (hidden_of hidden k)) (core k)
         ∙ ap (λ p. forgotten_core p (hidden_of hidden k) (renamed pair (core_of s (exchanged_core pair k)))) (sym (program-same k))
-        ∙ ap (λ z. forgotten_core (program_of t (exchanged_core pair k)) z (renamed pair (core_of s (exchanged_core pair k)))) (sym (same-at pair (hidden_of hidden) h.hidden_too k))
+        ∙ ap (λ z.
+        forgotten_core (program_of t (exchanged_core pair k)) z (renamed pair (core_of s (exchanged_core pair k))))
+        (sym (same-at pair (hidden_of hidden) h.hidden_too k))
         ∙ ap (renamed pair) (sym (core-at t hidden s (exchanged_core pair k)))
         ∙ sym (core-exchanged pair (forgotten t hidden s) (let n = length-forgotten t hidden 0 s.cores in let l = h.first in omega (arith, n, sized, l))
         (let n = length-forgotten t hidden 0 s.cores in let l = h.second in omega (arith, n, sized, l)) k)))
@@ -230,7 +271,9 @@ module _ (t : Litmus) (hidden : List (List Bool)) (pair : ℕ × ℕ) (h : Cores
       each k = core (start t) sized k ∙ elim (lt-or (length t.programs) k) [
         | inl l ↦
             let p = h.first in let q = h.second in
-            ap (renamed pair) (at (exchanged_core pair k) (core-within pair (length t.programs) k p q l)) ∙ ap fresh (same-at pair first-of h.registers k) ∙ sym (at k l)
+            ap (renamed pair) (at (exchanged_core pair k) (core-within pair (length t.programs) k p q l))
+            ∙ ap fresh (same-at pair first-of h.registers k)
+            ∙ sym (at k l)
         | inr l ↦
             let p = h.first in let q = h.second in
             ap (λ z. renamed pair (core_of (start t) z)) (core-beyond pair (length t.programs) k p q l)

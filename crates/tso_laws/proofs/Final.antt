@@ -1,5 +1,12 @@
 -- A state that has ended, and what its commits are.
-use Rattle.tso_laws.proofs.Vocabulary.{◌≡◌, ◌≢◌, ◌<◌, ◌≤◌, ℕ, ◌+◌, zero, suc, List, [], ◌∷◌, ◌++◌, Some, true, false, length, slice_get, slice_index, slice_index_or, take, map, arith, ap, sym, ◌∙◌, append_assoc, refl, inl, inr, add-one, subst, ◌==◌, if◌then◌else◌, length-append, slice_get-get_or, nat_tests, Litmus, is_read, is_before, may_be_passed, is_load, is_store, made_by, made_from, made, IsTsoExecution, IsAdjacent, KeepsProgramOrder, IsStorePart, KeepsAllOrder, test-false, le-cases, lt-by, max-within, not-itself, registers_of, registers_from, final_registers, words_from, word_after, Entry, Instr, core_of, CoreState, State, idle, program_of, LR, Each, each-append, each-at, each-right, Member, member-at, drop-end, append-nil, cases_Bool}
+use Rattle.tso_laws.proofs.Vocabulary.{◌≡◌, ◌≢◌, ◌<◌, ◌≤◌, ℕ, ◌+◌, zero, suc, List, [], ◌∷◌, ◌++◌, Some, true, false, length, slice_get}
+use Rattle.tso_laws.proofs.Vocabulary.{slice_index, slice_index_or, take, map, arith, ap, sym, ◌∙◌, append_assoc, refl, inl, inr, add-one}
+use Rattle.tso_laws.proofs.Vocabulary.{subst, ◌==◌, if◌then◌else◌, length-append, slice_get-get_or, nat_tests, Litmus, is_read, is_before}
+use Rattle.tso_laws.proofs.Vocabulary.{may_be_passed, is_load, is_store, made_by, made_from, made, IsTsoExecution, IsAdjacent}
+use Rattle.tso_laws.proofs.Vocabulary.{KeepsProgramOrder, IsStorePart, KeepsAllOrder, test-false, le-cases, lt-by, max-within, not-itself}
+use Rattle.tso_laws.proofs.Vocabulary.{registers_of, registers_from, final_registers, words_from, word_after, Entry, Instr, core_of}
+use Rattle.tso_laws.proofs.Vocabulary.{CoreState, State, idle, program_of, LR, Each, each-append, each-at, each-right, Member, member-at}
+use Rattle.tso_laws.proofs.Vocabulary.{drop-end, append-nil, cases_Bool}
 use Rattle.tso_laws.proofs.Folds.{last_word, last_own, asks, needs, HasEnded, word-is, due-is}
 use Rattle.tso_laws.proofs.Entries.{ordered-left, few-left, Fine, Ordered, Few, DueIn, count}
 use Rattle.tso_laws.proofs.OneList.{OneList}
@@ -22,14 +29,20 @@ ended d t order k s h p q =
     let v : OneList d k (s.place + s.place) t.words h.done order = subst (λ z. OneList d k (s.place + s.place) t.words h.done z) same h.sees in
     let m : made_by k (program_of t k) (slice_index_or t.registers k []) order ≡ h.done =
     ap (λ z. made_by k (program_of t k) (slice_index_or t.registers k []) z) (sym (append-nil order))
-    ∙ trace d k (program_of t k) (slice_index_or t.registers k []) t.words order s h [] ∙ ap (λ z. h.done ++ z) (nothing_left k (program_of t k) s (order ++ []) p) ∙ append-nil h.done in
+    ∙ trace d k (program_of t k) (slice_index_or t.registers k []) t.words order s h []
+    ∙ ap (λ z. h.done ++ z) (nothing_left k (program_of t k) s (order ++ []) p)
+    ∙ append-nil h.done in
     record {
       due = v.due;
       counted = ap length m ∙ v.counted;
       members = subst (λ z. Each (λ e. Member e order) z) (sym m) v.members;
     }
 
-ended-at : (d : ℕ) (t : Litmus) (order : List Entry) (state : State) → MachineInvariant d t order state → HasEnded t state → (k : ℕ) → k < length t.programs → Ended d t order k
+ended-at : (d : ℕ) (t : Litmus) (order : List Entry) (state : State)
+    → MachineInvariant d t order state
+    → HasEnded t state
+    → (k : ℕ) → k < length t.programs
+    → Ended d t order k
 ended-at d t order state w h k l =
     let g = slice_get-get_or state.cores k idle (rw w.size l) in
     let e = h.each k (slice_index_or state.cores k idle) g in
@@ -41,7 +54,10 @@ ordered-at d c (z ∷ zs) i zero x y h l a b = absurd (omega arith)
 ordered-at d c (z ∷ zs) zero (suc j) x y h l a b = let q : z ≡ x = cc in subst (λ v. Fine d c v y) q (each-at (λ v. Fine d c z v) zs j y h.0 b)
 ordered-at d c (z ∷ zs) (suc i) (suc j) x y h l a b = ordered-at d c zs i j x y h.1 (omega arith) a b
 
-pub due-at : (c : ℕ) (words : List ℕ) (front xs : List Entry) (x : Entry) (back : List Entry) → DueIn c words front (xs ++ (x ∷ back)) → x.core.0 ≡ c → is_read x ≡ true
+pub due-at : (c : ℕ) (words : List ℕ) (front xs : List Entry) (x : Entry) (back : List Entry)
+    → DueIn c words front (xs ++ (x ∷ back))
+    → x.core.0 ≡ c
+    → is_read x ≡ true
     → x.value ≡ last_own x back (last_word x.loc.0 (front ++ xs) (slice_index words x.loc.0))
 due-at c words front [] x back h k r = rw (append-nil front) (h.0 k r)
 due-at c words front (y ∷ ys) x back h k r = rw (← append_assoc front (y ∷ []) ys) (due-at c words (front ++ (y ∷ [])) ys x back h.1 k r)
@@ -78,23 +94,36 @@ abbrev AllMade : List Entry → ℕ → List (List Instr) → List (List ℕ) �
 AllMade order k [] registers = Unit {0}
 AllMade order k (p ∷ ps) registers = MadeAt order k p registers × AllMade order (suc k) ps registers
 
-all_made : (order : List Entry) (k : ℕ) (ps : List (List Instr)) (registers : List (List ℕ)) → ((j : ℕ) → j < length ps → MadeAt order (k + j) (slice_index_or ps j []) registers) → AllMade order k ps registers
+all_made : (order : List Entry) (k : ℕ) (ps : List (List Instr)) (registers : List (List ℕ))
+    → ((j : ℕ) → j < length ps → MadeAt order (k + j) (slice_index_or ps j []) registers)
+    → AllMade order k ps registers
 all_made order k [] registers h = tt
 all_made order k (p ∷ ps) registers h = (
   subst (λ z. MadeAt order z p registers) (let z : k + 0 ≡ k = omega arith in z) (h 0 (omega arith)),
-  all_made order (suc k) ps registers (λ j l. subst (λ z. MadeAt order z (slice_index_or ps j []) registers) (let z : k + suc j ≡ suc k + j = omega arith in z) (h (suc j) (omega arith))),
+  all_made order (suc k) ps registers
+      (λ j l.
+      subst (λ z. MadeAt order z (slice_index_or ps j []) registers) (let z : k + suc j ≡ suc k + j = omega arith in z) (h (suc j) (omega arith))),
 )
 
-length-made : (order : List Entry) (k : ℕ) (ps : List (List Instr)) (registers : List (List ℕ)) → AllMade order k ps registers → length (made_from k ps registers order) ≡ total k (length ps) order
+length-made : (order : List Entry) (k : ℕ) (ps : List (List Instr)) (registers : List (List ℕ))
+    → AllMade order k ps registers
+    → length (made_from k ps registers order) ≡ total k (length ps) order
 length-made order k [] registers h = refl
 length-made order k (p ∷ ps) registers h =
     length-append (made_by k p (slice_index_or registers k []) order) _ ∙
-    (let a = h.0.counted in let b = length-made order (suc k) ps registers h.1 in let c : length (made_from (k + 1) ps registers order) ≡ total (suc k) (length ps) order = rw add-one b in omega arith)
+    (let a =
+    h.0.counted in
+    let b = length-made order (suc k) ps registers h.1 in
+    let c : length (made_from (k + 1) ps registers order) ≡ total (suc k) (length ps) order = rw add-one b in
+    omega arith)
 
-members-made : (order : List Entry) (k : ℕ) (ps : List (List Instr)) (registers : List (List ℕ)) → AllMade order k ps registers → Each (λ e. Member e order) (made_from k ps registers order)
+members-made : (order : List Entry) (k : ℕ) (ps : List (List Instr)) (registers : List (List ℕ))
+    → AllMade order k ps registers
+    → Each (λ e. Member e order) (made_from k ps registers order)
 members-made order k [] registers h = tt
 members-made order k (p ∷ ps) registers h =
-    each-append (λ e. Member e order) (made_by k p (slice_index_or registers k []) order) _ h.0.members (rw add-one (members-made order (suc k) ps registers h.1))
+    each-append (λ e. Member e order) (made_by k p (slice_index_or registers k []) order) _ h.0.members
+    (rw add-one (members-made order (suc k) ps registers h.1))
 
 pub paired-at : (xs : List Entry) → Paired xs → IsAdjacent xs
 paired-at [] h i x e l = absurd (let z : ⊥ = cc in z)
@@ -108,11 +137,18 @@ world-holds : (d : ℕ) (t : Litmus) (order : List Entry) (state : State) → Ma
     → CoreInvariant d k (program_of t k) (slice_index_or t.registers k []) t.words order (core_of state k)
 world-holds d t order state w k l = w.cores k (core_of state k) (slice_get-get_or state.cores k idle (rw w.size l))
 
-pub world-ordered : (d : ℕ) (t : Litmus) (order : List Entry) (state : State) → MachineInvariant d t order state → (k : ℕ) → k < length t.programs → Ordered d k order
+pub world-ordered : (d : ℕ) (t : Litmus) (order : List Entry) (state : State)
+    → MachineInvariant d t order state
+    → (k : ℕ) → k < length t.programs
+    → Ordered d k order
 world-ordered d t order state w k l = ordered-left d k order (core_of state k).pending (world-holds d t order state w k l).sees.kept
 
 -- two entries of one program that stand the other way round
-turned : (d n : ℕ) (xs : List Entry) (i j : ℕ) (x y : Entry) → Each (λ e. e.core.0 < n) xs → ((k : ℕ) → k < n → Ordered d k xs) → slice_get xs i ≡ Some x → slice_get xs j ≡ Some y
+turned : (d n : ℕ) (xs : List Entry) (i j : ℕ) (x y : Entry)
+    → Each (λ e. e.core.0 < n) xs
+    → ((k : ℕ) → k < n → Ordered d k xs)
+    → slice_get xs i ≡ Some x
+    → slice_get xs j ≡ Some y
     → is_before x y ≡ true → j ≤ i → (may_be_passed x y ≡ true) × (0 < d)
 turned d n xs i j x y known f a b q l = elim (le-cases j i l) [
   | inl s ↦ let u : slice_get xs i ≡ Some y = subst (λ z. slice_get xs z ≡ Some y) s b in
@@ -142,12 +178,15 @@ ended_is_tso d t order state w h =
       read_values = λ front x back q r.
           let v : Each (λ e. e.core.0 < length t.programs) (front ++ (x ∷ back)) = subst (λ z. Each (λ e. e.core.0 < length t.programs) z) q w.known in
           let l = (each-right (λ e. e.core.0 < length t.programs) front (x ∷ back) v).0 in
-          due-at x.core.0 t.words [] front x back (subst (λ z. DueIn x.core.0 t.words [] z) q (each x.core.0 l).due) refl r ∙ sym (due-is x front back (slice_index t.words x.loc.0));
+          due-at x.core.0 t.words [] front x back (subst (λ z. DueIn x.core.0 t.words [] z) q (each x.core.0 l).due) refl r
+          ∙ sym (due-is x front back (slice_index t.words x.loc.0));
       adjacent = paired-at order w.pairs;
     }
   where
     made_here : (j : ℕ) → Ended d t order j → MadeAt order (0 + j) (slice_index_or t.programs j []) t.registers
-    made_here j e = subst (λ z. MadeAt order z (slice_index_or t.programs j []) t.registers) (let z : j ≡ 0 + j = omega arith in z) (record { counted = e.counted; members = e.members })
+    made_here j e =
+        subst (λ z. MadeAt order z (slice_index_or t.programs j []) t.registers) (let z : j ≡ 0 + j = omega arith in z)
+        (record { counted = e.counted; members = e.members })
 
 -- the words of the memory as a list
 pub words-list : (l : ℕ) (words memory : List ℕ) (order : List Entry) → length memory ≡ length words
@@ -156,16 +195,28 @@ words-list l [] [] order n h = refl
 words-list l [] (m ∷ ms) order n h = absurd (omega arith)
 words-list l (w ∷ ws) [] order n h = absurd (omega arith)
 words-list l (w ∷ ws) (m ∷ ms) order n h =
-    let here : m ≡ word_after l order w = subst (λ z. m ≡ last_word z order w) (let z : l + 0 ≡ l = omega arith in z) (h 0 (omega arith)) ∙ sym (word-is l order w) in
-    let rest = words-list (l + 1) ws ms order (omega arith) (λ j k. subst (λ z. slice_index ms j ≡ last_word z order (slice_index ws j)) (let z : l + suc j ≡ (l + 1) + j = omega arith in z) (h (suc j) (omega arith))) in
+    let here : m ≡ word_after l order w =
+    subst (λ z. m ≡ last_word z order w) (let z : l + 0 ≡ l = omega arith in z) (h 0 (omega arith))
+    ∙ sym (word-is l order w) in
+    let rest =
+    words-list (l + 1) ws ms order (omega arith)
+    (λ j k.
+    subst (λ z. slice_index ms j ≡ last_word z order (slice_index ws j))
+    (let z : l + suc j ≡ (l + 1) + j = omega arith in z) (h (suc j) (omega arith))) in
     ap (λ z. z ∷ ms) here ∙ ap (λ z. word_after l order w ∷ z) rest
 
 pub memory-list : (words memory : List ℕ) (order : List Entry) → length memory ≡ length words → IsMemory words order memory → memory ≡ words_from 0 words order
-memory-list words memory order n h = words-list 0 words memory order n (λ j k. subst (λ z. slice_index memory j ≡ last_word z order (slice_index words j)) (let z : j ≡ 0 + j = omega arith in z) (h j k))
+memory-list words memory order n h =
+    words-list 0 words memory order n
+    (λ j k.
+    subst (λ z. slice_index memory j ≡ last_word z order (slice_index words j)) (let z : j ≡ 0 + j = omega arith in z) (h j k))
 
 -- the registers of the cores as a list
 registers-list : (c : ℕ) (ps : List (List Instr)) (ss : List CoreState) (registers : List (List ℕ)) (order : List Entry) → length ss ≡ length ps
-    → ((j : ℕ) → j < length ps → (slice_index_or ss j idle).registers ≡ registers_of (c + j) (slice_index_or ps j []) (slice_index_or registers (c + j) []) order)
+    → ((j : ℕ)
+    → j < length ps
+    → (slice_index_or ss j idle).registers
+    ≡ registers_of (c + j) (slice_index_or ps j []) (slice_index_or registers (c + j) []) order)
     → map (λ s. s.registers) ss ≡ registers_from c ps registers order
 registers-list c [] [] registers order n h = refl
 registers-list c [] (s ∷ ss) registers order n h = absurd (omega arith)
@@ -174,7 +225,11 @@ registers-list c (p ∷ ps) (s ∷ ss) registers order n h =
     let here : s.registers ≡ registers_of c p (slice_index_or registers c []) order =
     subst (λ z. s.registers ≡ registers_of z p (slice_index_or registers z []) order) (let z : c + 0 ≡ c = omega arith in z) (h 0 (omega arith)) in
     let rest = registers-list (c + 1) ps ss registers order (omega arith)
-    (λ j k. subst (λ z. (slice_index_or ss j idle).registers ≡ registers_of z (slice_index_or ps j []) (slice_index_or registers z []) order) (let z : c + suc j ≡ (c + 1) + j = omega arith in z) (h (suc j) (omega arith))) in
+    (λ j k.
+    subst (λ z.
+    (slice_index_or ss j idle).registers
+    ≡ registers_of z (slice_index_or ps j []) (slice_index_or registers z []) order)
+    (let z : c + suc j ≡ (c + 1) + j = omega arith in z) (h (suc j) (omega arith))) in
     ap (λ z. z ∷ map (λ s. s.registers) ss) here ∙ ap (λ z. registers_of c p (slice_index_or registers c []) order ∷ z) rest
 
 take_end : (p : List Instr) (n : ℕ) → length p ≡ n → take n p ≡ p
@@ -183,14 +238,23 @@ take_end [] (suc n) e = refl
 take_end (x ∷ p) zero e = absurd (omega arith)
 take_end (x ∷ p) (suc n) e = ap (λ z. x ∷ z) (take_end p n (omega arith))
 
-pub ended_has_registers : (d : ℕ) (t : Litmus) (order : List Entry) (state : State) → MachineInvariant d t order state → HasEnded t state → map (λ s. s.registers) state.cores ≡ final_registers t order
-ended_has_registers d t order state w h = registers-list 0 t.programs state.cores t.registers order w.size (λ j l. subst (λ z. (core_of state j).registers ≡ registers_of z (program_of t j) (slice_index_or t.registers z []) order) (let z : j ≡ 0 + j = omega arith in z) (each j l))
+pub ended_has_registers : (d : ℕ) (t : Litmus) (order : List Entry) (state : State)
+    → MachineInvariant d t order state
+    → HasEnded t state
+    → map (λ s. s.registers) state.cores ≡ final_registers t order
+ended_has_registers d t order state w h =
+    registers-list 0 t.programs state.cores t.registers order w.size
+    (λ j l.
+    subst (λ z. (core_of state j).registers ≡ registers_of z (program_of t j) (slice_index_or t.registers z []) order)
+    (let z : j ≡ 0 + j = omega arith in z) (each j l))
   where
     each : (j : ℕ) → j < length t.programs → (core_of state j).registers ≡ registers_of j (program_of t j) (slice_index_or t.registers j []) order
     each j l =
         let g = slice_get-get_or state.cores j idle (rw w.size l) in
         let v = w.cores j (core_of state j) g in
-        sym (v.now []) ∙ ap (λ z. registers_of j z (slice_index_or t.registers j []) (order ++ [])) (take_end (program_of t j) (core_of state j).place (h.each j (core_of state j) g).0)
+        sym (v.now [])
+        ∙ ap (λ z. registers_of j z (slice_index_or t.registers j []) (order ++ []))
+        (take_end (program_of t j) (core_of state j).place (h.each j (core_of state j) g).0)
         ∙ ap (λ z. registers_of j (program_of t j) (slice_index_or t.registers j []) z) (append-nil order)
 
 pub needed_within : (n d : ℕ) (xs : List Entry) → 0 < d → Each (λ e. e.core.0 < n) xs → ((c : ℕ) → c < n → Few d c xs) → needs xs ≤ d

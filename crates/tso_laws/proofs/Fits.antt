@@ -1,5 +1,8 @@
 -- The entries of a program have its places and its locations.
-use Rattle.tso_laws.proofs.Vocabulary.{◌≡◌, ◌≢◌, ◌<◌, ◌≤◌, ℕ, ◌+◌, zero, suc, List, [], ◌∷◌, Some, IfSome, length, take, slice_get, slice_index, arith, sym, refl, subst, Litmus, IsTest, KnownLocation, action_of, location_of, entries_by, entries_of, IsWhole, StandsIn, read_values, made, made_by, program_of, Instr, Action, Move, Fence, Lock, Entry, F, FitsTest, Each, each-append, Member}
+use Rattle.tso_laws.proofs.Vocabulary.{◌≡◌, ◌≢◌, ◌<◌, ◌≤◌, ℕ, ◌+◌, zero, suc, List, [], ◌∷◌, Some, IfSome, length, take, slice_get}
+use Rattle.tso_laws.proofs.Vocabulary.{slice_index, arith, sym, refl, subst, Litmus, IsTest, KnownLocation, action_of, location_of}
+use Rattle.tso_laws.proofs.Vocabulary.{entries_by, entries_of, IsWhole, StandsIn, read_values, made, made_by, program_of, Instr, Action}
+use Rattle.tso_laws.proofs.Vocabulary.{Move, Fence, Lock, Entry, F, FitsTest, Each, each-append, Member}
 use Rattle.tso_laws.proofs.Folds.{HasLocations}
 use Rattle.tso_laws.proofs.Held.{each-of}
 use Rattle.tso_laws.proofs.OrderSteps.{first_of}
@@ -9,16 +12,21 @@ use Rattle.tso_laws.proofs.Whole.{at-member, made-at, of-core, whole-own}
 abbrev Placed : ℕ → Entry → Type 0
 Placed n e = (e.kind ≢ F → e.loc.0 < n) × (e.kind ≡ F → (e.loc.0 ≡ 0) × (e.value ≡ 0))
 
-located : (n c place : ℕ) (a : Action) (registers : List ℕ) (word : ℕ) → IfSome (location_of a) (λ loc. loc.0 < n) → Each (Placed n) (entries_by c place a registers word)
+located : (n c place : ℕ) (a : Action) (registers : List ℕ) (word : ℕ)
+    → IfSome (location_of a) (λ loc. loc.0 < n)
+    → Each (Placed n) (entries_by c place a registers word)
 located n c place (Move change) registers word l = tt
 located n c place Fence registers word l = ((λ k. absurd (k refl), λ k. (refl, refl)), tt)
 located n c place (Lock loc reg update) registers word l = ((λ k. l, λ k. absurd (let z : ⊥ = cc in z)), ((λ k. l, λ k. absurd (let z : ⊥ = cc in z)), tt))
 located n c place _ registers word l = ((λ k. l, λ k. absurd (let z : ⊥ = cc in z)), tt)
 
-entries-located : (n c place : ℕ) (p : List Instr) (registers values : List ℕ) → ((i : ℕ) (x : Instr) → slice_get p i ≡ Some x → KnownLocation n x) → Each (Placed n) (entries_of c place p registers values)
+entries-located : (n c place : ℕ) (p : List Instr) (registers values : List ℕ)
+    → ((i : ℕ) (x : Instr) → slice_get p i ≡ Some x → KnownLocation n x)
+    → Each (Placed n) (entries_of c place p registers values)
 entries-located n c place [] registers values f = tt
 entries-located n c place (i ∷ p) registers values f =
-    each-append (Placed n) (entries_by c place (action_of i) registers (slice_index values 0)) _ (located n c place (action_of i) registers (slice_index values 0) (f 0 i refl))
+    each-append (Placed n) (entries_by c place (action_of i) registers (slice_index values 0)) _
+    (located n c place (action_of i) registers (slice_index values 0) (f 0 i refl))
     (entries-located n c (place + 1) p _ _ (λ k. f (suc k)))
 
 -- an entry that a beginning of a program makes
@@ -28,7 +36,10 @@ made-fits t n order e test known l m =
     let k : ℕ = e.core.0 in
     let p : List Instr = take n (program_of t k) in
     let a = each-of (λ e. e.place < 0 + length p) e _ (entries-below k 0 p (first_of t k) (read_values k 0 p order)) m in
-    let b : Placed (length t.words) e = each-of (Placed (length t.words)) e _ (entries-located (length t.words) k 0 p (first_of t k) (read_values k 0 p order) (λ i x q. known k i x (in-take n (program_of t k) i x q))) m in
+    let b : Placed (length t.words) e =
+    each-of (Placed (length t.words)) e _
+    (entries-located (length t.words) k 0 p (first_of t k) (read_values k 0 p order) (λ i x q. known k i x (in-take n (program_of t k) i x q)))
+    m in
     let s = short n (program_of t k) in
     record { core = l; place = omega (arith, a, s); location = λ f. subst (λ z. e.loc.0 < z) test.words_given (b.0 f); fence = b.1 }
   where

@@ -1,5 +1,9 @@
 -- The definitions in the form that proofs by recursion take: each fold goes over a list once.
-use Rattle.tso_laws.proofs.Vocabulary.{sym, max, ◌≡◌, ◌≤◌, ℕ, ◌+◌, suc, List, [], ◌∷◌, ◌++◌, Some, Bool, true, refl, ◌∙◌, ap, length, slice_get, slice_index, if◌then◌else◌, ◌&&◌, arith, nat_tests, filter, Litmus, KnownLocation, is_store, is_load, is_read, is_before, writes_to, is_store_kind, is_load_kind, last_value, counting, CoreState, State, Effect, program_of, Instr, Entry, Kind, R, W, Buffered, and-true, and-false, stores_before, most_passed, one_for_stores, needed, asked, cases_Bool, inl, inr}
+use Rattle.tso_laws.proofs.Vocabulary.{sym, max, ◌≡◌, ◌≤◌, ℕ, ◌+◌, suc, List, [], ◌∷◌, ◌++◌, Some, Bool, true, refl, ◌∙◌, ap, length}
+use Rattle.tso_laws.proofs.Vocabulary.{slice_get, slice_index, if◌then◌else◌, ◌&&◌, arith, nat_tests, filter, Litmus, KnownLocation}
+use Rattle.tso_laws.proofs.Vocabulary.{is_store, is_load, is_read, is_before, writes_to, is_store_kind, is_load_kind, last_value, counting}
+use Rattle.tso_laws.proofs.Vocabulary.{CoreState, State, Effect, program_of, Instr, Entry, Kind, R, W, Buffered, and-true, and-false}
+use Rattle.tso_laws.proofs.Vocabulary.{stores_before, most_passed, one_for_stores, needed, asked, cases_Bool, inl, inr}
 
 -- the word of a location after these entries
 abbrev pub last_word : ℕ → List Entry → ℕ → ℕ
@@ -80,7 +84,11 @@ passed-is x (y ∷ ys) = elim (cases_Bool (is_store y && is_before y x)) [ inl i
 -- the depth that an order needs, found by going over the order once
 pub needed-is : (order : List Entry) → needed order ≡ needs order
 needed-is [] = refl
-needed-is (x ∷ back) = rw (← needed-is back, ← passed-is x back) (go x.kind (length (stores_before x back)) (one_for_stores back) (most_passed back) (small back))
+needed-is (x ∷ back) =
+    rw (
+      ← needed-is back,
+      ← passed-is x back,
+    ) (go x.kind (length (stores_before x back)) (one_for_stores back) (most_passed back) (small back))
   where
     small : (ys : List Entry) → one_for_stores ys ≤ 1
     small [] = omega arith
@@ -96,11 +104,15 @@ needed-is (x ∷ back) = rw (← needed-is back, ← passed-is x back) (go x.kin
     stored o m h = grind (arith, nat_tests)
 
     go : (k : Kind) (p o m : ℕ) → o ≤ 1
-        → max (if is_store_kind k then 1 else o) (max (if is_load_kind k then p else 0) m) ≡ max (if is_load_kind k then p else (if is_store_kind k then 1 else 0)) (max o m)
+        → max (if is_store_kind k then 1 else o) (max (if is_load_kind k then p else 0) m)
+        ≡ max (if is_load_kind k then p else (if is_store_kind k then 1 else 0)) (max o m)
     go R p o m h = loads p o m
     go W p o m h = stored o m h
     go _ p o m h = neither o m
 
 -- the same, one entry at a time
 pub needed-first : (x : Entry) (back : List Entry) → needed (x ∷ back) ≡ max (asked x back) (needed back)
-needed-first x back = needed-is (x ∷ back) ∙ ap (λ z. max (if is_load x then z else (if is_store x then 1 else 0)) (needs back)) (sym (passed-is x back)) ∙ ap (λ z. max (asked x back) z) (sym (needed-is back))
+needed-first x back =
+    needed-is (x ∷ back)
+    ∙ ap (λ z. max (if is_load x then z else (if is_store x then 1 else 0)) (needs back)) (sym (passed-is x back))
+    ∙ ap (λ z. max (asked x back) z) (sym (needed-is back))

@@ -1,6 +1,15 @@
 -- A run on either bus is followed by one of the flat machine, which makes a locked instruction when its store part is
 -- committed.
-use Rattle.tso_laws.proofs.BusVocabulary.{◌≡◌, ◌≢◌, ℕ, ◌+◌, zero, suc, Option, Some, None, length, nat_lt, List, [], ◌∷◌, ◌++◌, Bool, true, false, drop, slice_set, arith, ap, sym, ◌∙◌, refl, inl, inr, append_assoc, subst, if◌then◌else◌, append-nil, set-get_or, Litmus, entry, action_of, CoreState, State, Effect, stored, effect_by, step_of, effect_of, after_choice, chosen, core_of, applied, memory_after, is_none_pending, stall_count, MemoryAccess, NoAccess, Writes, Locks, next_of, access_of, Holder, Free, HeldBy, HeldBetween, Attempt, BusEffect, needs_bus, acts, asks, begins, load_part, reads_first, completes, as_read, after_first, writes_last, split_effect, BusState, effect_on, after_on, HitFits, HitsFit, put_together, Bus, Atomic, Split, Loc, Instr, Action, Store, Fence, Lock, Entry, LW, Choice, Step, Drain, Outcome, Committed, Asked, state_after, commits_of, state_on, commits_on, HasRead, HolderFits, waiting, ask_count, wait_count, load_part_count, bus_count, decide, Each, drain_with}
+use Rattle.tso_laws.proofs.BusVocabulary.{◌≡◌, ◌≢◌, ℕ, ◌+◌, zero, suc, Option, Some, None, length, nat_lt, List, [], ◌∷◌, ◌++◌, Bool, true}
+use Rattle.tso_laws.proofs.BusVocabulary.{false, drop, slice_set, arith, ap, sym, ◌∙◌, refl, inl, inr, append_assoc, subst, if◌then◌else◌}
+use Rattle.tso_laws.proofs.BusVocabulary.{append-nil, set-get_or, Litmus, entry, action_of, CoreState, State, Effect, stored, effect_by}
+use Rattle.tso_laws.proofs.BusVocabulary.{step_of, effect_of, after_choice, chosen, core_of, applied, memory_after, is_none_pending}
+use Rattle.tso_laws.proofs.BusVocabulary.{stall_count, MemoryAccess, NoAccess, Writes, Locks, next_of, access_of, Holder, Free, HeldBy}
+use Rattle.tso_laws.proofs.BusVocabulary.{HeldBetween, Attempt, BusEffect, needs_bus, acts, asks, begins, load_part, reads_first, completes}
+use Rattle.tso_laws.proofs.BusVocabulary.{as_read, after_first, writes_last, split_effect, BusState, effect_on, after_on, HitFits, HitsFit}
+use Rattle.tso_laws.proofs.BusVocabulary.{put_together, Bus, Atomic, Split, Loc, Instr, Action, Store, Fence, Lock, Entry, LW, Choice, Step}
+use Rattle.tso_laws.proofs.BusVocabulary.{Drain, Outcome, Committed, Asked, state_after, commits_of, state_on, commits_on, HasRead}
+use Rattle.tso_laws.proofs.BusVocabulary.{HolderFits, waiting, ask_count, wait_count, load_part_count, bus_count, decide, Each, drain_with}
 use Rattle.tso_terms.specs.declared.instruction.Core.{Core}
 use Rattle.tso_laws.proofs.Cores.{quiet, quiet-same}
 use Rattle.tso_laws.proofs.Steps.{IsPlain, drain-no-lock, choice-plain, choice-pair, Pairs}
@@ -25,7 +34,8 @@ write-hits what false l h q = absurd (let z : needs_bus what false ≡ true = rw
 -- ---- what the flat machine's choices count
 
 -- they ask for no bus, and wait for none
-own-outcome : (t : Litmus) (depth : ℕ) (state : State) (a : Choice) → ask_count (effect_of t depth state a).outcome + wait_count (effect_of t depth state a).outcome ≡ 0
+own-outcome : (t : Litmus) (depth : ℕ) (state : State) (a : Choice)
+    → ask_count (effect_of t depth state a).outcome + wait_count (effect_of t depth state a).outcome ≡ 0
 own-outcome t depth state (Step c) = by_next (next_of t state c.0)
   where
     s : CoreState
@@ -56,7 +66,9 @@ own-outcome t depth state (Drain c) = by_pending (core_of state c.0).pending
     by_pending [] = refl
     by_pending (p ∷ ps) = refl
 
-own-count : (t : Litmus) (depth : ℕ) (state : State) (a : Choice) → load_part_count (effect_of t depth state a).commits ≡ 0 → bus_count (effect_of t depth state a) ≡ 0
+own-count : (t : Litmus) (depth : ℕ) (state : State) (a : Choice)
+    → load_part_count (effect_of t depth state a).commits ≡ 0
+    → bus_count (effect_of t depth state a) ≡ 0
 own-count t depth state a parts = let n = own-outcome t depth state a in omega arith
 
 no-load-part : (core : ℕ) (what : MemoryAccess) (xs : List Entry) → Each (IsPlain core what) xs → load_part_count xs ≡ 0
@@ -94,7 +106,10 @@ alike-free holder next same n = record { same = same; back = λ ys end b. record
 
 -- a choice that changes at most who holds the bus
 quiet-goes : (t : Litmus) (depth : ℕ) (state : State) (c : ℕ) (o : Outcome) (holder next : Holder) → AllStores state → HolderFits Split t depth state next
-    → Alike holder next → bus_count (quiet o (core_of state c)) ≡ 1 → stall_count o ≡ wait_count o → Goes Split t depth state c holder (acts (quiet o (core_of state c)) next)
+    → Alike holder next
+    → bus_count (quiet o (core_of state c)) ≡ 1
+    → stall_count o ≡ wait_count o
+    → Goes Split t depth state c holder (acts (quiet o (core_of state c)) next)
 quiet-goes t depth state c o holder next stores fits like one stalls = record {
   choices = [];
   counted = for_bus one stalls;
@@ -105,13 +120,20 @@ quiet-goes t depth state c o holder next stores fits like one stalls = record {
   holds = subst (λ z. HolderFits Split t depth z next) (sym (quiet-same state c o)) fits;
 }
 
-asks-goes : (t : Litmus) (depth : ℕ) (state : State) (a : Choice) (holder : Holder) → AllStores state → HolderFits Split t depth state holder → access_of t depth state a ≢ NoAccess
+asks-goes : (t : Litmus) (depth : ℕ) (state : State) (a : Choice) (holder : Holder)
+    → AllStores state
+    → HolderFits Split t depth state holder
+    → access_of t depth state a ≢ NoAccess
     → Goes Split t depth state (chosen a) holder (asks (core_of state (chosen a)) a holder)
-asks-goes t depth state a Free stores fits n = quiet-goes t depth state (chosen a) Asked Free (HeldBy a) stores n (alike-free Free (HeldBy a) (λ ys. refl) (λ e q. let z : ⊥ = cc in z)) refl refl
+asks-goes t depth state a Free stores fits n =
+    quiet-goes t depth state (chosen a) Asked Free (HeldBy a) stores n
+    (alike-free Free (HeldBy a) (λ ys. refl) (λ e q. let z : ⊥ = cc in z)) refl refl
 asks-goes t depth state a holder stores fits n = quiet-goes t depth state (chosen a) _ holder holder stores fits (alike holder) refl refl
 
 -- a choice that acts as on the flat machine, and isn't a locked instruction
-acts-goes : (bus : Bus) (t : Litmus) (depth : ℕ) (state : State) (a : Choice) (holder next : Holder) → AllStores state → ((l : Loc) → access_of t depth state a ≢ Locks l)
+acts-goes : (bus : Bus) (t : Litmus) (depth : ℕ) (state : State) (a : Choice) (holder next : Holder)
+    → AllStores state
+    → ((l : Loc) → access_of t depth state a ≢ Locks l)
     → HolderFits bus t depth (applied state (chosen a) (effect_of t depth state a)) next → Alike holder next
     → ((e : Entry) → holder ≡ HeldBetween e → chosen a ≡ e.core.0 → (effect_of t depth state a).commits ≡ [])
     → Goes bus t depth state (chosen a) holder (acts (effect_of t depth state a) next)
@@ -135,31 +157,50 @@ abbrev Spares : Litmus → ℕ → State → Choice → Holder → Type 0
 Spares t depth state a (HeldBetween e) = (l : Loc) → access_of t depth state a ≡ Writes l → l.0 ≢ e.loc.0
 Spares t depth state a _ = Unit {0}
 
-holder-kept : (t : Litmus) (depth : ℕ) (state : State) (a : Choice) (holder : Holder) → AllStores state → HolderFits Split t depth state holder → IsOther holder a → ((l : Loc) → access_of t depth state a ≢ Locks l)
+holder-kept : (t : Litmus) (depth : ℕ) (state : State) (a : Choice) (holder : Holder)
+    → AllStores state
+    → HolderFits Split t depth state holder
+    → IsOther holder a
+    → ((l : Loc) → access_of t depth state a ≢ Locks l)
     → Spares t depth state a holder → HolderFits Split t depth (applied state (chosen a) (effect_of t depth state a)) holder
 holder-kept t depth state a Free stores fits other n w = tt
 holder-kept t depth state a (HeldBy choice) stores fits other n w = λ h. fits (sym (access-kept t depth state choice a fits other) ∙ h)
 holder-kept t depth state a (HeldBetween e) stores fits other n w = reading-kept t depth state e a stores fits other n w
 
-begins-goes : (t : Litmus) (depth : ℕ) (state : State) (a : Attempt) (holder : Holder) → AllStores state → HolderFits Split t depth state holder → IsOther holder a.choice
+begins-goes : (t : Litmus) (depth : ℕ) (state : State) (a : Attempt) (holder : Holder)
+    → AllStores state
+    → HolderFits Split t depth state holder
+    → IsOther holder a.choice
     → HitFits t depth state a holder → Goes Split t depth state (chosen a.choice) holder (begins t depth state a holder)
 begins-goes t depth state a holder stores fits other fit =
-    begins-by (λ g. Goes Split t depth state (chosen a.choice) holder g) t depth state a holder (λ q. asks-goes t depth state a.choice holder stores fits (needs-some what a.hits q))
+    begins-by (λ g. Goes Split t depth state (chosen a.choice) holder g) t depth state a holder
+    (λ q. asks-goes t depth state a.choice holder stores fits (needs-some what a.hits q))
     (λ q.
     acts-goes Split t depth state a.choice holder holder stores (needs-no-lock what a.hits q)
-    (holder-kept t depth state a.choice holder stores fits other (needs-no-lock what a.hits q) (spares holder fits other fit q)) (alike holder) (none holder fits other))
+    (holder-kept t depth state a.choice holder stores fits other (needs-no-lock what a.hits q) (spares holder fits other fit q))
+    (alike holder) (none holder fits other))
   where
     what : MemoryAccess
     what = access_of t depth state a.choice
 
-    spares : (holder : Holder) → HolderFits Split t depth state holder → IsOther holder a.choice → HitFits t depth state a holder → needs_bus what a.hits ≡ false → Spares t depth state a.choice holder
+    spares : (holder : Holder)
+        → HolderFits Split t depth state holder
+        → IsOther holder a.choice
+        → HitFits t depth state a holder
+        → needs_bus what a.hits ≡ false
+        → Spares t depth state a.choice holder
     spares (HeldBetween e) h o f q = λ l w. elim (decide (chosen a.choice) e.core.0) [
       | inl c ↦ absurd (reader-writes-nothing t depth state e a.choice h o c l w)
       | inr n ↦ f l w (write-hits what a.hits l q w) n
     ]
     spares _ h o f q = tt
 
-    none : (holder : Holder) → HolderFits Split t depth state holder → IsOther holder a.choice → (e : Entry) → holder ≡ HeldBetween e → chosen a.choice ≡ e.core.0 → (effect_of t depth state a.choice).commits ≡ []
+    none : (holder : Holder)
+        → HolderFits Split t depth state holder
+        → IsOther holder a.choice
+        → (e : Entry) → holder ≡ HeldBetween e
+        → chosen a.choice ≡ e.core.0
+        → (effect_of t depth state a.choice).commits ≡ []
     none (HeldBetween x) h o e q c = reader-commits-nothing t depth state x a.choice h o (let s : x ≡ e = cc in rw s c)
     none _ h o e q c = absurd (let z : ⊥ = cc in z)
 
@@ -180,10 +221,14 @@ reads-goes t depth state c loc stores q =
       holds = subst (λ z. HasRead t depth z e) (sym same) r;
     }
 
-completes-goes : (t : Litmus) (depth : ℕ) (state : State) (a : Choice) → AllStores state → Goes Split t depth state (chosen a) (HeldBy a) (completes t depth state a (access_of t depth state a))
+completes-goes : (t : Litmus) (depth : ℕ) (state : State) (a : Choice)
+    → AllStores state
+    → Goes Split t depth state (chosen a) (HeldBy a) (completes t depth state a (access_of t depth state a))
 completes-goes t depth state a stores =
     completes-by (λ c g. Goes Split t depth state (chosen c) (HeldBy c) g) t depth state a
-    (λ n. acts-goes Split t depth state a (HeldBy a) Free stores n tt (alike-free (HeldBy a) Free (λ ys. refl) (λ e h. let z : ⊥ = cc in z)) (λ e h. absurd (let z : ⊥ = cc in z)))
+    (λ n.
+    acts-goes Split t depth state a (HeldBy a) Free stores n tt
+    (alike-free (HeldBy a) Free (λ ys. refl) (λ e h. let z : ⊥ = cc in z)) (λ e h. absurd (let z : ⊥ = cc in z)))
     (λ core loc q. reads-goes t depth state core loc stores q)
 
 -- a locked instruction writes
@@ -224,13 +269,19 @@ writes-goes t depth state e stores r =
       choices = Step e.core ∷ [];
       counted = as_flat (Step e.core) refl (rw (last, p.took) refl) refl;
       now = same;
-      commits = λ ys. ap (λ z. moved (HeldBetween e) (put_together (z ++ ys))) last ∙ moved-pair e y ys parts ∙ ap (λ z. (z ++ []) ++ put_together ys) (sym both);
+      commits = λ ys.
+          ap (λ z. moved (HeldBetween e) (put_together (z ++ ys))) last
+          ∙ moved-pair e y ys parts
+          ∙ ap (λ z. (z ++ []) ++ put_together ys) (sym both);
       goes_on = subst (λ z. GoesOn (HeldBetween e) Free z) (sym last) (store-on e y parts);
       stores = subst AllStores same (choice-stores t depth state (Step e.core) stores);
       holds = tt;
     }
 
-split-goes : (t : Litmus) (depth : ℕ) (state : State) (a : Attempt) (holder : Holder) → AllStores state → HolderFits Split t depth state holder → HitFits t depth state a holder
+split-goes : (t : Litmus) (depth : ℕ) (state : State) (a : Attempt) (holder : Holder)
+    → AllStores state
+    → HolderFits Split t depth state holder
+    → HitFits t depth state a holder
     → Goes Split t depth state (chosen a.choice) holder (split_effect t depth state a holder)
 split-goes t depth state a holder stores fits fit =
     split-by (λ h c g. HolderFits Split t depth state h → HitFits t depth state a h → Goes Split t depth state (chosen c) h g) t depth state a holder
@@ -270,7 +321,9 @@ choice-whole t depth state a stores = go (access_of t depth state a) refl
     go _ q = plain (λ l h. let z : ⊥ = cc in z)
 
 -- so on the atomic bus
-atomic-goes : (t : Litmus) (depth : ℕ) (state : State) (a : Choice) → AllStores state → Goes Atomic t depth state (chosen a) Free (acts (effect_of t depth state a) Free)
+atomic-goes : (t : Litmus) (depth : ℕ) (state : State) (a : Choice)
+    → AllStores state
+    → Goes Atomic t depth state (chosen a) Free (acts (effect_of t depth state a) Free)
 atomic-goes t depth state a stores =
     let w = choice-whole t depth state a stores in
     record {
@@ -283,25 +336,34 @@ atomic-goes t depth state a stores =
       holds = tt;
     }
 
-pub choice-goes : (bus : Bus) (t : Litmus) (depth : ℕ) (state : BusState) (a : Attempt) → AllStores state.flat → HolderFits bus t depth state.flat state.holder → HitFits t depth state.flat a state.holder
+pub choice-goes : (bus : Bus) (t : Litmus) (depth : ℕ) (state : BusState) (a : Attempt)
+    → AllStores state.flat
+    → HolderFits bus t depth state.flat state.holder
+    → HitFits t depth state.flat a state.holder
     → Goes bus t depth state.flat (chosen a.choice) state.holder (effect_on bus t depth state a)
 choice-goes Split t depth state a stores fits fit = split-goes t depth state.flat a state.holder stores fits fit
 choice-goes Atomic t depth state a stores fits fit = go state.holder fits
   where
-    go : (holder : Holder) → HolderFits Atomic t depth state.flat holder → Goes Atomic t depth state.flat (chosen a.choice) holder (acts (effect_of t depth state.flat a.choice) holder)
+    go : (holder : Holder)
+        → HolderFits Atomic t depth state.flat holder
+        → Goes Atomic t depth state.flat (chosen a.choice) holder (acts (effect_of t depth state.flat a.choice) holder)
     go Free h = atomic-goes t depth state.flat a.choice stores
     go _ h = absurd h
 
 -- ---- choices one after the other
 
-after-append : (t : Litmus) (depth : ℕ) (state : State) (xs ys : List Choice) → state_after t depth state (xs ++ ys) ≡ state_after t depth (state_after t depth state xs) ys
+after-append : (t : Litmus) (depth : ℕ) (state : State) (xs ys : List Choice)
+    → state_after t depth state (xs ++ ys) ≡ state_after t depth (state_after t depth state xs) ys
 after-append t depth state [] ys = refl
 after-append t depth state (x ∷ xs) ys = after-append t depth (after_choice t depth state x) xs ys
 
-commits-append : (t : Litmus) (depth : ℕ) (state : State) (xs ys : List Choice) → commits_of t depth state (xs ++ ys) ≡ commits_of t depth state xs ++ commits_of t depth (state_after t depth state xs) ys
+commits-append : (t : Litmus) (depth : ℕ) (state : State) (xs ys : List Choice)
+    → commits_of t depth state (xs ++ ys)
+    ≡ commits_of t depth state xs ++ commits_of t depth (state_after t depth state xs) ys
 commits-append t depth state [] ys = refl
 commits-append t depth state (x ∷ xs) ys =
-    ap (λ z. (effect_of t depth state x).commits ++ z) (commits-append t depth (after_choice t depth state x) xs ys) ∙ sym (append_assoc (effect_of t depth state x).commits _ _)
+    ap (λ z. (effect_of t depth state x).commits ++ z) (commits-append t depth (after_choice t depth state x) xs ys)
+    ∙ sym (append_assoc (effect_of t depth state x).commits _ _)
 
 -- some choices, followed by choices of the flat machine
 pub record Follows (bus : Bus) (t : Litmus) (depth : ℕ) (begin : BusState) (commits : List Entry) (end : BusState) : Type 0 where
@@ -312,8 +374,18 @@ pub record Follows (bus : Bus) (t : Litmus) (depth : ℕ) (begin : BusState) (co
   pub stores : AllStores end.flat
   pub holds : HolderFits bus t depth end.flat end.holder
 
-rests : (bus : Bus) (t : Litmus) (depth : ℕ) (state : BusState) → AllStores state.flat → HolderFits bus t depth state.flat state.holder → Follows bus t depth state [] state
-rests bus t depth state stores fits = record { choices = []; now = refl; committed = go state.holder; to_come = record { answered = λ e q. q; paired = tt }; stores = stores; holds = fits }
+rests : (bus : Bus) (t : Litmus) (depth : ℕ) (state : BusState)
+    → AllStores state.flat
+    → HolderFits bus t depth state.flat state.holder
+    → Follows bus t depth state [] state
+rests bus t depth state stores fits = record {
+  choices = [];
+  now = refl;
+  committed = go state.holder;
+  to_come = record { answered = λ e q. q; paired = tt };
+  stores = stores;
+  holds = fits;
+}
   where
     go : (holder : Holder) → moved holder [] ≡ waiting holder
     go Free = refl
@@ -337,7 +409,10 @@ follows-on bus t depth state a commits end g h =
     }
 
 -- all choices, made one after the other
-pub all-follow : (bus : Bus) (t : Litmus) (depth : ℕ) (state : BusState) (attempts : List Attempt) → AllStores state.flat → HolderFits bus t depth state.flat state.holder → HitsFit bus t depth state attempts
+pub all-follow : (bus : Bus) (t : Litmus) (depth : ℕ) (state : BusState) (attempts : List Attempt)
+    → AllStores state.flat
+    → HolderFits bus t depth state.flat state.holder
+    → HitsFit bus t depth state attempts
     → Follows bus t depth state (commits_on bus t depth state attempts) (state_on bus t depth state attempts)
 all-follow bus t depth state [] stores fits hits = rests bus t depth state stores fits
 all-follow bus t depth state (a ∷ rest) stores fits hits =

@@ -1,7 +1,12 @@
 -- What is left to do, and what each choice takes off it: a core has 3 for each instruction in front of it, and 2 for each
 -- pending store, which asks and is drained. A locked instruction takes up to three choices (it asks, reads and writes), a
 -- plain store three (it becomes pending, asks and is drained), all else fewer.
-use Rattle.tso_laws.proofs.BusVocabulary.{◌≡◌, ◌≢◌, ◌<◌, ◌≤◌, ℕ, ◌+◌, ◌*◌, zero, suc, List, [], ◌∷◌, Option, Some, None, length, slice_get, slice_set, slice_index_or, drop, arith, ap, refl, ◌⊎◌, inl, inr, length-append, slice_get_within, Litmus, CoreState, State, Effect, idle, stalled, step_of, effect_of, chosen, core_of, program_of, applied, started, stall_count, MemoryAccess, NoAccess, Locks, step_access, drain_access, next_of, access_of, Instr, Entry, Choice, Step, Drain, Stall, instructions, drain_with, lt-or, drop-at, no-program, no-core}
+use Rattle.tso_laws.proofs.BusVocabulary.{◌≡◌, ◌≢◌, ◌<◌, ◌≤◌, ℕ, ◌+◌, ◌*◌, zero, suc, List, [], ◌∷◌, Option, Some, None, length, slice_get}
+use Rattle.tso_laws.proofs.BusVocabulary.{slice_set, slice_index_or, drop, arith, ap, refl, ◌⊎◌, inl, inr, length-append, slice_get_within}
+use Rattle.tso_laws.proofs.BusVocabulary.{Litmus, CoreState, State, Effect, idle, stalled, step_of, effect_of, chosen, core_of, program_of}
+use Rattle.tso_laws.proofs.BusVocabulary.{applied, started, stall_count, MemoryAccess, NoAccess, Locks, step_access, drain_access, next_of}
+use Rattle.tso_laws.proofs.BusVocabulary.{access_of, Instr, Entry, Choice, Step, Drain, Stall, instructions, drain_with, lt-or, drop-at}
+use Rattle.tso_laws.proofs.BusVocabulary.{no-program, no-core}
 use Rattle.tso_terms.specs.declared.choice.Stall.TheVariants as stall
 use Rattle.tso_laws.proofs.Steps.{put, StepForm, stalls, buffers, makes, pairs, step-form}
 
@@ -38,7 +43,10 @@ pub record Waits (what : MemoryAccess) (s : CoreState) (f : Effect) : Type 0 whe
 abbrev pub Pays : List Instr → CoreState → MemoryAccess → Effect → Type 0
 Pays p s what f = Paid p s (price what) f ⊎ Waits what s f
 
-paid : (p : List Instr) (s : CoreState) (n : ℕ) (x : Instr) (f : Effect) → slice_get p s.place ≡ Some x → stall_count f.outcome ≡ 0 → f.after.place ≡ s.place + 1
+paid : (p : List Instr) (s : CoreState) (n : ℕ) (x : Instr) (f : Effect)
+    → slice_get p s.place ≡ Some x
+    → stall_count f.outcome ≡ 0
+    → f.after.place ≡ s.place + 1
     → n + (length f.after.pending + length f.after.pending) ≤ 3 + (length s.pending + length s.pending) → Paid p s n f
 paid p s n x f e o m w = record {
   took = o;
@@ -46,13 +54,24 @@ paid p s n x f e o m w = record {
   within = λ h. rw m (let l = slice_get_within p s.place x e in omega arith);
 }
 
-by-form : (c d : ℕ) (p : List Instr) (memory : List ℕ) (s : CoreState) (x : Instr) (what : MemoryAccess) (f : Effect) → slice_get p s.place ≡ Some x → StepForm c memory (Some x) what s f → Pays p s what f
+by-form : (c d : ℕ) (p : List Instr) (memory : List ℕ) (s : CoreState) (x : Instr) (what : MemoryAccess) (f : Effect)
+    → slice_get p s.place ≡ Some x
+    → StepForm c memory (Some x) what s f
+    → Pays p s what f
 by-form c d p memory s x what f e (stalls w) = inr (record { none = w.none; why = w.why; is = w.is })
-by-form c d p memory s x what f e (buffers w) = inl (rw (w.none, w.is) (paid p s 1 x (put s w.store) e refl refl (let m = length-append s.pending (w.store ∷ []) in omega arith)))
-by-form c d p memory s x what f e (makes w) = inl (paid p s (price what) x f e w.took w.place (let m = ap length w.pending in let q = price-most what in omega arith))
-by-form c d p memory s x what f e (pairs loc q w) = inl (paid p s (price what) x f e (ap stall_count w.took) w.place (let m = ap length w.pending in let q = price-most what in omega arith))
+by-form c d p memory s x what f e (buffers w) =
+    inl (rw (
+      w.none,
+      w.is,
+    ) (paid p s 1 x (put s w.store) e refl refl (let m = length-append s.pending (w.store ∷ []) in omega arith)))
+by-form c d p memory s x what f e (makes w) =
+    inl (paid p s (price what) x f e w.took w.place (let m = ap length w.pending in let q = price-most what in omega arith))
+by-form c d p memory s x what f e (pairs loc q w) =
+    inl (paid p s (price what) x f e (ap stall_count w.took) w.place (let m = ap length w.pending in let q = price-most what in omega arith))
 
-step-pays : (c d : ℕ) (p : List Instr) (memory : List ℕ) (s : CoreState) (i : Option Instr) → slice_get p s.place ≡ i → Pays p s (step_access d i s.pending) (step_of d memory c i s)
+step-pays : (c d : ℕ) (p : List Instr) (memory : List ℕ) (s : CoreState) (i : Option Instr)
+    → slice_get p s.place ≡ i
+    → Pays p s (step_access d i s.pending) (step_of d memory c i s)
 step-pays c d p memory s None e = inr (record { none = refl; why = stall.Done; is = refl })
 step-pays c d p memory s (Some x) e = by-form c d p memory s x _ _ e (step-form d c memory (Some x) s)
 
@@ -60,7 +79,8 @@ drain-pays : (p : List Instr) (s : CoreState) (q : List Entry) → s.pending ≡
 drain-pays p s [] z = inr (record { none = refl; why = stall.Empty; is = refl })
 drain-pays p s (y ∷ ys) z = inl (record { took = refl; less = let m = ap length z in omega arith; within = λ h. h })
 
-pub choice-pays : (t : Litmus) (d : ℕ) (state : State) (a : Choice) → Pays (program_of t (chosen a)) (core_of state (chosen a)) (access_of t d state a) (effect_of t d state a)
+pub choice-pays : (t : Litmus) (d : ℕ) (state : State) (a : Choice)
+    → Pays (program_of t (chosen a)) (core_of state (chosen a)) (access_of t d state a) (effect_of t d state a)
 choice-pays t d state (Step c) = step-pays c.0 d (program_of t c.0) state.memory (core_of state c.0) (next_of t state c.0) refl
 choice-pays t d state (Drain c) = drain-pays (program_of t c.0) (core_of state c.0) (core_of state c.0).pending refl
 
@@ -93,10 +113,16 @@ total-set (p ∷ ps) [] k v a b = absurd (omega arith)
 total-set (p ∷ ps) (s ∷ ss) zero v a b = omega arith
 total-set (p ∷ ps) (s ∷ ss) (suc k) v a b = let h = total-set ps ss k v (omega arith) (omega arith) in omega arith
 
-absent-left : (t : Litmus) (state : State) (k : ℕ) → length state.cores ≡ length t.programs → length t.programs ≤ k → left (program_of t k) (core_of state k) ≡ 0
+absent-left : (t : Litmus) (state : State) (k : ℕ)
+    → length state.cores ≡ length t.programs
+    → length t.programs ≤ k
+    → left (program_of t k) (core_of state k) ≡ 0
 absent-left t state k n l = rw (no-program t.programs k l, no-core state.cores k (omega arith)) refl
 
-pub paid-total : (t : Litmus) (state : State) (k n : ℕ) (f : Effect) → length state.cores ≡ length t.programs → 0 < n → Paid (program_of t k) (core_of state k) n f
+pub paid-total : (t : Litmus) (state : State) (k n : ℕ) (f : Effect)
+    → length state.cores ≡ length t.programs
+    → 0 < n
+    → Paid (program_of t k) (core_of state k) n f
     → n + total t.programs (applied state k f).cores ≤ total t.programs state.cores
 paid-total t state k n f size some w = elim (lt-or (length t.programs) k) [
   | inl l ↦ let h = total-set t.programs state.cores k f.after (omega arith) l in let m = w.less in omega arith
@@ -104,14 +130,20 @@ paid-total t state k n f size some w = elim (lt-or (length t.programs) k) [
 ]
 
 -- a core that has something left is there
-pub left-present : (t : Litmus) (state : State) (k : ℕ) → length state.cores ≡ length t.programs → 0 < left (program_of t k) (core_of state k) → k < length t.programs
+pub left-present : (t : Litmus) (state : State) (k : ℕ)
+    → length state.cores ≡ length t.programs
+    → 0 < left (program_of t k) (core_of state k)
+    → k < length t.programs
 left-present t state k n h = elim (lt-or (length t.programs) k) [
   | inl l ↦ l
   | inr l ↦ absurd (let z = absent-left t state k n l in omega arith)
 ]
 
 -- what a core has left is part of the whole
-pub left-within : (ps : List (List Instr)) (ss : List CoreState) (k : ℕ) → k < length ps → k < length ss → left (slice_index_or ps k []) (slice_index_or ss k idle) ≤ total ps ss
+pub left-within : (ps : List (List Instr)) (ss : List CoreState) (k : ℕ)
+    → k < length ps
+    → k < length ss
+    → left (slice_index_or ps k []) (slice_index_or ss k idle) ≤ total ps ss
 left-within [] ss k a b = absurd (omega arith)
 left-within (p ∷ ps) [] k a b = absurd (omega arith)
 left-within (p ∷ ps) (s ∷ ss) zero a b = omega arith

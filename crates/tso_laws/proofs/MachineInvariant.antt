@@ -1,8 +1,14 @@
 -- The whole machine: every choice keeps what its first state has, and at the end that is a TSO execution.
-use Rattle.tso_laws.proofs.Vocabulary.{◌≡◌, ◌≢◌, ◌<◌, ℕ, ◌+◌, zero, suc, List, [], ◌∷◌, ◌++◌, Option, Some, None, Bool, true, false, length, slice_get, slice_set, slice_index, slice_index_or, arith, ap, sym, ◌∙◌, append_assoc, refl, inl, inr, subst, ◌==◌, ◌&&◌, if◌then◌else◌, get_or-set_same, get_or-set_other, length-set, slice_get-get_or, Litmus, is_write, lt-or, memory_after, CoreState, State, Effect, idle, program_of, effect_of, chosen, after_choice, applied, started, start, Entry, Instr, Choice, Step, Drain, state_after, commits_of, Each, each-append, each-map, set-cases, append-nil, length-starts, decide, test-true, test-false}
+use Rattle.tso_laws.proofs.Vocabulary.{◌≡◌, ◌≢◌, ◌<◌, ℕ, ◌+◌, zero, suc, List, [], ◌∷◌, ◌++◌, Option, Some, None, Bool, true, false, length}
+use Rattle.tso_laws.proofs.Vocabulary.{slice_get, slice_set, slice_index, slice_index_or, arith, ap, sym, ◌∙◌, append_assoc, refl, inl, inr}
+use Rattle.tso_laws.proofs.Vocabulary.{subst, ◌==◌, ◌&&◌, if◌then◌else◌, get_or-set_same, get_or-set_other, length-set, slice_get-get_or}
+use Rattle.tso_laws.proofs.Vocabulary.{Litmus, is_write, lt-or, memory_after, CoreState, State, Effect, idle, program_of, effect_of, chosen}
+use Rattle.tso_laws.proofs.Vocabulary.{after_choice, applied, started, start, Entry, Instr, Choice, Step, Drain, state_after, commits_of}
+use Rattle.tso_laws.proofs.Vocabulary.{Each, each-append, each-map, set-cases, append-nil, length-starts, decide, test-true, test-false}
 use Rattle.tso_laws.proofs.Folds.{last_word-append, last_word, HasLocations}
 use Rattle.tso_laws.proofs.Work.{absent-stays, stays-same}
-use Rattle.tso_laws.proofs.CoreInvariant.{CoreInvariant, IsMemory, Commits, holds-step, holds-drained, holds-others, step-commits, drain-commits, KnownAt, Paired, paired-append, step-paired, drain-paired}
+use Rattle.tso_laws.proofs.CoreInvariant.{CoreInvariant, IsMemory, Commits, holds-step, holds-drained, holds-others, step-commits}
+use Rattle.tso_laws.proofs.CoreInvariant.{drain-commits, KnownAt, Paired, paired-append, step-paired, drain-paired}
 
 -- one write to the memory, or none
 one-word : (b : Bool) (memory : List ℕ) (l loc v w : ℕ) → (b ≡ true → l < length memory) → slice_index memory loc ≡ w
@@ -13,7 +19,10 @@ one-word true memory l loc v w h e = elim (decide l loc) [
   | inr n ↦ rw (test-false l loc n) (get_or-set_other memory l loc v 0 (λ s. n (sym s)) ∙ e)
 ]
 
-memory-after : (c : ℕ) (words : List ℕ) (commits d : List Entry) (memory : List ℕ) → length memory ≡ length words → IsMemory words commits memory → Each (Commits c (length words)) d
+memory-after : (c : ℕ) (words : List ℕ) (commits d : List Entry) (memory : List ℕ)
+    → length memory ≡ length words
+    → IsMemory words commits memory
+    → Each (Commits c (length words)) d
     → IsMemory words (commits ++ d) (memory_after d memory)
 memory-after c words commits [] memory n m d = subst (λ z. IsMemory words z memory) (sym (append-nil commits)) m
 memory-after c words commits (e ∷ es) memory n m d =
@@ -36,7 +45,9 @@ length-words_after (e ∷ es) memory = length-words_after es _ ∙ same-length (
     same-length false xs = refl
 
 pub record MachineInvariant (d : ℕ) (t : Litmus) (commits : List Entry) (state : State) : Type 0 where
-  pub cores : (k : ℕ) (s : CoreState) → slice_get state.cores k ≡ Some s → CoreInvariant d k (program_of t k) (slice_index_or t.registers k []) t.words commits s
+  pub cores : (k : ℕ) (s : CoreState)
+      → slice_get state.cores k ≡ Some s
+      → CoreInvariant d k (program_of t k) (slice_index_or t.registers k []) t.words commits s
   pub memory : IsMemory t.words commits state.memory
   pub size : length state.cores ≡ length t.programs
   pub room : length state.memory ≡ length t.words
@@ -45,7 +56,9 @@ pub record MachineInvariant (d : ℕ) (t : Litmus) (commits : List Entry) (state
 
 -- an effect of core c on the whole
 world-apply : (d : ℕ) (t : Litmus) (commits : List Entry) (state : State) (c : ℕ) (f : Effect) → MachineInvariant d t commits state → c < length t.programs
-    → CoreInvariant d c (program_of t c) (slice_index_or t.registers c []) t.words (commits ++ f.commits) f.after → Each (Commits c (length t.words)) f.commits → Paired f.commits
+    → CoreInvariant d c (program_of t c) (slice_index_or t.registers c []) t.words (commits ++ f.commits) f.after
+    → Each (Commits c (length t.words)) f.commits
+    → Paired f.commits
     → MachineInvariant d t (commits ++ f.commits) (applied state c f)
 world-apply d t commits state c f w l h own_commits pairs = record {
   pairs = paired-append commits f.commits w.pairs pairs;
@@ -64,13 +77,17 @@ world-apply d t commits state c f w l h own_commits pairs = record {
     own : (k : ℕ) (s : CoreState) → k ≡ c → s ≡ f.after → CoreInvariant d k (program_of t k) (slice_index_or t.registers k []) t.words (commits ++ f.commits) s
     own k s p q = rw (p, q) h
 
-present-choose : (t : Litmus) (d : ℕ) (commits : List Entry) (state : State) (c : Choice) → HasLocations t → MachineInvariant d t commits state → chosen c < length t.programs
+present-choose : (t : Litmus) (d : ℕ) (commits : List Entry) (state : State) (c : Choice)
+    → HasLocations t
+    → MachineInvariant d t commits state
+    → chosen c < length t.programs
     → MachineInvariant d t (commits ++ (effect_of t d state c).commits) (after_choice t d state c)
 present-choose t d commits state (Step c) a w l =
     let s : CoreState = slice_index_or state.cores c.0 idle in
     let h = w.cores c.0 s (slice_get-get_or state.cores c.0 idle (rw w.size l)) in
     world-apply d t commits state c.0 (effect_of t d state (Step c)) w l
-    (holds-step c.0 d (program_of t c.0) (slice_index_or t.registers c.0 []) t.words state.memory commits s h w.memory (a c.0) (slice_get (program_of t c.0) s.place) refl)
+    (holds-step c.0 d (program_of t c.0) (slice_index_or t.registers c.0 []) t.words state.memory commits s h w.memory
+    (a c.0) (slice_get (program_of t c.0) s.place) refl)
     (step-commits c.0 d (length t.words) state.memory (slice_get (program_of t c.0) s.place) s (known (slice_get (program_of t c.0) s.place) refl))
     (step-paired c.0 d state.memory (slice_get (program_of t c.0) s.place) s)
   where
@@ -91,7 +108,9 @@ pub world-choose : (t : Litmus) (d : ℕ) (commits : List Entry) (state : State)
 world-choose t d commits state c a w = elim (lt-or (length t.programs) (chosen c)) [
   | inl l ↦ present-choose t d commits state c a w l
   | inr l ↦ let s = absent-stays t d state c w.size l in
-      subst (λ z. MachineInvariant d t z (after_choice t d state c)) (sym (ap (λ z. commits ++ z) s.none ∙ append-nil commits)) (subst (λ z. MachineInvariant d t commits z) (sym (stays-same t d state c s)) w)
+      subst (λ z. MachineInvariant d t z (after_choice t d state c))
+      (sym (ap (λ z. commits ++ z) s.none ∙ append-nil commits))
+      (subst (λ z. MachineInvariant d t commits z) (sym (stays-same t d state c s)) w)
 ]
 
 pub world-run : (t : Litmus) (d : ℕ) (commits : List Entry) (state : State) (cs : List Choice) → HasLocations t → MachineInvariant d t commits state
@@ -104,7 +123,9 @@ world-run t d commits state (c ∷ cs) a w =
 starts-at : (c : ℕ) (ps : List (List Instr)) (registers : List (List ℕ)) (k : ℕ) (s : CoreState) → slice_get (started c ps registers) k ≡ Some s
     → s ≡ record { place = 0; registers = slice_index_or registers (c + k) []; pending = [] }
 starts-at c [] registers k s e = absurd (let z : ⊥ = cc in z)
-starts-at c (p ∷ ps) registers zero s e = rw (let z : c + 0 ≡ c = omega arith in z) (let q : record { place = 0; registers = slice_index_or registers c []; pending = [] } ≡ s = cc in sym q)
+starts-at c (p ∷ ps) registers zero s e =
+    rw (let z : c + 0 ≡ c = omega arith in z)
+    (let q : record { place = 0; registers = slice_index_or registers c []; pending = [] } ≡ s = cc in sym q)
 starts-at c (p ∷ ps) registers (suc k) s e = rw (let z : c + suc k ≡ (c + 1) + k = omega arith in z) (starts-at (c + 1) ps registers k s e)
 
 pub world-start : (d : ℕ) (t : Litmus) → MachineInvariant d t [] (start t)
@@ -120,7 +141,12 @@ world-start d t = record {
     zero-plus : (k : ℕ) → 0 + k ≡ k
     zero-plus k = omega arith
 
-    first : (k : ℕ) → CoreInvariant d k (program_of t k) (slice_index_or t.registers k []) t.words [] (record { place = 0; registers = slice_index_or t.registers k []; pending = [] })
+    first : (k : ℕ)
+        → CoreInvariant d k (program_of t k) (slice_index_or t.registers k []) t.words [] (record {
+          place = 0;
+          registers = slice_index_or t.registers k [];
+          pending = [];
+        })
     first k = record {
       done = [];
       sees = record { preceding = tt; kept = tt; few = tt; due = tt; counted = refl; members = tt };

@@ -1,5 +1,9 @@
 -- No order needs more depth than a program has plain stores.
-use Rattle.tso_laws.proofs.Vocabulary.{◌≡◌, ◌<◌, ◌≤◌, ℕ, ◌+◌, zero, suc, List, [], ◌∷◌, ◌++◌, Bool, true, false, length, slice_index, slice_index_or, arith, ap, sym, ◌∙◌, refl, inl, inr, subst, if◌then◌else◌, nat_lt, ◌==◌, ◌&&◌, nat_tests, action_of, entries_by, entries_of, Litmus, max-left, max-right, max-within, load-kind, needed, store_count, stores_in, most_stores, is_store, is_load, rank, IsTsoExecution, read_values, made_by, Entry, Instr, Action, Store, program_of, Member, cases_Bool}
+use Rattle.tso_laws.proofs.Vocabulary.{◌≡◌, ◌<◌, ◌≤◌, ℕ, ◌+◌, zero, suc, List, [], ◌∷◌, ◌++◌, Bool, true, false, length, slice_index}
+use Rattle.tso_laws.proofs.Vocabulary.{slice_index_or, arith, ap, sym, ◌∙◌, refl, inl, inr, subst, if◌then◌else◌, nat_lt, ◌==◌, ◌&&◌}
+use Rattle.tso_laws.proofs.Vocabulary.{nat_tests, action_of, entries_by, entries_of, Litmus, max-left, max-right, max-within, load-kind}
+use Rattle.tso_laws.proofs.Vocabulary.{needed, store_count, stores_in, most_stores, is_store, is_load, rank, IsTsoExecution, read_values}
+use Rattle.tso_laws.proofs.Vocabulary.{made_by, Entry, Instr, Action, Store, program_of, Member, cases_Bool}
 use Rattle.tso_laws.proofs.Folds.{needed-is, passed, asks, needs}
 use Rattle.tso_laws.proofs.Held.{member-left, member-right, member-split, each-of, Distinct, Apart, is_held, held, held-passed}
 use Rattle.tso_laws.proofs.OrderSteps.{first_of}
@@ -28,7 +32,8 @@ pick-member e [] m w = absurd m
 pick-member e (y ∷ ys) (inl q) w = let v : is_store y ≡ true = ap is_store (sym q) ∙ w in rw v (inl q)
 pick-member e (y ∷ ys) (inr m) w = elim (cases_Bool (is_store y)) [ inl is ↦ rw is (inr (pick-member e ys m w)) | inr is ↦ rw is (pick-member e ys m w) ]
 
-pick-by : (c place : ℕ) (a : Action) (registers : List ℕ) (word : ℕ) (xs : List Entry) → length (pick (entries_by c place a registers word ++ xs)) ≡ store_count a + length (pick xs)
+pick-by : (c place : ℕ) (a : Action) (registers : List ℕ) (word : ℕ) (xs : List Entry)
+    → length (pick (entries_by c place a registers word ++ xs)) ≡ store_count a + length (pick xs)
 pick-by c place (Store loc operand) registers word xs = omega arith
 pick-by c place _ registers word xs = omega arith
 
@@ -57,7 +62,11 @@ held-in k n (y ∷ ys) e m = go (is_held k n y) refl m (λ h. held-in k n ys e h
     up h = record { member = inr h.member; core = h.core; store = h.store }
 
     go : (b : Bool) → is_held k n y ≡ b → Member e (if b then y ∷ held k n ys else held k n ys) → (Member e (held k n ys) → In k ys e) → In k (y ∷ ys) e
-    go true q (inl i) r = record { member = inl i; core = ap (λ z. z.core.0) i ∙ core-of (is_store y) y.core.0 k y.place n q; store = ap is_store i ∙ store-of (is_store y) y.core.0 k y.place n q }
+    go true q (inl i) r = record {
+      member = inl i;
+      core = ap (λ z. z.core.0) i ∙ core-of (is_store y) y.core.0 k y.place n q;
+      store = ap is_store i ∙ store-of (is_store y) y.core.0 k y.place n q;
+    }
     go true q (inr i) r = up (r i)
     go false q i r = up (r i)
 
@@ -73,7 +82,12 @@ most-at [] k = omega arith
 most-at (p ∷ ps) zero = max-left (stores_in p) (most_stores ps)
 most-at (p ∷ ps) (suc k) = let a = most-at ps k in let b = max-right (stores_in p) (most_stores ps) in omega arith
 
-within_depth : (d : ℕ) (t : Litmus) (order xs : List Entry) → Own t order → most_stores t.programs ≤ d → Distinct xs → ((e : Entry) → Member e xs → Member e order) → needs xs ≤ d
+within_depth : (d : ℕ) (t : Litmus) (order xs : List Entry)
+    → Own t order
+    → most_stores t.programs ≤ d
+    → Distinct xs
+    → ((e : Entry) → Member e xs → Member e order)
+    → needs xs ≤ d
 within_depth d t order [] o m u f = omega arith
 within_depth d t order (x ∷ xs) o m u f =
     max-within (asks x xs) (needs xs) d (here (is_load x) refl) (within_depth d t order xs o m u.1 (λ e i. f e (inr i)))
@@ -86,7 +100,9 @@ within_depth d t order (x ∷ xs) o m u f =
     asked false q = omega arith
     asked true q =
         let k : ℕ = x.core.0 in
-        let a = some (pick (made_by k (program_of t k) (first_of t k) order)) (pick-member x (made_by k (program_of t k) (first_of t k) order) (o.in_made x (f x (inl refl))).1 q) in
+        let a =
+        some (pick (made_by k (program_of t k) (first_of t k) order))
+        (pick-member x (made_by k (program_of t k) (first_of t k) order) (o.in_made x (f x (inl refl))).1 q) in
         let n = pick-count k 0 (program_of t k) (first_of t k) (read_values k 0 (program_of t k) order) in
         let l = most-at t.programs k in omega arith
 
@@ -102,4 +118,6 @@ within_depth d t order (x ∷ xs) o m u f =
     here false q = asked (is_store x) refl
 
 pub most-is-enough : (t : Litmus) (order : List Entry) → IsTsoExecution t order → needed order ≤ most_stores t.programs
-most-is-enough t order h = let o = whole-own t order h.whole in rw (needed-is order) (within_depth (most_stores t.programs) t order order o (omega arith) o.distinct (λ e i. i))
+most-is-enough t order h =
+    let o = whole-own t order h.whole in
+    rw (needed-is order) (within_depth (most_stores t.programs) t order order o (omega arith) o.distinct (λ e i. i))

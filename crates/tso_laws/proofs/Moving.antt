@@ -1,5 +1,7 @@
 -- Load parts that are put before their store parts, and what is committed in between.
-use Rattle.tso_laws.proofs.BusVocabulary.{◌≡◌, ◌≢◌, ℕ, List, [], ◌∷◌, ◌++◌, Bool, true, false, ap, sym, refl, ◌∙◌, ◌==◌, ◌&&◌, inl, inr, same_kind, is_at, IsStorePart, MemoryAccess, Holder, Free, HeldBetween, put_before, put_together, Entry, LR, LW, IsAnswered, ArePaired, decide, test-true, Each}
+use Rattle.tso_laws.proofs.BusVocabulary.{◌≡◌, ◌≢◌, ℕ, List, [], ◌∷◌, ◌++◌, Bool, true, false, ap, sym, refl, ◌∙◌, ◌==◌, ◌&&◌, inl, inr}
+use Rattle.tso_laws.proofs.BusVocabulary.{same_kind, is_at, IsStorePart, MemoryAccess, Holder, Free, HeldBetween, put_before, put_together}
+use Rattle.tso_laws.proofs.BusVocabulary.{Entry, LR, LW, IsAnswered, ArePaired, decide, test-true, Each}
 use Rattle.tso_laws.proofs.Steps.{IsPlain}
 
 -- what is to come, with the load part that waits put before its store part
@@ -25,7 +27,9 @@ before-plain core what e [] ys h = refl
 before-plain core what e (x ∷ xs) ys h = rw (not-at e.core.0 e.place x h.0.no_store_part) (ap (λ z. x ∷ z) (before-plain core what e xs ys h.1))
 
 -- entries that are no part of a locked instruction stay where they are
-pub moved-plain : (core : ℕ) (what : MemoryAccess) (holder : Holder) (xs ys : List Entry) → Each (IsPlain core what) xs → moved holder (put_together (xs ++ ys)) ≡ xs ++ moved holder (put_together ys)
+pub moved-plain : (core : ℕ) (what : MemoryAccess) (holder : Holder) (xs ys : List Entry)
+    → Each (IsPlain core what) xs
+    → moved holder (put_together (xs ++ ys)) ≡ xs ++ moved holder (put_together ys)
 moved-plain core what (HeldBetween e) xs ys h = ap (λ z. put_before e z) (together-plain core what xs ys h) ∙ before-plain core what e xs (put_together ys) h
 moved-plain core what _ xs ys h = together-plain core what xs ys h
 
@@ -65,7 +69,11 @@ paired-plain : (core : ℕ) (what : MemoryAccess) (xs ys : List Entry) (end : Ho
 paired-plain core what [] ys end h p = p
 paired-plain core what (x ∷ xs) ys end h p = (λ q. absurd (kind-not x h.0.no_load_part q), paired-plain core what xs ys end h.1 p)
 
-answered-plain : (core : ℕ) (what : MemoryAccess) (e : Entry) (xs ys : List Entry) (end : Holder) → core ≢ e.core.0 → Each (IsPlain core what) xs → IsAnswered e ys end → IsAnswered e (xs ++ ys) end
+answered-plain : (core : ℕ) (what : MemoryAccess) (e : Entry) (xs ys : List Entry) (end : Holder)
+    → core ≢ e.core.0
+    → Each (IsPlain core what) xs
+    → IsAnswered e ys end
+    → IsAnswered e (xs ++ ys) end
 answered-plain core what e [] ys end n h a = a
 answered-plain core what e (x ∷ xs) ys end n h a = inr (
   record { core = λ q. n (sym h.0.mine ∙ q); no_load_part = kind-not x h.0.no_load_part; no_store_part = kind-not-store x h.0.no_store_part },
@@ -73,7 +81,9 @@ answered-plain core what e (x ∷ xs) ys end n h a = inr (
 )
 
 -- entries that are no part of a locked instruction, and come of its core only where there are none
-pub plain-on : (core : ℕ) (what : MemoryAccess) (holder : Holder) (xs : List Entry) → Each (IsPlain core what) xs → ((e : Entry) → holder ≡ HeldBetween e → core ≡ e.core.0 → xs ≡ [])
+pub plain-on : (core : ℕ) (what : MemoryAccess) (holder : Holder) (xs : List Entry)
+    → Each (IsPlain core what) xs
+    → ((e : Entry) → holder ≡ HeldBetween e → core ≡ e.core.0 → xs ≡ [])
     → GoesOn holder holder xs
 plain-on core what holder xs h none ys end b = record {
   answered = λ e q. elim (decide core e.core.0) [

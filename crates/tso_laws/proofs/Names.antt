@@ -1,5 +1,9 @@
 -- Two names exchanged: of a core, of the places of a list, and of what a core has pending.
-use Rattle.tso_laws.proofs.EagerVocabulary.{◌≡◌, ◌≢◌, ◌<◌, ◌≤◌, ◌==◌, ℕ, zero, suc, List, [], ◌∷◌, length, map, swap, slice_set, slice_index_or, if◌then◌else◌, inl, inr, arith, ap, sym, ◌∙◌, refl, subst, get_or-set_same, get_or-set_other, length-set, length-swap, length-map, CoreState, State, idle, core_of, Entry, Choice, Step, Drain, decide, test-true, test-false, exchanged_core, exchanged_choice, exchanged_entry, renamed, exchanged}
+use Rattle.tso_laws.proofs.EagerVocabulary.{◌≡◌, ◌≢◌, ◌<◌, ◌≤◌, ◌==◌, ℕ, zero, suc, List, [], ◌∷◌, length, map, swap, slice_set}
+use Rattle.tso_laws.proofs.EagerVocabulary.{slice_index_or, if◌then◌else◌, inl, inr, arith, ap, sym, ◌∙◌, refl, subst, get_or-set_same}
+use Rattle.tso_laws.proofs.EagerVocabulary.{get_or-set_other, length-set, length-swap, length-map, CoreState, State, idle, core_of, Entry}
+use Rattle.tso_laws.proofs.EagerVocabulary.{Choice, Step, Drain, decide, test-true, test-false, exchanged_core, exchanged_choice}
+use Rattle.tso_laws.proofs.EagerVocabulary.{exchanged_entry, renamed, exchanged}
 
 -- ---- a core's name
 
@@ -56,7 +60,16 @@ module _ (pair : ℕ × ℕ) where
   -- ---- what is pending
 
   entry-twice : (e : Entry) → exchanged_entry pair (exchanged_entry pair e) ≡ e
-  entry-twice e = ap (λ z. let f : Entry = record { core = record { 0 = z }; place = e.place; kind = e.kind; loc = e.loc; value = e.value } in f) (core-twice e.core.0)
+  entry-twice e =
+      ap (λ z. let f : Entry = record {
+        core = record { 0 = z };
+        place = e.place;
+        kind = e.kind;
+        loc = e.loc;
+        value = e.value;
+      } in
+      f)
+      (core-twice e.core.0)
 
   entries-twice : (es : List Entry) → map (exchanged_entry pair) (map (exchanged_entry pair) es) ≡ es
   entries-twice [] = refl
@@ -110,7 +123,10 @@ same-cores [] (y ∷ ys) n h = absurd (let z : ⊥ = omega (arith, n) in z)
 same-cores (x ∷ xs) [] n h = absurd (let z : ⊥ = omega (arith, n) in z)
 same-cores (x ∷ xs) (y ∷ ys) n h = rw (h 0, same-cores xs ys (omega (arith, n)) (λ k. h (suc k))) refl
 
-pub same-state : (m n : List ℕ) (cs ds : List CoreState) → m ≡ n → cs ≡ ds → record { memory = m; cores = cs } ≡ (let z : State = record { memory = n; cores = ds } in z)
+pub same-state : (m n : List ℕ) (cs ds : List CoreState)
+    → m ≡ n
+    → cs ≡ ds
+    → record { memory = m; cores = cs } ≡ (let z : State = record { memory = n; cores = ds } in z)
 same-state m n cs ds p q = rw (p, q) refl
 
 pub cores-exchanged : (pair : ℕ × ℕ) (s : State) → length (exchanged pair s).cores ≡ length s.cores
@@ -130,7 +146,10 @@ module _ (pair : ℕ × ℕ) (s : State) (first : pair.0 < length s.cores) (seco
       again (exchanged pair s) k (omega (arith, n, first)) (omega (arith, n, second)) ∙ ap (renamed pair) (core-exchanged (exchanged_core pair k))
       ∙ renamed-twice pair (core_of s (exchanged_core pair (exchanged_core pair k))) ∙ ap (core_of s) (core-twice pair k)))
     where
-      again : (r : State) (k : ℕ) → pair.0 < length r.cores → pair.1 < length r.cores → core_of (exchanged pair r) k ≡ renamed pair (core_of r (exchanged_core pair k))
+      again : (r : State) (k : ℕ)
+          → pair.0 < length r.cores
+          → pair.1 < length r.cores
+          → core_of (exchanged pair r) k ≡ renamed pair (core_of r (exchanged_core pair k))
       again r k p q =
           let n = length-map r.cores (renamed pair) in
           swapped-at (map (renamed pair) r.cores) pair k idle (omega (arith, n, p)) (omega (arith, n, q)) ∙ map-at pair r.cores (exchanged_core pair k)

@@ -1,7 +1,12 @@
 -- What a core's commits and pending writes keep, as one list, when an entry is added.
-use Rattle.tso_laws.proofs.Vocabulary.{◌≡◌, ◌≢◌, ◌<◌, ◌≤◌, ℕ, ◌+◌, suc, List, [], ◌∷◌, ◌++◌, true, false, length, slice_index, arith, ap, sym, ◌∙◌, refl, subst, ◌&&◌, length-append, nat_lt, ◌==◌, nat_tests, is_write, is_read, is_before, writes_to, is_store, is_load, is_write_kind, is_read_kind, by-rank, rank, test-false, test-true, and-false, before, Entry, Kind, R, W, LW, Each, each-insert, each-map, each-all, each-append, each-left, each-right, Member, member-insert, member-inserted, append-nil}
+use Rattle.tso_laws.proofs.Vocabulary.{◌≡◌, ◌≢◌, ◌<◌, ◌≤◌, ℕ, ◌+◌, suc, List, [], ◌∷◌, ◌++◌, true, false, length, slice_index, arith, ap}
+use Rattle.tso_laws.proofs.Vocabulary.{sym, ◌∙◌, refl, subst, ◌&&◌, length-append, nat_lt, ◌==◌, nat_tests, is_write, is_read, is_before}
+use Rattle.tso_laws.proofs.Vocabulary.{writes_to, is_store, is_load, is_write_kind, is_read_kind, by-rank, rank, test-false, test-true}
+use Rattle.tso_laws.proofs.Vocabulary.{and-false, before, Entry, Kind, R, W, LW, Each, each-insert, each-map, each-all, each-append}
+use Rattle.tso_laws.proofs.Vocabulary.{each-left, each-right, Member, member-insert, member-inserted, append-nil}
 use Rattle.tso_laws.proofs.Folds.{last_word, passed}
-use Rattle.tso_laws.proofs.Entries.{Fine, Ordered, ordered-insert, Few, few-insert, passed-length, DueIn, Uncounted, OwnDue, due-insert, not_both, count, count-insert-own, count-insert-other, last_own-all}
+use Rattle.tso_laws.proofs.Entries.{Fine, Ordered, ordered-insert, Few, few-insert, passed-length, DueIn, Uncounted, OwnDue, due-insert}
+use Rattle.tso_laws.proofs.Entries.{not_both, count, count-insert-own, count-insert-other, last_own-all}
 
 abbrev pub Precedes : ℕ → ℕ → Entry → Type 0
 Precedes c place e = e.core.0 ≡ c → rank e < place
@@ -36,13 +41,18 @@ no_write loc e h = let w : is_write e ≡ false = reads_only e.kind h in rw w re
     reads_only _ h = refl
 
 -- an entry of another core
-pub sees-other : (d c place : ℕ) (words : List ℕ) (done xs ys : List Entry) (e : Entry) → OneList d c place words done (xs ++ ys) → Each (λ y. is_write y ≡ true) ys
+pub sees-other : (d c place : ℕ) (words : List ℕ) (done xs ys : List Entry) (e : Entry)
+    → OneList d c place words done (xs ++ ys)
+    → Each (λ y. is_write y ≡ true) ys
     → e.core.0 ≢ c → OneList d c place words done ((xs ++ (e ∷ [])) ++ ys)
 sees-other d c place words done xs ys e h w n = record {
   preceding = each-insert (Precedes c place) xs ys e h.preceding (λ k. absurd (n k));
   kept = ordered-insert d c xs ys e h.kept (each-all (λ x. Fine d c x e) xs (λ x k b. absurd (n k)))
       (each-all (λ y. Fine d c e y) ys (λ y k b. let f : is_before y e ≡ false = apart y e (λ q. n (sym q ∙ k)) in absurd (let z : ⊥ = cc in z)));
-  few = few-insert d c xs ys e h.few (each-all (λ x. x.core.0 ≡ c → (is_store e && is_before e x) ≡ false) xs (λ x k. rw (apart e x (λ q. n (q ∙ k))) (and-false (is_store e)))) (λ k r. absurd (n k));
+  few =
+      few-insert d c xs ys e h.few
+      (each-all (λ x. x.core.0 ≡ c → (is_store e && is_before e x) ≡ false) xs (λ x k. rw (apart e x (λ q. n (q ∙ k))) (and-false (is_store e))))
+      (λ k r. absurd (n k));
   due = due-insert c words [] xs ys e h.due w
       (each-all (Uncounted c e) xs (λ x k r. rw (apart e x (λ q. n (q ∙ k))) (and-false (writes_to x.loc.0 e)))) (λ k r. absurd (n k));
   counted = h.counted ∙ sym (count-insert-other c xs ys e (test-false e.core.0 c n));
@@ -54,24 +64,50 @@ more-members done xs ys e h =
     let P : Entry → Type 0 = λ a. Member a ((xs ++ (e ∷ [])) ++ ys) in
     each-append P done (e ∷ []) (each-map (λ a. Member a (xs ++ ys)) P done (λ a m. member-insert a xs ys e m) h) (member-inserted xs ys e, tt)
 
-more-count : (c : ℕ) (done xs ys : List Entry) (e : Entry) → e.core.0 ≡ c → length done ≡ count c (xs ++ ys) → length (done ++ (e ∷ [])) ≡ count c ((xs ++ (e ∷ [])) ++ ys)
-more-count c done xs ys e k h = length-append done (e ∷ []) ∙ (let q : length done + 1 ≡ suc (count c (xs ++ ys)) = omega arith in q) ∙ sym (count-insert-own c xs ys e (test-true e.core.0 c k))
+more-count : (c : ℕ) (done xs ys : List Entry) (e : Entry)
+    → e.core.0 ≡ c
+    → length done ≡ count c (xs ++ ys)
+    → length (done ++ (e ∷ [])) ≡ count c ((xs ++ (e ∷ [])) ++ ys)
+more-count c done xs ys e k h =
+    length-append done (e ∷ [])
+    ∙ (let q : length done + 1 ≡ suc (count c (xs ++ ys)) = omega arith in q)
+    ∙ sym (count-insert-own c xs ys e (test-true e.core.0 c k))
 
 one-more : (c place next : ℕ) (xs : List Entry) → place ≤ next → Each (Precedes c place) xs → Each (Precedes c next) xs
 one-more c place next xs m h = each-map (Precedes c place) (Precedes c next) xs (λ x f k. let l = f k in omega (arith, l)) h
 
 -- with nothing new the core may be further on
 pub sees-later : (d c place next : ℕ) (words : List ℕ) (done xs : List Entry) → place ≤ next → OneList d c place words done xs → OneList d c next words done xs
-sees-later d c place next words done xs m h = record { preceding = one-more c place next xs m h.preceding; kept = h.kept; few = h.few; due = h.due; counted = h.counted; members = h.members }
+sees-later d c place next words done xs m h = record {
+  preceding = one-more c place next xs m h.preceding;
+  kept = h.kept;
+  few = h.few;
+  due = h.due;
+  counted = h.counted;
+  members = h.members;
+}
 
 -- an entry of the core, at the place, that no later entry must come before
-pub sees-own : (d c place next : ℕ) (words : List ℕ) (done xs ys : List Entry) (e : Entry) → OneList d c place words done (xs ++ ys) → Each (λ y. is_write y ≡ true) ys
-    → e.core.0 ≡ c → place ≤ rank e → rank e < next → Each (λ y. Fine d c e y) ys → Each (Uncounted c e) xs → OwnDue c words xs ys e → (is_load e ≡ true → passed e ys ≤ d)
+pub sees-own : (d c place next : ℕ) (words : List ℕ) (done xs ys : List Entry) (e : Entry)
+    → OneList d c place words done (xs ++ ys)
+    → Each (λ y. is_write y ≡ true) ys
+    → e.core.0 ≡ c
+    → place ≤ rank e
+    → rank e < next
+    → Each (λ y. Fine d c e y) ys
+    → Each (Uncounted c e) xs
+    → OwnDue c words xs ys e
+    → (is_load e ≡ true → passed e ys ≤ d)
     → OneList d c next words (done ++ (e ∷ [])) ((xs ++ (e ∷ [])) ++ ys)
 sees-own d c place next words done xs ys e h w k p l later uncounted own few = record {
-  preceding = each-insert (Precedes c next) xs ys e (one-more c place next (xs ++ ys) (let m : rank e ≤ next = omega (arith, l) in omega (arith, p, l)) h.preceding) (λ q. l);
+  preceding =
+      each-insert (Precedes c next) xs ys e
+      (one-more c place next (xs ++ ys) (let m : rank e ≤ next = omega (arith, l) in omega (arith, p, l)) h.preceding)
+      (λ q. l);
   kept = ordered-insert d c xs ys e h.kept
-      (each-map (Precedes c place) (λ x. Fine d c x e) xs (λ x b q t. let f : is_before e x ≡ false = not_before c place x e k p b in absurd (let z : ⊥ = cc in z)) (each-left (Precedes c place) xs ys h.preceding))
+      (each-map (Precedes c place) (λ x. Fine d c x e) xs
+      (λ x b q t. let f : is_before e x ≡ false = not_before c place x e k p b in absurd (let z : ⊥ = cc in z))
+      (each-left (Precedes c place) xs ys h.preceding))
       later;
   few = few-insert d c xs ys e h.few (each-map (Precedes c place) (λ x. x.core.0 ≡ c → (is_store e && is_before e x) ≡ false) xs
       (λ x b q. rw (not_before c place x e k p b) (and-false (is_store e))) (each-left (Precedes c place) xs ys h.preceding)) (λ q. few);
@@ -81,7 +117,10 @@ sees-own d c place next words done xs ys e h w k p l later uncounted own few = r
 }
 
 -- a load of the core, with the value of the newest pending write, else of the last commit
-pub sees-load : (d c place next : ℕ) (words : List ℕ) (done xs ys : List Entry) (e : Entry) → OneList d c place words done (xs ++ ys) → Each (Queued c (length words)) ys → length ys ≤ d
+pub sees-load : (d c place next : ℕ) (words : List ℕ) (done xs ys : List Entry) (e : Entry)
+    → OneList d c place words done (xs ++ ys)
+    → Each (Queued c (length words)) ys
+    → length ys ≤ d
     → e.core.0 ≡ c → place ≤ rank e → rank e < next → e.kind ≡ R → e.value ≡ last_word e.loc.0 ys (last_word e.loc.0 xs (slice_index words e.loc.0))
     → OneList d c next words (done ++ (e ∷ [])) ((xs ++ (e ∷ [])) ++ ys)
 sees-load d c place next words done xs ys e h q n k p l r v =
@@ -114,7 +153,12 @@ sees-store d c place next words done xs e h k p m w =
 
 -- an entry of the core that writes nothing, at the end
 pub sees-last : (d c place next : ℕ) (words : List ℕ) (done xs : List Entry) (e : Entry) → OneList d c place words done xs
-    → e.core.0 ≡ c → place ≤ rank e → rank e < next → is_write e ≡ false → (is_read e ≡ true → e.value ≡ last_word e.loc.0 xs (slice_index words e.loc.0)) → OneList d c next words (done ++ (e ∷ [])) (xs ++ (e ∷ []))
+    → e.core.0 ≡ c
+    → place ≤ rank e
+    → rank e < next
+    → is_write e ≡ false
+    → (is_read e ≡ true → e.value ≡ last_word e.loc.0 xs (slice_index words e.loc.0))
+    → OneList d c next words (done ++ (e ∷ [])) (xs ++ (e ∷ []))
 sees-last d c place next words done xs e h k p m w v =
     subst (λ l. OneList d c next words (done ++ (e ∷ [])) l) (append-nil (xs ++ (e ∷ [])))
     (sees-own d c place next words done xs [] e (subst (λ l. OneList d c place words done l) (sym (append-nil xs)) h) tt k p m tt

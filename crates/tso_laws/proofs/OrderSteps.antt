@@ -1,5 +1,9 @@
 -- Choices that go on along an order.
-use Rattle.tso_laws.proofs.Vocabulary.{◌≡◌, ◌≢◌, ◌<◌, ◌≤◌, ℕ, ◌+◌, List, [], ◌∷◌, ◌++◌, Bool, false, length, slice_index, slice_index_or, arith, ap, sym, ◌∙◌, append_assoc, refl, inl, inr, subst, ◌==◌, ◌&&◌, nat_lt, slice_get-get_or, nat_tests, action_of, entries_by, entries_of, Litmus, decide, is_store, made_by, Entry, Instr, Action, Move, Lock, Choice, core_of, State, idle, program_of, effect_of, chosen, after_choice, state_after, commits_of, stall_count, Each, each-map, each-append, Member, append-nil}
+use Rattle.tso_laws.proofs.Vocabulary.{◌≡◌, ◌≢◌, ◌<◌, ◌≤◌, ℕ, ◌+◌, List, [], ◌∷◌, ◌++◌, Bool, false, length, slice_index, slice_index_or}
+use Rattle.tso_laws.proofs.Vocabulary.{arith, ap, sym, ◌∙◌, append_assoc, refl, inl, inr, subst, ◌==◌, ◌&&◌, nat_lt, slice_get-get_or}
+use Rattle.tso_laws.proofs.Vocabulary.{nat_tests, action_of, entries_by, entries_of, Litmus, decide, is_store, made_by, Entry, Instr}
+use Rattle.tso_laws.proofs.Vocabulary.{Action, Move, Lock, Choice, core_of, State, idle, program_of, effect_of, chosen, after_choice}
+use Rattle.tso_laws.proofs.Vocabulary.{state_after, commits_of, stall_count, Each, each-map, each-append, Member, append-nil}
 use Rattle.tso_laws.proofs.Folds.{needs, HasDueValues, HasLocations}
 use Rattle.tso_laws.proofs.Entries.{Ordered}
 use Rattle.tso_laws.proofs.CoreInvariant.{CoreInvariant, Paired}
@@ -37,13 +41,19 @@ abbrev pub AllTake : Litmus → ℕ → State → List Choice → Type 0
 AllTake t d state [] = Unit {0}
 AllTake t d state (c ∷ cs) = (chosen c < length t.programs) × (stall_count (effect_of t d state c).outcome ≡ 0) × AllTake t d (after_choice t d state c) cs
 
-pub takes-append : (t : Litmus) (d : ℕ) (state : State) (xs ys : List Choice) → AllTake t d state xs → AllTake t d (state_after t d state xs) ys → AllTake t d state (xs ++ ys)
+pub takes-append : (t : Litmus) (d : ℕ) (state : State) (xs ys : List Choice)
+    → AllTake t d state xs
+    → AllTake t d (state_after t d state xs) ys
+    → AllTake t d state (xs ++ ys)
 takes-append t d state [] ys a b = b
 takes-append t d state (x ∷ xs) ys a b = (a.0, a.1, takes-append t d (after_choice t d state x) xs ys a.2 b)
 
-pub commits-append : (t : Litmus) (d : ℕ) (state : State) (xs ys : List Choice) → commits_of t d state (xs ++ ys) ≡ commits_of t d state xs ++ commits_of t d (state_after t d state xs) ys
+pub commits-append : (t : Litmus) (d : ℕ) (state : State) (xs ys : List Choice)
+    → commits_of t d state (xs ++ ys) ≡ commits_of t d state xs ++ commits_of t d (state_after t d state xs) ys
 commits-append t d state [] ys = refl
-commits-append t d state (x ∷ xs) ys = ap (λ z. (effect_of t d state x).commits ++ z) (commits-append t d (after_choice t d state x) xs ys) ∙ sym (append_assoc (effect_of t d state x).commits _ _)
+commits-append t d state (x ∷ xs) ys =
+    ap (λ z. (effect_of t d state x).commits ++ z) (commits-append t d (after_choice t d state x) xs ys)
+    ∙ sym (append_assoc (effect_of t d state x).commits _ _)
 
 -- choices of core k that commit `done`, after which the core is at place n
 pub record Goes (d : ℕ) (t : Litmus) (order front done back : List Entry) (state : State) (k n : ℕ) (cs : List Choice) : Type 0 where
@@ -54,7 +64,9 @@ pub record Goes (d : ℕ) (t : Litmus) (order front done back : List Entry) (sta
   pub others : (j : ℕ) → j ≢ k → core_of (state_after t d state cs) j ≡ core_of state j
 
 pub goes-append : (d : ℕ) (t : Litmus) (order front one two middle back : List Entry) (state : State) (k m n : ℕ) (xs ys : List Choice)
-    → Goes d t order front one middle state k m xs → Goes d t order (front ++ one) two back (state_after t d state xs) k n ys → Goes d t order front (one ++ two) back state k n (xs ++ ys)
+    → Goes d t order front one middle state k m xs
+    → Goes d t order (front ++ one) two back (state_after t d state xs) k n ys
+    → Goes d t order front (one ++ two) back state k n (xs ++ ys)
 goes-append d t order front one two middle back state k m n xs ys a b = record {
   takes = takes-append t d state xs ys a.takes b.takes;
   commits = commits-append t d state xs ys ∙ ap (λ z. z ++ commits_of t d (state_after t d state xs) ys) a.commits ∙ ap (λ z. one ++ z) b.commits;
@@ -70,8 +82,14 @@ held-skip : (k j n : ℕ) (done back : List Entry) → Each (λ e. e.core.0 ≡ 
 held-skip k j n [] back h ne = refl
 held-skip k j n (x ∷ xs) back h ne = rw (skip-test (is_store x) x.core.0 j x.place n (λ e. ne (sym e ∙ h.0))) (held-skip k j n xs back h.1 ne)
 
-pub choice-goes : (d : ℕ) (t : Litmus) (order front done back : List Entry) (state : State) (a : Choice) (k n : ℕ) → Good d t order → Stands d t order front (done ++ back) state
-    → chosen a ≡ k → k < length t.programs → stall_count (effect_of t d state a).outcome ≡ 0 → (effect_of t d state a).commits ≡ done → Each (λ e. e.core.0 ≡ k) done
+pub choice-goes : (d : ℕ) (t : Litmus) (order front done back : List Entry) (state : State) (a : Choice) (k n : ℕ)
+    → Good d t order
+    → Stands d t order front (done ++ back) state
+    → chosen a ≡ k
+    → k < length t.programs
+    → stall_count (effect_of t d state a).outcome ≡ 0
+    → (effect_of t d state a).commits ≡ done
+    → Each (λ e. e.core.0 ≡ k) done
     → (effect_of t d state a).after.place ≡ n → n ≤ length (program_of t k) → (effect_of t d state a).after.pending ≡ held k n back
     → Goes d t order front done back state k n (a ∷ [])
 choice-goes d t order front done back state a k n g st q l o c m p u w = record {
@@ -97,16 +115,21 @@ choice-goes d t order front done back state a k n g st q l o c m p u w = record 
     mine = subst (λ z. core_of (after_choice t d state a) z ≡ (effect_of t d state a).after) q (own-core t d state a (rw (q, st.world.size) l))
 
 -- an action's entries are of its core and its place
-pub entries-at : (c place : ℕ) (a : Action) (registers : List ℕ) (word : ℕ) → Each (λ e. (e.core.0 ≡ c) × (e.place ≡ place)) (entries_by c place a registers word)
+pub entries-at : (c place : ℕ) (a : Action) (registers : List ℕ) (word : ℕ)
+    → Each (λ e. (e.core.0 ≡ c) × (e.place ≡ place)) (entries_by c place a registers word)
 entries-at c place (Move change) registers word = tt
 entries-at c place (Lock loc reg update) registers word = ((refl, refl), ((refl, refl), tt))
 entries-at c place _ registers word = ((refl, refl), tt)
 
 -- the entries of a program from a place on
-pub entries-from : (c place : ℕ) (p : List Instr) (registers values : List ℕ) → Each (λ e. (e.core.0 ≡ c) × (place ≤ e.place)) (entries_of c place p registers values)
+pub entries-from : (c place : ℕ) (p : List Instr) (registers values : List ℕ)
+    → Each (λ e. (e.core.0 ≡ c) × (place ≤ e.place)) (entries_of c place p registers values)
 entries-from c place [] registers values = tt
 entries-from c place (i ∷ p) registers values =
     let es : List Entry = entries_by c place (action_of i) registers (slice_index values 0) in
     each-append (λ e. (e.core.0 ≡ c) × (place ≤ e.place)) es _
-    (each-map (λ e. (e.core.0 ≡ c) × (e.place ≡ place)) (λ e. (e.core.0 ≡ c) × (place ≤ e.place)) es (λ e q. (q.0, let l = q.1 in omega arith)) (entries-at c place (action_of i) registers (slice_index values 0)))
-    (each-map (λ e. (e.core.0 ≡ c) × (place + 1 ≤ e.place)) (λ e. (e.core.0 ≡ c) × (place ≤ e.place)) _ (λ e q. (q.0, let l = q.1 in omega arith)) (entries-from c (place + 1) p _ _))
+    (each-map (λ e. (e.core.0 ≡ c) × (e.place ≡ place)) (λ e. (e.core.0 ≡ c) × (place ≤ e.place)) es
+    (λ e q. (q.0, let l = q.1 in omega arith))
+    (entries-at c place (action_of i) registers (slice_index values 0)))
+    (each-map (λ e. (e.core.0 ≡ c) × (place + 1 ≤ e.place)) (λ e. (e.core.0 ≡ c) × (place ≤ e.place)) _
+    (λ e q. (q.0, let l = q.1 in omega arith)) (entries-from c (place + 1) p _ _))

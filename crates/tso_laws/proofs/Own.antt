@@ -1,5 +1,10 @@
 -- An eager choice of a core beside another choice of the same core.
-use Rattle.tso_laws.proofs.EagerVocabulary.{◌≡◌, ◌≢◌, ◌<◌, ℕ, ◌+◌, zero, suc, List, [], ◌∷◌, ◌++◌, Bool, true, false, Some, length, slice_get, slice_set, slice_index, arith, ap, sym, ◌∙◌, refl, ◌==◌, ◌&&◌, nat_lt, if◌then◌else◌, get_or-set_same, get_or-set_other, nat_tests, filter, action_of, Litmus, last_value, is_write, writes_to, entry, value_of, with_value, CoreState, State, Effect, idle, program_of, core_of, effect_by, step_of, drain_of, applied, after_choice, stored, step, drain, W, Instr, Action, Store, Load, Move, Entry, cases_Bool, inl, inr}
+use Rattle.tso_laws.proofs.EagerVocabulary.{◌≡◌, ◌≢◌, ◌<◌, ℕ, ◌+◌, zero, suc, List, [], ◌∷◌, ◌++◌, Bool, true, false, Some, length}
+use Rattle.tso_laws.proofs.EagerVocabulary.{slice_get, slice_set, slice_index, arith, ap, sym, ◌∙◌, refl, ◌==◌, ◌&&◌, nat_lt, if◌then◌else◌}
+use Rattle.tso_laws.proofs.EagerVocabulary.{get_or-set_same, get_or-set_other, nat_tests, filter, action_of, Litmus, last_value, is_write}
+use Rattle.tso_laws.proofs.EagerVocabulary.{writes_to, entry, value_of, with_value, CoreState, State, Effect, idle, program_of, core_of}
+use Rattle.tso_laws.proofs.EagerVocabulary.{effect_by, step_of, drain_of, applied, after_choice, stored, step, drain, W, Instr, Action}
+use Rattle.tso_laws.proofs.EagerVocabulary.{Store, Load, Move, Entry, cases_Bool, inl, inr}
 use Rattle.tso_laws.proofs.Places.{set-set-same, Silent, silent-same, put}
 use Rattle.tso_laws.proofs.Avoiding.{holding, drained, buffered}
 
@@ -36,7 +41,10 @@ drain-is s p ps q = ap go q
 
 pub store-room : (n : ℕ) (s : CoreState) (e : Entry) → length s.pending < n → stored n s e ≡ buffered s e
 store-room zero s e l = absurd (let z : ⊥ = omega (arith, l) in z)
-store-room (suc n) s e l = elim (cases_Bool (nat_lt (length s.pending) (suc n))) [ inl q ↦ rw q refl | inr q ↦ absurd (let z : ⊥ = grind (arith, nat_tests, l, q) in z) ]
+store-room (suc n) s e l = elim (cases_Bool (nat_lt (length s.pending) (suc n))) [
+  | inl q ↦ rw q refl
+  | inr q ↦ absurd (let z : ⊥ = grind (arith, nat_tests, l, q) in z)
+]
 
 -- the actions that don't wait for the pending stores
 abbrev pub Goes : ℕ → List ℕ → CoreState → Action → Type 0
@@ -51,7 +59,9 @@ slides d k memory (Store loc operand) s p ps q h =
     let e : Entry = entry k s.place W loc (value_of s.registers operand) in
     let n = ap length q in
     rw (store-room d s e h, store-room d (holding s ps) e (let z : length ps < d = omega (arith, n, h) in z))
-    (let z : Slides s p (buffered s e) (buffered (holding s ps) e) = record { later = ps ++ e ∷ []; front = ap (λ z. z ++ e ∷ []) q; after = refl; silent = tt; silent_too = tt } in z)
+    (let z : Slides s p (buffered s e) (buffered (holding s ps) e) =
+    record { later = ps ++ e ∷ []; front = ap (λ z. z ++ e ∷ []) q; after = refl; silent = tt; silent_too = tt } in
+    z)
 slides d k memory (Load reg loc) s p ps q h = record {
   later = ps;
   front = q;
@@ -98,7 +108,10 @@ module _ (d : ℕ) (t : Litmus) (s : State) (k : ℕ) (x : Instr) (p : Entry) (p
       ∙ ap (λ i. applied z k (step_of d z.memory k i (holding (core_of s k) ps))) at
       ∙ pair-is _ _ _ _ (silent-same stepped_after.commits z.memory slid.silent_too) (set-set-same s.cores k (holding (core_of s k) ps) stepped_after.after)
     where
-      pair-is : (m n : List ℕ) (cs ds : List CoreState) → m ≡ n → cs ≡ ds → record { memory = m; cores = cs } ≡ (let z : State = record { memory = n; cores = ds } in z)
+      pair-is : (m n : List ℕ) (cs ds : List CoreState)
+          → m ≡ n
+          → cs ≡ ds
+          → record { memory = m; cores = cs } ≡ (let z : State = record { memory = n; cores = ds } in z)
       pair-is m n cs ds p q = rw (p, q) refl
 
   drain-second : after_choice t d (after_choice t d s (step k)) (drain k) ≡ record { memory = put p s.memory; cores = slice_set s.cores k stepped_after.after }
@@ -110,7 +123,10 @@ module _ (d : ℕ) (t : Litmus) (s : State) (k : ℕ) (x : Instr) (p : Entry) (p
       ∙ pair-is _ _ _ _ (ap (put p) (silent-same stepped.commits s.memory slid.silent))
       (set-set-same s.cores k stepped.after (holding stepped.after slid.later) ∙ ap (λ c. slice_set s.cores k c) (sym slid.after))
     where
-      pair-is : (m n : List ℕ) (cs ds : List CoreState) → m ≡ n → cs ≡ ds → record { memory = m; cores = cs } ≡ (let z : State = record { memory = n; cores = ds } in z)
+      pair-is : (m n : List ℕ) (cs ds : List CoreState)
+          → m ≡ n
+          → cs ≡ ds
+          → record { memory = m; cores = cs } ≡ (let z : State = record { memory = n; cores = ds } in z)
       pair-is m n cs ds p q = rw (p, q) refl
 
   pub either-way : after_choice t d (after_choice t d s (drain k)) (step k) ≡ after_choice t d (after_choice t d s (step k)) (drain k)

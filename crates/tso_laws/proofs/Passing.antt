@@ -1,5 +1,7 @@
 -- An order that keeps all of program order needs store buffers of depth 1 at most.
-use Rattle.tso_laws.proofs.EndsVocabulary.{max, ◌≡◌, ◌≤◌, ℕ, suc, Bool, true, false, ◌&&◌, if◌then◌else◌, List, [], ◌∷◌, Some, slice_get, length, filter, arith, ap, refl, and-right, is_before, is_load, is_store, KeepsAllOrder, Entry, stores_before, most_passed, one_for_stores, needed}
+use Rattle.tso_laws.proofs.EndsVocabulary.{max, ◌≡◌, ◌≤◌, ℕ, suc, Bool, true, false, ◌&&◌, if◌then◌else◌, List, [], ◌∷◌, Some, slice_get}
+use Rattle.tso_laws.proofs.EndsVocabulary.{length, filter, arith, ap, refl, and-right, is_before, is_load, is_store, KeepsAllOrder, Entry}
+use Rattle.tso_laws.proofs.EndsVocabulary.{stores_before, most_passed, one_for_stores, needed}
 
 filter-none : (f : Entry → Bool) (xs : List Entry) → ((j : ℕ) (y : Entry) → slice_get xs j ≡ Some y → f y ≡ true → ⊥) → filter f xs ≡ []
 filter-none f [] h = refl
@@ -14,7 +16,10 @@ keeps-rest x back h i j a b p q w = let l = h (suc i) (suc j) a b p q w in omega
 
 passes-none : (x : Entry) (back : List Entry) → KeepsAllOrder (x ∷ back) → stores_before x back ≡ []
 passes-none x back h =
-    filter-none (λ y. is_store y && is_before y x) back (λ j y p w. let l = h (suc j) 0 y x p refl (and-right (is_store y) (is_before y x) w) in let z : ⊥ = omega (arith, l) in z)
+    filter-none (λ y. is_store y && is_before y x) back
+    (λ j y p w. let l = h (suc j) 0 y x p refl (and-right (is_store y) (is_before y x) w) in
+    let z : ⊥ = omega (arith, l) in
+    z)
 
 none-passed : (order : List Entry) → KeepsAllOrder order → most_passed order ≡ 0
 none-passed [] h = refl

@@ -1,5 +1,7 @@
 -- Writes at places of a list, and what entries do to memory.
-use Rattle.tso_laws.proofs.EagerVocabulary.{◌≡◌, ◌≢◌, ℕ, zero, suc, List, [], ◌∷◌, Bool, true, false, length, slice_set, slice_index, ap, sym, ◌∙◌, refl, if◌then◌else◌, get_or-set_other, length-set, is_write, memory_after, Entry, Each}
+use Rattle.tso_laws.proofs.EagerVocabulary.{◌≡◌, ◌≢◌, ℕ, zero, suc, List, [], ◌∷◌, Bool, true, false, length, slice_set, slice_index, ap}
+use Rattle.tso_laws.proofs.EagerVocabulary.{sym, ◌∙◌, refl, if◌then◌else◌, get_or-set_other, length-set, is_write, memory_after, Entry}
+use Rattle.tso_laws.proofs.EagerVocabulary.{Each}
 
 pub set-set-same : {A : Type 0} (xs : List A) (k : ℕ) (a b : A) → slice_set (slice_set xs k a) k b ≡ slice_set xs k b
 set-set-same [] k a b = refl

@@ -1,5 +1,11 @@
 -- A core that has not ended gets on in each round.
-use Rattle.tso_laws.proofs.Vocabulary.{◌≡◌, ◌≢◌, ◌<◌, ◌≤◌, ℕ, ◌*◌, zero, suc, List, [], ◌∷◌, ◌++◌, Option, Some, None, true, length, slice_get, slice_index_or, drop, arith, ap, sym, ◌∙◌, refl, ◌⊎◌, inl, inr, subst, ◌==◌, nat_lt, get_or-set_same, get_or-set_other, length-set, nat_tests, Litmus, decide, max-left, max-right, longest, Entry, Instr, Action, Store, Fence, Lock, Choice, state_after, action_of, is_none_pending, core_of, CoreState, State, idle, program_of, stored, effect_by, effect_of, chosen, after_choice, start, step, drain, is_done, has_ended, run, run_from, stall_count, Among, CanBeCutIntoRounds, cases_Bool, length-starts, all-done, starts-idle}
+use Rattle.tso_laws.proofs.Vocabulary.{◌≡◌, ◌≢◌, ◌<◌, ◌≤◌, ℕ, ◌*◌, zero, suc, List, [], ◌∷◌, ◌++◌, Option, Some, None, true, length}
+use Rattle.tso_laws.proofs.Vocabulary.{slice_get, slice_index_or, drop, arith, ap, sym, ◌∙◌, refl, ◌⊎◌, inl, inr, subst, ◌==◌, nat_lt}
+use Rattle.tso_laws.proofs.Vocabulary.{get_or-set_same, get_or-set_other, length-set, nat_tests, Litmus, decide, max-left, max-right}
+use Rattle.tso_laws.proofs.Vocabulary.{longest, Entry, Instr, Action, Store, Fence, Lock, Choice, state_after, action_of, is_none_pending}
+use Rattle.tso_laws.proofs.Vocabulary.{core_of, CoreState, State, idle, program_of, stored, effect_by, effect_of, chosen, after_choice}
+use Rattle.tso_laws.proofs.Vocabulary.{start, step, drain, is_done, has_ended, run, run_from, stall_count, Among, CanBeCutIntoRounds}
+use Rattle.tso_laws.proofs.Vocabulary.{cases_Bool, length-starts, all-done, starts-idle}
 use Rattle.tso_laws.proofs.Work.{undone, work, weight, store_weight, choice-changes}
 
 -- a core keeps its state, or gets on
@@ -7,7 +13,9 @@ pub record GetsOn (d : ℕ) (p : List Instr) (s v : CoreState) : Type 0 where
   pub less : undone d p s ≡ suc (undone d p v)
   pub within : s.place ≤ length p → v.place ≤ length p
 
-pub own-core : (t : Litmus) (d : ℕ) (state : State) (a : Choice) → chosen a < length state.cores → core_of (after_choice t d state a) (chosen a) ≡ (effect_of t d state a).after
+pub own-core : (t : Litmus) (d : ℕ) (state : State) (a : Choice)
+    → chosen a < length state.cores
+    → core_of (after_choice t d state a) (chosen a) ≡ (effect_of t d state a).after
 own-core t d state a l = get_or-set_same state.cores (chosen a) (effect_of t d state a).after idle l
 
 pub other-core : (t : Litmus) (d : ℕ) (state : State) (a : Choice) (k : ℕ) → k ≢ chosen a → core_of (after_choice t d state a) k ≡ core_of state k
@@ -20,7 +28,11 @@ gets-on-or-same t d state a k l = elim (decide k (chosen a)) [
   | inr n ↦ inr (other-core t d state a k n)
 ]
   where
-    mine : (k : ℕ) → k ≡ chosen a → k < length state.cores → GetsOn d (program_of t k) (core_of state k) (core_of (after_choice t d state a) k) ⊎ (core_of (after_choice t d state a) k ≡ core_of state k)
+    mine : (k : ℕ)
+        → k ≡ chosen a
+        → k < length state.cores
+        → GetsOn d (program_of t k) (core_of state k) (core_of (after_choice t d state a) k)
+        ⊎ (core_of (after_choice t d state a) k ≡ core_of state k)
     mine k q l = rw q (elim (choice-changes t d state a) [
       | inl w ↦ inl (rw (own-core t d state a (subst (λ z. z < length state.cores) q l)) (record { less = w.less; within = w.within }))
       | inr w ↦ inr (own-core t d state a (subst (λ z. z < length state.cores) q l) ∙ w.same)
@@ -56,20 +68,31 @@ no-more t d state (c ∷ cs) k l =
 abbrev Able : Litmus → ℕ → CoreState → Choice → Type 0
 Able t d s a = (state : State) → core_of state (chosen a) ≡ s → stall_count (effect_of t d state a).outcome ≡ 0
 
-falls : (t : Litmus) (d : ℕ) (state : State) (cs : List Choice) (a : Choice) (s : CoreState) → chosen a < length state.cores → core_of state (chosen a) ≡ s → Able t d s a → Among a cs
+falls : (t : Litmus) (d : ℕ) (state : State) (cs : List Choice) (a : Choice) (s : CoreState)
+    → chosen a < length state.cores
+    → core_of state (chosen a) ≡ s
+    → Able t d s a
+    → Among a cs
     → undone d (program_of t (chosen a)) (core_of (state_after t d state cs) (chosen a)) < undone d (program_of t (chosen a)) s
 falls t d state [] a s l q f m = absurd m
 falls t d state (c ∷ cs) a s l q f (inl e) =
     let r = (no-more t d (after_choice t d state c) cs (chosen a) (rw (size-kept t d state c) l)).less in
     let g = gets-on t d state a l (f state q) in
-    let h : undone d (program_of t (chosen a)) (core_of state (chosen a)) ≡ suc (undone d (program_of t (chosen a)) (core_of (after_choice t d state c) (chosen a))) = subst (λ z. undone d (program_of t (chosen a)) (core_of state (chosen a)) ≡ suc (undone d (program_of t (chosen a)) (core_of (after_choice t d state z) (chosen a)))) e g in
-    let i : undone d (program_of t (chosen a)) (core_of state (chosen a)) ≡ undone d (program_of t (chosen a)) s = ap (λ z. undone d (program_of t (chosen a)) z) q in
+    let h : undone d (program_of t (chosen a)) (core_of state (chosen a))
+    ≡ suc (undone d (program_of t (chosen a)) (core_of (after_choice t d state c) (chosen a))) =
+    subst (λ z.
+    undone d (program_of t (chosen a)) (core_of state (chosen a))
+    ≡ suc (undone d (program_of t (chosen a)) (core_of (after_choice t d state z) (chosen a))))
+    e g in
+    let i : undone d (program_of t (chosen a)) (core_of state (chosen a)) ≡ undone d (program_of t (chosen a)) s =
+    ap (λ z. undone d (program_of t (chosen a)) z) q in
     omega arith
 falls t d state (c ∷ cs) a s l q f (inr m) =
     elim (gets-on-or-same t d state c (chosen a) l) [
       | inl w ↦ let r = (no-more t d (after_choice t d state c) cs (chosen a) (rw (size-kept t d state c) l)).less in
           let h = w.less in
-          let i : undone d (program_of t (chosen a)) (core_of state (chosen a)) ≡ undone d (program_of t (chosen a)) s = ap (λ z. undone d (program_of t (chosen a)) z) q in
+          let i : undone d (program_of t (chosen a)) (core_of state (chosen a)) ≡ undone d (program_of t (chosen a)) s =
+          ap (λ z. undone d (program_of t (chosen a)) z) q in
           omega arith
       | inr w ↦ falls t d (after_choice t d state c) cs a s (rw (size-kept t d state c) l) (w ∙ q) f m
     ]
@@ -93,16 +116,24 @@ work-past d (x ∷ xs) (suc n) e = work-past d xs n e
 
 -- after a round a core has less to do, or had nothing to do
 in-round : (t : Litmus) (d : ℕ) (state : State) (cs : List Choice) (k : ℕ) → k < length state.cores → Among (step k) cs → Among (drain k) cs
-    → (undone d (program_of t k) (core_of state k) ≡ 0) ⊎ (undone d (program_of t k) (core_of (state_after t d state cs) k) < undone d (program_of t k) (core_of state k))
+    → (undone d (program_of t k) (core_of state k) ≡ 0)
+    ⊎ (undone d (program_of t k) (core_of (state_after t d state cs) k)
+    < undone d (program_of t k) (core_of state k))
 in-round t d state cs k l a b = by_pending (core_of state k).pending refl
   where
     by_place : (i : Option Instr) → slice_get (program_of t k) (core_of state k).place ≡ i → (core_of state k).pending ≡ []
-        → (undone d (program_of t k) (core_of state k) ≡ 0) ⊎ (undone d (program_of t k) (core_of (state_after t d state cs) k) < undone d (program_of t k) (core_of state k))
+        → (undone d (program_of t k) (core_of state k) ≡ 0)
+        ⊎ (undone d (program_of t k) (core_of (state_after t d state cs) k)
+        < undone d (program_of t k) (core_of state k))
     by_place None e p = inl (let n = work-past d (program_of t k) (core_of state k).place e in let m = ap length p in omega arith)
-    by_place (Some x) e p = inr (falls t d state cs (step k) (core_of state k) l refl (λ other q. rw (q, e) (step-takes k d other.memory (action_of x) (core_of state k) p)) a)
+    by_place (Some x) e p =
+        inr (falls t d state cs (step k) (core_of state k) l refl
+        (λ other q. rw (q, e) (step-takes k d other.memory (action_of x) (core_of state k) p)) a)
 
     by_pending : (q : List Entry) → (core_of state k).pending ≡ q
-        → (undone d (program_of t k) (core_of state k) ≡ 0) ⊎ (undone d (program_of t k) (core_of (state_after t d state cs) k) < undone d (program_of t k) (core_of state k))
+        → (undone d (program_of t k) (core_of state k) ≡ 0)
+        ⊎ (undone d (program_of t k) (core_of (state_after t d state cs) k)
+        < undone d (program_of t k) (core_of state k))
     by_pending [] p = by_place (slice_get (program_of t k) (core_of state k).place) refl p
     by_pending (y ∷ ys) p = inr (falls t d state cs (drain k) (core_of state k) l refl (λ other q. rw (q, p) refl) b)
 
@@ -115,7 +146,10 @@ size-after t d state [] = refl
 size-after t d state (c ∷ cs) = size-after t d (after_choice t d state c) cs ∙ size-kept t d state c
 
 -- after as many rounds as a core has choices to make there is none left
-in-rounds : (t : Litmus) (d : ℕ) (state : State) (r n : ℕ) (cs : List Choice) (k : ℕ) → k < length state.cores → n ≡ length state.cores → CanBeCutIntoRounds n r cs
+in-rounds : (t : Litmus) (d : ℕ) (state : State) (r n : ℕ) (cs : List Choice) (k : ℕ)
+    → k < length state.cores
+    → n ≡ length state.cores
+    → CanBeCutIntoRounds n r cs
     → undone d (program_of t k) (core_of state k) ≤ r → undone d (program_of t k) (core_of (state_after t d state cs) k) ≡ 0
 in-rounds t d state zero n cs k l e cut u = let h = (no-more t d state cs k l).less in omega arith
 in-rounds t d state (suc r) n cs k l e cut u =
@@ -178,7 +212,10 @@ longest-at (p ∷ ps) (suc k) = let a = longest-at ps k in let b = max-right (le
 -- a run has ended when the state after all choices has
 ended-if-after : (t : Litmus) (d : ℕ) (state : State) (cs : List Choice) → has_ended t (state_after t d state cs) ≡ true → (run_from t d state cs).ended ≡ true
 ended-if-after t d state [] h = h
-ended-if-after t d state (c ∷ cs) h = elim (cases_Bool (has_ended t state)) [ inl is ↦ rw is refl | inr is ↦ rw is (ended-if-after t d (after_choice t d state c) cs h) ]
+ended-if-after t d state (c ∷ cs) h = elim (cases_Bool (has_ended t state)) [
+  | inl is ↦ rw is refl
+  | inr is ↦ rw is (ended-if-after t d (after_choice t d state c) cs h)
+]
 
 pub rounds-end : (t : Litmus) (d : ℕ) (cs : List Choice) → CanBeCutIntoRounds (length t.programs) (2 * longest t.programs) cs → (run t d cs).ended ≡ true
 rounds-end t d cs cut = ended-if-after t d (start t) cs (all-done t.programs (state_after t d (start t) cs).cores each)
@@ -188,7 +225,9 @@ rounds-end t d cs cut = ended-if-after t d (start t) cs (all-done t.programs (st
         let i = starts-idle 0 t.programs t.registers k in let w = work-twice d (program_of t k) in let l = longest-at t.programs k in
         rw (i.0, i.1) (omega arith)
 
-    each : (k : ℕ) → k < length (state_after t d (start t) cs).cores → is_done (slice_index_or t.programs k []) (slice_index_or (state_after t d (start t) cs).cores k idle) ≡ true
+    each : (k : ℕ)
+        → k < length (state_after t d (start t) cs).cores
+        → is_done (slice_index_or t.programs k []) (slice_index_or (state_after t d (start t) cs).cores k idle) ≡ true
     each k l =
         let size = size-after t d (start t) cs in let n = length-starts 0 t.programs t.registers in
         let m : k < length (start t).cores = omega arith in

@@ -1,5 +1,9 @@
 -- Where the test has ended, and what is seen there, by states that differ in dead registers alone.
-use Rattle.tso_laws.proofs.EagerVocabulary.{◌≡◌, ℕ, ◌+◌, suc, List, [], ◌∷◌, Bool, true, length, slice_index_or, map, drop, arith, ap, sym, ◌∙◌, refl, ◌==◌, ◌&&◌, nat_tests, and-left, and-right, drop-end, Litmus, CoreState, State, program_of, is_none_pending, registers_in, is_done, all_done, has_ended, Instr, dead_at, cleared, none_hidden, hidden_of, forgotten_core, forgotten_cores, forgotten, AreAlike, seen_from, seen}
+use Rattle.tso_laws.proofs.EagerVocabulary.{◌≡◌, ℕ, ◌+◌, suc, List, [], ◌∷◌, Bool, true, length, slice_index_or, map, drop, arith, ap, sym}
+use Rattle.tso_laws.proofs.EagerVocabulary.{◌∙◌, refl, ◌==◌, ◌&&◌, nat_tests, and-left, and-right, drop-end, Litmus, CoreState, State}
+use Rattle.tso_laws.proofs.EagerVocabulary.{program_of, is_none_pending, registers_in, is_done, all_done, has_ended, Instr, dead_at}
+use Rattle.tso_laws.proofs.EagerVocabulary.{cleared, none_hidden, hidden_of, forgotten_core, forgotten_cores, forgotten, AreAlike}
+use Rattle.tso_laws.proofs.EagerVocabulary.{seen_from, seen}
 use Rattle.tso_laws.proofs.Clearing.{clear-twice}
 
 -- where none is hidden all is seen
@@ -62,10 +66,14 @@ module _ (t : Litmus) (hidden : List (List Bool)) where
   cores-ended (p ∷ ps) n [] q h = refl
   cores-ended [] n (s ∷ ss) q h =
       both (core-ended [] n s (q 0 ∙ (let z : n + 0 ≡ n = omega arith in ap (program_of t) z)) (and-left (is_done [] s) (all_done [] ss) h))
-      (cores-ended [] (n + 1) ss (λ k. q (suc k) ∙ (let z : n + suc k ≡ (n + 1) + k = omega arith in ap (program_of t) z)) (and-right (is_done [] s) (all_done [] ss) h))
+      (cores-ended [] (n + 1) ss
+      (λ k. q (suc k) ∙ (let z : n + suc k ≡ (n + 1) + k = omega arith in ap (program_of t) z))
+      (and-right (is_done [] s) (all_done [] ss) h))
   cores-ended (p ∷ ps) n (s ∷ ss) q h =
       both (core-ended p n s (q 0 ∙ (let z : n + 0 ≡ n = omega arith in ap (program_of t) z)) (and-left (is_done p s) (all_done ps ss) h))
-      (cores-ended ps (n + 1) ss (λ k. q (suc k) ∙ (let z : n + suc k ≡ (n + 1) + k = omega arith in ap (program_of t) z)) (and-right (is_done p s) (all_done ps ss) h))
+      (cores-ended ps (n + 1) ss
+      (λ k. q (suc k) ∙ (let z : n + suc k ≡ (n + 1) + k = omega arith in ap (program_of t) z))
+      (and-right (is_done p s) (all_done ps ss) h))
 
   pub seen-ended : (s : State) → has_ended t s ≡ true → registers_in (forgotten t hidden s) ≡ seen hidden (registers_in s)
   seen-ended s h = cores-ended t.programs 0 s.cores (λ k. (let z : k ≡ 0 + k = omega arith in ap (program_of t) z)) h

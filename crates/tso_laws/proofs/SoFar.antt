@@ -1,5 +1,10 @@
 -- What holds after any list of choices, in the words of the definitions.
-use Rattle.tso_laws.proofs.Vocabulary.{◌≡◌, ◌≢◌, ◌<◌, ◌≤◌, ℕ, zero, suc, List, [], ◌∷◌, ◌++◌, Some, length, take, slice_get, slice_index, slice_index_or, All, arith, ap, sym, ◌∙◌, append_assoc, refl, ◌⊎◌, inl, inr, subst, filter, slice_get-get_or, Litmus, IsTest, KnownLocation, made_by, KeepsProgramOrder, StandsIn, registers_of, CoreState, State, idle, program_of, core_of, effect_of, after_choice, start, run, Instr, Entry, Choice, decide, lt-or, state_after, commits_of, IsPossible, issued, is_waiting, CoreSoFar, IsIssued, SoFar, Each, each-at, each-map, each-append, each-right, Member, member-at, append-nil, no-program}
+use Rattle.tso_laws.proofs.Vocabulary.{◌≡◌, ◌≢◌, ◌<◌, ◌≤◌, ℕ, zero, suc, List, [], ◌∷◌, ◌++◌, Some, length, take, slice_get, slice_index}
+use Rattle.tso_laws.proofs.Vocabulary.{slice_index_or, All, arith, ap, sym, ◌∙◌, append_assoc, refl, ◌⊎◌, inl, inr, subst, filter}
+use Rattle.tso_laws.proofs.Vocabulary.{slice_get-get_or, Litmus, IsTest, KnownLocation, made_by, KeepsProgramOrder, StandsIn, registers_of}
+use Rattle.tso_laws.proofs.Vocabulary.{CoreState, State, idle, program_of, core_of, effect_of, after_choice, start, run, Instr, Entry}
+use Rattle.tso_laws.proofs.Vocabulary.{Choice, decide, lt-or, state_after, commits_of, IsPossible, issued, is_waiting, CoreSoFar, IsIssued}
+use Rattle.tso_laws.proofs.Vocabulary.{SoFar, Each, each-at, each-map, each-append, each-right, Member, member-at, append-nil, no-program}
 use Rattle.tso_laws.proofs.Folds.{HasLocations, due-is}
 use Rattle.tso_laws.proofs.Entries.{Fine, Ordered, DueIn}
 use Rattle.tso_laws.proofs.OneList.{Queued}
@@ -23,11 +28,15 @@ test-locations t test k i x e =
     at (y ∷ p) zero x e = (omega arith, let z : y ≡ x = cc in z)
     at (y ∷ p) (suc i) x e = let r = at p i x e in (let l = r.0 in omega arith, r.1)
 
-    within : (k i : ℕ) (x : Instr) → slice_get (program_of t k) i ≡ Some x → (k < length t.programs) ⊎ (length t.programs ≤ k) → KnownLocation (length t.locations) x
+    within : (k i : ℕ) (x : Instr)
+        → slice_get (program_of t k) i ≡ Some x
+        → (k < length t.programs) ⊎ (length t.programs ≤ k)
+        → KnownLocation (length t.locations) x
     within k i x e (inl l) =
         let r = at (program_of t k) i x e in
         subst (λ z. KnownLocation (length t.locations) z) r.1 ((test.programs_fit k [] l).locations_known i x r.0)
-    within k i x e (inr l) = absurd (let q : slice_get (program_of t k) i ≡ slice_get [] i = ap (λ z. slice_get z i) (no-program t.programs k l) in let z : ⊥ = cc in z)
+    within k i x e (inr l) =
+        absurd (let q : slice_get (program_of t k) i ≡ slice_get [] i = ap (λ z. slice_get z i) (no-program t.programs k l) in let z : ⊥ = cc in z)
 
 each-all : (P : Entry → Type 0) (xs : List Entry) → Each P xs → All P xs
 each-all P xs h k d l = each-at P xs k (slice_index_or xs k d) h (slice_get-get_or xs k d l)
@@ -36,13 +45,20 @@ each-all P xs h k d l = each-at P xs k (slice_index_or xs k d) h (slice_get-get_
 ordered-foreign : (d c : ℕ) (xs ys : List Entry) → Ordered d c xs → Each (λ y. y.core.0 ≢ c) ys → Ordered d c (xs ++ ys)
 ordered-foreign d c [] [] o f = tt
 ordered-foreign d c [] (y ∷ ys) o f = (each-map (λ z. z.core.0 ≢ c) (λ z. Fine d c y z) ys (λ z n k b. absurd (n k)) f.1, ordered-foreign d c [] ys tt f.1)
-ordered-foreign d c (x ∷ xs) ys o f =
-    (each-append (λ z. Fine d c x z) xs ys o.0 (each-map (λ z. z.core.0 ≢ c) (λ z. Fine d c x z) ys (λ z n k b. absurd (n k)) f), ordered-foreign d c xs ys o.1 f)
+ordered-foreign d c (x ∷ xs) ys o f = (
+  each-append (λ z. Fine d c x z) xs ys o.0 (each-map (λ z. z.core.0 ≢ c) (λ z. Fine d c x z) ys (λ z n k b. absurd (n k)) f),
+  ordered-foreign d c xs ys o.1 f,
+)
 
-pub core-so-far : (d : ℕ) (t : Litmus) (commits : List Entry) (k : ℕ) (s : CoreState) → CoreInvariant d k (program_of t k) (slice_index_or t.registers k []) t.words commits s → KeepsProgramOrder (commits ++ s.pending) → CoreSoFar t d commits k s
+pub core-so-far : (d : ℕ) (t : Litmus) (commits : List Entry) (k : ℕ) (s : CoreState)
+    → CoreInvariant d k (program_of t k) (slice_index_or t.registers k []) t.words commits s
+    → KeepsProgramOrder (commits ++ s.pending)
+    → CoreSoFar t d commits k s
 core-so-far d t commits k s h order =
     let w = waits d k (program_of t k) (slice_index_or t.registers k []) t.words commits s h in
-    let done : issued t k s.place commits ≡ h.done = ap (λ z. made_by k (take s.place (program_of t k)) (slice_index_or t.registers k []) z) (sym (append-nil commits)) ∙ h.made [] in
+    let done : issued t k s.place commits ≡ h.done =
+    ap (λ z. made_by k (take s.place (program_of t k)) (slice_index_or t.registers k []) z) (sym (append-nil commits))
+    ∙ h.made [] in
     record {
       place = h.within;
       pending = w.pending ∙ ap (λ z. filter (is_waiting commits) z) (sym done);
@@ -57,7 +73,11 @@ core-so-far d t commits k s h order =
     known [] q = tt
     known (y ∷ ys) q = (q.0.known, known ys q.1)
 
-pub so-far : (d : ℕ) (t : Litmus) (commits : List Entry) (state : State) → IsTest t → HasLocations t → MachineInvariant d t commits state → SoFar t d commits state
+pub so-far : (d : ℕ) (t : Litmus) (commits : List Entry) (state : State)
+    → IsTest t
+    → HasLocations t
+    → MachineInvariant d t commits state
+    → SoFar t d commits state
 so-far d t commits state test known w = record {
   each_issued = λ e m. of-core e m (each-at (λ e. e.core.0 < length t.programs) commits m.0 e w.known m.1);
   program_order = kept-by-each d (length t.programs) commits w.known (world-ordered d t commits state w);
@@ -67,7 +87,8 @@ so-far d t commits state test known w = record {
       let l = (each-right (λ e. e.core.0 < length t.programs) front (x ∷ back) v).0 in
       let p : List Entry = (core_of state x.core.0).pending in
       let same : commits ++ p ≡ front ++ (x ∷ (back ++ p)) = ap (λ z. z ++ p) q ∙ append_assoc front (x ∷ back) p in
-      due-at x.core.0 t.words [] front x (back ++ p) (subst (λ z. DueIn x.core.0 t.words [] z) same (holds x.core.0 l).sees.due) refl r ∙ sym (due-is x front (back ++ p) (slice_index t.words x.loc.0));
+      due-at x.core.0 t.words [] front x (back ++ p) (subst (λ z. DueIn x.core.0 t.words [] z) same (holds x.core.0 l).sees.due) refl r
+      ∙ sym (due-is x front (back ++ p) (slice_index t.words x.loc.0));
   memory = memory-list t.words state.memory commits w.room w.memory;
   size = w.size;
   cores = λ k l. core-so-far d t commits k (core_of state k) (holds k l) (order k l);
@@ -98,13 +119,21 @@ so-far d t commits state test known w = record {
         let k : ℕ = e.core.0 in
         let h = holds k l in
         let i = waits d k (program_of t k) (slice_index_or t.registers k []) t.words commits (core_of state k) h in
-        let done : issued t k (core_of state k).place commits ≡ h.done = ap (λ z. made_by k (take (core_of state k).place (program_of t k)) (slice_index_or t.registers k []) z) (sym (append-nil commits)) ∙ h.made [] in
+        let done : issued t k (core_of state k).place commits ≡ h.done =
+        ap (λ z. made_by k (take (core_of state k).place (program_of t k)) (slice_index_or t.registers k []) z) (sym (append-nil commits))
+        ∙ h.made [] in
         let s = member-at e h.done (i.issued e (at-member commits m.0 e m.1) refl) in
-        record { fits = made-fits t (core_of state k).place commits e test known l (subst (λ z. Member e z) (sym done) (i.issued e (at-member commits m.0 e m.1) refl)); entry = (s.0, subst (λ z. slice_get z s.0 ≡ Some e) (sym done) s.1) }
+        record {
+          fits =
+              made-fits t (core_of state k).place commits e test known l
+              (subst (λ z. Member e z) (sym done) (i.issued e (at-member commits m.0 e m.1) refl));
+          entry = (s.0, subst (λ z. slice_get z s.0 ≡ Some e) (sym done) s.1);
+        }
 
 pub choices-so-far : (t : Litmus) (d : ℕ) (cs : List Choice) → IsTest t → SoFar t d (commits_of t d (start t) cs) (state_after t d (start t) cs)
 choices-so-far t d cs test =
-    so-far d t (commits_of t d (start t) cs) (state_after t d (start t) cs) test (test-locations t test) (world-run t d [] (start t) cs (test-locations t test) (world-start d t))
+    so-far d t (commits_of t d (start t) cs) (state_after t d (start t) cs) test (test-locations t test)
+    (world-run t d [] (start t) cs (test-locations t test) (world-start d t))
 
 pub run-so-far : (t : Litmus) (d : ℕ) (cs : List Choice) → IsTest t → SoFar t d (run t d cs).commits (run t d cs).state
 run-so-far t d cs test =

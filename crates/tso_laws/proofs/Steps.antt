@@ -1,5 +1,12 @@
 -- What a choice of the flat machine does, by the access that it makes. The eight instructions are gone through here alone.
-use Rattle.tso_laws.proofs.BusVocabulary.{◌≡◌, ◌≢◌, ℕ, ◌+◌, zero, suc, List, [], ◌∷◌, ◌++◌, Option, Some, None, Bool, true, false, length, slice_index, arith, ap, sym, refl, ◌⊎◌, inl, inr, subst, nat_lt, if◌then◌else◌, nat_tests, filter, Litmus, action_of, entry, value_in, value_of, updated, same_kind, is_write, writes_to, CoreState, State, Effect, stalled, stored, effect_by, step_of, core_of, chosen, effect_of, stall_count, MemoryAccess, NoAccess, Writes, Locks, store_access, load_access, locked_access, access_by, step_access, drain_access, next_of, access_of, Reg, Loc, Instr, Action, Store, Load, Move, Fence, Lock, Entry, W, LR, LW, Choice, Step, Drain, Stall, Committed, Buffered, drain_with, fenced_with, locked_with, Each}
+use Rattle.tso_laws.proofs.BusVocabulary.{◌≡◌, ◌≢◌, ℕ, ◌+◌, zero, suc, List, [], ◌∷◌, ◌++◌, Option, Some, None, Bool, true, false, length}
+use Rattle.tso_laws.proofs.BusVocabulary.{slice_index, arith, ap, sym, refl, ◌⊎◌, inl, inr, subst, nat_lt, if◌then◌else◌, nat_tests, filter}
+use Rattle.tso_laws.proofs.BusVocabulary.{Litmus, action_of, entry, value_in, value_of, updated, same_kind, is_write, writes_to, CoreState}
+use Rattle.tso_laws.proofs.BusVocabulary.{State, Effect, stalled, stored, effect_by, step_of, core_of, chosen, effect_of, stall_count}
+use Rattle.tso_laws.proofs.BusVocabulary.{MemoryAccess, NoAccess, Writes, Locks, store_access, load_access, locked_access, access_by}
+use Rattle.tso_laws.proofs.BusVocabulary.{step_access, drain_access, next_of, access_of, Reg, Loc, Instr, Action, Store, Load, Move, Fence}
+use Rattle.tso_laws.proofs.BusVocabulary.{Lock, Entry, W, LR, LW, Choice, Step, Drain, Stall, Committed, Buffered, drain_with, fenced_with}
+use Rattle.tso_laws.proofs.BusVocabulary.{locked_with, Each}
 use Rattle.tso_terms.specs.declared.choice.Stall.TheVariants as stall
 
 -- a plain store of this core, as all that it has pending is
@@ -58,7 +65,8 @@ pub data StepForm (core : ℕ) (memory : List ℕ) (i : Option Instr) (what : Me
 pub store-plain : (core : ℕ) (e : Entry) → IsStore core e → IsPlain core (Writes e.loc) e
 store-plain core e k = record { mine = k.mine; no_load_part = rw k.kind refl; no_store_part = rw k.kind refl; place = λ w. refl }
 
-stored-form : (depth core : ℕ) (memory : List ℕ) (i : Option Instr) (s : CoreState) (loc : Loc) (value : ℕ) → StepForm core memory i (store_access depth loc) s (stored depth s (entry core s.place W loc value))
+stored-form : (depth core : ℕ) (memory : List ℕ) (i : Option Instr) (s : CoreState) (loc : Loc) (value : ℕ)
+    → StepForm core memory i (store_access depth loc) s (stored depth s (entry core s.place W loc value))
 stored-form zero core memory i s loc value = makes (record {
   no_lock = λ l h. let z : ⊥ = cc in z;
   took = refl;
@@ -73,13 +81,21 @@ stored-form (suc n) core memory i s loc value = by_room (nat_lt (length s.pendin
 
     by_room : (b : Bool) → nat_lt (length s.pending) (suc n) ≡ b → StepForm core memory i NoAccess s (if b then put s e else stalled stall.Full s)
     by_room true q = buffers (record { none = refl; store = e; is_store = record { kind = refl; mine = refl }; is = refl })
-    by_room false q = stalls (record { none = refl; why = stall.Full; is = refl; cause = inr (λ h. let m = ap length h in let z : ⊥ = grind (arith, nat_tests) in z) })
+    by_room false q =
+        stalls (record {
+          none = refl;
+          why = stall.Full;
+          is = refl;
+          cause = inr (λ h. let m = ap length h in let z : ⊥ = grind (arith, nat_tests) in z);
+        })
 
 load-no-lock : (loc l : Loc) (q : List Entry) → load_access loc q ≢ Locks l
 load-no-lock loc l [] h = cc
 load-no-lock loc l (p ∷ ps) h = cc
 
-fenced-form : (core : ℕ) (memory : List ℕ) (i : Option Instr) (s : CoreState) (q : List Entry) → s.pending ≡ q → StepForm core memory i NoAccess s (fenced_with core s q)
+fenced-form : (core : ℕ) (memory : List ℕ) (i : Option Instr) (s : CoreState) (q : List Entry)
+    → s.pending ≡ q
+    → StepForm core memory i NoAccess s (fenced_with core s q)
 fenced-form core memory i s [] e = makes (record {
   no_lock = λ l h. let z : ⊥ = cc in z;
   took = refl;
@@ -89,7 +105,11 @@ fenced-form core memory i s [] e = makes (record {
 })
 fenced-form core memory i s (p ∷ ps) e = stalls (record { none = refl; why = stall.Fence; is = refl; cause = inr (λ h. let z : ⊥ = cc in z) })
 
-moved-form : (core : ℕ) (memory : List ℕ) (i : Option Instr) (s : CoreState) (f : Effect) → stall_count f.outcome ≡ 0 → f.after.place ≡ s.place + 1 → f.after.pending ≡ s.pending → f.commits ≡ []
+moved-form : (core : ℕ) (memory : List ℕ) (i : Option Instr) (s : CoreState) (f : Effect)
+    → stall_count f.outcome ≡ 0
+    → f.after.place ≡ s.place + 1
+    → f.after.pending ≡ s.pending
+    → f.commits ≡ []
     → StepForm core memory i NoAccess s f
 moved-form core memory i s f o p q c = makes (record {
   no_lock = λ l h. let z : ⊥ = cc in z;
@@ -104,7 +124,8 @@ locked-form : (core : ℕ) (memory : List ℕ) (i : Option Instr) (s : CoreState
 locked-form core memory i s loc reg value [] e = pairs loc refl (record { empty = e; took = refl; place = refl; pending = refl; value = value; commits = refl })
 locked-form core memory i s loc reg value (p ∷ ps) e = stalls (record { none = refl; why = stall.Lock; is = refl; cause = inr (λ h. let z : ⊥ = cc in z) })
 
-pub step-form : (depth core : ℕ) (memory : List ℕ) (i : Option Instr) (s : CoreState) → StepForm core memory i (step_access depth i s.pending) s (step_of depth memory core i s)
+pub step-form : (depth core : ℕ) (memory : List ℕ) (i : Option Instr) (s : CoreState)
+    → StepForm core memory i (step_access depth i s.pending) s (step_of depth memory core i s)
 step-form depth core memory None s = stalls (record { none = refl; why = stall.Done; is = refl; cause = inl refl })
 step-form depth core memory (Some x) s = by_action (action_of x)
   where
@@ -133,7 +154,9 @@ drain-plain core s [] h = tt
 drain-plain core s (p ∷ ps) h = (store-plain core p h.0, tt)
 
 -- plain entries, but for a locked instruction
-pub choice-plain : (t : Litmus) (depth : ℕ) (state : State) (a : Choice) → Each (IsStore (chosen a)) (core_of state (chosen a)).pending → ((l : Loc) → access_of t depth state a ≢ Locks l)
+pub choice-plain : (t : Litmus) (depth : ℕ) (state : State) (a : Choice)
+    → Each (IsStore (chosen a)) (core_of state (chosen a)).pending
+    → ((l : Loc) → access_of t depth state a ≢ Locks l)
     → Each (IsPlain (chosen a) (access_of t depth state a)) (effect_of t depth state a).commits
 choice-plain t depth state (Step c) h n = by_form (step-form depth c.0 state.memory (next_of t state c.0) (core_of state c.0))
   where
@@ -153,7 +176,9 @@ choice-plain t depth state (Drain c) h n = drain-plain c.0 (core_of state c.0) (
 -- both parts of a locked instruction
 pub choice-pair : (t : Litmus) (depth : ℕ) (state : State) (core : ℕ) (loc : Loc) → access_of t depth state (Step (record { 0 = core })) ≡ Locks loc
     → Pairs core state.memory loc (core_of state core) (effect_of t depth state (Step (record { 0 = core })))
-choice-pair t depth state core loc q = by_form (subst (λ z. StepForm core state.memory (next_of t state core) z (core_of state core) f) q (step-form depth core state.memory (next_of t state core) (core_of state core)))
+choice-pair t depth state core loc q =
+    by_form (subst (λ z. StepForm core state.memory (next_of t state core) z (core_of state core) f) q
+    (step-form depth core state.memory (next_of t state core) (core_of state core)))
   where
     f : Effect
     f = effect_of t depth state (Step (record { 0 = core }))

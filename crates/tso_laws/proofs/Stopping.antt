@@ -1,5 +1,8 @@
 -- A run stops where it ends, and nothing happens after the end.
-use Rattle.tso_laws.proofs.Vocabulary.{◌≡◌, ◌<◌, ℕ, zero, suc, List, [], ◌∷◌, ◌++◌, Bool, true, false, length, take, arith, ap, sym, ◌∙◌, refl, inl, inr, if◌then◌else◌, Litmus, State, program_of, core_of, chosen, effect_of, after_choice, start, has_ended, Run, stall_count, resting, then_run, run_from, run, Choice, Stall, Stalled, state_after, commits_of, ChangesNothing, StopsAtTheEnd, done-anywhere, length-starts}
+use Rattle.tso_laws.proofs.Vocabulary.{◌≡◌, ◌<◌, ℕ, zero, suc, List, [], ◌∷◌, ◌++◌, Bool, true, false, length, take, arith, ap, sym, ◌∙◌}
+use Rattle.tso_laws.proofs.Vocabulary.{refl, inl, inr, if◌then◌else◌, Litmus, State, program_of, core_of, chosen, effect_of, after_choice}
+use Rattle.tso_laws.proofs.Vocabulary.{start, has_ended, Run, stall_count, resting, then_run, run_from, run, Choice, Stall, Stalled}
+use Rattle.tso_laws.proofs.Vocabulary.{state_after, commits_of, ChangesNothing, StopsAtTheEnd, done-anywhere, length-starts}
 use Rattle.tso_laws.proofs.Work.{stays-same, Stays, choice-changes, run-ended, done-undone}
 use Rattle.tso_laws.proofs.Rounds.{size-kept, size-after}
 use Rattle.tso_laws.proofs.Beginnings.{run-begins}
@@ -13,9 +16,18 @@ stall-nothing t d state c why q = elim (choice-changes t d state c) [
   | inr w ↦ stays-nothing t d state c w
 ]
 
-ended-choice : (t : Litmus) (d : ℕ) (state : State) (c : Choice) → length state.cores ≡ length t.programs → has_ended t state ≡ true → Stays (core_of state (chosen c)) (effect_of t d state c)
+ended-choice : (t : Litmus) (d : ℕ) (state : State) (c : Choice)
+    → length state.cores ≡ length t.programs
+    → has_ended t state ≡ true
+    → Stays (core_of state (chosen c)) (effect_of t d state c)
 ended-choice t d state c n h = elim (choice-changes t d state c) [
-  | inl w ↦ absurd (let m = w.less in let u = done-undone d (program_of t (chosen c)) (core_of state (chosen c)) (done-anywhere t state (chosen c) n h) in let z : ⊥ = omega arith in z)
+  | inl w ↦
+      absurd (let m =
+      w.less in
+      let u =
+      done-undone d (program_of t (chosen c)) (core_of state (chosen c)) (done-anywhere t state (chosen c) n h) in
+      let z : ⊥ = omega arith in
+      z)
   | inr w ↦ w
 ]
 
@@ -39,13 +51,22 @@ run-stops : (t : Litmus) (d : ℕ) (state : State) (cs : List Choice) → length
 run-stops t d state [] n = record { first = λ m l. absurd (omega arith); over = λ l. absurd (omega arith); all_state = refl; all_commits = refl }
 run-stops t d state (c ∷ cs) n = go (has_ended t state) refl (run-stops t d (after_choice t d state c) cs (size-kept t d state c ∙ n))
   where
-    until : (r : Run) (m : ℕ) → has_ended t state ≡ false → ((j : ℕ) → j < r.used → has_ended t (state_after t d (after_choice t d state c) (take j cs)) ≡ false) → m < suc r.used → has_ended t (state_after t d state (take m (c ∷ cs))) ≡ false
+    until : (r : Run) (m : ℕ)
+        → has_ended t state ≡ false
+        → ((j : ℕ) → j < r.used → has_ended t (state_after t d (after_choice t d state c) (take j cs)) ≡ false)
+        → m < suc r.used
+        → has_ended t (state_after t d state (take m (c ∷ cs))) ≡ false
     until r zero q f l = q
     until r (suc m) q f l = f m (omega arith)
 
     go : (b : Bool) → has_ended t state ≡ b → Stops t d (after_choice t d state c) cs (run_from t d (after_choice t d state c) cs)
-        → Stops t d state (c ∷ cs) (if b then resting true state (suc (length cs)) else then_run (effect_of t d state c) (run_from t d (after_choice t d state c) cs))
-    go true q h = let r = ended-same t d state (c ∷ cs) n q in record { first = λ m l. absurd (omega arith); over = λ l. refl; all_state = sym r.0; all_commits = sym r.1 }
+        → Stops t d state (c ∷ cs)
+        (if b
+        then resting true state (suc (length cs))
+        else then_run (effect_of t d state c) (run_from t d (after_choice t d state c) cs))
+    go true q h =
+        let r = ended-same t d state (c ∷ cs) n q in
+        record { first = λ m l. absurd (omega arith); over = λ l. refl; all_state = sym r.0; all_commits = sym r.1 }
     go false q h = record {
       first = λ m l. until (run_from t d (after_choice t d state c) cs) m q h.first l;
       over = h.over;

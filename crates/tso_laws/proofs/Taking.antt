@@ -1,5 +1,6 @@
 -- An eager choice takes effect.
-use Rattle.tso_laws.proofs.EagerVocabulary.{◌≡◌, ℕ, ap, ◌∙◌, refl, action_of, Litmus, State, core_of, effect_by, effect_of, step_of, stall_count, Action, Store, Fence, Lock, Choice, Step, Drain, IsEagerBy, IsEager}
+use Rattle.tso_laws.proofs.EagerVocabulary.{◌≡◌, ℕ, ap, ◌∙◌, refl, action_of, Litmus, State, core_of, effect_by, effect_of, step_of}
+use Rattle.tso_laws.proofs.EagerVocabulary.{stall_count, Action, Store, Fence, Lock, Choice, Step, Drain, IsEagerBy, IsEager}
 use Rattle.tso_terms.specs.declared.choice.Stall.TheVariants as stall
 use Rattle.tso_laws.proofs.Beside.{acts-when}
 use Rattle.tso_laws.proofs.Own.{drain-is, store-room}

@@ -1,5 +1,12 @@
 -- Every order that keeps all of program order is that of a run without store buffers.
-use Rattle.tso_laws.proofs.EndsVocabulary.{◌≡◌, ◌<◌, ℕ, ◌+◌, zero, suc, true, ◌==◌, List, [], ◌∷◌, ◌++◌, Some, slice_get, slice_index_or, length, inl, inr, arith, ap, sym, ◌∙◌, subst, refl, append_assoc, and-left, and-right, before, Member, member-at, action_of, Litmus, IsTest, entry, IsTsoExecution, KeepsAllOrder, CoreState, State, idle, is_none_pending, loaded, load_value, step_of, core_of, program_of, effect_of, chosen, after_choice, started, start, step, CoresExist, is_done, all_done, has_ended, run, Instr, Loc, Reg, Load, Entry, R, W, Choice, Step, Drain, state_after, commits_of, End, IsExecution, IsReached, RunsReachExactlyTheExecutions, StallsChangeNothing, RunsStopWhereTheyEnd, IsSequentiallyConsistent, UnbufferedRunsReachExactlyTheSequentiallyConsistent}
+use Rattle.tso_laws.proofs.EndsVocabulary.{◌≡◌, ◌<◌, ℕ, ◌+◌, zero, suc, true, ◌==◌, List, [], ◌∷◌, ◌++◌, Some, slice_get, slice_index_or}
+use Rattle.tso_laws.proofs.EndsVocabulary.{length, inl, inr, arith, ap, sym, ◌∙◌, subst, refl, append_assoc, and-left, and-right, before}
+use Rattle.tso_laws.proofs.EndsVocabulary.{Member, member-at, action_of, Litmus, IsTest, entry, IsTsoExecution, KeepsAllOrder, CoreState}
+use Rattle.tso_laws.proofs.EndsVocabulary.{State, idle, is_none_pending, loaded, load_value, step_of, core_of, program_of, effect_of}
+use Rattle.tso_laws.proofs.EndsVocabulary.{chosen, after_choice, started, start, step, CoresExist, is_done, all_done, has_ended, run, Instr}
+use Rattle.tso_laws.proofs.EndsVocabulary.{Loc, Reg, Load, Entry, R, W, Choice, Step, Drain, state_after, commits_of, End, IsExecution}
+use Rattle.tso_laws.proofs.EndsVocabulary.{IsReached, RunsReachExactlyTheExecutions, StallsChangeNothing, RunsStopWhereTheyEnd}
+use Rattle.tso_laws.proofs.EndsVocabulary.{IsSequentiallyConsistent, UnbufferedRunsReachExactlyTheSequentiallyConsistent}
 use Rattle.tso_laws.proofs.Passing.{keeps-rest, needs-one}
 use Rattle.tso_laws.proofs.EndsDraining.{pending-committed}
 use Rattle.tso_laws.proofs.Behind.{length-set, moves-place, IsBehind, Follows}
@@ -17,7 +24,8 @@ after-append : (t : Litmus) (d : ℕ) (s : State) (cs ds : List Choice) → stat
 after-append t d s [] ds = refl
 after-append t d s (c ∷ cs) ds = after-append t d (after_choice t d s c) cs ds
 
-commits-append : (t : Litmus) (d : ℕ) (s : State) (cs ds : List Choice) → commits_of t d s (cs ++ ds) ≡ commits_of t d s cs ++ commits_of t d (state_after t d s cs) ds
+commits-append : (t : Litmus) (d : ℕ) (s : State) (cs ds : List Choice)
+    → commits_of t d s (cs ++ ds) ≡ commits_of t d s cs ++ commits_of t d (state_after t d s cs) ds
 commits-append t d s [] ds = refl
 commits-append t d s (c ∷ cs) ds =
     ap (λ z. (effect_of t d s c).commits ++ z) (commits-append t d (after_choice t d s c) cs ds) ∙ sym (append_assoc (effect_of t d s c).commits _ _)
@@ -41,7 +49,8 @@ no-load t a b cs k l keeps empty w i reg loc at is =
     let f : effect_of t 1 b (step k) ≡ loaded s reg x = ap (λ z. step_of 1 b.memory k z s) at ∙ rw is refl in
     let waits : Member e s.pending = subst (λ z. Member e z.pending) (sym w.is) (inl refl) in
     let m = member-at e (commits_of t 1 b (step k ∷ cs)) (pending-committed 1 t b (step k ∷ cs) k e l waits empty) in
-    let first : slice_get (commits_of t 1 b (step k ∷ cs)) 0 ≡ Some x = ap (λ z. slice_get (z.commits ++ commits_of t 1 (after_choice t 1 b (step k)) cs) 0) f in
+    let first : slice_get (commits_of t 1 b (step k ∷ cs)) 0 ≡ Some x =
+    ap (λ z. slice_get (z.commits ++ commits_of t 1 (after_choice t 1 b (step k)) cs) 0) f in
     let n = moves-place (program_of t k) w.count _ w.after w.moves in
     let p : s.place ≡ w.after.place = ap (λ z. z.place) w.is in
     let late = keeps m.0 0 e x m.1 first (before e x refl (omega (arith, n, p))) in
@@ -63,7 +72,10 @@ module _ (law : StallsChangeNothing) (t : Litmus) where
       record {
         made = g.made ++ r.made;
         cores = cores-append (length t.programs) g.made r.made g.cores r.cores;
-        commits = commits-append t 0 a g.made r.made ∙ ap (λ z. z ++ commits_of t 0 (state_after t 0 a g.made) r.made) g.commits ∙ ap (λ z. (effect_of t 1 b c).commits ++ z) r.commits;
+        commits =
+            commits-append t 0 a g.made r.made
+            ∙ ap (λ z. z ++ commits_of t 0 (state_after t 0 a g.made) r.made) g.commits
+            ∙ ap (λ z. (effect_of t 1 b c).commits ++ z) r.commits;
         follows = subst (λ z. Follows t z (state_after t 1 (after_choice t 1 b c) cs)) (sym (after-append t 0 a g.made r.made)) r.follows;
       }
 
@@ -93,7 +105,8 @@ none-pending (x ∷ xs) q = absurd (let z : ⊥ = cc in z)
 done-empty : (ps : List (List Instr)) (ss : List CoreState) (k : ℕ) → length ss ≡ length ps → all_done ps ss ≡ true → (slice_index_or ss k idle).pending ≡ []
 done-empty ps [] k n h = refl
 done-empty [] (s ∷ ss) k n h = absurd (let z : ⊥ = omega (arith, n) in z)
-done-empty (p ∷ ps) (s ∷ ss) zero n h = none-pending s.pending (and-right (length p == s.place) (is_none_pending s.pending) (and-left (is_done p s) (all_done ps ss) h))
+done-empty (p ∷ ps) (s ∷ ss) zero n h =
+    none-pending s.pending (and-right (length p == s.place) (is_none_pending s.pending) (and-left (is_done p s) (all_done ps ss) h))
 done-empty (p ∷ ps) (s ∷ ss) (suc k) n h = done-empty ps ss k (omega (arith, n)) (and-right (is_done p s) (all_done ps ss) h)
 
 same-cores : (xs ys : List CoreState) → length xs ≡ length ys → ((k : ℕ) → k < length xs → slice_index_or xs k idle ≡ slice_index_or ys k idle) → xs ≡ ys
@@ -125,7 +138,10 @@ module _ (stalls : StallsChangeNothing) (stop : RunsStopWhereTheyEnd) (exactly :
       let last : State = state_after t 1 (start t) h.choices in
       let order_is : commits_of t 1 (start t) h.choices ≡ order = sym s.all_commits ∙ h.commits in
       let done : has_ended t (state_after t 1 (start t) h.choices) ≡ true = ap (has_ended t) (sym s.all_state) ∙ sym s.ended ∙ h.ended in
-      let empty : (j : ℕ) → j < length t.programs → (core_of (state_after t 1 (start t) h.choices) j).pending ≡ [] = λ j l. done-empty t.programs (state_after t 1 (start t) h.choices).cores j (size t 1 (start t) h.choices (start-cores 0 t.programs t.registers)) done in
+      let empty : (j : ℕ) → j < length t.programs → (core_of (state_after t 1 (start t) h.choices) j).pending ≡ [] =
+      λ j l.
+      done-empty t.programs (state_after t 1 (start t) h.choices).cores j
+      (size t 1 (start t) h.choices (start-cores 0 t.programs t.registers)) done in
       let p = follow stalls t (start t) (start t) h.choices (start-follows t) h.cores (subst (λ z. KeepsAllOrder z) (sym order_is) k) empty in
       let r = stop.stops t 0 p.made in
       let cores = level t (state_after t 0 (start t) p.made) (state_after t 1 (start t) h.choices) p.follows empty in

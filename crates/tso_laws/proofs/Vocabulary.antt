@@ -1,13 +1,18 @@
 -- The names that the proofs of this crate bring in from definitions and from crates below; each file takes its own from here.
-pub use Rattle.std.proofs.Common.{◌≡◌, ℕ, ◌+◌, zero, suc, List, [], ◌∷◌, ◌++◌, Some, take, drop, slice_get, slice_index, arith, ap, sym, ◌∙◌, append_assoc, refl, add-one, subst, ◌≢◌, ◌<◌, ◌≤◌, Bool, true, false, length, slice_index_or, map, inl, inr, ◌==◌, if◌then◌else◌, length-append, IfSome, ◌⊎◌, ◌&&◌, nat_lt, ◌||◌, not, All, Option, None, ◌↔◌, ◌*◌, get_or-set_same, get_or-set_other, cond, ltb, slice_set, max, ◌-◌, rules}
+pub use Rattle.std.proofs.Common.{◌≡◌, ℕ, ◌+◌, zero, suc, List, [], ◌∷◌, ◌++◌, Some, take, drop, slice_get, slice_index, arith, ap, sym}
+pub use Rattle.std.proofs.Common.{◌∙◌, append_assoc, refl, add-one, subst, ◌≢◌, ◌<◌, ◌≤◌, Bool, true, false, length, slice_index_or, map}
+pub use Rattle.std.proofs.Common.{inl, inr, ◌==◌, if◌then◌else◌, length-append, IfSome, ◌⊎◌, ◌&&◌, nat_lt, ◌||◌, not, All, Option, None}
+pub use Rattle.std.proofs.Common.{◌↔◌, ◌*◌, get_or-set_same, get_or-set_other, cond, ltb, slice_set, max, ◌-◌, rules}
 pub use Rattle.std.proofs.lemmas.Bool.{cases_Bool, false_from_ne_true}
 pub use Rattle.std.proofs.lemmas.List.{set-get_or}
 pub use Rattle.basic_laws.proofs.Cores.{starts-idle, length-starts, all-done, done-at, no-program, no-core, done-anywhere}
 pub use Rattle.tso_terms.specs.Actions.{action_of, location_of}
-pub use Rattle.tso_terms.specs.Thread.{entries_by, registers_by, values_after, entries_of, registers_after, entry, fence, value_in, value_of, updated, with_value, sum_of}
+pub use Rattle.tso_terms.specs.Thread.{entries_by, registers_by, values_after, entries_of, registers_after, entry, fence, value_in}
+pub use Rattle.tso_terms.specs.Thread.{value_of, updated, with_value, sum_of}
 pub use Rattle.tso_terms.specs.ProgramEntries.{values_by, made_by, read_values, made_from, made, is_at, read_value}
 pub use Rattle.tso_terms.specs.FinalState.{registers_of, registers_from, final_registers, words_from, word_after}
-pub use Rattle.basic_laws.specs.Types.{Instr, Action, Entry, LR, F, R, W, LW, Kind, Choice, Reg, Loc, Stall, Committed, Buffered, Stalled, StoreImm, SetImm, Operand, Number, Held, Update, Step, Drain}
+pub use Rattle.basic_laws.specs.Types.{Instr, Action, Entry, LR, F, R, W, LW, Kind, Choice, Reg, Loc, Stall, Committed, Buffered, Stalled}
+pub use Rattle.basic_laws.specs.Types.{StoreImm, SetImm, Operand, Number, Held, Update, Step, Drain}
 pub use Rattle.tso_terms.specs.declared.action.Action.TheVariants.{Store, Load, Move, Fence, Lock}
 pub use Rattle.std.proofs.lemmas.Option.{slice_get-get_or, slice_get_within, get_or_from_slice_get}
 pub use Rattle.std.proofs.lemmas.Bool.Decides.{nat_tests}
@@ -15,9 +20,14 @@ pub use Rattle.tso_terms.specs.Litmus.{Litmus, IsTest, KnownLocation, HasWords, 
 pub use Rattle.tso_terms.specs.ProgramOrder.{is_read, is_before, may_be_passed, is_load, is_store, IsStorePart, writes_to, same_kind, is_write}
 pub use Rattle.tso_terms.specs.Axioms.{IsTsoExecution, IsAdjacent, KeepsProgramOrder, IsWhole, last_value, counting}
 pub use Rattle.tso_terms.specs.SequentialConsistency.{KeepsAllOrder}
-pub use Rattle.basic_laws.proofs.Basics.{test-false, le-cases, lt-by, max-within, not-itself, and-true, and-false, part-small, decide, lt-or, le-by, max-left, max-right, load-kind, before, core-before, max-first, max-second, and-left, and-right, test-true}
-pub use Rattle.tso_terms.specs.FlatMachine.{core_of, CoreState, State, idle, program_of, effect_of, chosen, after_choice, start, effect_by, step_of, drain_of, stalled, stored, advanced, advanced_with, load_value, fenced, locked, Effect, is_none_pending, when_drained, moved, step, drain, loaded, started, memory_after, applied}
-pub use Rattle.basic_laws.proofs.Lists.{Each, each-append, each-at, each-right, Member, member-at, drop-end, append-nil, each-map, each-left, drop-at, each-insert, set-cases, each-all, member-insert, member-inserted}
+pub use Rattle.basic_laws.proofs.Basics.{test-false, le-cases, lt-by, max-within, not-itself, and-true, and-false, part-small, decide}
+pub use Rattle.basic_laws.proofs.Basics.{lt-or, le-by, max-left, max-right, load-kind, before, core-before, max-first, max-second, and-left}
+pub use Rattle.basic_laws.proofs.Basics.{and-right, test-true}
+pub use Rattle.tso_terms.specs.FlatMachine.{core_of, CoreState, State, idle, program_of, effect_of, chosen, after_choice, start, effect_by}
+pub use Rattle.tso_terms.specs.FlatMachine.{step_of, drain_of, stalled, stored, advanced, advanced_with, load_value, fenced, locked, Effect}
+pub use Rattle.tso_terms.specs.FlatMachine.{is_none_pending, when_drained, moved, step, drain, loaded, started, memory_after, applied}
+pub use Rattle.basic_laws.proofs.Lists.{Each, each-append, each-at, each-right, Member, member-at, drop-end, append-nil, each-map}
+pub use Rattle.basic_laws.proofs.Lists.{each-left, drop-at, each-insert, set-cases, each-all, member-insert, member-inserted}
 pub use Rattle.tso_terms.specs.Standing.{StandsIn}
 pub use Rattle.tso_laws.specs.Entries.{FitsTest}
 pub use Rattle.basic_laws.specs.Ranks.{rank, part_of}

@@ -1,5 +1,10 @@
 -- What is pending are the issued and uncommitted plain stores of a core, in program order.
-use Rattle.tso_laws.proofs.Vocabulary.{◌≡◌, ◌<◌, ◌≤◌, ℕ, ◌+◌, suc, List, [], ◌∷◌, ◌++◌, Bool, true, false, not, length, take, slice_index, arith, ap, sym, ◌∙◌, refl, inl, inr, subst, ◌==◌, ◌&&◌, ◌||◌, if◌then◌else◌, nat_lt, filter, nat_tests, action_of, entry, fence, value_in, value_of, updated, entries_by, entries_of, same_kind, is_before, is_store, rank, part_of, is_store_kind, is_load_kind, by-rank, is_at, made_by, read_values, CoreState, Instr, Action, Store, Load, Move, Fence, Lock, Entry, Kind, R, W, LR, LW, part-small, is_committed, is_waiting, Each, each-map, Member, cases_Bool}
+use Rattle.tso_laws.proofs.Vocabulary.{◌≡◌, ◌<◌, ◌≤◌, ℕ, ◌+◌, suc, List, [], ◌∷◌, ◌++◌, Bool, true, false, not, length, take, slice_index}
+use Rattle.tso_laws.proofs.Vocabulary.{arith, ap, sym, ◌∙◌, refl, inl, inr, subst, ◌==◌, ◌&&◌, ◌||◌, if◌then◌else◌, nat_lt, filter}
+use Rattle.tso_laws.proofs.Vocabulary.{nat_tests, action_of, entry, fence, value_in, value_of, updated, entries_by, entries_of, same_kind}
+use Rattle.tso_laws.proofs.Vocabulary.{is_before, is_store, rank, part_of, is_store_kind, is_load_kind, by-rank, is_at, made_by}
+use Rattle.tso_laws.proofs.Vocabulary.{read_values, CoreState, Instr, Action, Store, Load, Move, Fence, Lock, Entry, Kind, R, W, LR, LW}
+use Rattle.tso_laws.proofs.Vocabulary.{part-small, is_committed, is_waiting, Each, each-map, Member, cases_Bool}
 use Rattle.tso_laws.proofs.Entries.{Fine, Ordered, count}
 use Rattle.tso_laws.proofs.OneList.{Queued}
 use Rattle.tso_laws.proofs.CoreInvariant.{CoreInvariant}
@@ -44,7 +49,10 @@ later c place e xs l h =
     let s = part-small e.kind in
     each-map (λ y. (y.core.0 ≡ c) × (place + 1 ≤ y.place)) (λ y. rank e < rank y) xs (λ y q. let p = q.1 in omega (arith, p, l, s)) h
 
-sorted-by : (c place : ℕ) (a : Action) (registers : List ℕ) (word : ℕ) (xs : List Entry) → Each (λ y. (y.core.0 ≡ c) × (place + 1 ≤ y.place)) xs → Sorted xs → Sorted (entries_by c place a registers word ++ xs)
+sorted-by : (c place : ℕ) (a : Action) (registers : List ℕ) (word : ℕ) (xs : List Entry)
+    → Each (λ y. (y.core.0 ≡ c) × (place + 1 ≤ y.place)) xs
+    → Sorted xs
+    → Sorted (entries_by c place a registers word ++ xs)
 sorted-by c place (Store loc operand) registers word xs h s = (later c place (entry c place W loc (value_of registers operand)) xs refl h, s)
 sorted-by c place (Load reg loc) registers word xs h s = (later c place (entry c place R loc word) xs refl h, s)
 sorted-by c place (Move change) registers word xs h s = s
@@ -54,7 +62,8 @@ sorted-by c place (Lock loc reg update) registers word xs h s =
 
 entries-sorted : (c place : ℕ) (p : List Instr) (registers values : List ℕ) → Sorted (entries_of c place p registers values)
 entries-sorted c place [] registers values = tt
-entries-sorted c place (i ∷ p) registers values = sorted-by c place (action_of i) registers (slice_index values 0) _ (entries-from c (place + 1) p _ _) (entries-sorted c (place + 1) p _ _)
+entries-sorted c place (i ∷ p) registers values =
+    sorted-by c place (action_of i) registers (slice_index values 0) _ (entries-from c (place + 1) p _ _) (entries-sorted c (place + 1) p _ _)
 
 each-filter : (P : Entry → Type 0) (test : Entry → Bool) (xs : List Entry) → Each P xs → Each P (filter test xs)
 each-filter P test [] h = tt
@@ -76,7 +85,11 @@ from-filter : (test : Entry → Bool) (xs : List Entry) (e : Entry) → Member e
 from-filter test [] e m = absurd m
 from-filter test (x ∷ xs) e m = go (test x) refl m (λ h. from-filter test xs e h)
   where
-    go : (b : Bool) → test x ≡ b → Member e (if b then x ∷ filter test xs else filter test xs) → (Member e (filter test xs) → Member e xs × test e ≡ true) → Member e (x ∷ xs) × test e ≡ true
+    go : (b : Bool)
+        → test x ≡ b
+        → Member e (if b then x ∷ filter test xs else filter test xs)
+        → (Member e (filter test xs) → Member e xs × test e ≡ true)
+        → Member e (x ∷ xs) × test e ≡ true
     go true q (inl p) f = (inl p, ap test p ∙ q)
     go true q (inr m) f = (inr (f m).0, (f m).1)
     go false q m f = (inr (f m).0, (f m).1)
@@ -114,7 +127,10 @@ at-itself e = rw (same-kinds e.kind) (both e.core.0 e.place)
 
 pub committed-in : (commits : List Entry) (e : Entry) → Member e commits → is_committed commits e ≡ true
 committed-in [] e m = absurd m
-committed-in (x ∷ xs) e (inl p) = let v : is_at e.core.0 e.place e.kind x ≡ true = subst (λ z. is_at e.core.0 e.place e.kind z ≡ true) p (at-itself e) in rw v refl
+committed-in (x ∷ xs) e (inl p) =
+    let v : is_at e.core.0 e.place e.kind x ≡ true =
+    subst (λ z. is_at e.core.0 e.place e.kind z ≡ true) p (at-itself e) in
+    rw v refl
 committed-in (x ∷ xs) e (inr m) = rw (committed-in xs e m) (go (is_at e.core.0 e.place e.kind x))
   where
     go : (b : Bool) → (b || true) ≡ true
@@ -128,7 +144,12 @@ pub record Like (commits : List Entry) (e : Entry) : Type 0 where
   pub rank : rank other ≡ rank e
 
 at-rank : (x e : Entry) → is_at e.core.0 e.place e.kind x ≡ true → (x.core.0 ≡ e.core.0) × (rank x ≡ rank e)
-at-rank x e h = (cores x.core.0 e.core.0 x.place e.place (same_kind x.kind e.kind) h, ranks x.place e.place x.kind e.kind (places x.core.0 e.core.0 x.place e.place (same_kind x.kind e.kind) h) (kinds x.core.0 e.core.0 x.place e.place (same_kind x.kind e.kind) h))
+at-rank x e h = (
+  cores x.core.0 e.core.0 x.place e.place (same_kind x.kind e.kind) h,
+  ranks x.place e.place x.kind e.kind
+      (places x.core.0 e.core.0 x.place e.place (same_kind x.kind e.kind) h)
+      (kinds x.core.0 e.core.0 x.place e.place (same_kind x.kind e.kind) h),
+)
   where
     cores : (a b p q : ℕ) (k : Bool) → ((a == b) && (p == q) && k) ≡ true → a ≡ b
     cores a b p q k h = grind (arith, nat_tests)
@@ -187,33 +208,47 @@ pub record Waits (c : ℕ) (commits done : List Entry) (s : CoreState) : Type 0 
   pub others : (e : Entry) → Member e done → is_waiting commits e ≡ false → Member e commits
   pub issued : (e : Entry) → Member e commits → e.core.0 ≡ c → Member e done
 
-pub waits : (d c : ℕ) (program : List Instr) (first words : List ℕ) (commits : List Entry) (s : CoreState) (h : CoreInvariant d c program first words commits s) → Waits c commits h.done s
+pub waits : (d c : ℕ) (program : List Instr) (first words : List ℕ) (commits : List Entry) (s : CoreState)
+    (h : CoreInvariant d c program first words commits s)
+    → Waits c commits h.done s
 waits d c program first words commits s h =
     let makes : made_by c (take s.place program) first (commits ++ []) ≡ h.done = h.made [] in
-    let distinct : Distinct h.done = subst (λ z. Distinct z) makes (entries-distinct c 0 (take s.place program) first (read_values c 0 (take s.place program) (commits ++ []))) in
-    let sorted : Sorted h.done = subst (λ z. Sorted z) makes (entries-sorted c 0 (take s.place program) first (read_values c 0 (take s.place program) (commits ++ []))) in
-    let of_core : Each (λ e. e.core.0 ≡ c) h.done = subst (λ z. Each (λ e. e.core.0 ≡ c) z) makes (each-map (λ e. (e.core.0 ≡ c) × (0 ≤ e.place)) (λ e. e.core.0 ≡ c) _ (λ e q. q.0) (entries-from c 0 (take s.place program) first (read_values c 0 (take s.place program) (commits ++ [])))) in
+    let distinct : Distinct h.done =
+    subst (λ z. Distinct z) makes (entries-distinct c 0 (take s.place program) first (read_values c 0 (take s.place program) (commits ++ []))) in
+    let sorted : Sorted h.done =
+    subst (λ z. Sorted z) makes (entries-sorted c 0 (take s.place program) first (read_values c 0 (take s.place program) (commits ++ []))) in
+    let of_core : Each (λ e. e.core.0 ≡ c) h.done =
+    subst (λ z. Each (λ e. e.core.0 ≡ c) z) makes
+    (each-map (λ e. (e.core.0 ≡ c) × (0 ≤ e.place)) (λ e. e.core.0 ≡ c) _ (λ e q. q.0)
+    (entries-from c 0 (take s.place program) first (read_values c 0 (take s.place program) (commits ++ [])))) in
     let queue : Each (λ e. e.core.0 ≡ c) s.pending = each-map (Queued c (length words)) (λ e. e.core.0 ≡ c) s.pending (λ e q. q.own) h.queued in
     let split : own c (commits ++ s.pending) ≡ own c commits ++ s.pending = own-append c commits s.pending queue in
     let inside : (e : Entry) → Member e h.done → Member e (own c (commits ++ s.pending)) =
-    (λ (e : Entry) (m : Member e h.done). in-filter (λ z. z.core.0 == c) (commits ++ s.pending) e (each-of (λ z. Member z (commits ++ s.pending)) e h.done h.sees.members m) (is-own e.core.0 c (each-of (λ z. z.core.0 ≡ c) e h.done of_core m))) in
+    (λ (e : Entry) (m : Member e h.done).
+    in-filter (λ z. z.core.0 == c) (commits ++ s.pending) e
+    (each-of (λ z. Member z (commits ++ s.pending)) e h.done h.sees.members m)
+    (is-own e.core.0 c (each-of (λ z. z.core.0 ≡ c) e h.done of_core m))) in
     let same = pigeons h.done (own c (commits ++ s.pending)) distinct inside (own-count c (commits ++ s.pending) ∙ sym h.sees.counted) in
     let apart : Distinct (own c commits ++ s.pending) = subst (λ z. Distinct z) split same.distinct in
     let uncommitted : (e : Entry) → Member e s.pending → is_committed commits e ≡ false =
     (λ (e : Entry) (m : Member e s.pending). no (is_committed commits e) (λ q. let k = like commits e q in
-    separated (own c commits) s.pending k.other e apart (in-filter (λ z. z.core.0 == c) commits k.other k.member (is-own k.other.core.0 c (k.core ∙ each-of (λ z. z.core.0 ≡ c) e s.pending queue m))) m k.core k.rank)) in
+    separated (own c commits) s.pending k.other e apart
+    (in-filter (λ z. z.core.0 == c) commits k.other k.member (is-own k.other.core.0 c (k.core ∙ each-of (λ z. z.core.0 ≡ c) e s.pending queue m)))
+    m k.core k.rank)) in
     let waiting : (e : Entry) → Member e s.pending → is_waiting commits e ≡ true =
     (λ (e : Entry) (m : Member e s.pending). rw (ap is_store_kind (each-of (Queued c (length words)) e s.pending h.queued m).kind, uncommitted e m) refl) in
     let from : (e : Entry) → Member e s.pending → Member e h.done =
     (λ (e : Entry) (m : Member e s.pending). same.in_made e (subst (λ z. Member e z) (sym split) (member-right e (own c commits) s.pending m))) in
     let to : (e : Entry) → Member e h.done → is_committed commits e ≡ false → Member e s.pending =
-    (λ (e : Entry) (m : Member e h.done) (q : is_committed commits e ≡ false). elim (member-split e commits s.pending (each-of (λ z. Member z (commits ++ s.pending)) e h.done h.sees.members m)) [
+    (λ (e : Entry) (m : Member e h.done) (q : is_committed commits e ≡ false).
+    elim (member-split e commits s.pending (each-of (λ z. Member z (commits ++ s.pending)) e h.done h.sees.members m)) [
       | inl a ↦ absurd (let k = committed-in commits e a in let z : ⊥ = cc in z)
       | inr a ↦ a
     ]) in
     record {
       pending = same-list s.pending (filter (is_waiting commits) h.done)
-          (queue-sorted d c (length words) s.pending (ordered-right d c commits s.pending h.sees.kept) (distinct-right (own c commits) s.pending apart) h.queued)
+          (queue-sorted d c (length words) s.pending (ordered-right d c commits s.pending h.sees.kept)
+          (distinct-right (own c commits) s.pending apart) h.queued)
           (filter-sorted (is_waiting commits) h.done sorted)
           (λ e m. in-filter (is_waiting commits) h.done e (from e m) (waiting e m))
           (λ e m. let f = from-filter (is_waiting commits) h.done e m in to e f.0 (not-true (is_store e) (is_committed commits e) f.1));

@@ -1,5 +1,6 @@
 -- An eager choice can be made first: whatever the choices to the end, they lead there after it too, and are one fewer.
-use Rattle.tso_laws.proofs.EagerVocabulary.{◌≡◌, ℕ, zero, suc, inl, inr, sym, ◌∙◌, subst, Litmus, State, after_choice, Choice, IsEager, IsDead, Reaches, IsSized}
+use Rattle.tso_laws.proofs.EagerVocabulary.{◌≡◌, ℕ, zero, suc, inl, inr, sym, ◌∙◌, subst, Litmus, State, after_choice, Choice, IsEager}
+use Rattle.tso_laws.proofs.EagerVocabulary.{IsDead, Reaches, IsSized}
 
 -- the other choice leaves it eager, and the two may be made in either order
 pub record Commutes (d : ℕ) (t : Litmus) (s : State) (e c : Choice) : Type 0 where

@@ -1,5 +1,10 @@
 -- A TSO execution has just the entries of the programs, each once.
-use Rattle.tso_laws.proofs.Vocabulary.{◌≡◌, ◌≢◌, ◌<◌, ◌≤◌, ℕ, ◌+◌, zero, suc, List, [], ◌∷◌, ◌++◌, Some, Bool, true, false, length, slice_get, slice_index, slice_index_or, arith, ap, sym, ◌∙◌, refl, inl, inr, subst, action_of, entry, fence, value_in, value_of, updated, entries_by, entries_of, Litmus, may_be_passed, rank, part-small, KeepsProgramOrder, IsAdjacent, IsWhole, IsTsoExecution, StandsIn, read_values, IsStorePart, made_by, made_from, made, Entry, Instr, Action, Store, Load, Move, Fence, Lock, R, W, LR, LW, program_of, Each, each-map, Member, member-at}
+use Rattle.tso_laws.proofs.Vocabulary.{◌≡◌, ◌≢◌, ◌<◌, ◌≤◌, ℕ, ◌+◌, zero, suc, List, [], ◌∷◌, ◌++◌, Some, Bool, true, false, length}
+use Rattle.tso_laws.proofs.Vocabulary.{slice_get, slice_index, slice_index_or, arith, ap, sym, ◌∙◌, refl, inl, inr, subst, action_of, entry}
+use Rattle.tso_laws.proofs.Vocabulary.{fence, value_in, value_of, updated, entries_by, entries_of, Litmus, may_be_passed, rank, part-small}
+use Rattle.tso_laws.proofs.Vocabulary.{KeepsProgramOrder, IsAdjacent, IsWhole, IsTsoExecution, StandsIn, read_values, IsStorePart, made_by}
+use Rattle.tso_laws.proofs.Vocabulary.{made_from, made, Entry, Instr, Action, Store, Load, Move, Fence, Lock, R, W, LR, LW, program_of}
+use Rattle.tso_laws.proofs.Vocabulary.{Each, each-map, Member, member-at}
 use Rattle.tso_laws.proofs.Folds.{due-is, needs, HasLocations}
 use Rattle.tso_laws.proofs.Entries.{Fine, Ordered}
 use Rattle.tso_laws.proofs.CoreInvariant.{Paired, Next}
@@ -75,17 +80,30 @@ apart-later c place e xs l h =
     let s = part-small e.kind in
     each-map (λ y. (y.core.0 ≡ c) × (place + 1 ≤ y.place)) (Apart e) xs (λ y q. λ k r. let p = q.1 in omega (arith, r, p, l, s)) h
 
-distinct-by : (c place : ℕ) (a : Action) (registers : List ℕ) (word : ℕ) (xs : List Entry) → Each (λ y. (y.core.0 ≡ c) × (place + 1 ≤ y.place)) xs → Distinct xs → Distinct (entries_by c place a registers word ++ xs)
+distinct-by : (c place : ℕ) (a : Action) (registers : List ℕ) (word : ℕ) (xs : List Entry)
+    → Each (λ y. (y.core.0 ≡ c) × (place + 1 ≤ y.place)) xs
+    → Distinct xs
+    → Distinct (entries_by c place a registers word ++ xs)
 distinct-by c place (Store loc operand) registers word xs h d = (apart-later c place (entry c place W loc (value_of registers operand)) xs refl h, d)
 distinct-by c place (Load reg loc) registers word xs h d = (apart-later c place (entry c place R loc word) xs refl h, d)
 distinct-by c place (Move change) registers word xs h d = d
 distinct-by c place Fence registers word xs h d = (apart-later c place (fence c place) xs refl h, d)
-distinct-by c place (Lock loc reg update) registers word xs h d =
-    (((λ k r. omega (arith, r)), apart-later c place (entry c place LR loc word) xs refl h), (apart-later c place (entry c place LW loc (updated update registers word)) xs refl h, d))
+distinct-by c place (Lock loc reg update) registers word xs h d = (
+  (
+    (
+        λ k r. omega (arith, r)),
+    apart-later c place (entry c place LR loc word) xs refl h,
+  ),
+  (
+    apart-later c place (entry c place LW loc (updated update registers word)) xs refl h,
+    d,
+  ),
+)
 
 pub entries-distinct : (c place : ℕ) (p : List Instr) (registers values : List ℕ) → Distinct (entries_of c place p registers values)
 entries-distinct c place [] registers values = tt
-entries-distinct c place (i ∷ p) registers values = distinct-by c place (action_of i) registers (slice_index values 0) _ (entries-from c (place + 1) p _ _) (entries-distinct c (place + 1) p _ _)
+entries-distinct c place (i ∷ p) registers values =
+    distinct-by c place (action_of i) registers (slice_index values 0) _ (entries-from c (place + 1) p _ _) (entries-distinct c (place + 1) p _ _)
 
 distinct-append : (xs ys : List Entry) → Distinct xs → Distinct ys → ((x y : Entry) → Member x xs → Member y ys → x.core.0 ≢ y.core.0) → Distinct (xs ++ ys)
 distinct-append [] ys a b f = b
@@ -101,7 +119,9 @@ pub record Made (k : ℕ) (ps : List (List Instr)) (registers : List (List ℕ))
   pub core : e.core.0 ≡ k + at
   pub member : Member e (made_by (k + at) (slice_index_or ps at []) (slice_index_or registers (k + at) []) order)
 
-pub made-at : (k : ℕ) (ps : List (List Instr)) (registers : List (List ℕ)) (order : List Entry) (e : Entry) → Member e (made_from k ps registers order) → Made k ps registers order e
+pub made-at : (k : ℕ) (ps : List (List Instr)) (registers : List (List ℕ)) (order : List Entry) (e : Entry)
+    → Member e (made_from k ps registers order)
+    → Made k ps registers order e
 made-at k [] registers order e m = absurd m
 made-at k (p ∷ ps) registers order e m = elim (member-split e (made_by k p (slice_index_or registers k []) order) (made_from (k + 1) ps registers order) m) [
   | inl a ↦ here k p (slice_index_or registers k []) a
@@ -112,7 +132,9 @@ made-at k (p ∷ ps) registers order e m = elim (member-split e (made_by k p (sl
     here k p first a = record {
       at = 0;
       within = omega arith;
-      core = (each-of (λ z. (z.core.0 ≡ k) × (0 ≤ z.place)) e _ (entries-from k 0 p (slice_index_or registers k []) (read_values k 0 p order)) a).0 ∙ (let z : k ≡ k + 0 = omega arith in z);
+      core =
+          (each-of (λ z. (z.core.0 ≡ k) × (0 ≤ z.place)) e _ (entries-from k 0 p (slice_index_or registers k []) (read_values k 0 p order)) a).0
+          ∙ (let z : k ≡ k + 0 = omega arith in z);
       member = subst (λ z. Member e (made_by z p (slice_index_or registers z []) order)) (let z : k ≡ k + 0 = omega arith in z) a;
     }
 
@@ -121,17 +143,22 @@ made-at k (p ∷ ps) registers order e m = elim (member-split e (made_by k p (sl
       at = suc h.at;
       within = let l = h.within in omega arith;
       core = h.core ∙ (let z : (k + 1) + h.at ≡ k + suc h.at = omega arith in z);
-      member = subst (λ z. Member e (made_by z (slice_index_or ps h.at []) (slice_index_or registers z []) order)) (let z : (k + 1) + h.at ≡ k + suc h.at = omega arith in z) h.member;
+      member =
+          subst (λ z. Member e (made_by z (slice_index_or ps h.at []) (slice_index_or registers z []) order))
+          (let z : (k + 1) + h.at ≡ k + suc h.at = omega arith in z) h.member;
     }
 
 made-in : (k : ℕ) (ps : List (List Instr)) (registers : List (List ℕ)) (order : List Entry) (j : ℕ) (e : Entry) → j < length ps
     → Member e (made_by (k + j) (slice_index_or ps j []) (slice_index_or registers (k + j) []) order) → Member e (made_from k ps registers order)
 made-in k [] registers order j e l m = absurd (omega arith)
 made-in k (p ∷ ps) registers order zero e l m =
-    member-left e (made_by k p (slice_index_or registers k []) order) _ (subst (λ z. Member e (made_by z p (slice_index_or registers z []) order)) (let z : k + 0 ≡ k = omega arith in z) m)
+    member-left e (made_by k p (slice_index_or registers k []) order) _
+    (subst (λ z. Member e (made_by z p (slice_index_or registers z []) order)) (let z : k + 0 ≡ k = omega arith in z) m)
 made-in k (p ∷ ps) registers order (suc j) e l m =
     member-right e (made_by k p (slice_index_or registers k []) order) (made_from (k + 1) ps registers order)
-    (made-in (k + 1) ps registers order j e (omega arith) (subst (λ z. Member e (made_by z (slice_index_or ps j []) (slice_index_or registers z []) order)) (let z : k + suc j ≡ (k + 1) + j = omega arith in z) m))
+    (made-in (k + 1) ps registers order j e (omega arith)
+    (subst (λ z. Member e (made_by z (slice_index_or ps j []) (slice_index_or registers z []) order))
+    (let z : k + suc j ≡ (k + 1) + j = omega arith in z) m))
 
 made-distinct : (k : ℕ) (ps : List (List Instr)) (registers : List (List ℕ)) (order : List Entry) → Distinct (made_from k ps registers order)
 made-distinct k [] registers order = tt
@@ -170,11 +197,14 @@ pub record Own (t : Litmus) (order : List Entry) : Type 0 where
   pub in_made : (e : Entry) → Member e order → (e.core.0 < length t.programs) × Member e (made_by e.core.0 (program_of t e.core.0) (first_of t e.core.0) order)
 
 -- an entry that the programs make is made by the program of its core
-pub of-core : (t : Litmus) (order : List Entry) (e : Entry) → Made 0 t.programs t.registers order e → (e.core.0 < length t.programs) × Member e (made_by e.core.0 (program_of t e.core.0) (first_of t e.core.0) order)
+pub of-core : (t : Litmus) (order : List Entry) (e : Entry)
+    → Made 0 t.programs t.registers order e
+    → (e.core.0 < length t.programs) × Member e (made_by e.core.0 (program_of t e.core.0) (first_of t e.core.0) order)
 of-core t order e m =
     let c : m.at ≡ e.core.0 = (let q = m.core in omega arith) in
     let z : 0 + m.at ≡ m.at = omega arith in
-    let one : Member e (made_by m.at (program_of t m.at) (first_of t m.at) order) = subst (λ w. Member e (made_by w (program_of t m.at) (first_of t w) order)) z m.member in
+    let one : Member e (made_by m.at (program_of t m.at) (first_of t m.at) order) =
+    subst (λ w. Member e (made_by w (program_of t m.at) (first_of t w) order)) z m.member in
     ((let l = m.within in omega arith), subst (λ w. Member e (made_by w (program_of t w) (first_of t w) order)) c one)
 
 pub whole-own : (t : Litmus) (order : List Entry) → IsWhole t order → Own t order
@@ -182,14 +212,21 @@ whole-own t order h =
     let within : (e : Entry) → Member e (made t order) → Member e order =
     (λ (e : Entry) (m : Member e (made t order)). let i = member-at e (made t order) m in let s = h.each i.0 e i.1 in at-member order s.0 e s.1) in
     let s = pigeons (made t order) order (made-distinct 0 t.programs t.registers order) within h.count in
-    record { within = within; distinct = s.distinct; made = s.in_made; in_made = λ e m. of-core t order e (made-at 0 t.programs t.registers order e (s.in_made e m)) }
+    record {
+      within = within;
+      distinct = s.distinct;
+      made = s.in_made;
+      in_made = λ e m. of-core t order e (made-at 0 t.programs t.registers order e (s.in_made e m));
+    }
 
 -- each entry is in a distinct list once
 pub distinct-once : (xs : List Entry) (i j : ℕ) (e : Entry) → Distinct xs → slice_get xs i ≡ Some e → slice_get xs j ≡ Some e → i ≡ j
 distinct-once [] i j e d a b = absurd (let z : ⊥ = cc in z)
 distinct-once (x ∷ xs) zero zero e d a b = refl
-distinct-once (x ∷ xs) zero (suc j) e d a b = absurd (let q : x ≡ e = cc in each-of (Apart x) e xs d.0 (at-member xs j e b) (ap (λ z. z.core.0) q) (ap (λ z. rank z) q))
-distinct-once (x ∷ xs) (suc i) zero e d a b = absurd (let q : x ≡ e = cc in each-of (Apart x) e xs d.0 (at-member xs i e a) (ap (λ z. z.core.0) q) (ap (λ z. rank z) q))
+distinct-once (x ∷ xs) zero (suc j) e d a b =
+    absurd (let q : x ≡ e = cc in each-of (Apart x) e xs d.0 (at-member xs j e b) (ap (λ z. z.core.0) q) (ap (λ z. rank z) q))
+distinct-once (x ∷ xs) (suc i) zero e d a b =
+    absurd (let q : x ≡ e = cc in each-of (Apart x) e xs d.0 (at-member xs i e a) (ap (λ z. z.core.0) q) (ap (λ z. rank z) q))
 distinct-once (x ∷ xs) (suc i) (suc j) e d a b = ap suc (distinct-once xs i j e d.1 a b)
 
 pub whole-once : (t : Litmus) (order : List Entry) (i j : ℕ) (e : Entry) → IsWhole t order → slice_get order i ≡ Some e → slice_get order j ≡ Some e → i ≡ j
@@ -202,7 +239,9 @@ pub tso-good : (d : ℕ) (t : Litmus) (order : List Entry) → HasLocations t �
 tso-good d t order known h n =
     let s = whole-own t order h.whole in
     record {
-      made_in = λ k e l m. s.within e (made-in 0 t.programs t.registers order k e l (subst (λ z. Member e (made_by z (program_of t k) (first_of t z) order)) (let z : k ≡ 0 + k = omega arith in z) m));
+      made_in = λ k e l m.
+          s.within e (made-in 0 t.programs t.registers order k e l
+          (subst (λ z. Member e (made_by z (program_of t k) (first_of t z) order)) (let z : k ≡ 0 + k = omega arith in z) m));
       in_made = s.in_made;
       distinct = s.distinct;
       ordered = λ k l. kept-ordered k order h.program_order;

@@ -9,7 +9,16 @@ use Rattle.basic_laws.specs.Types.{Eax, Replace, Negate, CompareExchange, Change
 use Rattle.tso_terms.specs.declared.action.Update.TheVariants.{Combine}
 use Rattle.tso_terms.specs.declared.instruction.Instr.TheVariants as instr
 use Rattle.tso_terms.specs.declared.instruction.Instr.TheVariants.{LockedCombine}
-use Rattle.tso_laws.proofs.Vocabulary.{◌≡◌, ℕ, ◌+◌, ◌<◌, ◌≤◌, zero, suc, Bool, true, false, cond, ltb, List, [], ◌∷◌, ◌++◌, length, All, Option, Some, None, IfSome, slice_get, slice_index, slice_index_or, slice_set, refl, ◌∙◌, arith, subst, All-nil, All-cons, All-head, All-tail, All-append, All-push, All-set, All-filter, Litmus, IsTest, HasWords, ConstantIsWord, IsWord, AreRegisters, index_of, action_of, entry, fence, value_in, value_of, sum_of, updated, is_write, writes_to, last_value, CoreState, State, Effect, stalled, advanced_with, stored, load_value, loaded, moved, fenced, locked, effect_by, step_of, drain_of, idle, program_of, core_of, chosen, effect_of, memory_after, after_choice, started, start, Run, has_ended, run_from, run, Reg, Loc, Instr, StoreImm, SetImm, Operand, Number, Held, Update, Action, Store, Load, Move, Fence, Lock, Entry, R, W, LR, LW, Choice, Step, Drain, Stall, Buffered, HasWord, HoldsWords, cases_Bool, inl, inr}
+use Rattle.tso_laws.proofs.Vocabulary.{◌≡◌, ℕ, ◌+◌, ◌<◌, ◌≤◌, zero, suc, Bool, true, false, cond, ltb, List, [], ◌∷◌, ◌++◌, length, All}
+use Rattle.tso_laws.proofs.Vocabulary.{Option, Some, None, IfSome, slice_get, slice_index, slice_index_or, slice_set, refl, ◌∙◌, arith}
+use Rattle.tso_laws.proofs.Vocabulary.{subst, All-nil, All-cons, All-head, All-tail, All-append, All-push, All-set, All-filter, Litmus}
+use Rattle.tso_laws.proofs.Vocabulary.{IsTest, HasWords, ConstantIsWord, IsWord, AreRegisters, index_of, action_of, entry, fence, value_in}
+use Rattle.tso_laws.proofs.Vocabulary.{value_of, sum_of, updated, is_write, writes_to, last_value, CoreState, State, Effect, stalled}
+use Rattle.tso_laws.proofs.Vocabulary.{advanced_with, stored, load_value, loaded, moved, fenced, locked, effect_by, step_of, drain_of, idle}
+use Rattle.tso_laws.proofs.Vocabulary.{program_of, core_of, chosen, effect_of, memory_after, after_choice, started, start, Run, has_ended}
+use Rattle.tso_laws.proofs.Vocabulary.{run_from, run, Reg, Loc, Instr, StoreImm, SetImm, Operand, Number, Held, Update, Action, Store, Load}
+use Rattle.tso_laws.proofs.Vocabulary.{Move, Fence, Lock, Entry, R, W, LR, LW, Choice, Step, Drain, Stall, Buffered, HasWord, HoldsWords}
+use Rattle.tso_laws.proofs.Vocabulary.{cases_Bool, inl, inr}
 use Rattle.std.proofs.Common.{filter}
 use Rattle.std.proofs.lemmas.List.{length-set}
 use Rattle.tso_terms.specs.declared.choice.Stall.TheVariants as stall
@@ -53,12 +62,22 @@ good-stored : (depth : ℕ) (s : CoreState) (e : Entry) → GoodCore s → HasWo
 good-stored zero s e h w = record { core = record { registers = h.registers; pending = h.pending }; commits = All-cons HasWord e [] w (All-nil _); size = refl }
 good-stored (suc n) s e h w = by_room (ltb (length s.pending) (suc n))
   where
-    by_room : (b : Bool) → GoodEffect s (cond b (record { outcome = Buffered; after = record { place = s.place + 1; registers = s.registers; pending = s.pending ++ e ∷ [] }; commits = [] }) (stalled stall.Full s))
+    by_room : (b : Bool)
+        → GoodEffect s (cond b (record {
+          outcome = Buffered;
+          after = record { place = s.place + 1; registers = s.registers; pending = s.pending ++ e ∷ [] };
+          commits = [];
+        })
+        (stalled stall.Full s))
     by_room true = record { core = record { registers = h.registers; pending = All-push HasWord s.pending e h.pending w }; commits = All-nil _; size = refl }
     by_room false = good-stalled s stall.Full h
 
 good-loaded : (s : CoreState) (reg : Reg) (e : Entry) → GoodCore s → HasWord e → GoodEffect s (loaded s reg e)
-good-loaded s reg e h w = record { core = with-word s reg e.value h w; commits = All-cons HasWord e [] w (All-nil _); size = length-set s.registers (index_of reg) e.value }
+good-loaded s reg e h w = record {
+  core = with-word s reg e.value h w;
+  commits = All-cons HasWord e [] w (All-nil _);
+  size = length-set s.registers (index_of reg) e.value;
+}
 
 good-moved : (s : CoreState) (registers : List ℕ) → GoodCore s → All IsWord registers → length registers ≡ length s.registers → GoodEffect s (moved s registers)
 good-moved s registers h w size = record { core = record { registers = w; pending = h.pending }; commits = All-nil _; size = size }
@@ -66,7 +85,12 @@ good-moved s registers h w size = record { core = record { registers = w; pendin
 good-fenced : (core : ℕ) (s : CoreState) → GoodCore s → GoodEffect s (fenced core s)
 good-fenced core s h =
     waits-or-acts (λ f. GoodEffect s f) stall.Fence s _
-    (λ e. record { core = record { registers = h.registers; pending = h.pending }; commits = All-cons HasWord (fence core s.place) [] no-word (All-nil _); size = refl })
+    (λ e.
+    record {
+      core = record { registers = h.registers; pending = h.pending };
+      commits = All-cons HasWord (fence core s.place) [] no-word (All-nil _);
+      size = refl;
+    })
     (good-stalled s stall.Fence h)
 
 pub taken-words : (registers : List ℕ) (target : Option Reg) (word : ℕ) → All IsWord registers → IsWord word → All IsWord (with_taken registers target word)
@@ -77,12 +101,18 @@ taken-size : (registers : List ℕ) (target : Option Reg) (word : ℕ) → lengt
 taken-size registers None word = refl
 taken-size registers (Some reg) word = length-set registers (index_of reg) word
 
-good-locked : (core : ℕ) (s : CoreState) (loc : Loc) (reg : Option Reg) (word value : ℕ) → GoodCore s → IsWord word → IsWord value → GoodEffect s (locked core s loc reg word value)
+good-locked : (core : ℕ) (s : CoreState) (loc : Loc) (reg : Option Reg) (word value : ℕ)
+    → GoodCore s
+    → IsWord word
+    → IsWord value
+    → GoodEffect s (locked core s loc reg word value)
 good-locked core s loc reg word value h w v =
     waits-or-acts (λ f. GoodEffect s f) stall.Lock s _
     (λ e. record {
       core = record { registers = taken-words s.registers reg word h.registers w; pending = h.pending };
-      commits = All-cons HasWord (entry core s.place LR loc word) (entry core s.place LW loc value ∷ []) w (All-cons HasWord (entry core s.place LW loc value) [] v (All-nil _));
+      commits =
+          All-cons HasWord (entry core s.place LR loc word) (entry core s.place LW loc value ∷ []) w
+          (All-cons HasWord (entry core s.place LW loc value) [] v (All-nil _));
       size = taken-size s.registers reg word;
     }) (good-stalled s stall.Lock h)
 
@@ -123,7 +153,11 @@ combined-word And word value w v = and_lt 32 word value w v
 combined-word Or word value w v = or_lt 32 word value w v
 combined-word Xor word value w v = xor_lt 32 word value w v
 
-pub updated-word : (update : Update) (registers : List ℕ) (word : ℕ) → UpdateIsWord update → All IsWord registers → IsWord word → IsWord (updated update registers word)
+pub updated-word : (update : Update) (registers : List ℕ) (word : ℕ)
+    → UpdateIsWord update
+    → All IsWord registers
+    → IsWord word
+    → IsWord (updated update registers word)
 updated-word (Replace operand) registers word u h w = operand-word registers operand h u
 updated-word (Combine operator operand) registers word u h w = combined-word operator word (value_of registers operand) w (operand-word registers operand h u)
 updated-word Negate registers word u h w = sum-word 0 (2 ^ 32 - word)
@@ -136,9 +170,12 @@ updated-word (CompareExchange reg) registers word u h w = go (word == value_in r
 pub changed-words : (change : Change) (registers : List ℕ) → ChangeIsWord change → All IsWord registers → All IsWord (changed change registers)
 changed-words Keep registers u h = h
 changed-words (Set reg update) registers u h =
-    All-set IsWord registers (index_of reg) (updated update registers (value_in registers reg)) (updated-word update registers (value_in registers reg) u h (word-at registers (index_of reg) h)) h
+    All-set IsWord registers (index_of reg) (updated update registers (value_in registers reg))
+    (updated-word update registers (value_in registers reg) u h (word-at registers (index_of reg) h)) h
 changed-words (Swap reg other) registers u h =
-    All-set IsWord (slice_set registers (index_of reg) (value_in registers other)) (index_of other) (value_in registers reg) (word-at registers (index_of reg) h)
+    All-set IsWord
+    (slice_set registers (index_of reg) (value_in registers other)) (index_of other) (value_in registers reg)
+    (word-at registers (index_of reg) h)
     (All-set IsWord registers (index_of reg) (value_in registers other) (word-at registers (index_of other) h) h)
 
 changed-size : (change : Change) (registers : List ℕ) → length (changed change registers) ≡ length registers
@@ -148,13 +185,19 @@ changed-size (Swap reg other) registers =
     length-set (slice_set registers (index_of reg) (value_in registers other)) (index_of other) (value_in registers reg)
     ∙ length-set registers (index_of reg) (value_in registers other)
 
-good-action : (depth : ℕ) (memory : List ℕ) (core : ℕ) (a : Action) (s : CoreState) → All IsWord memory → NumberIsWord a → GoodCore s → GoodEffect s (effect_by depth memory core a s)
+good-action : (depth : ℕ) (memory : List ℕ) (core : ℕ) (a : Action) (s : CoreState)
+    → All IsWord memory
+    → NumberIsWord a
+    → GoodCore s
+    → GoodEffect s (effect_by depth memory core a s)
 good-action depth memory core (Store loc operand) s m n h =
     good-stored depth s (entry core s.place W loc (value_of s.registers operand)) h (operand-word s.registers operand h.registers n)
 good-action depth memory core (Load reg loc) s m n h =
     good-loaded s reg (entry core s.place R loc (load_value memory s loc.0)) h
-    (last-word (filter (writes_to loc.0) s.pending) (slice_index memory loc.0) (All-filter (writes_to loc.0) HasWord s.pending h.pending) (word-at memory loc.0 m))
-good-action depth memory core (Move change) s m n h = good-moved s (changed change s.registers) h (changed-words change s.registers n h.registers) (changed-size change s.registers)
+    (last-word (filter (writes_to loc.0) s.pending) (slice_index memory loc.0)
+    (All-filter (writes_to loc.0) HasWord s.pending h.pending) (word-at memory loc.0 m))
+good-action depth memory core (Move change) s m n h =
+    good-moved s (changed change s.registers) h (changed-words change s.registers n h.registers) (changed-size change s.registers)
 good-action depth memory core Fence s m n h = good-fenced core s h
 good-action depth memory core (Lock loc reg update) s m n h =
     good-locked core s loc reg (slice_index memory loc.0) (updated update s.registers (slice_index memory loc.0)) h (word-at memory loc.0 m)
@@ -169,7 +212,11 @@ good-drain : (s : CoreState) → GoodCore s → GoodEffect s (drain_of s)
 good-drain s h =
     drains (λ f. GoodEffect s f) s (good-stalled s stall.Empty h)
     (λ x xs e. let p : All HasWord (x ∷ xs) = subst (λ z. All HasWord z) e h.pending in
-    record { core = record { registers = h.registers; pending = All-tail HasWord x xs p }; commits = All-cons HasWord x [] (All-head HasWord x xs p) (All-nil _); size = refl })
+    record {
+      core = record { registers = h.registers; pending = All-tail HasWord x xs p };
+      commits = All-cons HasWord x [] (All-head HasWord x xs p) (All-nil _);
+      size = refl;
+    })
 
 -- ---- all cores, and memory
 
@@ -187,7 +234,9 @@ six-set : (cores : List CoreState) (i : ℕ) (after : CoreState) → length afte
     → All (λ s. length s.registers ≡ 6) cores → All (λ s. length s.registers ≡ 6) (slice_set cores i after)
 six-set [] i after size h = h
 six-set (s ∷ ss) zero after size h =
-    All-cons (λ (s : CoreState). length s.registers ≡ 6) after ss (size ∙ All-head (λ (s : CoreState). length s.registers ≡ 6) s ss h) (All-tail (λ (s : CoreState). length s.registers ≡ 6) s ss h)
+    All-cons (λ (s : CoreState). length s.registers ≡ 6) after ss
+    (size ∙ All-head (λ (s : CoreState). length s.registers ≡ 6) s ss h)
+    (All-tail (λ (s : CoreState). length s.registers ≡ 6) s ss h)
 six-set (s ∷ ss) (suc i) after size h =
     All-cons (λ (s : CoreState). length s.registers ≡ 6) s (slice_set ss i after) (All-head (λ (s : CoreState). length s.registers ≡ 6) s ss h)
     (six-set ss i after size (All-tail (λ (s : CoreState). length s.registers ≡ 6) s ss h))
@@ -210,7 +259,10 @@ program-good [] core h = All-nil _
 program-good (p ∷ ps) zero h = All-head (λ p. All ConstantIsWord p) p ps h
 program-good (p ∷ ps) (suc core) h = program-good ps core (All-tail (λ p. All ConstantIsWord p) p ps h)
 
-effect-good : (t : Litmus) (depth : ℕ) (state : State) (c : Choice) → HasWords t → Good state → GoodEffect (core_of state (chosen c)) (effect_of t depth state c)
+effect-good : (t : Litmus) (depth : ℕ) (state : State) (c : Choice)
+    → HasWords t
+    → Good state
+    → GoodEffect (core_of state (chosen c)) (effect_of t depth state c)
 effect-good t depth state (Step core) words h =
     good-step depth state.memory core.0 (slice_get (program_of t core.0) (core_of state core.0).place) (core_of state core.0) h.memory
     (next-good (program_of t core.0) (core_of state core.0).place (program-good t.programs core.0 words.constants)) (core-at state.cores core.0 h.cores)
@@ -246,7 +298,10 @@ run-good t depth state (c ∷ cs) words h =
 registers-at : (registers : List (List ℕ)) (core : ℕ) → core < length registers → All AreRegisters registers → AreRegisters (slice_index_or registers core [])
 registers-at registers core l h = h core [] l
 
-started-cores : (core : ℕ) (ps : List (List Instr)) (registers : List (List ℕ)) → core + length ps ≤ length registers → All AreRegisters registers → All GoodCore (started core ps registers)
+started-cores : (core : ℕ) (ps : List (List Instr)) (registers : List (List ℕ))
+    → core + length ps ≤ length registers
+    → All AreRegisters registers
+    → All GoodCore (started core ps registers)
 started-cores core [] registers l h = All-nil _
 started-cores core (p ∷ ps) registers l h =
     let here : core < length registers = omega arith in
@@ -258,7 +313,8 @@ started-six : (core : ℕ) (ps : List (List Instr)) (registers : List (List ℕ)
 started-six core [] registers l h = All-nil _
 started-six core (p ∷ ps) registers l h =
     let here : core < length registers = omega arith in
-    All-cons (λ (s : CoreState). length s.registers ≡ 6) _ (started (core + 1) ps registers) (registers-at registers core here h).six (started-six (core + 1) ps registers (omega arith) h)
+    All-cons (λ (s : CoreState). length s.registers ≡ 6) _ (started (core + 1) ps registers)
+    (registers-at registers core here h).six (started-six (core + 1) ps registers (omega arith) h)
 
 start-good : (t : Litmus) → IsTest t → Good (start t)
 start-good t test =

@@ -1,5 +1,12 @@
 -- What is left to do, and that each choice that takes effect does one part of it.
-use Rattle.tso_laws.proofs.Vocabulary.{◌≡◌, ◌<◌, ◌≤◌, ℕ, ◌+◌, zero, suc, List, [], ◌∷◌, Option, Some, None, true, false, length, slice_get, slice_set, slice_index_or, drop, arith, ap, sym, ◌∙◌, refl, ◌⊎◌, inl, inr, ◌==◌, nat_lt, if◌then◌else◌, length-append, length-set, slice_get_within, nat_tests, Litmus, Entry, Instr, Action, Store, Fence, Lock, Choice, Step, Drain, Stall, Committed, action_of, is_none_pending, core_of, stalled, advanced, CoreState, State, Effect, idle, program_of, stored, when_drained, effect_by, step_of, drain_of, effect_of, chosen, after_choice, started, start, lt-or, and-left, and-right, is_done, all_done, has_ended, stall_count, run, run_from, store_count, stores_in, instructions, stores_of_all, drop-at, drop-end, cases_Bool, length-starts, set-get_or, no-program, no-core}
+use Rattle.tso_laws.proofs.Vocabulary.{◌≡◌, ◌<◌, ◌≤◌, ℕ, ◌+◌, zero, suc, List, [], ◌∷◌, Option, Some, None, true, false, length, slice_get}
+use Rattle.tso_laws.proofs.Vocabulary.{slice_set, slice_index_or, drop, arith, ap, sym, ◌∙◌, refl, ◌⊎◌, inl, inr, ◌==◌, nat_lt}
+use Rattle.tso_laws.proofs.Vocabulary.{if◌then◌else◌, length-append, length-set, slice_get_within, nat_tests, Litmus, Entry, Instr, Action}
+use Rattle.tso_laws.proofs.Vocabulary.{Store, Fence, Lock, Choice, Step, Drain, Stall, Committed, action_of, is_none_pending, core_of}
+use Rattle.tso_laws.proofs.Vocabulary.{stalled, advanced, CoreState, State, Effect, idle, program_of, stored, when_drained, effect_by}
+use Rattle.tso_laws.proofs.Vocabulary.{step_of, drain_of, effect_of, chosen, after_choice, started, start, lt-or, and-left, and-right}
+use Rattle.tso_laws.proofs.Vocabulary.{is_done, all_done, has_ended, stall_count, run, run_from, store_count, stores_in, instructions}
+use Rattle.tso_laws.proofs.Vocabulary.{stores_of_all, drop-at, drop-end, cases_Bool, length-starts, set-get_or, no-program, no-core}
 use Rattle.tso_terms.specs.declared.choice.Stall.TheVariants as stall
 use Rattle.tso_laws.proofs.Draining.{waits-or-acts, drains}
 use Rattle.tso_laws.proofs.Folds.{put}
@@ -37,7 +44,10 @@ Changes d p s f = Advances d p s f ⊎ Stays s f
 stays : (d : ℕ) (p : List Instr) (s : CoreState) (why : Stall) → Changes d p s (stalled why s)
 stays d p s why = inr (record { stalled = refl; same = refl; none = refl })
 
-one-less : (d : ℕ) (p : List Instr) (s : CoreState) (x : Instr) (f : Effect) → slice_get p s.place ≡ Some x → stall_count f.outcome ≡ 0 → f.after.place ≡ s.place + 1
+one-less : (d : ℕ) (p : List Instr) (s : CoreState) (x : Instr) (f : Effect)
+    → slice_get p s.place ≡ Some x
+    → stall_count f.outcome ≡ 0
+    → f.after.place ≡ s.place + 1
     → weight d (action_of x) + length s.pending ≡ suc (length f.after.pending) → Advances d p s f
 one-less d p s x f e o n w = record {
   took = o;
@@ -45,19 +55,29 @@ one-less d p s x f e o n w = record {
   within = λ h. rw n (let l = slice_get_within p s.place x e in omega arith);
 }
 
-stored-changes : (d : ℕ) (p : List Instr) (s : CoreState) (x : Instr) (y : Entry) → slice_get p s.place ≡ Some x → weight d (action_of x) ≡ store_weight d → Changes d p s (stored d s y)
+stored-changes : (d : ℕ) (p : List Instr) (s : CoreState) (x : Instr) (y : Entry)
+    → slice_get p s.place ≡ Some x
+    → weight d (action_of x) ≡ store_weight d
+    → Changes d p s (stored d s y)
 stored-changes zero p s x y e w = inl (one-less 0 p s x (record { outcome = Committed; after = advanced s; commits = y ∷ [] }) e refl refl (omega arith))
 stored-changes (suc n) p s x y e w =
-    elim (nat_lt (length s.pending) (suc n)) as (λ b. Changes (suc n) p s (if b then put s y else stalled stall.Full s))
-    [ true ↦ inl (one-less (suc n) p s x (put s y) e refl refl (let m = length-append s.pending (y ∷ []) in omega arith)) | false ↦ stays (suc n) p s stall.Full ]
+    elim (nat_lt (length s.pending) (suc n)) as (λ b. Changes (suc n) p s (if b then put s y else stalled stall.Full s)) [
+      | true ↦
+          inl (one-less (suc n) p s x (put s y) e refl refl (let m = length-append s.pending (y ∷ []) in omega arith))
+      | false ↦ stays (suc n) p s stall.Full
+    ]
 
 -- an instruction that waits until nothing is pending
 waits-changes : (d : ℕ) (p : List Instr) (s : CoreState) (x : Instr) (why : Stall) (f : Effect) → slice_get p s.place ≡ Some x → weight d (action_of x) ≡ 1
     → stall_count f.outcome ≡ 0 → f.after.place ≡ s.place + 1 → f.after.pending ≡ s.pending → Changes d p s (when_drained why s f)
 waits-changes d p s x why f e u o n q =
-    waits-or-acts (λ f. Changes d p s f) why s f (λ none. inl (one-less d p s x f e o n (let a = ap length none in let b = ap length q in omega arith))) (stays d p s why)
+    waits-or-acts (λ f. Changes d p s f) why s f
+    (λ none. inl (one-less d p s x f e o n (let a = ap length none in let b = ap length q in omega arith)))
+    (stays d p s why)
 
-pub step-changes : (c d : ℕ) (p : List Instr) (memory : List ℕ) (s : CoreState) (i : Option Instr) → slice_get p s.place ≡ i → Changes d p s (step_of d memory c i s)
+pub step-changes : (c d : ℕ) (p : List Instr) (memory : List ℕ) (s : CoreState) (i : Option Instr)
+    → slice_get p s.place ≡ i
+    → Changes d p s (step_of d memory c i s)
 step-changes c d p memory s None e = stays d p s stall.Done
 step-changes c d p memory s (Some x) e = by_action (action_of x) refl
   where
@@ -69,19 +89,30 @@ step-changes c d p memory s (Some x) e = by_action (action_of x) refl
 
 pub drain-changes : (d : ℕ) (p : List Instr) (s : CoreState) → Changes d p s (drain_of s)
 drain-changes d p s =
-    drains (λ f. Changes d p s f) s (stays d p s stall.Empty) (λ x xs z. inl (record { took = refl; less = let m = ap length z in omega arith; within = λ h. h }))
+    drains (λ f. Changes d p s f) s (stays d p s stall.Empty)
+    (λ x xs z. inl (record { took = refl; less = let m = ap length z in omega arith; within = λ h. h }))
 
 pub choice-changes : (t : Litmus) (d : ℕ) (state : State) (a : Choice) → Changes d (program_of t (chosen a)) (core_of state (chosen a)) (effect_of t d state a)
-choice-changes t d state (Step c) = step-changes c.0 d (program_of t c.0) state.memory (core_of state c.0) (slice_get (program_of t c.0) (core_of state c.0).place) refl
+choice-changes t d state (Step c) =
+    step-changes c.0 d (program_of t c.0) state.memory (core_of state c.0) (slice_get (program_of t c.0) (core_of state c.0).place) refl
 choice-changes t d state (Drain c) = drain-changes d (program_of t c.0) (core_of state c.0)
 
 pub stays-same : (t : Litmus) (d : ℕ) (state : State) (c : Choice) → Stays (core_of state (chosen c)) (effect_of t d state c) → after_choice t d state c ≡ state
 stays-same t d state c w = rw (w.none, w.same, set-get_or state.cores (chosen c) idle) refl
 
 -- a choice of a core that isn't there stalls
-pub absent-stays : (t : Litmus) (d : ℕ) (state : State) (c : Choice) → length state.cores ≡ length t.programs → length t.programs ≤ chosen c → Stays (core_of state (chosen c)) (effect_of t d state c)
+pub absent-stays : (t : Litmus) (d : ℕ) (state : State) (c : Choice)
+    → length state.cores ≡ length t.programs
+    → length t.programs ≤ chosen c
+    → Stays (core_of state (chosen c)) (effect_of t d state c)
 absent-stays t d state c n l = elim (choice-changes t d state c) [
-  | inl w ↦ absurd (let m = w.less in let u : undone d (program_of t (chosen c)) (core_of state (chosen c)) ≡ 0 = rw (no-program t.programs (chosen c) l, no-core state.cores (chosen c) (omega arith)) refl in let z : ⊥ = omega arith in z)
+  | inl w ↦
+      absurd (let m =
+      w.less in
+      let u : undone d (program_of t (chosen c)) (core_of state (chosen c)) ≡ 0 =
+      rw (no-program t.programs (chosen c) l, no-core state.cores (chosen c) (omega arith)) refl in
+      let z : ⊥ = omega arith in
+      z)
   | inr w ↦ w
 ]
 
@@ -104,7 +135,11 @@ present-remaining t d state a n l =
     let h = remaining-set d t.programs state.cores (chosen a) (effect_of t d state a).after (omega arith) l in
     elim (choice-changes t d state a) [
       | inl w ↦ let m = w.less in rw w.took (omega arith)
-      | inr w ↦ let m : undone d (program_of t (chosen a)) (effect_of t d state a).after ≡ undone d (program_of t (chosen a)) (core_of state (chosen a)) = ap (λ z. undone d (program_of t (chosen a)) z) w.same in rw w.stalled (omega arith)
+      | inr w ↦
+          let m : undone d (program_of t (chosen a)) (effect_of t d state a).after
+          ≡ undone d (program_of t (chosen a)) (core_of state (chosen a)) =
+          ap (λ z. undone d (program_of t (chosen a)) z) w.same in
+          rw w.stalled (omega arith)
     ]
 
 choice-remaining : (t : Litmus) (d : ℕ) (state : State) (a : Choice) → length state.cores ≡ length t.programs
@@ -112,11 +147,15 @@ choice-remaining : (t : Litmus) (d : ℕ) (state : State) (a : Choice) → lengt
 choice-remaining t d state a n = elim (lt-or (length t.programs) (chosen a)) [
   | inl l ↦ present-remaining t d state a n l
   | inr l ↦ let w = absent-stays t d state a n l in
-      let m = w.stalled in let e : remaining d t.programs (after_choice t d state a).cores ≡ remaining d t.programs state.cores = ap (λ z. remaining d t.programs z.cores) (stays-same t d state a w) in omega arith
+      let m = w.stalled in
+      let e : remaining d t.programs (after_choice t d state a).cores ≡ remaining d t.programs state.cores =
+      ap (λ z. remaining d t.programs z.cores) (stays-same t d state a w) in
+      omega arith
 ]
 
 pub run-counts : (t : Litmus) (d : ℕ) (state : State) (cs : List Choice) → length state.cores ≡ length t.programs
-    → (run_from t d state cs).used + remaining d t.programs (run_from t d state cs).state.cores ≡ (run_from t d state cs).stalled + remaining d t.programs state.cores
+    → (run_from t d state cs).used + remaining d t.programs (run_from t d state cs).state.cores
+    ≡ (run_from t d state cs).stalled + remaining d t.programs state.cores
 run-counts t d state [] n = refl
 run-counts t d state (c ∷ cs) n =
     let h = run-counts t d (after_choice t d state c) cs (length-set state.cores (chosen c) (effect_of t d state c).after ∙ n) in
@@ -147,7 +186,9 @@ done-remaining : (d : ℕ) (ps : List (List Instr)) (ss : List CoreState) → al
 done-remaining d [] ss h = refl
 done-remaining d (p ∷ ps) [] h = refl
 done-remaining d (p ∷ ps) (s ∷ ss) h =
-    let a = done-undone d p s (and-left (is_done p s) (all_done ps ss) h) in let b = done-remaining d ps ss (and-right (is_done p s) (all_done ps ss) h) in omega arith
+    let a = done-undone d p s (and-left (is_done p s) (all_done ps ss) h) in
+    let b = done-remaining d ps ss (and-right (is_done p s) (all_done ps ss) h) in
+    omega arith
 
 abbrev works : ℕ → List (List Instr) → ℕ
 works d [] = 0

@@ -1,12 +1,17 @@
 -- Lists that a loop makes element by element.
-use Rattle.tso_report.proofs.Vocabulary.{◌≡◌, ◌∙◌, ◌≤◌, ◌++◌, ◌∷◌, [], ℕ, List, ap, sym, length, drop, map, drop_all, append_assoc, append-nil, rules, string_bytes, string, view}
+use Rattle.tso_report.proofs.Vocabulary.{◌≡◌, ◌∙◌, ◌≤◌, ◌++◌, ◌∷◌, [], ℕ, List, ap, sym, length, drop, map, drop_all, append_assoc}
+use Rattle.tso_report.proofs.Vocabulary.{append-nil, rules, string_bytes, string, view}
 use Rattle.std.proofs.Common.{String, Global}
 use Rattle.std.proofs.lemmas.List.{map-append}
 use Rattle.serde_json.specs.declared.value.Value.{Value, the_lemmas}
 use Rattle.serde_json.specs.declared.value.Value.TheVariants as value
 
 -- one more is made
-pub listed : {Y : Type 0} (made after : List Y) (first : Y) (rest all whole : List Y) → after ≡ made ++ first ∷ [] → all ≡ first ∷ rest → made ++ all ≡ whole → after ++ rest ≡ whole
+pub listed : {Y : Type 0} (made after : List Y) (first : Y) (rest all whole : List Y)
+    → after ≡ made ++ first ∷ []
+    → all ≡ first ∷ rest
+    → made ++ all ≡ whole
+    → after ++ rest ≡ whole
 listed made after first rest all whole pushed next so_far =
     ap (λ l. l ++ rest) pushed ∙ (append_assoc made (first ∷ []) rest ∙ (sym (ap (λ l. made ++ l) next) ∙ so_far))
 

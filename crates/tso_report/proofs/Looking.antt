@@ -1,5 +1,9 @@
 -- What is looked at, one core and one location at a time.
-use Rattle.tso_report.proofs.Vocabulary.{◌≡◌, ◌∙◌, ℕ, zero, suc, ◌+◌, ◌-◌, ◌<◌, ◌≤◌, Bool, List, [], ◌∷◌, ◌++◌, length, map, filter, drop, drop_all, All, ap, sym, subst, append_assoc, append-nil, arith, filter-append, All-filter, All-append, All-cons, All-nil, slice_index, slice_index_or, shown_value, Litmus, Reg, Named, all_registers, is_looked_at, named_register, named_location, named_registers, named_locations, looked_at, NameExists}
+use Rattle.tso_report.proofs.Vocabulary.{◌≡◌, ◌∙◌, ℕ, zero, suc, ◌+◌, ◌-◌, ◌<◌, ◌≤◌, Bool, List, [], ◌∷◌, ◌++◌, length, map, filter, drop}
+use Rattle.tso_report.proofs.Vocabulary.{drop_all, All, ap, sym, subst, append_assoc, append-nil, arith, filter-append, All-filter}
+use Rattle.tso_report.proofs.Vocabulary.{All-append, All-cons, All-nil, slice_index, slice_index_or, shown_value, Litmus, Reg, Named}
+use Rattle.tso_report.proofs.Vocabulary.{all_registers, is_looked_at, named_register, named_location, named_registers, named_locations}
+use Rattle.tso_report.proofs.Vocabulary.{looked_at, NameExists}
 use Rattle.basic_laws.specs.Types.{Core, Loc}
 use Rattle.tso_terms.specs.Registers.{index_of}
 use Rattle.tso_report.specs.declared.named.Named.TheVariants.{Register, Location}
@@ -43,7 +47,9 @@ location-noted p list before after loc n small is was =
 
 core-known : (cores locations core : ℕ) (regs : List Reg) → core < cores → All (NameExists cores locations) (map (named_register core) regs)
 core-known cores locations core [] small = All-nil (NameExists cores locations)
-core-known cores locations core (reg ∷ regs) small = All-cons (NameExists cores locations) (named_register core reg) (map (named_register core) regs) small (core-known cores locations core regs small)
+core-known cores locations core (reg ∷ regs) small =
+    All-cons (NameExists cores locations) (named_register core reg) (map (named_register core) regs) small
+    (core-known cores locations core regs small)
 
 registers-known : (cores locations core count : ℕ) → core + count ≤ cores → All (NameExists cores locations) (named_registers core count)
 registers-known cores locations core zero fits = All-nil (NameExists cores locations)
@@ -54,18 +60,22 @@ registers-known cores locations core (suc count) fits =
 locations-known : (cores locations loc count : ℕ) → loc + count ≤ locations → All (NameExists cores locations) (named_locations loc count)
 locations-known cores locations loc zero fits = All-nil (NameExists cores locations)
 locations-known cores locations loc (suc count) fits =
-    All-cons (NameExists cores locations) (named_location loc) (named_locations (loc + 1) count) (omega (arith, fits)) (locations-known cores locations (loc + 1) count (omega (arith, fits)))
+    All-cons (NameExists cores locations) (named_location loc) (named_locations (loc + 1) count) (omega (arith, fits))
+    (locations-known cores locations (loc + 1) count (omega (arith, fits)))
 
 -- all registers and locations of a test
-pub names-known : (t : Litmus) → All (NameExists (length t.programs) (length t.locations)) (named_registers 0 (length t.programs) ++ named_locations 0 (length t.locations))
+pub names-known : (t : Litmus)
+    → All (NameExists (length t.programs) (length t.locations)) (named_registers 0 (length t.programs) ++ named_locations 0 (length t.locations))
 names-known t =
     let cores = length t.programs in
     let locations = length t.locations in
-    All-append (NameExists cores locations) (named_registers 0 cores) (named_locations 0 locations) (registers-known cores locations 0 cores (omega arith)) (locations-known cores locations 0 locations (omega arith))
+    All-append (NameExists cores locations) (named_registers 0 cores) (named_locations 0 locations)
+    (registers-known cores locations 0 cores (omega arith)) (locations-known cores locations 0 locations (omega arith))
 
 pub looked-known : (t : Litmus) → All (NameExists (length t.programs) (length t.locations)) (looked_at t)
 looked-known t =
-    All-filter (is_looked_at t.condition) (NameExists (length t.programs) (length t.locations)) (named_registers 0 (length t.programs) ++ named_locations 0 (length t.locations)) (names-known t)
+    All-filter (is_looked_at t.condition) (NameExists (length t.programs) (length t.locations))
+    (named_registers 0 (length t.programs) ++ named_locations 0 (length t.locations)) (names-known t)
 
 -- all of them are noted, registers first, after nothing
 pub registers-noted : (p : Named → Bool) (t : Litmus) (first list : List Named) → first ≡ [] → list ≡ first ++ filter p (named_registers 0 (length t.programs))
@@ -74,7 +84,9 @@ registers-noted p t first list none is =
     let registers = named_registers 0 (length t.programs) in
     let locations = named_locations 0 (length t.locations) in
     let all : length t.locations - 0 ≡ length t.locations = omega arith in
-    ap (λ count. list ++ filter p (named_locations 0 count)) all ∙ ap (λ noted. noted ++ filter p locations) (is ∙ ap (λ noted. noted ++ filter p registers) none) ∙ sym (filter-append p registers locations)
+    ap (λ count. list ++ filter p (named_locations 0 count)) all
+    ∙ ap (λ noted. noted ++ filter p locations) (is ∙ ap (λ noted. noted ++ filter p registers) none)
+    ∙ sym (filter-append p registers locations)
 
 -- and no location is left at the end
 pub all-noted : (p : Named → Bool) (t : Litmus) (all list : List Named) (loc : ℕ) → length t.locations ≤ loc
@@ -88,7 +100,10 @@ noted-known t list is = subst (All (NameExists (length t.programs) (length t.loc
 
 -- ---- the value of what is looked at
 
-pub register-shown : (registers : List (List ℕ)) (memory : List ℕ) (named : Named) (core : Core) (reg : Reg) (index value : ℕ) → named ≡ Register core reg → index ≡ index_of reg
+pub register-shown : (registers : List (List ℕ)) (memory : List ℕ) (named : Named) (core : Core) (reg : Reg)
+    (index value : ℕ)
+    → named ≡ Register core reg
+    → index ≡ index_of reg
     → value ≡ slice_index (slice_index_or registers core.0 []) index → value ≡ shown_value registers memory named
 register-shown registers memory named core reg index value is index_is value_is =
     value_is ∙ (ap (slice_index (slice_index_or registers core.0 [])) index_is ∙ sym (ap (shown_value registers memory) is))

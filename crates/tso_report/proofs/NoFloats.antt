@@ -1,5 +1,10 @@
 -- The values of a report have no float, so that their text is known.
-use Rattle.tso_report.proofs.Vocabulary.{◌≡◌, ℕ, Bool, true, false, ◌||◌, List, [], ◌∷◌, map, Option, Some, refl, nat_cmp, match_ordering, slice_cmp, Ordering, Less, Equal, Greater, or_parts, string, Members, no_members, member, put, items_of, has_float, items_have_float, members_have_float, Litmus, Condition, Bus, Atomic, Split, printed_entry, ProtocolKind, Configuration, ShownRun, count, counts_value, cache_value, condition_value, with_bus, configuration_members, machine_value, memory_members, memory_value, order_value, registers_value, cores_value, run_value, Data}
+use Rattle.tso_report.proofs.Vocabulary.{◌≡◌, ℕ, Bool, true, false, ◌||◌, List, [], ◌∷◌, map, Option, Some, refl, nat_cmp, match_ordering}
+use Rattle.tso_report.proofs.Vocabulary.{slice_cmp, Ordering, Less, Equal, Greater, or_parts, string, Members, no_members, member, put}
+use Rattle.tso_report.proofs.Vocabulary.{items_of, has_float, items_have_float, members_have_float, Litmus, Condition, Bus, Atomic, Split}
+use Rattle.tso_report.proofs.Vocabulary.{printed_entry, ProtocolKind, Configuration, ShownRun, count, counts_value, cache_value}
+use Rattle.tso_report.proofs.Vocabulary.{condition_value, with_bus, configuration_members, machine_value, memory_members, memory_value}
+use Rattle.tso_report.proofs.Vocabulary.{order_value, registers_value, cores_value, run_value, Data}
 
 pub neither : (p q : Bool) → p ≡ false → q ≡ false → p || q ≡ false
 neither true q h k = h
@@ -8,7 +13,9 @@ neither false q h k = k
 -- a value put among members
 pub one_more : (k : List ℕ) (x : Data) (ms : Members) → has_float x ≡ false → members_have_float ms ≡ false → members_have_float (put k x ms) ≡ false
 one_more k x no_members f h = neither (has_float x) false f refl
-one_more k x (member l d ms) f h = by_order (slice_cmp nat_cmp k l) (or_parts (has_float d) (members_have_float ms) h) (one_more k x ms f (or_parts (has_float d) (members_have_float ms) h).1)
+one_more k x (member l d ms) f h =
+    by_order (slice_cmp nat_cmp k l) (or_parts (has_float d) (members_have_float ms) h)
+    (one_more k x ms f (or_parts (has_float d) (members_have_float ms) h).1)
   where
     by_order : (o : Ordering) → (has_float d ≡ false) × (members_have_float ms ≡ false) → members_have_float (put k x ms) ≡ false
         → members_have_float (match_ordering o (member k x (member l d ms)) (member l x ms) (member l d (put k x ms))) ≡ false

@@ -13,7 +13,8 @@ use Rattle.tso_report.specs.declared.show.Show.TheVariants.{Condition}
 pub shown-known : (show : Show) (t : Litmus) (list : List Named) → list ≡ names_shown show t → All (NameExists (length t.programs) (length t.locations)) list
 shown-known show t list is =
     subst (All (NameExists (length t.programs) (length t.locations))) (sym is)
-    (All-filter (is_shown show t) (NameExists (length t.programs) (length t.locations)) (named_registers 0 (length t.programs) ++ named_locations 0 (length t.locations)) (names-known t))
+    (All-filter (is_shown show t) (NameExists (length t.programs) (length t.locations))
+    (named_registers 0 (length t.programs) ++ named_locations 0 (length t.locations)) (names-known t))
 
 or-false : (b : Bool) → b || false ≡ b
 or-false true = refl

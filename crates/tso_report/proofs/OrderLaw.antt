@@ -1,5 +1,10 @@
 -- The lines of a report before its order are none that an order could begin with.
-use Rattle.tso_report.proofs.Vocabulary.{◌≡◌, ℕ, ◌<◌, ◌^◌, Bool, true, not, eqb, List, [], ◌∷◌, ◌++◌, get_or, All, inl, inr, refl, ap, ◌∙◌, arith, rules, decimal, list_all, and_parts, and_from, nat_tests, digits_decimal, All-cons, All-nil, Litmus, IsTest, Bus, Atomic, Split, Entry, is_printable, is_test_name, printed_lines, printed_order, IsLineBeforeOrder, IsOrderFor, SpellsOrder, ShownRun, protocol_name, ProtocolKind, Msi, Geometry, IsLineSize, IsShapeWithinLimits, Configuration, report, line, test_line, shape_text, bus_text, register_lines, memory_line, condition_line, choices_line, cache_lines}
+use Rattle.tso_report.proofs.Vocabulary.{◌≡◌, ℕ, ◌<◌, ◌^◌, Bool, true, not, eqb, List, [], ◌∷◌, ◌++◌, get_or, All, inl, inr, refl, ap, ◌∙◌}
+use Rattle.tso_report.proofs.Vocabulary.{arith, rules, decimal, list_all, and_parts, and_from, nat_tests, digits_decimal, All-cons, All-nil}
+use Rattle.tso_report.proofs.Vocabulary.{Litmus, IsTest, Bus, Atomic, Split, Entry, is_printable, is_test_name, printed_lines}
+use Rattle.tso_report.proofs.Vocabulary.{printed_order, IsLineBeforeOrder, IsOrderFor, SpellsOrder, ShownRun, protocol_name, ProtocolKind}
+use Rattle.tso_report.proofs.Vocabulary.{Msi, Geometry, IsLineSize, IsShapeWithinLimits, Configuration, report, line, test_line, shape_text}
+use Rattle.tso_report.proofs.Vocabulary.{bus_text, register_lines, memory_line, condition_line, choices_line, cache_lines}
 use Rattle.std.specs.Prelude.{codes}
 use Rattle.std.specs.Char.{is_ascii_digit}
 use Rattle.std.proofs.lemmas.Str.Parse.{IsNumeralModel, numerals_by_fold}
@@ -70,7 +75,10 @@ line_of_bus : (bus : Bus) → is_line (bus_text bus) ≡ true
 line_of_bus Atomic = refl
 line_of_bus Split = refl
 
-line_of_depth : (c : Configuration) → c.depth < 2 ^ 64 → IsShapeWithinLimits c.shape → is_line (codes " depth=" ++ (decimal c.depth ++ (shape_text c.shape ++ bus_text c.bus))) ≡ true
+line_of_depth : (c : Configuration)
+    → c.depth < 2 ^ 64
+    → IsShapeWithinLimits c.shape
+    → is_line (codes " depth=" ++ (decimal c.depth ++ (shape_text c.shape ++ bus_text c.bus))) ≡ true
 line_of_depth c small fits =
     two_parts (decimal c.depth) (shape_text c.shape ++ bus_text c.bus) (line_of_number c.depth small)
     (two_parts (shape_text c.shape) (bus_text c.bus) (line_of_shape c.shape fits) (line_of_bus c.bus))
@@ -121,10 +129,14 @@ pub report_spells : ((t : Litmus) (order : List Entry) (front : List (List ℕ))
     → SpellsOrder t (report t kind c s) s.order
 unfolding front_of machine_text
 report_spells amid t kind c s test small fits are =
-    let rest = register_lines 0 s.registers ++ (memory_line t s.memory ++ (condition_line t s.holds ++ (choices_line s.used s.stalled s.unused ++ cache_lines 0 s.counts))) in
+    let rest =
+    register_lines 0 s.registers
+    ++ (memory_line t s.memory
+    ++ (condition_line t s.holds ++ (choices_line s.used s.stalled s.unused ++ cache_lines 0 s.counts))) in
     let front : All IsLineBeforeOrder (front_of t kind c) =
     All-cons IsLineBeforeOrder (codes "Test " ++ t.name) (machine_text kind c ∷ []) (before_name t test)
     (All-cons IsLineBeforeOrder (machine_text kind c) [] (before_machine kind c small fits) (All-nil IsLineBeforeOrder)) in
     amid t s.order (front_of t kind c) rest (report t kind c s) test are front
-    (ap (λ second. (test_line t ++ second) ++ (printed_order t s.order ++ rest)) (line_of_text (protocol_name kind) (decimal c.depth) (shape_text c.shape ++ bus_text c.bus))
+    (ap (λ second. (test_line t ++ second) ++ (printed_order t s.order ++ rest))
+    (line_of_text (protocol_name kind) (decimal c.depth) (shape_text c.shape ++ bus_text c.bus))
     ∙ joined (codes "Test " ++ t.name) (machine_text kind c) (printed_order t s.order) rest)

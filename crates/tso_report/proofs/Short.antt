@@ -1,5 +1,15 @@
 -- The maximum length of each line of a report.
-use Rattle.tso_report.proofs.Vocabulary.{inl, inr, ◌≡◌, ℕ, ◌+◌, ◌-◌, ◌*◌, ◌≤◌, ◌<◌, ◌^◌, zero, suc, Bool, true, false, not, nat_le, ◌&&◌, List, [], ◌∷◌, ◌++◌, length, map, slice_index, slice_index_or, All, Option, Some, None, length-append, refl, arith, decimal, list_all, length-decimal-le, and_parts, nat_tests, All-head, All-tail, Litmus, IsTest, Condition, begins_name, continues_name, is_name, is_register_word, is_location_name, is_test_name, Bus, Atomic, Split, Reg, Entry, letters_of, printed_access, printed_entry, printed_end, printed_lines, printed_order, HasAccess, IsEntryFor, IsOrderFor, protocol_name, ProtocolKind, Msi, Geometry, IsLineSize, Configuration, IsConfigurationWithinLimits, Counts, ShownRun, report, line, test_line, machine_line, shape_text, bus_text, printed_register, printed_registers, all_registers, register_line, register_lines, printed_words, memory_line, printed_quantifier, printed_truth, printed_verdict, condition_line, choices_line, traffic_text, cache_line, cache_lines}
+use Rattle.tso_report.proofs.Vocabulary.{inl, inr, ◌≡◌, ℕ, ◌+◌, ◌-◌, ◌*◌, ◌≤◌, ◌<◌, ◌^◌, zero, suc, Bool, true, false, not, nat_le, ◌&&◌}
+use Rattle.tso_report.proofs.Vocabulary.{List, [], ◌∷◌, ◌++◌, length, map, slice_index, slice_index_or, All, Option, Some, None}
+use Rattle.tso_report.proofs.Vocabulary.{length-append, refl, arith, decimal, list_all, length-decimal-le, and_parts, nat_tests, All-head}
+use Rattle.tso_report.proofs.Vocabulary.{All-tail, Litmus, IsTest, Condition, begins_name, continues_name, is_name, is_register_word}
+use Rattle.tso_report.proofs.Vocabulary.{is_location_name, is_test_name, Bus, Atomic, Split, Reg, Entry, letters_of, printed_access}
+use Rattle.tso_report.proofs.Vocabulary.{printed_entry, printed_end, printed_lines, printed_order, HasAccess, IsEntryFor, IsOrderFor}
+use Rattle.tso_report.proofs.Vocabulary.{protocol_name, ProtocolKind, Msi, Geometry, IsLineSize, Configuration, IsConfigurationWithinLimits}
+use Rattle.tso_report.proofs.Vocabulary.{Counts, ShownRun, report, line, test_line, machine_line, shape_text, bus_text, printed_register}
+use Rattle.tso_report.proofs.Vocabulary.{printed_registers, all_registers, register_line, register_lines, printed_words, memory_line}
+use Rattle.tso_report.proofs.Vocabulary.{printed_quantifier, printed_truth, printed_verdict, condition_line, choices_line, traffic_text}
+use Rattle.tso_report.proofs.Vocabulary.{cache_line, cache_lines}
 use Rattle.std.specs.Prelude.{codes}
 use Rattle.tso_terms.specs.Registers.{IsWord, AreRegisters, index_of, name_of}
 use Rattle.tso_terms.specs.Thread.{value_in}
@@ -59,7 +69,8 @@ letters_short R = omega arith
 letters_short kind = omega arith
 
 valued : (name : List ℕ) (value : ℕ) → length name ≤ 32 → IsWord value → length (codes " " ++ (name ++ (codes "=" ++ decimal value))) ≤ 44
-valued name value h w = joined (codes " ") _ 1 43 (omega arith) (joined name _ 32 11 h (joined (codes "=") (decimal value) 1 10 (omega arith) (word_digits value w)))
+valued name value h w =
+    joined (codes " ") _ 1 43 (omega arith) (joined name _ 32 11 h (joined (codes "=") (decimal value) 1 10 (omega arith) (word_digits value w)))
 
 access_short : (t : Litmus) (kind : Kind) (loc value : ℕ) → IsTest t → HasAccess t kind loc value → length (printed_access t kind loc value) ≤ 44
 access_short t F loc value test h = omega arith
@@ -91,7 +102,8 @@ lines-append (x ∷ xs) ys =
 order_short : (t : Litmus) (es : List Entry) → IsTest t → IsOrderFor t es → length es ≤ 512 → length (printed_order t es) ≤ 28691
 order_short t es test h few =
     let entries = entries_short t es test h in
-    let last : length (printed_end (length es)) ≤ 12 = joined (codes "Endorder ") (decimal (length es)) 9 3 (omega arith) (three_digits (length es) (omega arith)) in
+    let last : length (printed_end (length es)) ≤ 12 =
+    joined (codes "Endorder ") (decimal (length es)) 9 3 (omega arith) (three_digits (length es) (omega arith)) in
     let end : length (printed_lines (printed_end (length es) ∷ [])) ≤ 13 = joined (printed_end (length es)) (10 ∷ []) 12 1 last (omega arith) in
     let lines = lines-append (map (printed_entry t) es) (printed_end (length es) ∷ []) in
     joined (codes "Order") (10 ∷ printed_lines (map (printed_entry t) es ++ (printed_end (length es) ∷ []))) 5 28686 (omega arith) (omega arith)
@@ -116,7 +128,9 @@ register_short registers reg h =
 registers_short : (registers : List ℕ) (regs : List Reg) → All IsWord registers → length (printed_registers registers regs) ≤ 15 * length regs
 registers_short registers [] h = omega arith
 registers_short registers (reg ∷ regs) h =
-    let both = joined (printed_register registers reg) (printed_registers registers regs) 15 (15 * length regs) (register_short registers reg h) (registers_short registers regs h) in
+    let both =
+    joined (printed_register registers reg) (printed_registers registers regs) 15 (15 * length regs)
+    (register_short registers reg h) (registers_short registers regs h) in
     omega arith
 
 six_registers : length all_registers ≡ 6
@@ -128,7 +142,8 @@ register_line_short core registers c h =
     let six = six_registers in
     let all = registers_short registers all_registers h in
     joined (codes "Registers P") _ 11 92 (omega arith)
-    (joined (decimal core) (line (printed_registers registers all_registers)) 1 91 (digit core c) (ended (printed_registers registers all_registers) 90 (omega arith)))
+    (joined (decimal core) (line (printed_registers registers all_registers)) 1 91 (digit core c)
+    (ended (printed_registers registers all_registers) 90 (omega arith)))
 
 register_lines_short : (core : ℕ) (all : List (List ℕ)) → core + length all ≤ 9 → All AreRegisters all → length (register_lines core all) ≤ 103 * length all
 register_lines_short core [] few h = omega arith
@@ -138,7 +153,10 @@ register_lines_short core (r ∷ rs) few h =
     let both = joined (register_line core r) (register_lines (core + 1) rs) 103 (103 * length rs) first further in
     omega arith
 
-words_short : (names : List (List ℕ)) (words : List ℕ) → list_all is_location_name names ≡ true → All IsWord words → length (printed_words names words) ≤ 44 * length names
+words_short : (names : List (List ℕ)) (words : List ℕ)
+    → list_all is_location_name names ≡ true
+    → All IsWord words
+    → length (printed_words names words) ≤ 44 * length names
 words_short (x ∷ xs) (v ∷ vs) h w =
     let parts = and_parts (is_location_name x) (list_all is_location_name xs) h in
     let further = words_short xs vs parts.1 (All-tail IsWord v vs w) in
@@ -196,7 +214,9 @@ truth_short false = omega arith
 verdict_short : (o : Option Condition) (holds : Option Bool) → length (printed_verdict o holds) ≤ 13
 verdict_short None holds = omega arith
 verdict_short (Some c) None = omega arith
-verdict_short (Some c) (Some b) = joined (printed_quantifier c.quantifier) _ 7 6 (quantifier_short c.quantifier) (joined (codes " ") (printed_truth b) 1 5 (omega arith) (truth_short b))
+verdict_short (Some c) (Some b) =
+    joined (printed_quantifier c.quantifier) _ 7 6 (quantifier_short c.quantifier)
+    (joined (codes " ") (printed_truth b) 1 5 (omega arith) (truth_short b))
 
 choices_short : (used stalled unused : ℕ) → used < 2 ^ 64 → stalled < 2 ^ 64 → unused < 2 ^ 64 → length (choices_line used stalled unused) ≤ 91
 choices_short used stalled unused u s n =
@@ -236,7 +256,11 @@ cache_lines_short core (c ∷ cs) few h =
     let both = joined (cache_line core c) (cache_lines (core + 1) cs) 125 (125 * length cs) first further in
     omega arith
 
-pub report_short : (t : Litmus) (kind : ProtocolKind) (c : Configuration) (s : ShownRun) → IsTest t → IsConfigurationWithinLimits c → IsSmall t s → length (report t kind c s) ≤ longest_report
+pub report_short : (t : Litmus) (kind : ProtocolKind) (c : Configuration) (s : ShownRun)
+    → IsTest t
+    → IsConfigurationWithinLimits c
+    → IsSmall t s
+    → length (report t kind c s) ≤ longest_report
 report_short t kind c s test within small =
     let name = test_name_short t.name test.name_spelled in
     let locations = test.location_count in
@@ -247,10 +271,16 @@ report_short t kind c s test within small =
     let counts = cache_lines_short 0 s.counts (omega arith) small.counts in
     let whole : length (report t kind c s) ≤ 31466 =
     joined (test_line t ++ machine_line kind c) _ 125 31341
-    (joined (test_line t) (machine_line kind c) 70 55 (joined (codes "Test ") (line t.name) 5 65 (omega arith) (ended t.name 64 name)) (machine_short kind c within))
+    (joined (test_line t) (machine_line kind c) 70 55
+    (joined (codes "Test ") (line t.name) 5 65 (omega arith) (ended t.name 64 name)) (machine_short kind c within))
     (joined (printed_order t s.order) _ 28691 2650 (order_short t s.order test small.order small.entries)
     (joined (register_lines 0 s.registers) _ 824 1826 (omega arith)
-    (joined (memory_line t s.memory) _ 711 1115 (joined (codes "Memory") (line (printed_words t.locations s.memory)) 6 705 (omega arith) (ended (printed_words t.locations s.memory) 704 (omega arith)))
-    (joined (condition_line t s.holds) _ 24 1091 (joined (codes "Condition ") (line (printed_verdict t.condition s.holds)) 10 14 (omega arith) (ended (printed_verdict t.condition s.holds) 13 (verdict_short t.condition s.holds)))
-    (joined (choices_line s.used s.stalled s.unused) (cache_lines 0 s.counts) 91 1000 (choices_short s.used s.stalled s.unused small.used small.stalled small.unused) (omega arith)))))) in
+    (joined (memory_line t s.memory) _ 711 1115
+    (joined (codes "Memory") (line (printed_words t.locations s.memory)) 6 705 (omega arith)
+    (ended (printed_words t.locations s.memory) 704 (omega arith)))
+    (joined (condition_line t s.holds) _ 24 1091
+    (joined (codes "Condition ") (line (printed_verdict t.condition s.holds)) 10 14 (omega arith)
+    (ended (printed_verdict t.condition s.holds) 13 (verdict_short t.condition s.holds)))
+    (joined (choices_line s.used s.stalled s.unused) (cache_lines 0 s.counts) 91 1000
+    (choices_short s.used s.stalled s.unused small.used small.stalled small.unused) (omega arith)))))) in
     omega arith

@@ -1,5 +1,8 @@
 -- The lists of values with their counts, as a map of vectors keeps them.
-use Rattle.tso_report.proofs.Vocabulary.{◌≡◌, ◌∙◌, ℕ, ◌+◌, ◌≤◌, cond, List, [], ◌∷◌, sum, Vec, Option, Some, None, unwrap_or, option_map, refl, sym, ap, arith, Ordering, Less, Equal, Greater, nat_cmp, match_ordering, is_eq, slice_cmp, insert_entry, is_at, lookup, keys_of, values_of, IsStrictlySortedBy, nat_list_cmp_total, on_total, count_of_runs, with_values, counted_states}
+use Rattle.tso_report.proofs.Vocabulary.{◌≡◌, ◌∙◌, ℕ, ◌+◌, ◌≤◌, cond, List, [], ◌∷◌, sum, Vec, Option, Some, None, unwrap_or, option_map}
+use Rattle.tso_report.proofs.Vocabulary.{refl, sym, ap, arith, Ordering, Less, Equal, Greater, nat_cmp, match_ordering, is_eq, slice_cmp}
+use Rattle.tso_report.proofs.Vocabulary.{insert_entry, is_at, lookup, keys_of, values_of, IsStrictlySortedBy, nat_list_cmp_total, on_total}
+use Rattle.tso_report.proofs.Vocabulary.{count_of_runs, with_values, counted_states}
 use Rattle.std.specs.declared.alloc.Global.{Global}
 use Rattle.std.specs.Cmp.{IsTotalOrder}
 use Rattle.std.proofs.lemmas.Map.Entries.{sum_by-insert_entry}
@@ -12,17 +15,21 @@ by_items x y = slice_cmp nat_cmp x.items y.items
 by_items_total : IsTotalOrder by_items
 by_items_total = on_total (λ (x : Vec ℕ Global). x.items) nat_list_cmp_total
 
-pub lookup-states_of : (values : List ℕ) (es : List (Vec ℕ Global × ℕ)) → lookup (λ (k : Vec ℕ Global). is_eq (slice_cmp nat_cmp values k.items)) es ≡ lookup (is_at (slice_cmp nat_cmp values)) (counted_states es)
+pub lookup-states_of : (values : List ℕ) (es : List (Vec ℕ Global × ℕ))
+    → lookup (λ (k : Vec ℕ Global). is_eq (slice_cmp nat_cmp values k.items)) es
+    ≡ lookup (is_at (slice_cmp nat_cmp values)) (counted_states es)
 lookup-states_of values [] = refl
 lookup-states_of values (e ∷ es) = ap (cond (is_eq (slice_cmp nat_cmp values e.0.items)) (Some e.1)) (lookup-states_of values es)
 
-pub insert-states_of : (k : Vec ℕ Global) (n : ℕ) (es : List (Vec ℕ Global × ℕ)) → counted_states (insert_entry by_items es k n) ≡ insert_entry (slice_cmp nat_cmp) (counted_states es) k.items n
+pub insert-states_of : (k : Vec ℕ Global) (n : ℕ) (es : List (Vec ℕ Global × ℕ))
+    → counted_states (insert_entry by_items es k n) ≡ insert_entry (slice_cmp nat_cmp) (counted_states es) k.items n
 insert-states_of k n [] = refl
 insert-states_of k n (e ∷ es) = by_order (by_items k e.0) (insert-states_of k n es)
   where
     by_order : (o : Ordering) → counted_states (insert_entry by_items es k n) ≡ insert_entry (slice_cmp nat_cmp) (counted_states es) k.items n
         → counted_states (match_ordering o ((k, n) ∷ e ∷ es) ((e.0, n) ∷ es) (e ∷ insert_entry by_items es k n))
-        ≡ match_ordering o ((k.items, n) ∷ (e.0.items, e.1) ∷ counted_states es) ((e.0.items, n) ∷ counted_states es) ((e.0.items, e.1) ∷ insert_entry (slice_cmp nat_cmp) (counted_states es) k.items n)
+        ≡ match_ordering o ((k.items, n) ∷ (e.0.items, e.1) ∷ counted_states es) ((e.0.items, n) ∷ counted_states es)
+        ((e.0.items, e.1) ∷ insert_entry (slice_cmp nat_cmp) (counted_states es) k.items n)
     by_order Less further = refl
     by_order Equal further = refl
     by_order Greater further = ap (λ rest. (e.0.items, e.1) ∷ rest) further
@@ -54,7 +61,9 @@ sum-raised k n es new sorted is are =
     omega (arith, whole, old, before, after)
 
 -- with one count raised, the states are those with one run more
-pub states-raised : (k : Vec ℕ Global) (n : ℕ) (es new : List (Vec ℕ Global × ℕ)) → n ≡ count_of_runs k.items (counted_states es) → new ≡ insert_entry by_items es k (n + 1)
+pub states-raised : (k : Vec ℕ Global) (n : ℕ) (es new : List (Vec ℕ Global × ℕ))
+    → n ≡ count_of_runs k.items (counted_states es)
+    → new ≡ insert_entry by_items es k (n + 1)
     → counted_states new ≡ with_values k.items (counted_states es)
 states-raised k n es new is are =
     ap counted_states are ∙ (insert-states_of k (n + 1) es ∙ ap (λ count. insert_entry (slice_cmp nat_cmp) (counted_states es) k.items (count + 1)) is)

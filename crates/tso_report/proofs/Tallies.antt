@@ -1,5 +1,7 @@
 -- What a tally is tallied_in as, and what it holds.
-use Rattle.tso_report.proofs.Vocabulary.{◌≡◌, ◌∙◌, ℕ, Bool, true, false, List, [], ◌++◌, length, sum, values_of, zero, Vec, refl, arith, All, sym, ap, subst, append_assoc, Litmus, Named, looked_at, sweep_line, counted_state_lines, observation, tally_text, Tallied, NameExists, counted_states, counts_in, IsKept}
+use Rattle.tso_report.proofs.Vocabulary.{◌≡◌, ◌∙◌, ℕ, Bool, true, false, List, [], ◌++◌, length, sum, values_of, zero, Vec, refl, arith}
+use Rattle.tso_report.proofs.Vocabulary.{All, sym, ap, subst, append_assoc, Litmus, Named, looked_at, sweep_line, counted_state_lines}
+use Rattle.tso_report.proofs.Vocabulary.{observation, tally_text, Tallied, NameExists, counted_states, counts_in, IsKept}
 use Rattle.std.proofs.Common.{BTreeMap, Global, if◌then◌else◌}
 use Rattle.tso_report.specs.declared.counters.Counters.{Counters}
 use Rattle.tso_report.proofs.Looking.{looked-known}
@@ -21,7 +23,9 @@ nothing-kept judged states none = record {
     none-judged false = refl
 
 -- what is looked at is there in each state of the test
-pub known-in-state : (t : Litmus) (counters : Counters) (tally : Tallied) (registers : List (List ℕ)) (memory : List ℕ) (names list : List Named) → tallied_in t counters ≡ tally
+pub known-in-state : (t : Litmus) (counters : Counters) (tally : Tallied) (registers : List (List ℕ)) (memory : List ℕ)
+    (names list : List Named)
+    → tallied_in t counters ≡ tally
     → length registers ≡ length tally.test.programs → length memory ≡ length tally.test.locations
     → names ≡ looked_at t → list ≡ names → All (NameExists (length registers) (length memory)) list
 known-in-state t counters tally registers memory names list view each_core each_location are same =
@@ -32,7 +36,10 @@ known-in-state t counters tally registers memory names list view each_core each_
     (subst (All (NameExists (length t.programs) (length t.locations))) (sym (same ∙ are)) (looked-known t)))
 
 -- the text is put together from its parts
-pub text-of-tally : (t : Litmus) (counters : Counters) (tally : Tallied) (judged : Bool) (from size : ℕ) (first second all : List ℕ) → tallied_in t counters ≡ tally → IsKept judged counters
+pub text-of-tally : (t : Litmus) (counters : Counters) (tally : Tallied) (judged : Bool) (from size : ℕ)
+    (first second all : List ℕ)
+    → tallied_in t counters ≡ tally
+    → IsKept judged counters
     → first ≡ sweep_line counters.ended counters.unfinished from size → second ≡ first ++ counted_state_lines t (counted_states counters.states.entries)
     → all ≡ second ++ observation t.name t.condition counters.held counters.failed → all ≡ tally_text tally.test tally.counts from size
 text-of-tally t counters tally judged from size first second all view kept is_first is_second is =

@@ -74,7 +74,9 @@ pub fn put_made(
     key: &str,
     made: Result<Value, NoMemory>,
 ) -> Result<(), NoMemory>
-    ensures { (d : Data) → IfOk made (λ value. view value ≡ d) → OnOk result (members_view members.new.entries ≡ with_member key.now d (members_view members.old.entries)) }
+    ensures { (d : Data)
+        → IfOk made (λ value. view value ≡ d)
+        → OnOk result (members_view members.new.entries ≡ with_member key.now d (members_view members.old.entries)) }
 {
     put(members, alloc, key, made?)?;
     Ok(())

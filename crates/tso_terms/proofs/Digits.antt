@@ -1,5 +1,6 @@
 -- The number that digits say, digit by digit.
-use Rattle.std.proofs.Common.{◌≡◌, ℕ, ◌+◌, ◌-◌, ◌*◌, ◌/◌, ◌<◌, ◌≤◌, true, false, leb, List, [], ◌∷◌, length, get_or, drop, Some, None, refl, sym, ap, ◌∙◌, add-one, drop-cons, arith}
+use Rattle.std.proofs.Common.{◌≡◌, ℕ, ◌+◌, ◌-◌, ◌*◌, ◌/◌, ◌<◌, ◌≤◌, true, false, leb, List, [], ◌∷◌, length, get_or, drop, Some, None, refl}
+use Rattle.std.proofs.Common.{sym, ap, ◌∙◌, add-one, drop-cons, arith}
 use Rattle.std.proofs.lemmas.Bool.{le-leb, lt-leb}
 use Rattle.std.proofs.lemmas.List.{nil_from_length, length-drop}
 use Rattle.tso_terms.specs.Decimals.{decimal_from, decimal_value}
@@ -21,7 +22,11 @@ number_over most n digits rest same over =
     let no_number : leb (decimal_value digits) most ≡ false = lt-leb _ _ large in
     rw no_number refl
 
-pub number_fits : (most n : ℕ) (digits : List ℕ) (i : ℕ) → length digits ≤ i → decimal_from n (drop i digits) ≡ decimal_value digits → n ≤ most → Some n ≡ number_up_to most digits
+pub number_fits : (most n : ℕ) (digits : List ℕ) (i : ℕ)
+    → length digits ≤ i
+    → decimal_from n (drop i digits) ≡ decimal_value digits
+    → n ≤ most
+    → Some n ≡ number_up_to most digits
 unfolding number_up_to decimal_from
 number_fits most n digits i past same fits =
     let nothing : drop i digits ≡ [] = nil_from_length (drop i digits) (omega (arith, length-drop i digits)) in
@@ -30,7 +35,11 @@ number_fits most n digits i past same fits =
     rw is_there (ap (λ (k : ℕ). Some k) is_n)
 
 -- another digit, where what was read is over a tenth
-pub number_over_tenth : (most n i : ℕ) (digits : List ℕ) → decimal_from n (drop i digits) ≡ decimal_value digits → i < length digits → most / 10 < n → number_up_to most digits ≡ None
+pub number_over_tenth : (most n i : ℕ) (digits : List ℕ)
+    → decimal_from n (drop i digits) ≡ decimal_value digits
+    → i < length digits
+    → most / 10 < n
+    → number_up_to most digits ≡ None
 number_over_tenth most n i digits same there over =
     number_over most (n * 10 + (get_or digits i 0 - 48)) digits (drop (i + 1) digits) (sym (decimal_more digits i n there) ∙ same) (omega arith)
 

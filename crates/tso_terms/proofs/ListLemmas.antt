@@ -2,7 +2,9 @@ use Rattle.std.proofs.Common.{◌≡◌, ◌<◌, ℕ, suc, zero, List, [], ◌�
 use Rattle.std.specs.List.{HoldsAt}
 use Rattle.std.proofs.lemmas.List.{length-map}
 
-slice_index_or-map : {X Y : Type 0} (f : X → Y) (xs : List X) (k : ℕ) (d : X) (e : Y) → k < length xs → slice_index_or (map f xs) k e ≡ f (slice_index_or xs k d)
+slice_index_or-map : {X Y : Type 0} (f : X → Y) (xs : List X) (k : ℕ) (d : X) (e : Y)
+    → k < length xs
+    → slice_index_or (map f xs) k e ≡ f (slice_index_or xs k d)
 slice_index_or-map f [] k d e h = absurd (omega arith)
 slice_index_or-map f (x ∷ xs) zero d e h = refl
 slice_index_or-map f (x ∷ xs) (suc k) d e h = slice_index_or-map f xs k d e (omega arith)

@@ -1,6 +1,7 @@
 -- What a core's program does, given the values that its reads return.
 -- (x86-TSO, section 3: a thread's memory actions; the instructions by Intel's manual.)
-use Rattle.std.specs.Prelude.{ℕ, ◌+◌, ◌-◌, ◌%◌, ◌^◌, ◌==◌, suc, Bool, true, false, if◌then◌else◌, Option, Some, None, List, [], ◌∷◌, ◌++◌, slice_index, slice_index_or, slice_set, drop}
+use Rattle.std.specs.Prelude.{ℕ, ◌+◌, ◌-◌, ◌%◌, ◌^◌, ◌==◌, suc, Bool, true, false, if◌then◌else◌, Option, Some, None, List, [], ◌∷◌, ◌++◌}
+use Rattle.std.specs.Prelude.{slice_index, slice_index_or, slice_set, drop}
 use Rattle.tso_terms.specs.Registers.{index_of}
 use Rattle.tso_terms.specs.Actions.{action_of}
 use Rattle.tso_terms.specs.Litmus.{Litmus}

@@ -1,5 +1,8 @@
 -- The choices along an order, made one entry after the other.
-use Rattle.witnesses.proofs.Vocabulary.{◌≡◌, ℕ, ◌+◌, ◌-◌, ◌<◌, ◌≤◌, zero, suc, List, [], ◌∷◌, ◌++◌, length, get_or, drop, take, replicate, arith, refl, ap, sym, ◌∙◌, add-one, append_assoc, All, length-set, append-nil, drop_more, drop_all, All-get_or, Litmus, Entry, Instr, Choice, steps, beginnings, choices_for, places_after, last_steps, choices_from}
+use Rattle.witnesses.proofs.Vocabulary.{◌≡◌, ℕ, ◌+◌, ◌-◌, ◌<◌, ◌≤◌, zero, suc, List, [], ◌∷◌, ◌++◌, length, get_or, drop, take, replicate}
+use Rattle.witnesses.proofs.Vocabulary.{arith, refl, ap, sym, ◌∙◌, add-one, append_assoc, All, length-set, append-nil, drop_more, drop_all}
+use Rattle.witnesses.proofs.Vocabulary.{All-get_or, Litmus, Entry, Instr, Choice, steps, beginnings, choices_for, places_after, last_steps}
+use Rattle.witnesses.proofs.Vocabulary.{choices_from}
 use Rattle.std.proofs.Common.{Result, Ok, Err, OnOk}
 use Rattle.tso_terms.specs.FlatMachine.{step}
 
@@ -11,7 +14,10 @@ steps-more core n = rw add-one (go n)
     go zero = refl
     go (suc n) = ap (λ t. step core ∷ t) (go n)
 
-pub one-step-more : (old choices new : List Choice) (core n : ℕ) → choices ≡ old ++ steps core n → new ≡ choices ++ step core ∷ [] → new ≡ old ++ steps core (n + 1)
+pub one-step-more : (old choices new : List Choice) (core n : ℕ)
+    → choices ≡ old ++ steps core n
+    → new ≡ choices ++ step core ∷ []
+    → new ≡ old ++ steps core (n + 1)
 one-step-more old choices new core n e f = f ∙ rw e (rw append_assoc (ap (λ (t : List Choice). old ++ t) (steps-more core n)))
 
 -- what is so of what a call did is so of what follows from it
@@ -42,7 +48,10 @@ core-in order i m n d all h e = rw e (All-get_or (λ x. x.core.0 < n) order i d 
 
 -- one entry more is gone along
 pub entry-made : (t : Litmus) (order rest : List Entry) (x : Entry) (choices new whole : List Choice) (places after : List ℕ) → order ≡ x ∷ rest →
-    new ≡ choices ++ choices_for places x → after ≡ places_after places x → choices ++ choices_from t places order ≡ whole → new ++ choices_from t after rest ≡ whole
+    new ≡ choices ++ choices_for places x
+    → after ≡ places_after places x
+    → choices ++ choices_from t places order ≡ whole
+    → new ++ choices_from t after rest ≡ whole
 entry-made t order rest x choices new whole places after next e f made =
     ap (λ c. c ++ choices_from t after rest) e ∙ append_assoc choices (choices_for places x) (choices_from t after rest)
     ∙ ap (λ p. choices ++ (choices_for places x ++ choices_from t p rest)) f ∙ (rw next at made)

@@ -1,5 +1,6 @@
 -- The names that the proofs of this crate bring in from definitions and from crates below; each file takes its own from here.
-pub use Rattle.std.proofs.Common.{◌≡◌, ℕ, ◌+◌, ◌-◌, ◌<◌, ◌≤◌, List, [], ◌∷◌, ◌++◌, length, get_or, take, refl, sym, ap, ◌∙◌, arith, All, append_assoc, zero, suc, drop, replicate, add-one}
+pub use Rattle.std.proofs.Common.{◌≡◌, ℕ, ◌+◌, ◌-◌, ◌<◌, ◌≤◌, List, [], ◌∷◌, ◌++◌, length, get_or, take, refl, sym, ap, ◌∙◌, arith, All}
+pub use Rattle.std.proofs.Common.{append_assoc, zero, suc, drop, replicate, add-one}
 pub use Rattle.std.proofs.lemmas.List.{append-nil, drop_all, drop_more}
 pub use Rattle.basic_laws.specs.Types.{Choice, Entry, R, Instr}
 pub use Rattle.std.proofs.lemmas.List.Elements.{All-get_or}

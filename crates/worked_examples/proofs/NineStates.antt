@@ -1,5 +1,6 @@
 -- The states that two cores with a store each can reach: how far the one is, and how far the other.
-use Rattle.std.proofs.Common.{◌≡◌, ◌∙◌, ◌<◌, ◌+◌, ◌-◌, ℕ, zero, suc, Bool, true, false, ◌||◌, List, [], ◌∷◌, ◌++◌, map, length, Some, slice_get, slice_index_or, refl, sym, ap, subst, arith}
+use Rattle.std.proofs.Common.{◌≡◌, ◌∙◌, ◌<◌, ◌+◌, ◌-◌, ℕ, zero, suc, Bool, true, false, ◌||◌, List, [], ◌∷◌, ◌++◌, map, length, Some}
+use Rattle.std.proofs.Common.{slice_get, slice_index_or, refl, sym, ap, subst, arith}
 use Rattle.std.specs.List.{IsDistinct, AllByRecursion, list_any}
 use Rattle.std.proofs.Math.Dec.{eqb}
 use Rattle.std.proofs.lemmas.Bool.{ne_eqb, eqb-true}
@@ -104,7 +105,9 @@ abbrev number : State → ℕ
 number s = progress (core_of s 0) + (progress (core_of s 0) + (progress (core_of s 0) + progress (core_of s 1)))
 
 nine : List State
-nine = at to_come to_come ∷ at to_come pending ∷ at to_come stored ∷ at pending to_come ∷ at pending pending ∷ at pending stored ∷ at stored to_come ∷ at stored pending ∷ at stored stored ∷ []
+nine =
+    at to_come to_come ∷ at to_come pending ∷ at to_come stored ∷ at pending to_come ∷ at pending pending
+    ∷ at pending stored ∷ at stored to_come ∷ at stored pending ∷ at stored stored ∷ []
 
 numbered : (a b : Stage) → (slice_index_or nine (number (at a b)) (start two_stores) ≡ at a b) × (number (at a b) < 9)
 unfolding nine

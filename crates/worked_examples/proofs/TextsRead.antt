@@ -17,7 +17,8 @@ use Rattle.litmus_tokens.specs.Locations.{located}
 use Rattle.litmus_tokens.specs.Names.{location_at, register_at}
 use Rattle.litmus_reader.specs.Cells.{cells_in}
 use Rattle.litmus_reader.specs.Columns.{columns}
-use Rattle.litmus_reader.specs.Conditions.{claim_in, truth_at, setting_atom, atom_at, chain, chain_of, negation_at, opens_unit, unit_by, unit_at, quantified, condition_at}
+use Rattle.litmus_reader.specs.Conditions.{claim_in, truth_at, setting_atom, atom_at, chain, chain_of, negation_at, opens_unit, unit_by}
+use Rattle.litmus_reader.specs.Conditions.{unit_at, quantified, condition_at}
 use Rattle.litmus_reader.specs.GrammarTable.{ends_rows}
 use Rattle.litmus_reader.specs.GrammarText.{first_line, trimmed, name_in, continues_key}
 use Rattle.litmus_reader.specs.Header.{judged, header_at}

@@ -82,7 +82,8 @@ pub fn worked_words()
 #[tactic(auto, unfolding(snoop_bus::specs::Asks::awaiting))]
 pub fn worked_fronts()
     // A load that hits, and writes that hit, on M and on E.
-    ensures load_hit { outcome_of (whole_access msi false 0 4 (two_sets (four_second S) shares_both)) ≡ was Hit false None (two_sets (four_first S) shares_both) }
+    ensures load_hit { outcome_of (whole_access msi false 0 4 (two_sets (four_second S) shares_both))
+        ≡ was Hit false None (two_sets (four_first S) shares_both) }
     ensures write_hit_on_modified { outcome_of (whole_access msi true 0 4 (two_sets (four_second M) shares_seven))
         ≡ was Hit false None (two_sets (four_first M) shares_seven) }
     ensures write_hit_on_exclusive { outcome_of (whole_access mesi true 0 4 (two_sets (four_second E) shares_seven))

@@ -2,11 +2,14 @@
 
 ghost use Rattle.std.specs.Prelude.{◌≡◌, []};
 ghost use Rattle.refutation_laws.specs.declared.model.Model.TheVariants.{Tso};
-ghost use Rattle.short_refutations.specs.Worked.{passing_refuted, lost_refuted, two_refuted, first_two, two_refuted_by_lemma, none_refuted, counts_two_refuted, turns_refuted};
+ghost use Rattle.short_refutations.specs.Worked.{passing_refuted, lost_refuted, two_refuted, first_two, two_refuted_by_lemma, none_refuted};
+ghost use Rattle.short_refutations.specs.Worked.{counts_two_refuted, turns_refuted};
 ghost use Rattle.search_report.specs.LineText.{never_text};
 ghost use Rattle.search_report.specs.LineJson.{never_json};
 ghost use Rattle.worked_examples.specs.PrintedExecutions.{passing_asked, between_asked, n6_asked};
-ghost use Rattle.worked_examples.specs.PrintedRefutations.{passing_lines, passing_value, lost_lines, two_asked, two_lines, lemma_lines, none_asked, none_lines, count_asked, count_lines, turns_asked, turns_lines, n6_tree, n6_lines};
+ghost use Rattle.worked_examples.specs.PrintedRefutations.{passing_lines, passing_value, lost_lines, two_asked, two_lines, lemma_lines};
+ghost use Rattle.worked_examples.specs.PrintedRefutations.{none_asked, none_lines, count_asked, count_lines, turns_asked, turns_lines};
+ghost use Rattle.worked_examples.specs.PrintedRefutations.{n6_tree, n6_lines};
 
 /// What is printed of these, byte for byte: message passing, as JSON too; a locked addition; a lock that two of three cores have, once
 /// more with a lemma, and one that none has; a counter of three that counts two; a word of an exchange that nobody reads; what n6 doesn't

@@ -14,7 +14,8 @@ pub fn worked_header_refusals()
     // the header line
     ensures comment_before_header { told (codes "\n(* X86 T") ≡ refused 2 Unclosed (codes "(* X86 T") }
     ensures long_name_in_header { told (codes "\n X86 " ++ long_test_name) ≡ refused 2 TooLarge (codes "X86 " ++ long_test_name) }
-    ensures long_name_with_tab_in_it { told (codes "X86 \t." ++ long_test_name ++ codes "\t.") ≡ refused 1 NoHeader (codes "X86 \t." ++ long_test_name ++ codes "\t.") }
+    ensures long_name_with_tab_in_it { told (codes "X86 \t." ++ long_test_name ++ codes "\t.")
+        ≡ refused 1 NoHeader (codes "X86 \t." ++ long_test_name ++ codes "\t.") }
     ensures other_machine { told (codes "\nPPC T\n{}") ≡ refused 2 NoHeader (codes "PPC T\n{}") }
     ensures no_name { told (codes "X86\n{}") ≡ refused 1 NoHeader (codes "X86\n{}") }
     ensures empty { told [] ≡ refused 1 NoHeader [] }

@@ -1,4 +1,5 @@
-use Rattle.abstract_machine.proofs.Vocabulary.{List, rules, Litmus, IsTest, IsTsoExecution, sb, sb_order, n6, n6_order, added, separated_order, Entry, short_order, turned_order, wrong_order, IsReachedFreely}
+use Rattle.abstract_machine.proofs.Vocabulary.{List, rules, Litmus, IsTest, IsTsoExecution, sb, sb_order, n6, n6_order, added}
+use Rattle.abstract_machine.proofs.Vocabulary.{separated_order, Entry, short_order, turned_order, wrong_order, IsReachedFreely}
 use Rattle.abstract_machine.proofs.Bounded.{Returns}
 use Rattle.abstract_machine.proofs.worked_runs_of_the_abstract_machine.Goals as goal
 

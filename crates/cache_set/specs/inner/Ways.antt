@@ -1,6 +1,7 @@
 -- How a set keeps its copies: in ways, each with a number, the most recently used first. A way in state I is empty: its line
 -- left, and the next line that comes in takes it over.
-use Rattle.std.specs.Prelude.{◌≡◌, ◌<◌, ◌≤◌, ◌-◌, ◌⊎◌, ℕ, nat_eq, Bool, true, false, if◌then◌else◌, ⊤, List, [], ◌∷◌, length, slice_get, Option, Some, None, option_map}
+use Rattle.std.specs.Prelude.{◌≡◌, ◌<◌, ◌≤◌, ◌-◌, ◌⊎◌, ℕ, nat_eq, Bool, true, false, if◌then◌else◌, ⊤, List, [], ◌∷◌, length, slice_get}
+use Rattle.std.specs.Prelude.{Option, Some, None, option_map}
 use Rattle.protocol_tables.specs.declared.state.State.{State}
 use Rattle.protocol_tables.specs.declared.state.State.TheVariants.{I, S, E, O, M}
 use Rattle.cache_set.specs.Limits.{most_ways}

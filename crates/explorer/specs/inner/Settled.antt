@@ -45,7 +45,8 @@ pub record AreAppended (depth : ℕ) (t : Litmus) (old new : State) (before afte
   pub appended : after ≡ before ++ made
 
 -- choices lead to a state that is the kept one once its dead registers are forgotten and then cores that are alike exchanged
-pub record LeadToExchanged (depth : ℕ) (t : Litmus) (hidden : List (List Bool)) (state : State) (choices : List Choice) (exchanges : List (ℕ × ℕ)) (kept : State) : Type 0 where
+pub record LeadToExchanged (depth : ℕ) (t : Litmus) (hidden : List (List Bool)) (state : State) (choices : List Choice)
+    (exchanges : List (ℕ × ℕ)) (kept : State) : Type 0 where
   pub last : State
   pub leads : LeadsBy depth t state choices last
   pub alike : AreAllAlike t hidden exchanges
@@ -65,7 +66,8 @@ pub record LeadByTurns (depth : ℕ) (t : Litmus) (hidden : List (List Bool)) (s
   pub lead : LeadToExchanged depth t hidden state choices exchanges kept
 
 -- choices lead from the one state to the kept one, a first one and eager ones after it, and then exchanges of these pairs
-pub record IsReachedByChoice (depth : ℕ) (t : Litmus) (hidden : List (List Bool)) (pairs : List (ℕ × ℕ)) (state : State) (c : Choice) (choices : List Choice) (exchanges : List (ℕ × ℕ)) (kept : State) : Type 0 where
+pub record IsReachedByChoice (depth : ℕ) (t : Litmus) (hidden : List (List Bool)) (pairs : List (ℕ × ℕ)) (state : State)
+    (c : Choice) (choices : List Choice) (exchanges : List (ℕ × ℕ)) (kept : State) : Type 0 where
   pub leads : LeadToExchanged depth t hidden state choices exchanges kept
   pub last : State
   pub later : List Choice

@@ -1,7 +1,8 @@
 -- Propositions, as they are read one part after the other: what begins a unit, and what is made of what has been read.
 use Rattle.std.specs.Prelude.{◌<◌, ℕ, List, length, Option, Some, None, Result, Ok, IfOk}
 use denote.Ref.{Bor}
-use Rattle.litmus_reader.specs.Vocabulary.{BadCondition, Claim, claim_of, CloseRound, Fault, NotClaim, OpenRound, Piece, pieces, Stop, symbol_at, there, Token, ◌>>=◌}
+use Rattle.litmus_reader.specs.Vocabulary.{BadCondition, Claim, claim_of, CloseRound, Fault, NotClaim, OpenRound, Piece, pieces, Stop}
+use Rattle.litmus_reader.specs.Vocabulary.{symbol_at, there, Token, ◌>>=◌}
 use Rattle.tso_terms.specs.declared.condition.Prop.{Prop}
 use Rattle.litmus_tokens.specs.declared.fault.ReadError.{ReadError}
 use Rattle.litmus_tokens.specs.Faults.{Gives}

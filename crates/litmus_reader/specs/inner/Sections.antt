@@ -1,7 +1,8 @@
 -- Sections of a text, and the tokens that it has.
 use Rattle.std.specs.Prelude.{◌≡◌, ℕ, Bool, List, [], ◌∷◌, Result}
 use Rattle.std.specs.List.{list_any}
-use Rattle.litmus_reader.specs.Vocabulary.{BadToken, CloseCurly, Fault, fault, Instructions, is_symbol, Piece, pieces_of, Semicolon, Stop, Symbol, symbol_at, Why}
+use Rattle.litmus_reader.specs.Vocabulary.{BadToken, CloseCurly, Fault, fault, Instructions, is_symbol, Piece, pieces_of, Semicolon, Stop}
+use Rattle.litmus_reader.specs.Vocabulary.{Symbol, symbol_at, Why}
 use Rattle.litmus_reader.specs.declared.fault.Part.{Part}
 use Rattle.litmus_reader.specs.Faults.{or_unfit}
 use Rattle.litmus_reader.specs.Places.{at_stop}

@@ -3,7 +3,9 @@ use Rattle.std.specs.Prelude.{ℕ}
 use Rattle.litmus_tokens.specs.declared.form.Form.{Form}
 use Rattle.litmus_tokens.specs.declared.form.Constant.{Constant}
 use Rattle.litmus_tokens.specs.inner.Numerals.{numeral_of}
-use Rattle.litmus_tokens.specs.Shapes.{Shape, store_imm, store_reg, load, set_imm, set_reg, fence, xchg, xadd, compare_exchange, locked_constant, locked_register, locked_negate, combine_constant, combine_register, negate, swap, nothing}
+use Rattle.litmus_tokens.specs.Shapes.{Shape, store_imm, store_reg, load, set_imm, set_reg, fence, xchg, xadd, compare_exchange}
+use Rattle.litmus_tokens.specs.Shapes.{locked_constant, locked_register, locked_negate, combine_constant, combine_register, negate, swap}
+use Rattle.litmus_tokens.specs.Shapes.{nothing}
 use Rattle.litmus_tokens.specs.declared.form.Constant.TheVariants as number
 use Rattle.litmus_tokens.specs.declared.form.Form.TheVariants as code
 use Rattle.litmus_tokens.specs.declared.form.Use.TheVariants as uses

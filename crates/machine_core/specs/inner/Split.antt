@@ -1,7 +1,8 @@
 -- A choice made on the hardware of a machine with a split bus: the holder's next one, which completes, or any other, which
 -- asks, waits or acts at once. (Primer, chapter 7; this project's profile.)
 use Rattle.std.specs.Prelude.{◌≡◌, ◌<◌, ℕ, Bool, true, false, if◌then◌else◌, Option, None, Some}
-use Rattle.machine_core.specs.Vocabulary.{begins, BusEffect, Free, HeldBetween, HeldBy, Holder, Litmus, Locks, MemoryAccess, NoAccess, Reads, same_choice, split_effect, Writes, writes_last}
+use Rattle.machine_core.specs.Vocabulary.{begins, BusEffect, Free, HeldBetween, HeldBy, Holder, Litmus, Locks, MemoryAccess, NoAccess}
+use Rattle.machine_core.specs.Vocabulary.{Reads, same_choice, split_effect, Writes, writes_last}
 use Rattle.basic_laws.specs.Types.{Loc, Entry, Choice, Step}
 use Rattle.machine_core.specs.declared.hardware.Hardware.{Hardware}
 use Rattle.machine_core.specs.Keeping.{state_in}

@@ -2,7 +2,8 @@
 -- depth of the core's own buffer, with memory as the words that the bus shows.
 use Rattle.std.specs.Prelude.{ℕ, Option, ◌+◌, List, [], ◌∷◌, map, filter, slice_index}
 use Rattle.tso_terms.specs.Actions.{action_of}
-use Rattle.multiprocessor.specs.Vocabulary.{access_by, BusModel, drain_of, Effect, effect_by, entry, fenced, MemoryAccess, stored, Stores, stores, words_of, writes_to}
+use Rattle.multiprocessor.specs.Vocabulary.{access_by, BusModel, drain_of, Effect, effect_by, entry, fenced, MemoryAccess, stored, Stores}
+use Rattle.multiprocessor.specs.Vocabulary.{stores, words_of, writes_to}
 use Rattle.tso_terms.specs.Axioms.{last_value}
 use Rattle.basic_laws.specs.Types.{Loc, Instr, Reg, Update, Action, Entry, W, LR, LW}
 use Rattle.tso_terms.specs.declared.action.Action.TheVariants.{Load, Lock}

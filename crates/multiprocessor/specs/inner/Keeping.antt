@@ -2,7 +2,8 @@
 -- made their accesses. So no counter can overflow.
 use Rattle.std.specs.Prelude.{ℕ, ◌≡◌, ◌<◌, ◌≤◌, ◌+◌, ◌-◌, ◌*◌, List, length, All, Option, None, Some}
 use Rattle.std.specs.List.{sum_by}
-use Rattle.multiprocessor.specs.Vocabulary.{Awaited, BusState, CoreState, Free, HeldBetween, HeldBy, Holder, IsTest, Litmus, Locks, MemoryAccess, most_cores, most_instructions, NoAccess, Reads, Writes}
+use Rattle.multiprocessor.specs.Vocabulary.{Awaited, BusState, CoreState, Free, HeldBetween, HeldBy, Holder, IsTest, Litmus, Locks}
+use Rattle.multiprocessor.specs.Vocabulary.{MemoryAccess, most_cores, most_instructions, NoAccess, Reads, Writes}
 use Rattle.tso_terms.specs.declared.instruction.Core.{Core}
 use Rattle.multiprocessor.specs.declared.accesses.CacheUse.{CacheUse}
 use Rattle.multiprocessor.specs.declared.accesses.CacheUse.TheVariants.{Unused, Forwarded, Asked, Through}

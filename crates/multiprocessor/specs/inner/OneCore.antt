@@ -17,7 +17,8 @@ use Rattle.snoop_bus.specs.declared.access.AccessReport.{AccessReport}
 
 -- an action of the core that makes its access this way had this effect, and answered its outcome and how it used the caches;
 -- an access that was asked for frees the bus
-pub record HasActed (way : Way) (access : MemoryAccess) (core : ℕ) (old new : Processor) (bus bus' : BusModel) (noted noted' : Noted) (f : Effect) (r : ChoiceAnswer) : Type 0 where
+pub record HasActed (way : Way) (access : MemoryAccess) (core : ℕ) (old new : Processor) (bus bus' : BusModel)
+    (noted noted' : Noted) (f : Effect) (r : ChoiceAnswer) : Type 0 where
   pub outcome : r.0 ≡ f.outcome
   pub after : core_state core new ≡ f.after
   pub words : words_of bus' ≡ memory_after f.commits (words_of bus)
@@ -63,5 +64,7 @@ pub record IsStored (core : ℕ) (store : Pending) (bus bus' : BusModel) (noted 
 
 -- an access made in this turn, a load or a write access, did this, whole or by its completion; the latter frees the bus
 pub record IsMade (turn : Turn) (write : Bool) (loc : Loc) (old new : BusModel) (report : AccessReport) : Type 0 where
-  pub caches : HasUsed (by_way turn.way (whole_by (caches_of old) turn.core.0 loc.0 write) (completion_by (caches_of old) turn.core.0 loc.0)) new (Through report)
+  pub caches : HasUsed
+      (by_way turn.way (whole_by (caches_of old) turn.core.0 loc.0 write) (completion_by (caches_of old) turn.core.0 loc.0))
+      new (Through report)
   pub holder : holder_of new ≡ by_way turn.way (holder_of old) None

@@ -1,5 +1,6 @@
 -- The value at a key of a JSON object, wherever the bytes of the key belong.
-use Rattle.printed_laws.proofs.Vocabulary.{◌≡◌, ◌≢◌, ℕ, cond, List, refl, sym, ap, ◌∙◌, nat_cmp, match_ordering, is_eq, slice_cmp, Ordering, Less, Equal, Greater, Data, Members, no_members, member, put, outline, members_outline}
+use Rattle.printed_laws.proofs.Vocabulary.{◌≡◌, ◌≢◌, ℕ, cond, List, refl, sym, ap, ◌∙◌, nat_cmp, match_ordering, is_eq, slice_cmp, Ordering}
+use Rattle.printed_laws.proofs.Vocabulary.{Less, Equal, Greater, Data, Members, no_members, member, put, outline, members_outline}
 use Rattle.std.proofs.lemmas.Cmp.{nat_list_cmp_total, tied_itself}
 use Rattle.std.proofs.lemmas.Map.Lookups.{exact_bytes}
 use Rattle.json.specs.Json as json

@@ -1,5 +1,9 @@
 -- A JSON object with a member for each location tells the words, wherever the bytes of the names belong.
-use Rattle.printed_laws.proofs.Vocabulary.{◌≡◌, ◌≢◌, ℕ, Bool, true, false, not, cond, ◌||◌, List, [], ◌∷◌, length, All, refl, sym, ap, subst, ◌∙◌, arith, decimal, bytes_eq, nat_cmp, match_ordering, is_eq, slice_cmp, Ordering, Less, Equal, Greater, and_parts, decimal_injective, All-head, All-tail, Members, no_members, member, put, outline, members_outline, are_distinct, is_among, IsWord, bytes_eq-Decides, count, memory_members}
+use Rattle.printed_laws.proofs.Vocabulary.{◌≡◌, ◌≢◌, ℕ, Bool, true, false, not, cond, ◌||◌, List, [], ◌∷◌, length, All, refl, sym, ap}
+use Rattle.printed_laws.proofs.Vocabulary.{subst, ◌∙◌, arith, decimal, bytes_eq, nat_cmp, match_ordering, is_eq, slice_cmp, Ordering, Less}
+use Rattle.printed_laws.proofs.Vocabulary.{Equal, Greater, and_parts, decimal_injective, All-head, All-tail, Members, no_members, member}
+use Rattle.printed_laws.proofs.Vocabulary.{put, outline, members_outline, are_distinct, is_among, IsWord, bytes_eq-Decides, count}
+use Rattle.printed_laws.proofs.Vocabulary.{memory_members}
 use Rattle.json.specs.Json as json
 use Rattle.printed_laws.proofs.json.JsonKeys.{found, own-value, other-value}
 use Rattle.printed_laws.proofs.json.JsonTexts.{text_in}
@@ -26,8 +30,16 @@ isnt-among name k names alone among same =
     clash : (b : Bool) → b ≡ true → not b ≡ true → ⊥
     clash b is isnt = cc
 
-words-agree : (names : List (List ℕ)) (xs ys : List ℕ) → are_distinct names ≡ true → length xs ≡ length names → length ys ≡ length names → All IsWord xs → All IsWord ys
-    → ((k : List ℕ) → is_among k names ≡ true → named k (members_outline (memory_members names xs)) ≡ named k (members_outline (memory_members names ys))) → xs ≡ ys
+words-agree : (names : List (List ℕ)) (xs ys : List ℕ)
+    → are_distinct names ≡ true
+    → length xs ≡ length names
+    → length ys ≡ length names
+    → All IsWord xs
+    → All IsWord ys
+    → ((k : List ℕ)
+    → is_among k names ≡ true
+    → named k (members_outline (memory_members names xs)) ≡ named k (members_outline (memory_members names ys)))
+    → xs ≡ ys
 words-agree [] [] [] distinct m n p q agree = refl
 words-agree [] (x ∷ xs) ys distinct m n p q agree = absurd (omega (arith, m))
 words-agree [] xs (y ∷ ys) distinct m n p q agree = absurd (omega (arith, n))
@@ -49,6 +61,11 @@ words-agree (name ∷ names) (x ∷ xs) (y ∷ ys) distinct m n p q agree =
     let further = words-agree names xs ys parts.1 (omega (arith, m)) (omega (arith, n)) (All-tail IsWord x xs p) (All-tail IsWord y ys q) later in
     λ i. first i ∷ further i
 
-pub memory-told : (names : List (List ℕ)) (xs ys : List ℕ) → are_distinct names ≡ true → length xs ≡ length names → length ys ≡ length names → All IsWord xs → All IsWord ys
+pub memory-told : (names : List (List ℕ)) (xs ys : List ℕ)
+    → are_distinct names ≡ true
+    → length xs ≡ length names
+    → length ys ≡ length names
+    → All IsWord xs
+    → All IsWord ys
     → members_outline (memory_members names xs) ≡ members_outline (memory_members names ys) → xs ≡ ys
 memory-told names xs ys distinct m n p q same = words-agree names xs ys distinct m n p q (λ k among. ap (named k) same)

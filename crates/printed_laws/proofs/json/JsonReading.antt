@@ -1,6 +1,11 @@
 -- JSON values that are read back from their text: each number is one, and nothing nests too deep. Such a text tells the value, up to
 -- how its numbers are spelled.
-use Rattle.printed_laws.proofs.Vocabulary.{◌≡◌, ℕ, List, [], ◌∷◌, ◌++◌, sym, ap, ◌∙◌, zero, suc, ◌≤◌, Option, unwrap_or, arith, All, Some, None, map, append_cancel_right, document, max_depth, depth, HasNumbers, items_depth, members_depth, ItemsHaveNumbers, MembersHaveNumbers, Data, string, Members, no_members, member, put, outline, compact_text, items_outline, members_outline, print-outline, IsNumber-decimal, count, All-head, All-tail, IsWord, nat_cmp, match_ordering, slice_cmp, Ordering, Less, Equal, Greater, items_of, text_or_null, max, IsNumber}
+use Rattle.printed_laws.proofs.Vocabulary.{◌≡◌, ℕ, List, [], ◌∷◌, ◌++◌, sym, ap, ◌∙◌, zero, suc, ◌≤◌, Option, unwrap_or, arith, All, Some}
+use Rattle.printed_laws.proofs.Vocabulary.{None, map, append_cancel_right, document, max_depth, depth, HasNumbers, items_depth}
+use Rattle.printed_laws.proofs.Vocabulary.{members_depth, ItemsHaveNumbers, MembersHaveNumbers, Data, string, Members, no_members, member}
+use Rattle.printed_laws.proofs.Vocabulary.{put, outline, compact_text, items_outline, members_outline, print-outline, IsNumber-decimal}
+use Rattle.printed_laws.proofs.Vocabulary.{count, All-head, All-tail, IsWord, nat_cmp, match_ordering, slice_cmp, Ordering, Less, Equal}
+use Rattle.printed_laws.proofs.Vocabulary.{Greater, items_of, text_or_null, max, IsNumber}
 use Rattle.json.specs.Json as json
 use Rattle.json.proofs.Printed.Trees.{document-print}
 
@@ -70,16 +75,25 @@ pub text-told : (d e : Data) → ReadsBack max_depth (outline d) → ReadsBack m
 text-told d e p q same =
     let a = back-parts max_depth (outline d) p in
     let b = back-parts max_depth (outline e) q in
-    let read = sym (document-print (outline d) a.0 a.1) ∙ (ap document (print-outline d ∙ (same ∙ sym (print-outline e))) ∙ document-print (outline e) b.0 b.1) in
+    let read =
+    sym (document-print (outline d) a.0 a.1)
+    ∙ (ap document (print-outline d ∙ (same ∙ sym (print-outline e))) ∙ document-print (outline e) b.0 b.1) in
     ap (λ (o : Option json.Json). unwrap_or o json.null) read
 
 -- of a text on a line of its own
-pub line-told : (d e : Data) → ReadsBack max_depth (outline d) → ReadsBack max_depth (outline e) → compact_text d ++ 10 ∷ [] ≡ compact_text e ++ 10 ∷ [] → outline d ≡ outline e
+pub line-told : (d e : Data)
+    → ReadsBack max_depth (outline d)
+    → ReadsBack max_depth (outline e)
+    → compact_text d ++ 10 ∷ [] ≡ compact_text e ++ 10 ∷ []
+    → outline d ≡ outline e
 line-told d e p q same = text-told d e p q (append_cancel_right (compact_text d) (compact_text e) (10 ∷ []) same)
 
 -- ---- values, members and items
 
-pub put-back : (levels : ℕ) (k : List ℕ) (d : Data) (ms : Members) → ReadsBack levels (outline d) → MembersReadBack levels (members_outline ms) → MembersReadBack levels (members_outline (put k d ms))
+pub put-back : (levels : ℕ) (k : List ℕ) (d : Data) (ms : Members)
+    → ReadsBack levels (outline d)
+    → MembersReadBack levels (members_outline ms)
+    → MembersReadBack levels (members_outline (put k d ms))
 put-back levels k d no_members is all = (is, tt)
 put-back levels k d (member l e ms) is all = by_order (slice_cmp nat_cmp k l) (put-back levels k d ms is all.1)
   where
@@ -90,12 +104,16 @@ put-back levels k d (member l e ms) is all = by_order (slice_cmp nat_cmp k l) (p
     by_order Greater further = (all.0, further)
 
 -- each item of a list, whatever it is of
-pub each-back : {A : Type 0} (levels : ℕ) (value : A → Data) (xs : List A) → ((x : A) → ReadsBack levels (outline (value x))) → ItemsReadBack levels (items_outline (items_of (map value xs)))
+pub each-back : {A : Type 0} (levels : ℕ) (value : A → Data) (xs : List A)
+    → ((x : A) → ReadsBack levels (outline (value x)))
+    → ItemsReadBack levels (items_outline (items_of (map value xs)))
 each-back levels value [] each = tt
 each-back levels value (x ∷ xs) each = (each x, each-back levels value xs each)
 
 -- each item, of a list of what fits
-pub all-back : {A : Type 0} (levels : ℕ) (Fits : A → Type 0) (value : A → Data) (xs : List A) → ((x : A) → Fits x → ReadsBack levels (outline (value x))) → All Fits xs
+pub all-back : {A : Type 0} (levels : ℕ) (Fits : A → Type 0) (value : A → Data) (xs : List A)
+    → ((x : A) → Fits x → ReadsBack levels (outline (value x)))
+    → All Fits xs
     → ItemsReadBack levels (items_outline (items_of (map value xs)))
 all-back levels Fits value [] each all = tt
 all-back levels Fits value (x ∷ xs) each all = (each x (All-head Fits x xs all), all-back levels Fits value xs each (All-tail Fits x xs all))

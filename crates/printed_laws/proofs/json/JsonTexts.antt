@@ -1,5 +1,6 @@
 -- What is where in a JSON value.
-use Rattle.printed_laws.proofs.Vocabulary.{◌≡◌, ℕ, Bool, true, false, List, [], ◌∷◌, refl, sym, ap, zero, suc, All, map, Data, string, outline, items_outline, All-head, All-tail, items_of}
+use Rattle.printed_laws.proofs.Vocabulary.{◌≡◌, ℕ, Bool, true, false, List, [], ◌∷◌, refl, sym, ap, zero, suc, All, map, Data, string}
+use Rattle.printed_laws.proofs.Vocabulary.{outline, items_outline, All-head, All-tail, items_of}
 use Rattle.json.specs.Json as json
 use Rattle.printed_laws.proofs.texts.Lists.{all-told}
 
@@ -63,8 +64,12 @@ words-there [] = refl
 words-there (x ∷ xs) = ap (λ (l : List (List ℕ)). x ∷ l) (words-there xs)
 
 -- what a list's values tell
-pub items-told : {A B : Type 0} (Fits : A → Type 0) (value : A → Data) (told : A → B) → ((x y : A) → Fits x → Fits y → outline (value x) ≡ outline (value y) → told x ≡ told y)
-    → (xs ys : List A) → All Fits xs → All Fits ys → items_outline (items_of (map value xs)) ≡ items_outline (items_of (map value ys)) → map told xs ≡ map told ys
+pub items-told : {A B : Type 0} (Fits : A → Type 0) (value : A → Data) (told : A → B)
+    → ((x y : A) → Fits x → Fits y → outline (value x) ≡ outline (value y) → told x ≡ told y)
+    → (xs ys : List A) → All Fits xs
+    → All Fits ys
+    → items_outline (items_of (map value xs)) ≡ items_outline (items_of (map value ys))
+    → map told xs ≡ map told ys
 items-told Fits value told each [] [] p q same = refl
 items-told Fits value told each (x ∷ xs) (y ∷ ys) p q same =
     let first = each x y (All-head Fits x xs p) (All-head Fits y ys q) (ap first_item same) in

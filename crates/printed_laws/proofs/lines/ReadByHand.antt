@@ -1,10 +1,12 @@
 -- What lines refute, read by hand, is refuted: the nodes that they name make lemmas and a tree.
-use Rattle.printed_laws.proofs.Vocabulary.{◌≡◌, ℕ, ◌+◌, ◌⊎◌, inl, inr, zero, suc, true, List, [], ◌∷◌, ◌++◌, map, refl, sym, ap, subst, ◌∙◌, Some, slice_get, append_assoc, append-nil, map-append, Litmus, Model}
+use Rattle.printed_laws.proofs.Vocabulary.{◌≡◌, ℕ, ◌+◌, ◌⊎◌, inl, inr, zero, suc, true, List, [], ◌∷◌, ◌++◌, map, refl, sym, ap, subst, ◌∙◌}
+use Rattle.printed_laws.proofs.Vocabulary.{Some, slice_get, append_assoc, append-nil, map-append, Litmus, Model}
 use Rattle.relational_model.proofs.KindFacts.{and-both}
 use Rattle.refutation_laws.proofs.Tests.{and-of}
 use Rattle.possible_reads.specs.Facts.{Fact, given_by}
 use Rattle.short_refutations.specs.Edges.{Knowledge}
-use Rattle.short_refutations.specs.Refutations.{Node, ReadsFrom, ReadsValue, Asks, IsReadBy, ComesLast, HasCase, OnLocation, Globally, Between, FalseClaim, ByLemma, Lemma, answers, applies, close, hold, is_node, known_from}
+use Rattle.short_refutations.specs.Refutations.{Node, ReadsFrom, ReadsValue, Asks, IsReadBy, ComesLast, HasCase, OnLocation, Globally}
+use Rattle.short_refutations.specs.Refutations.{Between, FalseClaim, ByLemma, Lemma, answers, applies, close, hold, is_node, known_from}
 use Rattle.search_report.specs.Lines.{Line, question_word}
 use Rattle.printed_laws.specs.ByHand.{HasClosedCase, HasOpenCase, HaveCases, LinesRefuteInTurn, LinesRefuteWithin, RefutingLinesAreRefutations}
 
@@ -13,7 +15,9 @@ use Rattle.printed_laws.specs.ByHand.{HasClosedCase, HasOpenCase, HaveCases, Lin
 abbrev facts_in : List Lemma → List (List Fact)
 facts_in lemmas = map (λ (l : Lemma). l.facts) lemmas
 
-applies-too : (t : Litmus) (k : Knowledge) (xs ys : List Lemma) (i : ℕ) → facts_in xs ≡ facts_in ys → applies t k (slice_get xs i) ≡ applies t k (slice_get ys i)
+applies-too : (t : Litmus) (k : Knowledge) (xs ys : List Lemma) (i : ℕ)
+    → facts_in xs ≡ facts_in ys
+    → applies t k (slice_get xs i) ≡ applies t k (slice_get ys i)
 applies-too t k [] [] i e = refl
 applies-too t k [] (y ∷ ys) i e = absurd (let z : ⊥ = cc in z)
 applies-too t k (x ∷ xs) [] i e = absurd (let z : ⊥ = cc in z)
@@ -22,7 +26,9 @@ applies-too t k (x ∷ xs) (y ∷ ys) zero e =
     ap (λ (facts : List Fact). applies t k (Some (record { facts = facts; tree = [] }))) same
 applies-too t k (x ∷ xs) (y ∷ ys) (suc i) e = applies-too t k xs ys i (let same : facts_in xs ≡ facts_in ys = cc in same)
 
-stands-too : (model : Model) (t : Litmus) (k : Knowledge) (xs ys : List Lemma) (n : Node) → facts_in xs ≡ facts_in ys → is_node model t xs k n ≡ is_node model t ys k n
+stands-too : (model : Model) (t : Litmus) (k : Knowledge) (xs ys : List Lemma) (n : Node)
+    → facts_in xs ≡ facts_in ys
+    → is_node model t xs k n ≡ is_node model t ys k n
 stands-too model t k xs ys (ByLemma i) e = applies-too t k xs ys i e
 stands-too model t k xs ys (ReadsFrom r) e = refl
 stands-too model t k xs ys (ReadsValue r) e = refl
@@ -66,12 +72,17 @@ module _ (model : Model) (t : Litmus) (lemmas : List Lemma) where
 
   -- where others have the same facts
   module _ (shown : List Lemma) (same : facts_in shown ≡ facts_in lemmas) where
-    of-a-leaf : (facts : List Fact) (n : Node) → is_node model t shown (known_from t facts) n ≡ true → answers t (known_from t facts) n ≡ [] → HasTree (facts ∷ [])
+    of-a-leaf : (facts : List Fact) (n : Node)
+        → is_node model t shown (known_from t facts) n ≡ true
+        → answers t (known_from t facts) n ≡ []
+        → HasTree (facts ∷ [])
     of-a-leaf facts n stands none =
         with-node facts n (sym (stands-too model t (known_from t facts) shown lemmas n same) ∙ stands)
         (subst (λ (all : List (List Fact)). HasTree (map (λ answer. answer ++ facts) all)) (sym none) (record { nodes = []; closed = refl }))
 
-    each-has-tree : (P : List Fact → List Line → Type 0) → ((facts : List Fact) (lines : List Line) → P facts lines → HasTree (facts ∷ [])) → (facts : List Fact) (question : List ℕ) (lines : List Line) (all : List (List Fact))
+    each-has-tree : (P : List Fact → List Line → Type 0)
+        → ((facts : List Fact) (lines : List Line) → P facts lines → HasTree (facts ∷ []))
+        → (facts : List Fact) (question : List ℕ) (lines : List Line) (all : List (List Fact))
         → HaveCases P model t shown facts question lines all → HasTree (map (λ answer. answer ++ facts) all)
     each-has-tree P f facts question lines [] is = record { nodes = []; closed = refl }
     each-has-tree P f facts question lines (a ∷ all) is =
@@ -91,7 +102,8 @@ module _ (model : Model) (t : Litmus) (lemmas : List Lemma) where
     trees (suc n) facts lines (inl leaf) = of-a-leaf facts leaf.closes.node leaf.closes.stands leaf.closes.unanswered
     trees (suc n) facts lines (inr asked) =
         with-node facts asked.question (sym (stands-too model t (known_from t facts) shown lemmas asked.question same) ∙ asked.stands)
-        (each-has-tree (LinesRefuteWithin model t shown n) (trees n) facts (question_word asked.question) lines (answers t (known_from t facts) asked.question) asked.cases)
+        (each-has-tree (LinesRefuteWithin model t shown n) (trees n) facts (question_word asked.question) lines
+        (answers t (known_from t facts) asked.question) asked.cases)
 
 -- ---- lemmas, and the tree below them
 
@@ -102,10 +114,18 @@ module _ (model : Model) (t : Litmus) (given : List Fact) where
     hold_all : hold model t given made more ≡ true
     closed : close model t (made ++ more) (given ∷ []) tree ≡ true
 
-  all-made : (ls : List Lemma) (shown made : List Lemma) (number : ℕ) (lines : List Line) → facts_in shown ≡ facts_in made → LinesRefuteInTurn model t given shown number ls lines → HaveTrees made
+  all-made : (ls : List Lemma) (shown made : List Lemma) (number : ℕ) (lines : List Line)
+      → facts_in shown ≡ facts_in made
+      → LinesRefuteInTurn model t given shown number ls lines
+      → HaveTrees made
   all-made [] shown made number lines same is =
       let last = trees model t made shown same is.0 given lines is.1 in
-      record { more = []; tree = last.nodes; hold_all = refl; closed = subst (λ l. close model t l (given ∷ []) last.nodes ≡ true) (sym (append-nil made)) last.closed }
+      record {
+        more = [];
+        tree = last.nodes;
+        hold_all = refl;
+        closed = subst (λ l. close model t l (given ∷ []) last.nodes ≡ true) (sym (append-nil made)) last.closed;
+      }
   all-made (l ∷ ls) shown made number lines same is =
       let first = trees model t made shown same is.refute.0 (l.facts ++ given) is.part is.refute.1 in
       let own : Lemma = record { facts = l.facts; tree = first.nodes } in

@@ -1,12 +1,19 @@
 -- What is printed of a refutation refutes, read by hand: each answer to a question has its case among the lines.
-use Rattle.printed_laws.proofs.Vocabulary.{◌≡◌, ℕ, ◌<◌, ◌-◌, ◌+◌, ◌⊎◌, inl, inr, zero, suc, Bool, true, false, if◌then◌else◌, List, [], ◌∷◌, ◌++◌, map, take, drop, length, refl, sym, ap, subst, ◌∙◌, arith, Some, None, append_assoc, append-nil, length-append, length-map, map-append, flat_map, bytes_eq, bytes_eq-Decides, Litmus, Model, asked_claim}
+use Rattle.printed_laws.proofs.Vocabulary.{◌≡◌, ℕ, ◌<◌, ◌-◌, ◌+◌, ◌⊎◌, inl, inr, zero, suc, Bool, true, false, if◌then◌else◌, List, [], ◌∷◌}
+use Rattle.printed_laws.proofs.Vocabulary.{◌++◌, map, take, drop, length, refl, sym, ap, subst, ◌∙◌, arith, Some, None, append_assoc}
+use Rattle.printed_laws.proofs.Vocabulary.{append-nil, length-append, length-map, map-append, flat_map, bytes_eq, bytes_eq-Decides, Litmus}
+use Rattle.printed_laws.proofs.Vocabulary.{Model, asked_claim}
 use Rattle.relational_model.proofs.KindFacts.{and-both}
 use Rattle.possible_reads.specs.Facts.{Fact, given_by}
 use Rattle.short_refutations.specs.Refutations.{Node, Lemma, answers, close, hold, is_node, known_from}
 use Rattle.search_report.specs.Shown.{Closing, ShownFact, shown_facts}
 use Rattle.search_report.specs.ShownText.{closing_text}
-use Rattle.search_report.specs.Lines.{Line, Case, So, Endcases, Branch, Closed, Open, Part, IsClosed, IsOpen, branches_below, closed_among, closed_case, closed_cases, deeper, first_branch, last_answer, lemma_lines, lemmas_lines, open_among, open_case, part_lines, part_of, question_lines, question_word, refutation_lines, standing, standing_at, tree_lines, tree_parts, with_closed}
-use Rattle.printed_laws.specs.ByHand.{ClosesBranch, HasClosedCase, HasOpenCase, HaveCases, PrintedLinesRefute, LinesRefute, LinesRefuteInTurn, LinesRefuteWithin, ListHas, answer_shown, lemma_line}
+use Rattle.search_report.specs.Lines.{Line, Case, So, Endcases, Branch, Closed, Open, Part, IsClosed, IsOpen, branches_below, closed_among}
+use Rattle.search_report.specs.Lines.{closed_case, closed_cases, deeper, first_branch, last_answer, lemma_lines, lemmas_lines, open_among}
+use Rattle.search_report.specs.Lines.{open_case, part_lines, part_of, question_lines, question_word, refutation_lines, standing}
+use Rattle.search_report.specs.Lines.{standing_at, tree_lines, tree_parts, with_closed}
+use Rattle.printed_laws.specs.ByHand.{ClosesBranch, HasClosedCase, HasOpenCase, HaveCases, PrintedLinesRefute, LinesRefute}
+use Rattle.printed_laws.specs.ByHand.{LinesRefuteInTurn, LinesRefuteWithin, ListHas, answer_shown, lemma_line}
 
 -- ---- lists
 
@@ -23,7 +30,8 @@ before-more xs ys x is = record {
   all = ap (λ l. l ++ ys) is.all ∙ append_assoc is.before (x ∷ is.after) ys;
 }
 
-flattened : {X Y : Type 0} (f : X → List Y) (front : List X) (x : X) (back : List X) → flat_map f (front ++ (x ∷ back)) ≡ flat_map f front ++ (f x ++ flat_map f back)
+flattened : {X Y : Type 0} (f : X → List Y) (front : List X) (x : X) (back : List X)
+    → flat_map f (front ++ (x ∷ back)) ≡ flat_map f front ++ (f x ++ flat_map f back)
 flattened f [] x back = refl
 flattened f (y ∷ front) x back = ap (λ l. f y ++ l) (flattened f front x back) ∙ sym (append_assoc (f y) (flat_map f front) (f x ++ flat_map f back))
 
@@ -53,16 +61,22 @@ joins t answer closing [] = inl (record { has = first-of answer []; words = refl
 joins t answer closing (c ∷ cs) = go (bytes_eq (closing_text t c.closing) (closing_text t closing)) refl (joins t answer closing cs)
   where
     go : (b : Bool) → bytes_eq (closing_text t c.closing) (closing_text t closing) ≡ b → IsGrouped t (with_closed t answer closing cs) answer closing
-        → IsGrouped t (if b then record { answers = c.answers ++ (answer ∷ []); closing = c.closing } ∷ cs else c ∷ with_closed t answer closing cs) answer closing
+        → IsGrouped t (if b
+        then record { answers = c.answers ++ (answer ∷ []); closing = c.closing } ∷ cs
+        else c ∷ with_closed t answer closing cs)
+        answer closing
     go true same rest = inl (record {
       has = record { before = c.answers; after = []; all = refl };
       words = (bytes_eq-Decides (closing_text t c.closing) (closing_text t closing)).0 same;
     })
     go false other rest = inr rest
 
-stays : (t : Litmus) (answer other : List ShownFact) (closing why : Closing) (cs : List Closed) → IsGrouped t cs answer closing → IsGrouped t (with_closed t other why cs) answer closing
+stays : (t : Litmus) (answer other : List ShownFact) (closing why : Closing) (cs : List Closed)
+    → IsGrouped t cs answer closing
+    → IsGrouped t (with_closed t other why cs) answer closing
 stays t answer other closing why [] is = absurd is
-stays t answer other closing why (c ∷ cs) is = go (bytes_eq (closing_text t c.closing) (closing_text t why)) is (λ later. stays t answer other closing why cs later)
+stays t answer other closing why (c ∷ cs) is =
+    go (bytes_eq (closing_text t c.closing) (closing_text t why)) is (λ later. stays t answer other closing why cs later)
   where
     go : (b : Bool) → IsGrouped t (c ∷ cs) answer closing → (IsGrouped t cs answer closing → IsGrouped t (with_closed t other why cs) answer closing)
         → IsGrouped t (if b then record { answers = c.answers ++ (other ∷ []); closing = c.closing } ∷ cs else c ∷ with_closed t other why cs) answer closing
@@ -71,9 +85,12 @@ stays t answer other closing why (c ∷ cs) is = go (bytes_eq (closing_text t c.
     go false (inl has) later = inl has
     go false (inr rest) later = inr (later rest)
 
-stays-among : (t : Litmus) (answer : List ShownFact) (closing : Closing) (ps : List Part) (cs : List Closed) → IsGrouped t cs answer closing → IsGrouped t (closed_among t cs ps) answer closing
+stays-among : (t : Litmus) (answer : List ShownFact) (closing : Closing) (ps : List Part) (cs : List Closed)
+    → IsGrouped t cs answer closing
+    → IsGrouped t (closed_among t cs ps) answer closing
 stays-among t answer closing [] cs is = is
-stays-among t answer closing (IsClosed other why ∷ ps) cs is = stays-among t answer closing ps (with_closed t other why cs) (stays t answer other closing why cs is)
+stays-among t answer closing (IsClosed other why ∷ ps) cs is =
+    stays-among t answer closing ps (with_closed t other why cs) (stays t answer other closing why cs is)
 stays-among t answer closing (IsOpen o ∷ ps) cs is = stays-among t answer closing ps cs is
 
 -- a part has its place among those that are closed, or among those that aren't
@@ -104,7 +121,10 @@ record IsInLine (t : Litmus) (question : List ℕ) (lines : List Line) (answer :
   line : ListHas lines (Case 0 question beside (Some why)) ⊎ ListHas lines (So 0 question beside (Some why))
   words : closing_text t why ≡ closing_text t closing
 
-later-line : (t : Litmus) (question : List ℕ) (l : Line) (lines : List Line) (answer : List ShownFact) (closing : Closing) → IsInLine t question lines answer closing → IsInLine t question (l ∷ lines) answer closing
+later-line : (t : Litmus) (question : List ℕ) (l : Line) (lines : List Line) (answer : List ShownFact)
+    (closing : Closing)
+    → IsInLine t question lines answer closing
+    → IsInLine t question (l ∷ lines) answer closing
 later-line t question l lines answer closing is = record { beside = is.beside; among = is.among; why = is.why; line = go is.line; words = is.words }
   where
     go : ListHas lines (Case 0 question is.beside (Some is.why)) ⊎ ListHas lines (So 0 question is.beside (Some is.why))
@@ -112,18 +132,30 @@ later-line t question l lines answer closing is = record { beside = is.beside; a
     go (inl there) = inl (behind-one l lines _ there)
     go (inr there) = inr (behind-one l lines _ there)
 
-as-case : (t : Litmus) (question : List ℕ) (c : Closed) (rest : List Line) (answer : List ShownFact) (closing : Closing) → HasAnswer t c answer closing → IsInLine t question (closed_case question c ∷ rest) answer closing
+as-case : (t : Litmus) (question : List ℕ) (c : Closed) (rest : List Line) (answer : List ShownFact) (closing : Closing)
+    → HasAnswer t c answer closing
+    → IsInLine t question (closed_case question c ∷ rest) answer closing
 as-case t question c rest answer closing is = record { beside = c.answers; among = is.has; why = c.closing; line = inl (first-of _ rest); words = is.words }
 
-in-closed-cases : (t : Litmus) (question : List ℕ) (cs : List Closed) (answer : List ShownFact) (closing : Closing) → IsGrouped t cs answer closing → IsInLine t question (closed_cases question cs) answer closing
+in-closed-cases : (t : Litmus) (question : List ℕ) (cs : List Closed) (answer : List ShownFact) (closing : Closing)
+    → IsGrouped t cs answer closing
+    → IsInLine t question (closed_cases question cs) answer closing
 in-closed-cases t question [] answer closing is = absurd is
-in-closed-cases t question (c ∷ []) answer closing (inl is) = record { beside = c.answers; among = is.has; why = c.closing; line = inr (first-of _ []); words = is.words }
+in-closed-cases t question (c ∷ []) answer closing (inl is) = record {
+  beside = c.answers;
+  among = is.has;
+  why = c.closing;
+  line = inr (first-of _ []);
+  words = is.words;
+}
 in-closed-cases t question (c ∷ []) answer closing (inr none) = absurd none
 in-closed-cases t question (c ∷ (d ∷ cs)) answer closing (inl is) = as-case t question c (closed_cases question (d ∷ cs)) answer closing is
 in-closed-cases t question (c ∷ (d ∷ cs)) answer closing (inr is) =
     later-line t question (closed_case question c) (closed_cases question (d ∷ cs)) answer closing (in-closed-cases t question (d ∷ cs) answer closing is)
 
-in-first-cases : (t : Litmus) (question : List ℕ) (cs : List Closed) (rest : List Line) (answer : List ShownFact) (closing : Closing) → IsGrouped t cs answer closing
+in-first-cases : (t : Litmus) (question : List ℕ) (cs : List Closed) (rest : List Line) (answer : List ShownFact)
+    (closing : Closing)
+    → IsGrouped t cs answer closing
     → IsInLine t question (map (closed_case question) cs ++ rest) answer closing
 in-first-cases t question [] rest answer closing is = absurd is
 in-first-cases t question (c ∷ cs) rest answer closing (inl is) = as-case t question c (map (closed_case question) cs ++ rest) answer closing is
@@ -141,7 +173,8 @@ in-question t question cs (o ∷ (p ∷ os)) answer closing is =
 record IsFollowed (question : List ℕ) (lines : List Line) (o : Open) : Type 0 where
   before : List Line
   after : List Line
-  line : (lines ≡ before ++ (Case 0 question (o.answer ∷ []) None ∷ (map deeper o.lines ++ after))) ⊎ (lines ≡ before ++ (So 0 question (o.answer ∷ []) None ∷ o.lines))
+  line : (lines ≡ before ++ (Case 0 question (o.answer ∷ []) None ∷ (map deeper o.lines ++ after)))
+      ⊎ (lines ≡ before ++ (So 0 question (o.answer ∷ []) None ∷ o.lines))
 
 no-open : (o : Open) (front back : List Open) → [] ≡ front ++ (o ∷ back) → ⊥
 no-open o [] back e = cc
@@ -151,10 +184,17 @@ open-in-question : (question : List ℕ) (cs : List Closed) (os : List Open) (o 
 open-in-question question cs [] o is = absurd (no-open o is.before is.after is.all)
 open-in-question question cs (x ∷ []) o is = go is.before is.all
   where
-    go : (front : List Open) → x ∷ [] ≡ front ++ (o ∷ is.after) → IsFollowed question (map (closed_case question) cs ++ (So 0 question (x.answer ∷ []) None ∷ x.lines)) o
+    go : (front : List Open)
+        → x ∷ [] ≡ front ++ (o ∷ is.after)
+        → IsFollowed question (map (closed_case question) cs ++ (So 0 question (x.answer ∷ []) None ∷ x.lines)) o
     go [] e =
         let same : x ≡ o = cc in
-        record { before = map (closed_case question) cs; after = []; line = inr (ap (λ (y : Open). map (closed_case question) cs ++ (So 0 question (y.answer ∷ []) None ∷ y.lines)) same) }
+        record {
+          before = map (closed_case question) cs;
+          after = [];
+          line =
+              inr (ap (λ (y : Open). map (closed_case question) cs ++ (So 0 question (y.answer ∷ []) None ∷ y.lines)) same);
+        }
     go (y ∷ front) e = absurd (no-open o front is.after (let z : [] ≡ front ++ (o ∷ is.after) = cc in z))
 open-in-question question cs (x ∷ (y ∷ os)) o is =
     let first = map (closed_case question) cs in
@@ -174,11 +214,21 @@ open-in-question question cs (x ∷ (y ∷ os)) o is =
 
 module _ (model : Model) (t : Litmus) (lemmas : List Lemma) where
   -- what refutes with fewer questions within questions does with more
-  raise-open : (P Q : List Fact → List Line → Type 0) → ((facts : List Fact) (lines : List Line) → P facts lines → Q facts lines) → (facts : List Fact) (question : List ℕ) (lines : List Line) (answer : List Fact)
+  raise-open : (P Q : List Fact → List Line → Type 0)
+      → ((facts : List Fact) (lines : List Line) → P facts lines → Q facts lines)
+      → (facts : List Fact) (question : List ℕ) (lines : List Line) (answer : List Fact)
       → HasOpenCase P t facts question lines answer → HasOpenCase Q t facts question lines answer
-  raise-open P Q f facts question lines answer is = record { before = is.before; part = is.part; after = is.after; line = is.line; refute = f (answer ++ facts) is.part is.refute }
+  raise-open P Q f facts question lines answer is = record {
+    before = is.before;
+    part = is.part;
+    after = is.after;
+    line = is.line;
+    refute = f (answer ++ facts) is.part is.refute;
+  }
 
-  raise-cases : (P Q : List Fact → List Line → Type 0) → ((facts : List Fact) (lines : List Line) → P facts lines → Q facts lines) → (facts : List Fact) (question : List ℕ) (lines : List Line) (all : List (List Fact))
+  raise-cases : (P Q : List Fact → List Line → Type 0)
+      → ((facts : List Fact) (lines : List Line) → P facts lines → Q facts lines)
+      → (facts : List Fact) (question : List ℕ) (lines : List Line) (all : List (List Fact))
       → HaveCases P model t lemmas facts question lines all → HaveCases Q model t lemmas facts question lines all
   raise-cases P Q f facts question lines [] is = tt
   raise-cases P Q f facts question lines (a ∷ all) is = (either is.0, raise-cases P Q f facts question lines all is.1)
@@ -188,7 +238,9 @@ module _ (model : Model) (t : Litmus) (lemmas : List Lemma) where
       either (inl closed) = inl closed
       either (inr open-one) = inr (raise-open P Q f facts question lines a open-one)
 
-  raise : (n : ℕ) (facts : List Fact) (lines : List Line) → LinesRefuteWithin model t lemmas n facts lines → LinesRefuteWithin model t lemmas (suc n) facts lines
+  raise : (n : ℕ) (facts : List Fact) (lines : List Line)
+      → LinesRefuteWithin model t lemmas n facts lines
+      → LinesRefuteWithin model t lemmas (suc n) facts lines
   raise zero facts lines is = absurd is
   raise (suc n) facts lines (inl leaf) = inl leaf
   raise (suc n) facts lines (inr asked) = inr (record {
@@ -231,7 +283,9 @@ module _ (model : Model) (t : Litmus) (lemmas : List Lemma) where
 
   -- of a part whose line closes it
   closed-has-case : (facts : List Fact) (question : List ℕ) (lines : List Line) (a : List Fact) (answer : List ShownFact) (closing : Closing)
-      → answer ≡ shown_facts t (known_from t (a ++ facts)) (last_answer (below_answer facts a)) → ClosesBranch model t lemmas (a ++ facts) closing → IsInLine t question lines answer closing
+      → answer ≡ shown_facts t (known_from t (a ++ facts)) (last_answer (below_answer facts a))
+      → ClosesBranch model t lemmas (a ++ facts) closing
+      → IsInLine t question lines answer closing
       → HasClosedCase model t lemmas facts question lines a
   closed-has-case facts question lines a answer closing shown closes is = record {
     beside = is.beside;
@@ -242,14 +296,17 @@ module _ (model : Model) (t : Litmus) (lemmas : List Lemma) where
   }
 
   open-has-case : (n : ℕ) (facts : List Fact) (question : List ℕ) (lines : List Line) (a : List Fact) (o : Open)
-      → o.answer ≡ shown_facts t (known_from t (a ++ facts)) (last_answer (below_answer facts a)) → LinesRefuteWithin model t lemmas n (a ++ facts) o.lines → IsFollowed question lines o
+      → o.answer ≡ shown_facts t (known_from t (a ++ facts)) (last_answer (below_answer facts a))
+      → LinesRefuteWithin model t lemmas n (a ++ facts) o.lines
+      → IsFollowed question lines o
       → HasOpenCase (LinesRefuteWithin model t lemmas n) t facts question lines a
   open-has-case n facts question lines a o shown refutes_it is =
       let told = shown ∙ ap (shown_facts t (known_from t (a ++ facts))) (first-part a facts) in
       record { before = is.before; part = o.lines; after = is.after; line = go told is.line; refute = refutes_it }
     where
       go : o.answer ≡ answer_shown t facts a
-          → (lines ≡ is.before ++ (Case 0 question (o.answer ∷ []) None ∷ (map deeper o.lines ++ is.after))) ⊎ (lines ≡ is.before ++ (So 0 question (o.answer ∷ []) None ∷ o.lines))
+          → (lines ≡ is.before ++ (Case 0 question (o.answer ∷ []) None ∷ (map deeper o.lines ++ is.after)))
+          ⊎ (lines ≡ is.before ++ (So 0 question (o.answer ∷ []) None ∷ o.lines))
           → (lines ≡ is.before ++ (Case 0 question (answer_shown t facts a ∷ []) None ∷ (map deeper o.lines ++ is.after)))
           ⊎ (lines ≡ is.before ++ (So 0 question (answer_shown t facts a ∷ []) None ∷ o.lines))
       go told (inl e) = inl (e ∙ ap (λ l. is.before ++ (Case 0 question (l ∷ []) None ∷ (map deeper o.lines ++ is.after))) told)
@@ -262,7 +319,8 @@ module _ (model : Model) (t : Litmus) (lemmas : List Lemma) where
   all-cases n facts question cs os [] ps are placed = tt
   all-cases n facts question cs os (a ∷ all) [] are placed = absurd are
   all-cases n facts question cs os (a ∷ all) (IsClosed answer closing ∷ ps) are placed = (
-    inl (closed-has-case facts question (question_lines question cs os) a answer closing are.0.0 are.0.1 (in-question t question cs os answer closing placed.0)),
+    inl (closed-has-case facts question (question_lines question cs os) a answer closing are.0.0 are.0.1
+        (in-question t question cs os answer closing placed.0)),
     all-cases n facts question cs os all ps are.1 placed.1,
   )
   all-cases n facts question cs os (a ∷ all) (IsOpen o ∷ ps) are placed = (
@@ -272,7 +330,9 @@ module _ (model : Model) (t : Litmus) (lemmas : List Lemma) where
 
   -- the part of a node, where these are the parts of its branches
   node-part : (n : ℕ) (b : Branch) (node : Node) (all : List (List Fact)) (ps : List Part) → is_node model t lemmas (known_from t b.facts) node ≡ true
-      → answers t (known_from t b.facts) node ≡ all → ArePartsOf n (map (below_answer b.facts) all) ps → IsPartOf (suc n) b (part_of t (standing_at model t b node) ps)
+      → answers t (known_from t b.facts) node ≡ all
+      → ArePartsOf n (map (below_answer b.facts) all) ps
+      → IsPartOf (suc n) b (part_of t (standing_at model t b node) ps)
   node-part n b node [] [] stands is are = (refl, record { node = node; stands = stands; unanswered = is; words = refl })
   node-part n b node [] (p ∷ ps) stands is are = absurd are
   node-part n b node (a ∷ all) [] stands is are = absurd are
@@ -288,7 +348,8 @@ module _ (model : Model) (t : Litmus) (lemmas : List Lemma) where
     }),
   )
 
-  facts-below : (facts : List Fact) (all : List (List Fact)) → map (λ (b : Branch). b.facts) (map (below_answer facts) all) ≡ map (λ answer. answer ++ facts) all
+  facts-below : (facts : List Fact) (all : List (List Fact))
+      → map (λ (b : Branch). b.facts) (map (below_answer facts) all) ≡ map (λ answer. answer ++ facts) all
   facts-below facts [] = refl
   facts-below facts (a ∷ all) = ap (λ l. (a ++ facts) ∷ l) (facts-below facts all)
 
@@ -299,7 +360,9 @@ module _ (model : Model) (t : Litmus) (lemmas : List Lemma) where
   parts-show (n ∷ ns) [] h = absurd (let z : ⊥ = cc in z)
   parts-show (n ∷ ns) (b ∷ bs) h =
       let all = answers t (known_from t b.facts) n in
-      let both = and-both (is_node model t lemmas (known_from t b.facts) n) (close model t lemmas (map (λ answer. answer ++ b.facts) all ++ map (λ (c : Branch). c.facts) bs) ns) h in
+      let both =
+      and-both (is_node model t lemmas (known_from t b.facts) n)
+      (close model t lemmas (map (λ answer. answer ++ b.facts) all ++ map (λ (c : Branch). c.facts) bs) ns) h in
       let under = branches_below t b n in
       let are : map (λ (c : Branch). c.facts) (under ++ bs) ≡ map (λ answer. answer ++ b.facts) all ++ map (λ (c : Branch). c.facts) bs =
       map-append (λ (c : Branch). c.facts) under bs ∙ ap (λ l. l ++ map (λ (c : Branch). c.facts) bs) (facts-below b.facts all) in
@@ -311,7 +374,9 @@ module _ (model : Model) (t : Litmus) (lemmas : List Lemma) where
       )
 
   -- the lines of a tree
-  pub tree-shows : (facts : List Fact) (ns : List Node) → close model t lemmas (facts ∷ []) ns ≡ true → LinesRefute model t lemmas facts (tree_lines model t facts ns)
+  pub tree-shows : (facts : List Fact) (ns : List Node)
+      → close model t lemmas (facts ∷ []) ns ≡ true
+      → LinesRefute model t lemmas facts (tree_lines model t facts ns)
   tree-shows facts ns h = go (tree_parts t (standing model t (first_branch facts ∷ []) ns)) (parts-show ns (first_branch facts ∷ []) h)
     where
       one : (p : Part) → IsPartOf (length ns) (first_branch facts) p → LinesRefute model t lemmas facts (part_lines p ++ [])
@@ -326,9 +391,12 @@ module _ (model : Model) (t : Litmus) (lemmas : List Lemma) where
 -- ---- lemmas
 
 module _ (model : Model) (t : Litmus) (given : List Fact) where
-  all-shown : (ls : List Lemma) (shown : List Lemma) (number : ℕ) (tree : List Node) → hold model t given shown ls ≡ true → close model t (shown ++ ls) (given ∷ []) tree ≡ true
+  all-shown : (ls : List Lemma) (shown : List Lemma) (number : ℕ) (tree : List Node)
+      → hold model t given shown ls ≡ true
+      → close model t (shown ++ ls) (given ∷ []) tree ≡ true
       → LinesRefuteInTurn model t given shown number ls (lemmas_lines model t given number ls ++ tree_lines model t given tree)
-  all-shown [] shown number tree h closes = tree-shows model t shown given tree (subst (λ l. close model t l (given ∷ []) tree ≡ true) (append-nil shown) closes)
+  all-shown [] shown number tree h closes =
+      tree-shows model t shown given tree (subst (λ l. close model t l (given ∷ []) tree ≡ true) (append-nil shown) closes)
   all-shown (l ∷ ls) shown number tree h closes =
       let both = and-both (close model t shown ((l.facts ++ given) ∷ []) l.tree) (hold model t given (shown ++ (l ∷ [])) ls) h in
       let part = tree_lines model t (l.facts ++ given) l.tree in
@@ -340,7 +408,9 @@ module _ (model : Model) (t : Litmus) (given : List Fact) where
         line = append_assoc (lemma_lines model t given number l) more last
             ∙ append_assoc (lemma_line t given number l ∷ []) (map deeper part) (more ++ last);
         refute = tree-shows model t shown (l.facts ++ given) l.tree both.0;
-        others = all-shown ls (shown ++ (l ∷ [])) (number + 1) tree both.1 (subst (λ k. close model t k (given ∷ []) tree ≡ true) (sym (append_assoc shown (l ∷ []) ls)) closes);
+        others =
+            all-shown ls (shown ++ (l ∷ [])) (number + 1) tree both.1
+            (subst (λ k. close model t k (given ∷ []) tree ≡ true) (sym (append_assoc shown (l ∷ []) ls)) closes);
       }
 
 pub printed-lines-refute : PrintedLinesRefute

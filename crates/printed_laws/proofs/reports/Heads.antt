@@ -1,5 +1,9 @@
 -- The first two lines of a report, and of a sweep, tell the test's name, the protocol and the configuration.
-use Rattle.printed_laws.proofs.Vocabulary.{◌≡◌, ℕ, ◌^◌, ◌<◌, true, List, [], ◌∷◌, ◌++◌, get_or, refl, sym, ap, ◌∙◌, arith, inl, inr, ◌==◌, if◌then◌else◌, decimal, list_all, and_parts, append_cancel_left, append_assoc, codes, line, bus_text, machine_line, head, NameTheSame, Litmus, IsTest, is_printable, is_test_name, Bus, Atomic, Split, protocol_name, ProtocolKind, IsLineSize, Configuration, IsConfigurationWithinLimits}
+use Rattle.printed_laws.proofs.Vocabulary.{◌≡◌, ℕ, ◌^◌, ◌<◌, true, List, [], ◌∷◌, ◌++◌, get_or, refl, sym, ap, ◌∙◌, arith, inl, inr, ◌==◌}
+use Rattle.printed_laws.proofs.Vocabulary.{if◌then◌else◌, decimal, list_all, and_parts, append_cancel_left, append_assoc, codes, line}
+use Rattle.printed_laws.proofs.Vocabulary.{bus_text, machine_line, head, NameTheSame, Litmus, IsTest, is_printable, is_test_name, Bus}
+use Rattle.printed_laws.proofs.Vocabulary.{Atomic, Split, protocol_name, ProtocolKind, IsLineSize, Configuration}
+use Rattle.printed_laws.proofs.Vocabulary.{IsConfigurationWithinLimits}
 use Rattle.protocol_tables.specs.declared.kind.ProtocolKind.TheVariants.{Msi, Mesi, Moesi, Mosi}
 use Rattle.printed_laws.proofs.texts.Cutting.{Stops, AreSmall, unlike, filled, run-cut, filled-cut, same-cut}
 
@@ -41,12 +45,29 @@ printable-name (c ∷ cs) is =
 -- ---- the lines
 
 machine-flat : (name depth sets ways words bus rest : List ℕ)
-    → (codes "Machine " ++ (name ++ (codes " depth=" ++ (depth ++ line ((codes " sets=" ++ (sets ++ (codes " ways=" ++ (ways ++ (codes " words=" ++ words))))) ++ bus))))) ++ rest
-    ≡ codes "Machine " ++ (name ++ 32 ∷ (codes "depth=" ++ (depth ++ (codes " sets=" ++ (sets ++ (codes " ways=" ++ (ways ++ (codes " words=" ++ (words ++ (bus ++ 10 ∷ rest))))))))))
+    → (codes "Machine "
+    ++ (name
+    ++ (codes " depth="
+    ++ (depth
+    ++ line ((codes " sets=" ++ (sets ++ (codes " ways=" ++ (ways ++ (codes " words=" ++ words))))) ++ bus)))))
+    ++ rest
+    ≡ codes "Machine "
+    ++ (name ++ 32
+    ∷ (codes "depth="
+    ++ (depth
+    ++ (codes " sets="
+    ++ (sets ++ (codes " ways=" ++ (ways ++ (codes " words=" ++ (words ++ (bus ++ 10 ∷ rest))))))))))
 machine-flat name depth sets ways words bus rest = simp append_assoc
 
-pub same-configuration : (c d : Configuration) → c.depth ≡ d.depth → c.shape.sets ≡ d.shape.sets → c.shape.ways ≡ d.shape.ways → c.shape.words ≡ d.shape.words → c.bus ≡ d.bus → c ≡ d
-same-configuration c d depth sets ways words bus = λ i. record { depth = depth i; shape = record { sets = sets i; ways = ways i; words = words i }; bus = bus i }
+pub same-configuration : (c d : Configuration)
+    → c.depth ≡ d.depth
+    → c.shape.sets ≡ d.shape.sets
+    → c.shape.ways ≡ d.shape.ways
+    → c.shape.words ≡ d.shape.words
+    → c.bus ≡ d.bus
+    → c ≡ d
+same-configuration c d depth sets ways words bus =
+    λ i. record { depth = depth i; shape = record { sets = sets i; ways = ways i; words = words i }; bus = bus i }
 
 abbrev machine_numbers : Configuration → List ℕ
 machine_numbers c = c.depth ∷ c.shape.sets ∷ c.shape.ways ∷ c.shape.words ∷ []
@@ -60,8 +81,12 @@ machine-cut kind other_kind c d rest other p q e =
     let from_depth = λ (x : Configuration) (after : List ℕ). filled labels (machine_numbers x) (bus_text x.bus ++ 10 ∷ after) in
     let few : (x : Configuration) → IsConfigurationWithinLimits x → AreSmall (machine_numbers x) = λ x within.
     (omega (arith, within.0), (omega (arith, within.1.few_sets), (omega (arith, within.1.few_ways), (line-small x.shape.words within.1.line_size, tt)))) in
-    let protocol = protocol-cut kind other_kind (from_depth c rest) (from_depth d other) (append_cancel_left (codes "Machine ") _ _ (sym (flat kind c rest) ∙ (e ∙ flat other_kind d other))) in
-    let numbers = filled-cut labels (machine_numbers c) (machine_numbers d) (bus_text c.bus ++ 10 ∷ rest) (bus_text d.bus ++ 10 ∷ other) refl refl refl (few c p) (few d q)
+    let protocol =
+    protocol-cut kind other_kind (from_depth c rest) (from_depth d other)
+    (append_cancel_left (codes "Machine ") _ _ (sym (flat kind c rest) ∙ (e ∙ flat other_kind d other))) in
+    let numbers =
+    filled-cut labels (machine_numbers c) (machine_numbers d) (bus_text c.bus ++ 10 ∷ rest)
+    (bus_text d.bus ++ 10 ∷ other) refl refl refl (few c p) (few d q)
     (bus-stops c.bus rest) (bus-stops d.bus other) protocol.1 in
     let told = λ (k : ℕ). ap (λ (l : List ℕ). get_or l k 0) numbers.0 in
     let bus = bus-cut c.bus d.bus rest other numbers.1 in
@@ -70,14 +95,20 @@ machine-cut kind other_kind c d rest other p q e =
 test-flat : (name machine rest : List ℕ) → ((codes "Test " ++ line name) ++ machine) ++ rest ≡ codes "Test " ++ (name ++ 10 ∷ (machine ++ rest))
 test-flat name machine rest = simp append_assoc
 
-pub head-cut : (t u : Litmus) (kind other_kind : ProtocolKind) (c d : Configuration) (rest other : List ℕ) → IsTest t → IsTest u → IsConfigurationWithinLimits c → IsConfigurationWithinLimits d
+pub head-cut : (t u : Litmus) (kind other_kind : ProtocolKind) (c d : Configuration) (rest other : List ℕ)
+    → IsTest t
+    → IsTest u
+    → IsConfigurationWithinLimits c
+    → IsConfigurationWithinLimits d
     → head t kind c ++ rest ≡ head u other_kind d ++ other → NameTheSame t u kind other_kind c d × (rest ≡ other)
 head-cut t u kind other_kind c d rest other test test' p q e =
     let machine = machine_line kind c in
     let machine' = machine_line other_kind d in
     let flat = sym (test-flat t.name machine rest) ∙ (e ∙ test-flat u.name machine' other) in
     let named = append_cancel_left (codes "Test ") (t.name ++ 10 ∷ (machine ++ rest)) (u.name ++ 10 ∷ (machine' ++ other)) flat in
-    let name = run-cut is_printable t.name u.name (10 ∷ (machine ++ rest)) (10 ∷ (machine' ++ other)) (printable-name t.name test.name_spelled) (printable-name u.name test'.name_spelled) refl refl named in
+    let name =
+    run-cut is_printable t.name u.name (10 ∷ (machine ++ rest)) (10 ∷ (machine' ++ other))
+    (printable-name t.name test.name_spelled) (printable-name u.name test'.name_spelled) refl refl named in
     let ended = append_cancel_left (10 ∷ []) (machine ++ rest) (machine' ++ other) name.1 in
     let told = machine-cut kind other_kind c d rest other p q ended in
     (record { test = name.0; protocol = told.0; configuration = told.1 }, told.2)

@@ -1,5 +1,10 @@
 -- The JSON value of a run is read back from its text.
-use Rattle.printed_laws.proofs.Vocabulary.{ℕ, ◌^◌, ◌<◌, Bool, List, ◌∷◌, suc, ◌≤◌, Option, arith, All, Some, ◌-◌, string, outline, members_outline, IsNumber-decimal, count, counts_value, condition_value, with_bus, configuration_members, machine_value, memory_members, registers_value, run_members, Litmus, Bus, Atomic, Split, ProtocolKind, Configuration, IsConfigurationWithinLimits, All-head, All-tail, Condition, IsWord, AreRegisters, index_of, value_in, Reg, IsAtMost, Counts, printed_entry, ShownRun, Eax, Ebx, Ecx, Edx, Esi, Edi}
+use Rattle.printed_laws.proofs.Vocabulary.{ℕ, ◌^◌, ◌<◌, Bool, List, ◌∷◌, suc, ◌≤◌, Option, arith, All, Some, ◌-◌, string, outline}
+use Rattle.printed_laws.proofs.Vocabulary.{members_outline, IsNumber-decimal, count, counts_value, condition_value, with_bus}
+use Rattle.printed_laws.proofs.Vocabulary.{configuration_members, machine_value, memory_members, registers_value, run_members, Litmus, Bus}
+use Rattle.printed_laws.proofs.Vocabulary.{Atomic, Split, ProtocolKind, Configuration, IsConfigurationWithinLimits, All-head, All-tail}
+use Rattle.printed_laws.proofs.Vocabulary.{Condition, IsWord, AreRegisters, index_of, value_in, Reg, IsAtMost, Counts, printed_entry}
+use Rattle.printed_laws.proofs.Vocabulary.{ShownRun, Eax, Ebx, Ecx, Edx, Esi, Edi}
 use Rattle.tso_report.specs.Limits.{IsSmall}
 use Rattle.printed_laws.proofs.reports.Counted.{small}
 use Rattle.printed_laws.proofs.reports.Heads.{line-small}
@@ -21,16 +26,28 @@ machine-back levels kind c within = by_bus c.bus
     members : MembersReadBack levels (members_outline (configuration_members kind c))
     members =
         let is = λ (n : ℕ) (less : n < 2 ^ 64). IsNumber-decimal n less in
-        let shape = within.1 in
-        (is _ (omega (arith, within.0)), (tt, (is _ (omega (arith, shape.few_sets)), (is _ (omega (arith, shape.few_ways)), (is _ (line-small c.shape.words shape.line_size), tt)))))
+        let shape = within.1 in (
+          is _ (omega (arith, within.0)),
+          (
+            tt,
+            (
+              is _ (omega (arith, shape.few_sets)),
+              (is _ (omega (arith, shape.few_ways)), (is _ (line-small c.shape.words shape.line_size), tt)),
+            ),
+          ),
+        )
 
     by_bus : (bus : Bus) → MembersReadBack levels (members_outline (with_bus bus (configuration_members kind c)))
     by_bus Atomic = members
     by_bus Split = (tt, members)
 
-pub memory-back : (levels : ℕ) (names : List (List ℕ)) (words : List ℕ) → All IsWord words → MembersReadBack levels (members_outline (memory_members names words))
+pub memory-back : (levels : ℕ) (names : List (List ℕ)) (words : List ℕ)
+    → All IsWord words
+    → MembersReadBack levels (members_outline (memory_members names words))
 memory-back levels (name ∷ names) (word ∷ words) all =
-    put-back levels name (count word) (memory_members names words) (word-back levels word (All-head IsWord word words all)) (memory-back levels names words (All-tail IsWord word words all))
+    put-back levels name (count word) (memory_members names words)
+    (word-back levels word (All-head IsWord word words all))
+    (memory-back levels names words (All-tail IsWord word words all))
 memory-back levels _ _ all = tt
 
 pub registers-back : (levels : ℕ) (registers : List ℕ) → All IsWord registers → ReadsBack (suc levels) (outline (registers_value registers))
@@ -39,7 +56,10 @@ registers-back levels registers all =
     (is Eax, (is Ebx, (is Ecx, (is Edi, (is Edx, (is Esi, tt))))))
 
 -- the members of a run
-pub run-back : (t : Litmus) (kind : ProtocolKind) (c : Configuration) (s : ShownRun) → IsConfigurationWithinLimits c → IsSmall t s → MembersReadBack 127 (members_outline (run_members t kind c s))
+pub run-back : (t : Litmus) (kind : ProtocolKind) (c : Configuration) (s : ShownRun)
+    → IsConfigurationWithinLimits c
+    → IsSmall t s
+    → MembersReadBack 127 (members_outline (run_members t kind c s))
 run-back t kind c s within p =
     let memory = memory-back 126 t.locations s.memory p.memory in
     let order = each-back 126 (λ e. string (printed_entry t e)) s.order (λ e. tt) in

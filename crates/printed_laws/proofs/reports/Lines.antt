@@ -1,5 +1,9 @@
 -- The lines of a report, one after the other: what each begins a text with is told by the text.
-use Rattle.printed_laws.proofs.Vocabulary.{◌≡◌, ℕ, Bool, true, false, List, [], ◌∷◌, ◌++◌, get_or, refl, sym, ap, ◌∙◌, Option, arith, length, All, Some, None, is_some, ◌==◌, map, decimal, append_cancel_left, append_assoc, length-map, codes, line, printed_registers, register_lines, printed_words, printed_quantifier, printed_truth, printed_verdict, all_registers, Condition, IsWord, AreRegisters, index_of, name_of, value_in, Reg}
+use Rattle.printed_laws.proofs.Vocabulary.{◌≡◌, ℕ, Bool, true, false, List, [], ◌∷◌, ◌++◌, get_or, refl, sym, ap, ◌∙◌, Option, arith}
+use Rattle.printed_laws.proofs.Vocabulary.{length, All, Some, None, is_some, ◌==◌, map, decimal, append_cancel_left, append_assoc}
+use Rattle.printed_laws.proofs.Vocabulary.{length-map, codes, line, printed_registers, register_lines, printed_words, printed_quantifier}
+use Rattle.printed_laws.proofs.Vocabulary.{printed_truth, printed_verdict, all_registers, Condition, IsWord, AreRegisters, index_of}
+use Rattle.printed_laws.proofs.Vocabulary.{name_of, value_in, Reg}
 use Rattle.printed_laws.proofs.texts.Cutting.{Stops, AreSmall, unlike, filled, filled-cut, labels-are, words-small}
 use Rattle.printed_laws.proofs.texts.Lists.{Tells, list-cut, all-told, word-at}
 
@@ -18,10 +22,14 @@ values-small registers (reg ∷ regs) all = let word = word-at registers (index_
 abbrev label_of : List ℕ → List ℕ
 label_of name = codes " " ++ (name ++ codes "=")
 
-pub labelled-flat : (name value more rest : List ℕ) → ((codes " " ++ (name ++ (codes "=" ++ value))) ++ more) ++ rest ≡ (codes " " ++ (name ++ codes "=")) ++ (value ++ (more ++ rest))
+pub labelled-flat : (name value more rest : List ℕ)
+    → ((codes " " ++ (name ++ (codes "=" ++ value))) ++ more) ++ rest
+    ≡ (codes " " ++ (name ++ codes "=")) ++ (value ++ (more ++ rest))
 labelled-flat name value more rest = simp append_assoc
 
-registers-filled : (xs : List ℕ) (regs : List Reg) (rest : List ℕ) → printed_registers xs regs ++ rest ≡ filled (map (λ reg. label_of (name_of reg)) regs) (map (value_in xs) regs) rest
+registers-filled : (xs : List ℕ) (regs : List Reg) (rest : List ℕ)
+    → printed_registers xs regs ++ rest
+    ≡ filled (map (λ reg. label_of (name_of reg)) regs) (map (value_in xs) regs) rest
 registers-filled xs [] rest = refl
 registers-filled xs (reg ∷ regs) rest =
     labelled-flat (name_of reg) (decimal (value_in xs reg)) (printed_registers xs regs) rest
@@ -30,7 +38,8 @@ registers-filled xs (reg ∷ regs) rest =
 register-line-flat : (core text rest : List ℕ) → (codes "Registers P" ++ (core ++ line text)) ++ rest ≡ (codes "Registers P" ++ core) ++ (text ++ 10 ∷ rest)
 register-line-flat core text rest = simp append_assoc
 
-register-line-cut : (core : ℕ) → Tells AreRegisters (λ rest. Unit) (λ xs. codes "Registers P" ++ (decimal core ++ line (printed_registers xs all_registers))) (λ xs. xs)
+register-line-cut : (core : ℕ)
+    → Tells AreRegisters (λ rest. Unit) (λ xs. codes "Registers P" ++ (decimal core ++ line (printed_registers xs all_registers))) (λ xs. xs)
 register-line-cut core x y rest other p q f f' e =
     let text = λ (xs : List ℕ). printed_registers xs all_registers in
     let flat = sym (register-line-flat (decimal core) (text x) rest) ∙ (e ∙ register-line-flat (decimal core) (text y) other) in
@@ -38,7 +47,9 @@ register-line-cut core x y rest other p q f f' e =
     let split = sym (registers-filled x all_registers (10 ∷ rest)) ∙ (numbered ∙ registers-filled y all_registers (10 ∷ other)) in
     let labels = map (λ reg. label_of (name_of reg)) all_registers in
     let size = λ (xs : List ℕ). length-map all_registers (value_in xs) ∙ sym (length-map all_registers (λ reg. label_of (name_of reg))) in
-    let cut = filled-cut labels (map (value_in x) all_registers) (map (value_in y) all_registers) (10 ∷ rest) (10 ∷ other) (labels-are (λ reg. label_of (name_of reg)) all_registers (λ reg. refl)) (size x) (size y)
+    let cut =
+    filled-cut labels (map (value_in x) all_registers) (map (value_in y) all_registers) (10 ∷ rest) (10 ∷ other)
+    (labels-are (λ reg. label_of (name_of reg)) all_registers (λ reg. refl)) (size x) (size y)
     (values-small x all_registers p.words) (values-small y all_registers q.words) refl refl split in
     (sym (all-values x p.six) ∙ (cut.0 ∙ all-values y q.six), append_cancel_left (10 ∷ []) rest other cut.1)
 
@@ -49,7 +60,10 @@ NoRegisters rest = (82 == get_or rest 0 0) ≡ false
 pub register-lines-cut : (xs ys : List (List ℕ)) (rest other : List ℕ) → All AreRegisters xs → All AreRegisters ys → NoRegisters rest → NoRegisters other
     → register_lines 0 xs ++ rest ≡ register_lines 0 ys ++ other → (xs ≡ ys) × (rest ≡ other)
 register-lines-cut xs ys rest other p q f f' e =
-    let cut = list-cut AreRegisters (λ rest. Unit) NoRegisters (λ core xs. codes "Registers P" ++ (decimal core ++ line (printed_registers xs all_registers))) register_lines (λ xs. xs) (λ n. refl) (λ n x xs. refl)
+    let cut =
+    list-cut AreRegisters (λ rest. Unit) NoRegisters
+    (λ core xs. codes "Registers P" ++ (decimal core ++ line (printed_registers xs all_registers))) register_lines
+    (λ xs. xs) (λ n. refl) (λ n x xs. refl)
     register-line-cut (λ n xs rest all f. tt) (λ n x more rest fits f e. unlike 0 _ rest f e) 0 xs ys rest other p q f f' e in
     (all-told xs ys cut.0, cut.1)
 
@@ -68,7 +82,8 @@ pub words-cut : (names : List (List ℕ)) (xs ys rest other : List ℕ) → leng
     → Stops rest → Stops other → printed_words names xs ++ rest ≡ printed_words names ys ++ other → (xs ≡ ys) × (rest ≡ other)
 words-cut names xs ys rest other m n p q stops stops' e =
     let size = sym (length-map names label_of) in
-    filled-cut (map label_of names) xs ys rest other (labels-are label_of names (λ name. refl)) (m ∙ size) (n ∙ size) (words-small xs p) (words-small ys q) stops stops'
+    filled-cut (map label_of names) xs ys rest other (labels-are label_of names (λ name. refl)) (m ∙ size) (n ∙ size)
+    (words-small xs p) (words-small ys q) stops stops'
     (sym (words-filled names xs rest) ∙ (e ∙ words-filled names ys other))
 
 -- ---- the verdict

@@ -1,5 +1,10 @@
 -- Reports, their JSON objects and the lines of sweeps tell the test's name, the protocol and the configuration.
-use Rattle.printed_laws.proofs.Vocabulary.{◌≡◌, ℕ, true, false, List, [], ◌∷◌, ◌++◌, get_or, refl, sym, ap, ◌∙◌, arith, decimal, decimal_injective, append_assoc, object, outline, codes, line, register_lines, choices_line, cache_lines, memory_line, condition_line, with_bus, configuration_members, machine_value, run_value, ReportsTellTheirMachines, SweepsTellTheirMachines, Litmus, Bus, Atomic, Split, protocol_name, ProtocolKind, Configuration, IsConfigurationWithinLimits, printed_order, ShownRun, RunCounts, ended_in, counted_state_lines, observation, tally_text, runs_in, ends_text}
+use Rattle.printed_laws.proofs.Vocabulary.{◌≡◌, ℕ, true, false, List, [], ◌∷◌, ◌++◌, get_or, refl, sym, ap, ◌∙◌, arith, decimal}
+use Rattle.printed_laws.proofs.Vocabulary.{decimal_injective, append_assoc, object, outline, codes, line, register_lines, choices_line}
+use Rattle.printed_laws.proofs.Vocabulary.{cache_lines, memory_line, condition_line, with_bus, configuration_members, machine_value}
+use Rattle.printed_laws.proofs.Vocabulary.{run_value, ReportsTellTheirMachines, SweepsTellTheirMachines, Litmus, Bus, Atomic, Split}
+use Rattle.printed_laws.proofs.Vocabulary.{protocol_name, ProtocolKind, Configuration, IsConfigurationWithinLimits, printed_order, ShownRun}
+use Rattle.printed_laws.proofs.Vocabulary.{RunCounts, ended_in, counted_state_lines, observation, tally_text, runs_in, ends_text}
 use Rattle.json.specs.Json as json
 use Rattle.scheduler.specs.Plan.{Plan}
 use Rattle.printed_laws.proofs.texts.Cutting.{unlike, filled-cut}
@@ -49,7 +54,9 @@ machine-told : (kind other_kind : ProtocolKind) (c d : Configuration) → IsConf
 machine-told kind other_kind c d p q same = by_bus c.bus d.bus refl refl same
   where
     by_bus : (a b : Bus) → c.bus ≡ a → d.bus ≡ b
-        → outline (object (with_bus a (configuration_members kind c))) ≡ outline (object (with_bus b (configuration_members other_kind d))) → (kind ≡ other_kind) × (c ≡ d)
+        → outline (object (with_bus a (configuration_members kind c)))
+        ≡ outline (object (with_bus b (configuration_members other_kind d)))
+        → (kind ≡ other_kind) × (c ≡ d)
     by_bus Atomic Atomic is is' same = members-told kind other_kind c d p q (is ∙ sym is') same
     by_bus Split Split is is' same = members-told kind other_kind c d p q (is ∙ sym is') (ap more_members same)
     by_bus _ _ is is' same = unlike 0 _ _ refl (ap (λ (j : json.Json). first_key (members_in j)) same)
@@ -64,7 +71,8 @@ object-names t u kind other_kind c d s o test test' p q fits fits' e =
 
 -- ---- a sweep
 
-sweep-flat : (from seeds size ends rest : List ℕ) → (codes "Sweep from=" ++ (from ++ (codes " seeds=" ++ (seeds ++ (codes " length=" ++ (size ++ ends)))))) ++ rest
+sweep-flat : (from seeds size ends rest : List ℕ)
+    → (codes "Sweep from=" ++ (from ++ (codes " seeds=" ++ (seeds ++ (codes " length=" ++ (size ++ ends)))))) ++ rest
     ≡ codes "Sweep from=" ++ (from ++ (codes " seeds=" ++ (seeds ++ (codes " length=" ++ (size ++ (ends ++ rest))))))
 sweep-flat from seeds size ends rest = simp append_assoc
 
@@ -80,8 +88,12 @@ sweeps-name t u kind other_kind c d plan other_plan a b test test' p q planned p
     let numbers = λ (x : Plan) (r : RunCounts). x.from ∷ runs_in r ∷ x.length ∷ [] in
     let flat = λ (v : Litmus) (x : Plan) (r : RunCounts). sweep-flat (decimal x.from) (decimal (runs_in r)) (decimal x.length) (ends-of r) (states-of v r) in
     let head = head-cut t u kind other_kind c d (tally_text t a plan.from plan.length) (tally_text u b other_plan.from other_plan.length) test test' p q e in
-    let cut = filled-cut (codes "Sweep from=" ∷ codes " seeds=" ∷ codes " length=" ∷ []) (numbers plan a) (numbers other_plan b) (ends-of a ++ states-of t a) (ends-of b ++ states-of u b) refl refl refl
-    (omega (arith, planned.0), (omega (arith, runs, planned.2), (omega (arith, planned.3), tt))) (omega (arith, planned'.0), (omega (arith, runs', planned'.2), (omega (arith, planned'.3), tt))) refl refl
+    let cut =
+    filled-cut
+    (codes "Sweep from=" ∷ codes " seeds=" ∷ codes " length=" ∷ []) (numbers plan a) (numbers other_plan b)
+    (ends-of a ++ states-of t a) (ends-of b ++ states-of u b) refl refl refl
+    (omega (arith, planned.0), (omega (arith, runs, planned.2), (omega (arith, planned.3), tt)))
+    (omega (arith, planned'.0), (omega (arith, runs', planned'.2), (omega (arith, planned'.3), tt))) refl refl
     (sym (flat t plan a) ∙ (head.1 ∙ flat u other_plan b)) in
     let seeds = sym runs ∙ (ap (λ (l : List ℕ). get_or l 1 0) cut.0 ∙ runs') in
     (head.0, λ i. record { from = get_or (cut.0 i) 0 0; seeds = seeds i; length = get_or (cut.0 i) 2 0 })

@@ -1,5 +1,6 @@
 -- What is printed of a run that didn't end tells how far it came.
-use Rattle.printed_laws.proofs.Vocabulary.{true, false, [], ◌∷◌, ◌++◌, refl, ap, decimal, decimal_injective, codes, IsNumber-decimal, line, unfinished_run_value, UnfinishedRunsAreTold}
+use Rattle.printed_laws.proofs.Vocabulary.{true, false, [], ◌∷◌, ◌++◌, refl, ap, decimal, decimal_injective, codes, IsNumber-decimal, line}
+use Rattle.printed_laws.proofs.Vocabulary.{unfinished_run_value, UnfinishedRunsAreTold}
 use Rattle.printed_laws.proofs.texts.Cutting.{next-cut}
 use Rattle.printed_laws.proofs.json.JsonReading.{line-told}
 use Rattle.printed_laws.proofs.json.JsonTexts.{value_at, text_at}
@@ -12,5 +13,8 @@ line-tells u s v w hu hs hv hw e =
 
 pub json-tells : UnfinishedRunsAreTold true
 json-tells u s v w hu hs hv hw e =
-    let value = line-told (unfinished_run_value u s) (unfinished_run_value v w) ((IsNumber-decimal s hs, (IsNumber-decimal u hu, tt)), tt) ((IsNumber-decimal w hw, (IsNumber-decimal v hv, tt)), tt) e in
+    let value =
+    line-told (unfinished_run_value u s) (unfinished_run_value v w)
+    ((IsNumber-decimal s hs, (IsNumber-decimal u hu, tt)), tt)
+    ((IsNumber-decimal w hw, (IsNumber-decimal v hv, tt)), tt) e in
     (decimal_injective u v hu hv (ap (λ j. text_at 1 (value_at 0 j)) value), decimal_injective s w hs hw (ap (λ j. text_at 0 (value_at 0 j)) value))

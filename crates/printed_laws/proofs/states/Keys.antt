@@ -1,5 +1,10 @@
 -- The keys of what is shown differ: a register's has a colon, behind its core's number, and no location's name has one.
-use Rattle.printed_laws.proofs.Vocabulary.{◌≡◌, ◌≢◌, ◌∙◌, ℕ, zero, suc, ◌+◌, ◌^◌, ◌<◌, Bool, true, false, not, cond, ◌&&◌, ◌||◌, List, [], ◌∷◌, ◌++◌, map, length, slice_index_or, refl, sym, ap, subst, eq-eqb, arith, codes, decimal, bytes_eq, AllByRecursion, list_all, and_parts, and_from, append_assoc, length-append, map-append, list_any-append, bytes_eq-Decides, Litmus, IsTest, are_distinct, is_among, is_name, is_location_name, continues_name, all_registers, named_register, named_registers, named_locations, Named, is_shown, names_shown, Show, key_of}
+use Rattle.printed_laws.proofs.Vocabulary.{◌≡◌, ◌≢◌, ◌∙◌, ℕ, zero, suc, ◌+◌, ◌^◌, ◌<◌, Bool, true, false, not, cond, ◌&&◌, ◌||◌, List, []}
+use Rattle.printed_laws.proofs.Vocabulary.{◌∷◌, ◌++◌, map, length, slice_index_or, refl, sym, ap, subst, eq-eqb, arith, codes, decimal}
+use Rattle.printed_laws.proofs.Vocabulary.{bytes_eq, AllByRecursion, list_all, and_parts, and_from, append_assoc, length-append, map-append}
+use Rattle.printed_laws.proofs.Vocabulary.{list_any-append, bytes_eq-Decides, Litmus, IsTest, are_distinct, is_among, is_name}
+use Rattle.printed_laws.proofs.Vocabulary.{is_location_name, continues_name, all_registers, named_register, named_registers}
+use Rattle.printed_laws.proofs.Vocabulary.{named_locations, Named, is_shown, names_shown, Show, key_of}
 use Rattle.std.proofs.Common.{filter}
 use Rattle.printed_laws.proofs.texts.Cutting.{number-cut}
 
@@ -13,18 +18,26 @@ distinct-both [] ys p q apart = q
 distinct-both (x ∷ xs) ys p q apart =
     let parts = and_parts (not (is_among x xs)) (are_distinct xs) p in
     let here : not (is_among x (xs ++ ys)) ≡ true =
-    ap not (list_any-append (λ other. bytes_eq other x) xs ys) ∙ ap (λ (b : Bool). not (is_among x xs || b)) apart.0 ∙ ap not (or-false (is_among x xs)) ∙ parts.0 in
+    ap not (list_any-append (λ other. bytes_eq other x) xs ys)
+    ∙ ap (λ (b : Bool). not (is_among x xs || b)) apart.0
+    ∙ ap not (or-false (is_among x xs))
+    ∙ parts.0 in
     and_from _ _ here (distinct-both xs ys parts.1 q apart.1)
   where
     or-false : (b : Bool) → (b || false) ≡ b
     or-false true = refl
     or-false false = refl
 
-among-kept : {X : Type 0} (f : X → List ℕ) (p : X → Bool) (name : List ℕ) (xs : List X) → is_among name (map f xs) ≡ false → is_among name (map f (filter p xs)) ≡ false
+among-kept : {X : Type 0} (f : X → List ℕ) (p : X → Bool) (name : List ℕ) (xs : List X)
+    → is_among name (map f xs) ≡ false
+    → is_among name (map f (filter p xs)) ≡ false
 among-kept f p name [] none = refl
 among-kept {X} f p name (x ∷ xs) none = by (bytes_eq (f x) name) (p x) refl none (among-kept f p name xs)
   where
-    by : (b c : Bool) → bytes_eq (f x) name ≡ b → (b || is_among name (map f xs)) ≡ false → (is_among name (map f xs) ≡ false → is_among name (map f (filter p xs)) ≡ false)
+    by : (b c : Bool)
+        → bytes_eq (f x) name ≡ b
+        → (b || is_among name (map f xs)) ≡ false
+        → (is_among name (map f xs) ≡ false → is_among name (map f (filter p xs)) ≡ false)
         → is_among name (map f (cond c (x ∷ filter p xs) (filter p xs))) ≡ false
     by true c is none further = absurd (let no : ⊥ = cc in no)
     by false true is none further = ap (λ (b : Bool). b || is_among name (map f (filter p xs))) is ∙ further none
@@ -40,7 +53,10 @@ distinct-kept {X} f p (x ∷ xs) all =
     not-true false is = refl
     not-true true is = absurd (let no : ⊥ = cc in no)
 
-    by : (c : Bool) → not (is_among (f x) (map f (filter p xs))) ≡ true → are_distinct (map f (filter p xs)) ≡ true → are_distinct (map f (cond c (x ∷ filter p xs) (filter p xs))) ≡ true
+    by : (c : Bool)
+        → not (is_among (f x) (map f (filter p xs))) ≡ true
+        → are_distinct (map f (filter p xs)) ≡ true
+        → are_distinct (map f (cond c (x ∷ filter p xs) (filter p xs))) ≡ true
     by true here further = and_from _ _ here further
     by false here further = further
 
@@ -79,7 +95,12 @@ core-distinct t core = ap are_distinct (core-keys t core) ∙ distinct-front (de
 abbrev IsOfCore : ℕ → List ℕ → Type 0
 IsOfCore core name = (end : List ℕ) × (name ≡ decimal core ++ 58 ∷ end)
 
-other-core : (core other : ℕ) (end name : List ℕ) → core < 2 ^ 64 → other < 2 ^ 64 → core ≢ other → IsOfCore core name → bytes_eq (decimal other ++ 58 ∷ end) name ≡ false
+other-core : (core other : ℕ) (end name : List ℕ)
+    → core < 2 ^ 64
+    → other < 2 ^ 64
+    → core ≢ other
+    → IsOfCore core name
+    → bytes_eq (decimal other ++ 58 ∷ end) name ≡ false
 other-core core other end name small small' apart (rest, is) = by (bytes_eq (decimal other ++ 58 ∷ end) name) refl
   where
     by : (b : Bool) → bytes_eq (decimal other ++ 58 ∷ end) name ≡ b → b ≡ false
@@ -100,7 +121,8 @@ module _ (t : Litmus) (core : ℕ) (small : core < 2 ^ 64) (name : List ℕ) (of
   apart-from-later other (suc count) later less =
       ap (is_among name) (map-append (key_of t) (map (named_register other) all_registers) (named_registers (other + 1) count))
       ∙ list_any-append (λ n. bytes_eq n name) (map (key_of t) (map (named_register other) all_registers)) (map (key_of t) (named_registers (other + 1) count))
-      ∙ ap (λ (b : Bool). b || is_among name (map (key_of t) (named_registers (other + 1) count))) (apart-from-core other (omega (arith, less)) (λ e. omega (arith, e, later)))
+      ∙ ap (λ (b : Bool). b || is_among name (map (key_of t) (named_registers (other + 1) count)))
+      (apart-from-core other (omega (arith, less)) (λ e. omega (arith, e, later)))
       ∙ apart-from-later (other + 1) count (omega (arith, later)) (omega (arith, less))
 
 -- of so many cores from this one on
@@ -136,14 +158,20 @@ no-location (n ∷ names) core end all =
     let parts = and_parts (is_location_name n) (list_all is_location_name names) all in
     by (bytes_eq n (decimal core ++ 58 ∷ end)) refl parts.0 (no-location names core end parts.1)
   where
-    by : (b : Bool) → bytes_eq n (decimal core ++ 58 ∷ end) ≡ b → is_location_name n ≡ true → NotAmong names (decimal core ++ 58 ∷ end) → (b || is_among (decimal core ++ 58 ∷ end) names) ≡ false
+    by : (b : Bool)
+        → bytes_eq n (decimal core ++ 58 ∷ end) ≡ b
+        → is_location_name n ≡ true
+        → NotAmong names (decimal core ++ 58 ∷ end)
+        → (b || is_among (decimal core ++ 58 ∷ end) names) ≡ false
     by true e is rest =
         let same = (bytes_eq-Decides n (decimal core ++ 58 ∷ end)).0 e in
         let name = (and_parts _ _ (and_parts _ _ is).0).0 in
         absurd (no-colon (decimal core) end (subst (λ (l : List ℕ). is_name l ≡ true) same name))
     by false e is rest = rest
 
-no-core : (t : Litmus) (names : List (List ℕ)) (core count : ℕ) → list_all is_location_name names ≡ true → AllByRecursion (NotAmong names) (map (key_of t) (named_registers core count))
+no-core : (t : Litmus) (names : List (List ℕ)) (core count : ℕ)
+    → list_all is_location_name names ≡ true
+    → AllByRecursion (NotAmong names) (map (key_of t) (named_registers core count))
 no-core t names core zero all = tt
 no-core t names core (suc count) all =
     let each : (end : List ℕ) → NotAmong names (decimal core ++ 58 ∷ end) = λ end. no-location names core end all in
@@ -157,7 +185,9 @@ place-of : (front : List (List ℕ)) (name : List ℕ) (names : List (List ℕ))
 place-of [] name names = refl
 place-of (f ∷ front) name names = place-of front name names
 
-location-keys : (t : Litmus) (front names : List (List ℕ)) → t.locations ≡ front ++ names → map (key_of t) (named_locations (length front) (length names)) ≡ names
+location-keys : (t : Litmus) (front names : List (List ℕ))
+    → t.locations ≡ front ++ names
+    → map (key_of t) (named_locations (length front) (length names)) ≡ names
 location-keys t front [] is = refl
 location-keys t front (n ∷ names) is =
     let first : slice_index_or t.locations (length front) [] ≡ n = ap (λ l. slice_index_or l (length front) []) is ∙ place-of front n names in
@@ -177,7 +207,8 @@ keys-differ p t test =
     ap are_distinct (map-append (key_of t) (named_registers 0 cores) (named_locations 0 (length t.locations)))
     ∙ distinct-both (map (key_of t) (named_registers 0 cores)) locations (cores-distinct t 0 cores small)
     (ap are_distinct are ∙ test.locations_differ)
-    (subst (λ names. AllByRecursion (NotAmong names) (map (key_of t) (named_registers 0 cores))) (sym are) (no-core t t.locations 0 cores test.locations_spelled)) in
+    (subst (λ names. AllByRecursion (NotAmong names) (map (key_of t) (named_registers 0 cores))) (sym are)
+    (no-core t t.locations 0 cores test.locations_spelled)) in
     distinct-kept (key_of t) p (named_registers 0 cores ++ named_locations 0 (length t.locations)) whole
 
 pub keys-distinct : (show : Show) (t : Litmus) → IsTest t → are_distinct (map (key_of t) (names_shown show t)) ≡ true

@@ -1,5 +1,12 @@
 -- What the word of a condition means: for each end of the machine's runs, and for each execution.
-use Rattle.printed_laws.proofs.Vocabulary.{Instructions, ◌≡◌, ℕ, ◌<◌, Bool, true, false, List, [], ◌∷◌, All, get_or, refl, sym, ap, subst, ◌∙◌, zero, suc, arith, ◌+◌, length, Some, ◌==◌, cond, map, not, Contains, eqb-true, list_all, codes, count_by, Litmus, IsTest, All-contains, Condition, Claim, truth_of, sum_by-cons, Named, frequency, run, names_shown, values_at, Outcome, shown_values, held_in, failed_in, PrintsWord, IsSoEverywhere, IsSoSomewhere, IsSoNowhere, IsAlwaysSo, IsSometimesSo, WordMeans, final_words, final_registers, registers_in, IsEnd, EndsAreWhatTsoAllows, SpellsTest, TruthIsShown, parts_of, Leads, made-of, Search, shown_after, PrintsAllOutcomes, PrintsSomeOutcomes, HeadlineOfOutcomes, all, too_many, AreSomeOf}
+use Rattle.printed_laws.proofs.Vocabulary.{Instructions, ◌≡◌, ℕ, ◌<◌, Bool, true, false, List, [], ◌∷◌, All, get_or, refl, sym, ap, subst}
+use Rattle.printed_laws.proofs.Vocabulary.{◌∙◌, zero, suc, arith, ◌+◌, length, Some, ◌==◌, cond, map, not, Contains, eqb-true, list_all}
+use Rattle.printed_laws.proofs.Vocabulary.{codes, count_by, Litmus, IsTest, All-contains, Condition, Claim, truth_of, sum_by-cons, Named}
+use Rattle.printed_laws.proofs.Vocabulary.{frequency, run, names_shown, values_at, Outcome, shown_values, held_in, failed_in, PrintsWord}
+use Rattle.printed_laws.proofs.Vocabulary.{IsSoEverywhere, IsSoSomewhere, IsSoNowhere, IsAlwaysSo, IsSometimesSo, WordMeans, final_words}
+use Rattle.printed_laws.proofs.Vocabulary.{final_registers, registers_in, IsEnd, EndsAreWhatTsoAllows, SpellsTest, TruthIsShown, parts_of}
+use Rattle.printed_laws.proofs.Vocabulary.{Leads, made-of, Search, shown_after, PrintsAllOutcomes, PrintsSomeOutcomes, HeadlineOfOutcomes}
+use Rattle.printed_laws.proofs.Vocabulary.{all, too_many, AreSomeOf}
 use Rattle.tso_laws.specs.Outcomes.{IsSequentiallyConsistent}
 use Rattle.printed_laws.proofs.texts.Cutting.{unlike}
 use Rattle.printed_laws.proofs.texts.Digits.{is_other}
@@ -43,7 +50,10 @@ is-never held failed = by (held == 0) (failed == 0) refl
 is-always : (held failed : ℕ) → frequency held failed ≡ codes "Always" → failed ≡ 0
 is-always held failed = by (held == 0) (failed == 0) refl
   where
-    by : (never always : Bool) → (failed == 0) ≡ always → cond never (codes "Never") (cond always (codes "Always") (codes "Sometimes")) ≡ codes "Always" → failed ≡ 0
+    by : (never always : Bool)
+        → (failed == 0) ≡ always
+        → cond never (codes "Never") (cond always (codes "Always") (codes "Sometimes")) ≡ codes "Always"
+        → failed ≡ 0
     by false true is word = eqb-true failed 0 is
     by never always is word = unlike 0 (cond never (codes "Never") (cond always (codes "Always") (codes "Sometimes"))) (codes "Always") refl word
 
@@ -79,12 +89,16 @@ module _ (t : Litmus) (condition : Condition) (s : Search) (json : Bool) (out : 
   same-truth o registers memory same = sym (shown s.show t condition o (record { registers = registers; memory = memory; choices = [] }) test is same)
 
   there : (truth : Bool) → ((o : Outcome) → Contains p.outcomes o → truth_of o.registers o.memory condition.claim ≡ truth)
-      → (registers : List (List ℕ)) (memory : List ℕ) → Contains (map (shown_values names) p.outcomes) (values_at names registers memory) → truth_of registers memory condition.claim ≡ truth
+      → (registers : List (List ℕ)) (memory : List ℕ)
+      → Contains (map (shown_values names) p.outcomes) (values_at names registers memory)
+      → truth_of registers memory condition.claim ≡ truth
   there truth each registers memory has =
       let made = made-of (shown_values names) p.outcomes (values_at names registers memory) has in
       same-truth made.0 registers memory made.2 ∙ each made.0 made.1
 
-  pub everywhere : (truth : Bool) → ((o : Outcome) → Contains p.outcomes o → truth_of o.registers o.memory condition.claim ≡ truth) → IsSoEverywhere t s.depth condition.claim truth
+  pub everywhere : (truth : Bool)
+      → ((o : Outcome) → Contains p.outcomes o → truth_of o.registers o.memory condition.claim ≡ truth)
+      → IsSoEverywhere t s.depth condition.claim truth
   everywhere truth each = record {
     runs = λ choices cores ended.
         there truth each _ _ (p.all.complete (registers_in (run t s.depth choices).state) (run t s.depth choices).state.memory
@@ -114,11 +128,20 @@ some-reachable t s json out p = record { reached = p.some.reached; sequential = 
 
 module _ (t : Litmus) (condition : Condition) (s : Search) (outcomes : List Outcome) (laws : EndsAreWhatTsoAllows) (shown : TruthIsShown) (test : IsTest t)
     (is : t.condition ≡ Some condition) (p : AreReachable t s outcomes) where
-  pub somewhere : (truth : Bool) (o : Outcome) → Contains outcomes o → truth_of o.registers o.memory condition.claim ≡ truth → IsSoSomewhere t s.depth condition.claim truth
+  pub somewhere : (truth : Bool) (o : Outcome)
+      → Contains outcomes o
+      → truth_of o.registers o.memory condition.claim ≡ truth
+      → IsSoSomewhere t s.depth condition.claim truth
   somewhere truth o has so =
       let names = names_shown s.show t in
       let lead = All-contains (Leads t s.depth) outcomes o p.reached has in
-      let end : IsEnd t s.depth o.registers o.memory = record { choices = o.choices; cores = lead.cores; ended = lead.ended; registers_are = lead.registers_are; memory_is = lead.memory_is } in
+      let end : IsEnd t s.depth o.registers o.memory = record {
+        choices = o.choices;
+        cores = lead.cores;
+        ended = lead.ended;
+        registers_are = lead.registers_are;
+        memory_is = lead.memory_is;
+      } in
       record {
         runs = (
           o.choices,
@@ -156,18 +179,32 @@ record IsWord (word : List ℕ) : Type 0 where
 -- from the states that were printed to what is meant of the test
 abbrev Tells : List ℕ → (Litmus → ℕ → Claim → Type 0) → Type 0
 Tells word Meant =
-    (t : Litmus) (condition : Condition) (s : Search) (json : Bool) (out : List ℕ) → EndsAreWhatTsoAllows → TruthIsShown → IsTest t → t.condition ≡ Some condition
-    → (p : PrintsAllOutcomes t s json out) → frequency (held_in condition.claim p.outcomes) (failed_in condition.claim p.outcomes) ≡ word → Meant t s.depth condition.claim
+    (t : Litmus) (condition : Condition) (s : Search) (json : Bool) (out : List ℕ)
+    → EndsAreWhatTsoAllows
+    → TruthIsShown
+    → IsTest t
+    → t.condition ≡ Some condition
+    → (p : PrintsAllOutcomes t s json out)
+    → frequency (held_in condition.claim p.outcomes) (failed_in condition.claim p.outcomes) ≡ word
+    → Meant t s.depth condition.claim
 
-means : (word : List ℕ) (Meant : Litmus → ℕ → Claim → Type 0) → IsWord word → Tells word Meant → TestsAreWithin → EndsAreWhatTsoAllows → TruthIsShown → WordMeans word Meant
+means : (word : List ℕ) (Meant : Litmus → ℕ → Claim → Type 0)
+    → IsWord word
+    → Tells word Meant
+    → TestsAreWithin
+    → EndsAreWhatTsoAllows
+    → TruthIsShown
+    → WordMeans word Meant
 means word Meant plain tells within laws shown search set json assert input out t condition small spelled is headline says =
     by ((headline.within small).every_test t spelled)
   where
     by : HeadlineOfOutcomes t search json out → Meant t search.depth condition.claim
     by (all p) =
         tells t condition search json out laws shown (within set (parts_of input).test t spelled) is p
-        (word-is json t (names_shown search.show t) condition search.depth p.outcomes word is plain.spaceless plain.unquoted (subst (PrintsWord json word) p.printed says))
-    by (too_many more p) = absurd (word-isnt json t (names_shown search.show t) condition search.states p.outcomes word is (subst (PrintsWord json word) p.printed says))
+        (word-is json t (names_shown search.show t) condition search.depth p.outcomes word is plain.spaceless
+        plain.unquoted (subst (PrintsWord json word) p.printed says))
+    by (too_many more p) =
+        absurd (word-isnt json t (names_shown search.show t) condition search.states p.outcomes word is (subst (PrintsWord json word) p.printed says))
 
 pub not-true : (b : Bool) → not b ≡ false → b ≡ true
 not-true true is = refl

@@ -1,5 +1,8 @@
 -- How the text of a search that met its limit ends: in the verdict that one of its states decides, or in none.
-use Rattle.printed_laws.proofs.Vocabulary.{◌≡◌, ◌∙◌, ℕ, Bool, true, false, List, [], ◌∷◌, ◌++◌, refl, sym, ap, subst, length, Some, decimal, list_all, append_assoc, append-nil, append_cancel_right, no_members, member, codes, line, Litmus, Condition, Named, Choice, printed_values, printed_after, shown_values, Outcome, outcome_lines, printed_numbers, is_met_in, verdict_word, is_well, unfinished_search_in, EndsInWord}
+use Rattle.printed_laws.proofs.Vocabulary.{◌≡◌, ◌∙◌, ℕ, Bool, true, false, List, [], ◌∷◌, ◌++◌, refl, sym, ap, subst, length, Some, decimal}
+use Rattle.printed_laws.proofs.Vocabulary.{list_all, append_assoc, append-nil, append_cancel_right, no_members, member, codes, line, Litmus}
+use Rattle.printed_laws.proofs.Vocabulary.{Condition, Named, Choice, printed_values, printed_after, shown_values, Outcome, outcome_lines}
+use Rattle.printed_laws.proofs.Vocabulary.{printed_numbers, is_met_in, verdict_word, is_well, unfinished_search_in, EndsInWord}
 use Rattle.serde_json.specs.Data.{null}
 use Rattle.search_report.specs.MetOutcomes.{unfinished_outcomes_line, met_line, met_text, met_value, met_json, decided_line, decided_value}
 use Rattle.printed_laws.proofs.texts.Cutting.{unlike}
@@ -29,7 +32,9 @@ record TwoLines (before last text : List ℕ) : Type 0 where
 
 before-is-one : (before last other other_last text : List ℕ) → TwoLines before last text → TwoLines other other_last text → before ≡ other
 before-is-one before last other other_last text p q =
-    let lines = append_cancel_right ((p.front ++ 10 ∷ before) ++ 10 ∷ last) ((q.front ++ 10 ∷ other) ++ 10 ∷ other_last) (10 ∷ []) (sym p.text_is ∙ q.text_is) in
+    let lines =
+    append_cancel_right ((p.front ++ 10 ∷ before) ++ 10 ∷ last) ((q.front ++ 10 ∷ other) ++ 10 ∷ other_last)
+    (10 ∷ []) (sym p.text_is ∙ q.text_is) in
     let cut = last-cut 10 (p.front ++ 10 ∷ before) (q.front ++ 10 ∷ other) last other_last p.plain_last q.plain_last lines in
     (last-cut 10 p.front q.front before other p.plain_before q.plain_before cut.0).1
 
@@ -48,7 +53,9 @@ verdict-last verdict text e = record { front = e.0; text_is = e.1 ∙ verdict-fl
 by-plain : (choices : List Choice) → list_all (is_other 10) (codes "By" ++ printed_after choices) ≡ true
 by-plain choices = both-other 10 (codes "By") (printed_after choices) refl (choices-in-line choices)
 
-one-flat : (xs values choices : List ℕ) → xs ++ ((codes "State" ++ line values) ++ (codes "By" ++ line choices)) ≡ ((xs ++ (codes "State" ++ values)) ++ 10 ∷ (codes "By" ++ choices)) ++ 10 ∷ []
+one-flat : (xs values choices : List ℕ)
+    → xs ++ ((codes "State" ++ line values) ++ (codes "By" ++ line choices))
+    ≡ ((xs ++ (codes "State" ++ values)) ++ 10 ∷ (codes "By" ++ choices)) ++ 10 ∷ []
 one-flat xs values choices = simp append_assoc
 
 one-more : (xs state by rest : List ℕ) → xs ++ (state ++ (by ++ rest)) ≡ (xs ++ (state ++ by)) ++ rest
@@ -83,11 +90,15 @@ feeds t names xs first (o ∷ os) =
     let state = codes "State" ++ line (printed_values t names (shown_values names o)) in
     let by = codes "By" ++ line (printed_after o.choices) in
     subst (EndsIn (10 ∷ [])) (sym (one-more xs state by (outcome_lines t names os)))
-    (feeds t names (xs ++ (state ++ by)) (behind xs (state ++ by) (10 ∷ []) (behind state by (10 ∷ []) (behind (codes "By") _ (10 ∷ []) (line-feed (printed_after o.choices))))) os)
+    (feeds t names (xs ++ (state ++ by))
+    (behind xs (state ++ by) (10 ∷ []) (behind state by (10 ∷ []) (behind (codes "By") _ (10 ∷ []) (line-feed (printed_after o.choices)))))
+    os)
 
 -- ---- as lines, where nothing is decided
 
-met-flat : (limit count : List ℕ) → (codes "Unfinished states=" ++ line limit) ++ ((codes "Met " ++ line count) ++ []) ≡ ((codes "Unfinished states=" ++ limit) ++ 10 ∷ (codes "Met " ++ count)) ++ 10 ∷ []
+met-flat : (limit count : List ℕ)
+    → (codes "Unfinished states=" ++ line limit) ++ ((codes "Met " ++ line count) ++ [])
+    ≡ ((codes "Unfinished states=" ++ limit) ++ 10 ∷ (codes "Met " ++ count)) ++ 10 ∷ []
 met-flat limit count = simp append_assoc
 
 -- a last line that is no verdict, and no line `True`
@@ -123,7 +134,9 @@ states-end t names limit (o ∷ os) =
     }
 
 no-verdict-undecided : (t : Litmus) (names : List Named) (limit : ℕ) (outcomes : List Outcome) (verdict : Bool)
-    → LastLine (codes "Verdict " ++ verdict_word verdict) (unfinished_outcomes_line limit ++ (met_line (length outcomes) ++ (outcome_lines t names outcomes ++ []))) → ⊥
+    → LastLine (codes "Verdict " ++ verdict_word verdict)
+    (unfinished_outcomes_line limit ++ (met_line (length outcomes) ++ (outcome_lines t names outcomes ++ [])))
+    → ⊥
 no-verdict-undecided t names limit outcomes verdict p =
     let e = states-end t names limit outcomes in
     let text = ap (λ (l : List ℕ). unfinished_outcomes_line limit ++ (met_line (length outcomes) ++ l)) (append-nil (outcome_lines t names outcomes)) in
@@ -139,14 +152,20 @@ pub none-undecided : (json verdict : Bool) (t : Litmus) (names : List Named) (li
     → EndsIn (verdict_tail json verdict) (unfinished_search_in json t names limit outcomes) → ⊥
 none-undecided false verdict t names limit outcomes unmet e =
     no-verdict-undecided t names limit outcomes verdict
-    (subst (λ met. LastLine (codes "Verdict " ++ verdict_word verdict) (unfinished_outcomes_line limit ++ (met_line (length outcomes) ++ (outcome_lines t names outcomes ++ decided_line t.condition met))))
+    (subst (λ met.
+    LastLine (codes "Verdict " ++ verdict_word verdict)
+    (unfinished_outcomes_line limit
+    ++ (met_line (length outcomes) ++ (outcome_lines t names outcomes ++ decided_line t.condition met))))
     unmet (verdict-last verdict _ e))
 none-undecided true verdict t names limit outcomes unmet e =
     no-verdict-null verdict (met_json t names limit outcomes)
     (object-ends-undecided (met_value t names limit outcomes) (ap (λ met. member (codes "verdict") (decided_value t.condition met) no_members) unmet)) e
 
 -- and where a state decides it, it is the last line, or the last member
-pub met-ends : (json : Bool) (t : Litmus) (names : List Named) (condition : Condition) (limit : ℕ) (outcomes : List Outcome) → t.condition ≡ Some condition → MetIs t outcomes true
+pub met-ends : (json : Bool) (t : Litmus) (names : List Named) (condition : Condition) (limit : ℕ)
+    (outcomes : List Outcome)
+    → t.condition ≡ Some condition
+    → MetIs t outcomes true
     → EndsIn (verdict_tail json (is_well condition.quantifier true)) (unfinished_search_in json t names limit outcomes)
 met-ends false t names condition limit outcomes is met =
     let claimed = is_well condition.quantifier true in
@@ -171,12 +190,18 @@ numbers-in-line (n ∷ ns) = both-other 10 (codes " " ++ decimal n) (printed_num
 
 -- where it is said what a text ends in
 pub said-flat : (front word held failed numbers verdict : List ℕ)
-    → front ++ (codes " " ++ (word ++ (codes " " ++ (held ++ (codes " " ++ (line failed ++ (codes "True" ++ (line numbers ++ (codes "Verdict " ++ line verdict)))))))))
+    → front
+    ++ (codes " "
+    ++ (word
+    ++ (codes " "
+    ++ (held
+    ++ (codes " " ++ (line failed ++ (codes "True" ++ (line numbers ++ (codes "Verdict " ++ line verdict)))))))))
     ≡ (((front ++ (codes " " ++ (word ++ (codes " " ++ (held ++ (codes " " ++ failed))))))
     ++ 10 ∷ (codes "True" ++ numbers)) ++ 10 ∷ (codes "Verdict " ++ verdict)) ++ 10 ∷ []
 said-flat front word held failed numbers verdict = simp append_assoc
 
-said-lines : (word text : List ℕ) (says : EndsInWord word text) → TwoLines (codes "True" ++ printed_numbers says.numbers) (codes "Verdict " ++ verdict_word says.as_claimed) text
+said-lines : (word text : List ℕ) (says : EndsInWord word text)
+    → TwoLines (codes "True" ++ printed_numbers says.numbers) (codes "Verdict " ++ verdict_word says.as_claimed) text
 said-lines word text says = record {
   front = says.front ++ (codes " " ++ (word ++ (codes " " ++ (decimal says.held ++ (codes " " ++ decimal says.failed)))));
   text_is = says.text ∙ said-flat says.front word (decimal says.held) (decimal says.failed) (printed_numbers says.numbers) (verdict_word says.as_claimed);
@@ -187,7 +212,9 @@ said-lines word text says = record {
 last-of-two : (before last text : List ℕ) → TwoLines before last text → LastLine last text
 last-of-two before last text p = record { front = p.front ++ 10 ∷ before; text_is = p.text_is; plain = p.plain_last }
 
-further-flat : (front line_is word : List ℕ) → ((front ++ 10 ∷ line_is) ++ 10 ∷ []) ++ (codes "Verdict " ++ line word) ≡ ((front ++ 10 ∷ line_is) ++ 10 ∷ (codes "Verdict " ++ word)) ++ 10 ∷ []
+further-flat : (front line_is word : List ℕ)
+    → ((front ++ 10 ∷ line_is) ++ 10 ∷ []) ++ (codes "Verdict " ++ line word)
+    ≡ ((front ++ 10 ∷ line_is) ++ 10 ∷ (codes "Verdict " ++ word)) ++ 10 ∷ []
 further-flat front line_is word = simp append_assoc
 
 three-further : (a b c d : List ℕ) → a ++ (b ++ (c ++ d)) ≡ (a ++ (b ++ c)) ++ d
@@ -218,9 +245,15 @@ no-word t names condition limit outcomes word is says = by (is_met_in t.conditio
     e : StatesEnd (states_text t names limit outcomes)
     e = states-end t names limit outcomes
 
-    by : (met : Bool) → TwoLines (codes "True" ++ printed_numbers says.numbers) (codes "Verdict " ++ verdict_word says.as_claimed) (text_with t names limit outcomes (decided_line t.condition met)) → ⊥
+    by : (met : Bool)
+        → TwoLines (codes "True" ++ printed_numbers says.numbers) (codes "Verdict " ++ verdict_word says.as_claimed)
+        (text_with t names limit outcomes (decided_line t.condition met))
+        → ⊥
     by false p = no-verdict-undecided t names limit outcomes says.as_claimed (last-of-two _ _ _ p)
     by true p =
         e.no_numbers (printed_numbers says.numbers)
-        (before-is-one _ _ _ _ _ (subst (λ c. TwoLines (codes "True" ++ printed_numbers says.numbers) (codes "Verdict " ++ verdict_word says.as_claimed) (text_with t names limit outcomes (decided_line c true))) is p)
+        (before-is-one _ _ _ _ _ (subst (λ c.
+        TwoLines (codes "True" ++ printed_numbers says.numbers) (codes "Verdict " ++ verdict_word says.as_claimed)
+        (text_with t names limit outcomes (decided_line c true)))
+        is p)
         (decided-lines t names limit outcomes (is_well condition.quantifier true)))

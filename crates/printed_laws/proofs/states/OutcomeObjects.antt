@@ -1,5 +1,12 @@
 -- The JSON object of `outcomes` tells the states, and in which the condition's proposition is true.
-use Rattle.printed_laws.proofs.Vocabulary.{◌≡◌, ℕ, ◌^◌, ◌<◌, Bool, true, List, [], ◌∷◌, ◌++◌, refl, sym, ap, subst, ◌∙◌, Option, arith, length, All, Some, None, map, not, decimal_injective, length-map, max_depth, Data, Members, no_members, member, object, outline, compact_text, members_outline, codes, IsNumber-decimal, memory_members, Litmus, IsTest, Condition, truth_of, IsStateAt, count_by-le-length, Named, names_shown, Show, key_of, states_value, observation_value, value_members, holds_in, with_holds, state_value, outcomes_value, printed_choices, Outcome, shown_values, held_in, failed_in, is_met_in, alike, OutcomesTellTheirStates, OutcomesTellTheirTests, OutcomesFit, outcomes_verdict_value}
+use Rattle.printed_laws.proofs.Vocabulary.{◌≡◌, ℕ, ◌^◌, ◌<◌, Bool, true, List, [], ◌∷◌, ◌++◌, refl, sym, ap, subst, ◌∙◌, Option, arith}
+use Rattle.printed_laws.proofs.Vocabulary.{length, All, Some, None, map, not, decimal_injective, length-map, max_depth, Data, Members}
+use Rattle.printed_laws.proofs.Vocabulary.{no_members, member, object, outline, compact_text, members_outline, codes, IsNumber-decimal}
+use Rattle.printed_laws.proofs.Vocabulary.{memory_members, Litmus, IsTest, Condition, truth_of, IsStateAt, count_by-le-length, Named}
+use Rattle.printed_laws.proofs.Vocabulary.{names_shown, Show, key_of, states_value, observation_value, value_members, holds_in, with_holds}
+use Rattle.printed_laws.proofs.Vocabulary.{state_value, outcomes_value, printed_choices, Outcome, shown_values, held_in, failed_in}
+use Rattle.printed_laws.proofs.Vocabulary.{is_met_in, alike, OutcomesTellTheirStates, OutcomesTellTheirTests, OutcomesFit}
+use Rattle.printed_laws.proofs.Vocabulary.{outcomes_verdict_value}
 use Rattle.json.specs.Json as json
 use Rattle.printed_laws.proofs.json.JsonTexts.{members_in, items_in, value_at, text_at, items-told}
 use Rattle.printed_laws.proofs.json.JsonReading.{ReadsBack, MembersReadBack, all-back, line-told}
@@ -28,13 +35,17 @@ module _ (t : Litmus) (names : List Named) where
   IsState o = IsStateAt names (shown_values names o)
 
   -- with `holds` before them, or without
-  with-back : (levels : ℕ) (holds : Option Bool) (ms : Members) → MembersReadBack levels (members_outline ms) → MembersReadBack levels (members_outline (with_holds holds ms))
+  with-back : (levels : ℕ) (holds : Option Bool) (ms : Members)
+      → MembersReadBack levels (members_outline ms)
+      → MembersReadBack levels (members_outline (with_holds holds ms))
   with-back levels None ms all = all
   with-back levels (Some h) ms all = (tt, all)
 
   state-back : (o : Outcome) → IsState o → ReadsBack 126 (outline (value o))
   state-back o p =
-      let values = subst (λ ms. MembersReadBack 124 (members_outline ms)) (sym (as-memory t names (shown_values names o))) (memory-back 124 (map (key_of t) names) (shown_values names o) p.words) in
+      let values =
+      subst (λ ms. MembersReadBack 124 (members_outline ms)) (sym (as-memory t names (shown_values names o)))
+      (memory-back 124 (map (key_of t) names) (shown_values names o) p.words) in
       (tt, with-back 125 (holds_in t.condition o) (member (codes "values") (object (value_members t names (shown_values names o))) no_members) (values, tt))
 
 observation-back : (condition : Option Condition) (xs : List Outcome) → length xs < 2 ^ 64 → ReadsBack 127 (outline (observation_value condition xs))
@@ -48,7 +59,10 @@ pub verdict-back : (levels : ℕ) (condition : Option Condition) (met : Bool) �
 verdict-back levels None met = tt
 verdict-back levels (Some c) met = tt
 
-whole-back : (t : Litmus) (names : List Named) (depth : ℕ) (xs : List Outcome) → depth < 2 ^ 64 → OutcomesFit names xs → ReadsBack max_depth (outline (outcomes_value t names depth xs))
+whole-back : (t : Litmus) (names : List Named) (depth : ℕ) (xs : List Outcome)
+    → depth < 2 ^ 64
+    → OutcomesFit names xs
+    → ReadsBack max_depth (outline (outcomes_value t names depth xs))
 whole-back t names depth xs small fit =
     let states = all-back 126 (IsState t names) (value t names) xs (state-back t names) fit.states in
     (IsNumber-decimal depth small, (observation-back t.condition xs fit.few, (states, (tt, (verdict-back 127 t.condition (is_met_in t.condition xs), tt)))))
@@ -79,10 +93,16 @@ module _ (show : Show) (t : Litmus) (test : IsTest t) where
   state-told : (x y : Outcome) → IsState t names x → IsState t names y → outline (value t names x) ≡ outline (value t names y)
       → (shown_values names x ≡ shown_values names y) × (printed_choices x.choices ≡ printed_choices y.choices)
   state-told x y p q same =
-      let behind = ap (λ (j : json.Json). after_first (members_in j)) same in
-      (values-told (shown_values names x) (shown_values names y) p q (values-in t.condition x y (value_members t names (shown_values names x)) (value_members t names (shown_values names y)) behind), ap (text_at 0) same)
+      let behind = ap (λ (j : json.Json). after_first (members_in j)) same in (
+        values-told (shown_values names x) (shown_values names y) p q
+            (values-in t.condition x y (value_members t names (shown_values names x)) (value_members t names (shown_values names y)) behind),
+        ap (text_at 0) same,
+      )
 
-  states-told : (xs ys : List Outcome) → All (IsState t names) xs → All (IsState t names) ys → outline (states_value t names xs) ≡ outline (states_value t names ys)
+  states-told : (xs ys : List Outcome)
+      → All (IsState t names) xs
+      → All (IsState t names) ys
+      → outline (states_value t names xs) ≡ outline (states_value t names ys)
       → (map (shown_values names) xs ≡ map (shown_values names) ys) × (choices_of xs ≡ choices_of ys)
   states-told xs ys p q same = (
     items-told (IsState t names) (value t names) (shown_values names) (λ x y a b e. (state-told x y a b e).0) xs ys p q (ap items_in same),

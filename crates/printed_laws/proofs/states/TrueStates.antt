@@ -1,5 +1,8 @@
 -- `True` has the numbers of the states in which a claim is true, and no others.
-use Rattle.printed_laws.proofs.Vocabulary.{◌≡◌, ◌∙◌, inl, inr, ◌<◌, ◌≤◌, ◌+◌, ℕ, zero, suc, Bool, true, false, cond, List, [], ◌∷◌, length, Contains, Some, refl, sym, ap, subst, arith, Claim, truth_of, names_shown, values_at, Outcome, shown_values, true_from, true_in, holds_in, TruthIsShown, EndsInNumbers, TrueNamesTrueStates, HoldsTellsTrueStates}
+use Rattle.printed_laws.proofs.Vocabulary.{◌≡◌, ◌∙◌, inl, inr, ◌<◌, ◌≤◌, ◌+◌, ℕ, zero, suc, Bool, true, false, cond, List, [], ◌∷◌, length}
+use Rattle.printed_laws.proofs.Vocabulary.{Contains, Some, refl, sym, ap, subst, arith, Claim, truth_of, names_shown, values_at, Outcome}
+use Rattle.printed_laws.proofs.Vocabulary.{shown_values, true_from, true_in, holds_in, TruthIsShown, EndsInNumbers, TrueNamesTrueStates}
+use Rattle.printed_laws.proofs.Vocabulary.{HoldsTellsTrueStates}
 use Rattle.std.specs.List.{slice_get}
 use Rattle.std.proofs.lemmas.Option.{slice_get_within, get_or_from_slice_get}
 use Rattle.search_report.proofs.Members.{Member, to-member, member-place}
@@ -44,7 +47,10 @@ named-is-one claim n (o ∷ rest) k m = by (truth_in claim o) refl m (named-is-o
     by true so (inr m) further = later claim n o rest k (further m)
     by false isnt m further = later claim n o rest k (further m)
 
-one-is-named : (claim : Claim) (n : ℕ) (outcomes : List Outcome) (i : ℕ) (o : Outcome) → slice_get outcomes i ≡ Some o → truth_in claim o ≡ true → Member (i + n) (true_from n claim outcomes)
+one-is-named : (claim : Claim) (n : ℕ) (outcomes : List Outcome) (i : ℕ) (o : Outcome)
+    → slice_get outcomes i ≡ Some o
+    → truth_in claim o ≡ true
+    → Member (i + n) (true_from n claim outcomes)
 one-is-named claim n [] i o stands so = absurd (let no : ⊥ = cc in no)
 one-is-named claim n (p ∷ rest) zero o stands so =
     let same : p ≡ o = cc in
@@ -56,7 +62,9 @@ one-is-named claim n (p ∷ rest) (suc i) o stands so =
     subst (λ k. Member k (true_from (n + 1) claim rest)) (omega arith) (one-is-named claim (n + 1) rest i o stands so) in
     by (truth_in claim p) further
   where
-    by : (b : Bool) → Member (suc i + n) (true_from (n + 1) claim rest) → Member (suc i + n) (cond b (n ∷ true_from (n + 1) claim rest) (true_from (n + 1) claim rest))
+    by : (b : Bool)
+        → Member (suc i + n) (true_from (n + 1) claim rest)
+        → Member (suc i + n) (cond b (n ∷ true_from (n + 1) claim rest) (true_from (n + 1) claim rest))
     by true m = inr m
     by false m = m
 
@@ -74,7 +82,9 @@ true-names shown t search out condition test is said =
       last = subst (EndsInNumbers (true_in claim said.outcomes)) (sym said.printed) (numbers-end t names condition search.depth said.outcomes is);
       states = record {
         named = λ i o registers memory stands alike. (
-          (λ has. same o registers memory alike ∙ (named-is-one claim 1 said.outcomes (i + 1) (to-member (i + 1) (true_in claim said.outcomes) has)).holds i o stands refl),
+          (λ has.
+              same o registers memory alike
+              ∙ (named-is-one claim 1 said.outcomes (i + 1) (to-member (i + 1) (true_in claim said.outcomes) has)).holds i o stands refl),
           (λ so. from-member (i + 1) (true_in claim said.outcomes) (one-is-named claim 1 said.outcomes i o stands (sym (same o registers memory alike) ∙ so))),
         );
         within = λ n has.

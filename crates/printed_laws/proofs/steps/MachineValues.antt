@@ -1,5 +1,13 @@
 -- The JSON value of a machine tells its cores and its memory.
-use Rattle.printed_laws.proofs.Vocabulary.{◌≡◌, ℕ, ◌<◌, Bool, true, false, List, [], ◌∷◌, ◌++◌, get_or, refl, sym, ap, subst, ◌∙◌, zero, suc, Option, arith, ◌+◌, length, All, Some, None, ◌==◌, map, ◌/◌, if◌then◌else◌, take, IfSome, decimal, decimal_injective, max_depth, Data, array, outline, items_outline, codes, count, registers_value, memory_value, Litmus, IsTest, Configuration, All-weaker, value_in, Reg, Entry, items_of, CoresExist, Choice, chosen, CoreState, core_of, IsD, ImD, SmD, line_name, store_text, later_stores, names_in_line, transient_name, LineState, option_map, bare_store, array_of_texts, table_of, Running, new_machine, machine_after, line_state, IsTraced, traced-first, traced-next, Transient, bus_holder_of, BusHolder, words_per_line, copy_json, sets_json, core_json, cores_json, words_in_line, words_on_bus, bus_json, machine_json, cached_lines_in, core_with}
+use Rattle.printed_laws.proofs.Vocabulary.{◌≡◌, ℕ, ◌<◌, Bool, true, false, List, [], ◌∷◌, ◌++◌, get_or, refl, sym, ap, subst, ◌∙◌, zero}
+use Rattle.printed_laws.proofs.Vocabulary.{suc, Option, arith, ◌+◌, length, All, Some, None, ◌==◌, map, ◌/◌, if◌then◌else◌, take, IfSome}
+use Rattle.printed_laws.proofs.Vocabulary.{decimal, decimal_injective, max_depth, Data, array, outline, items_outline, codes, count}
+use Rattle.printed_laws.proofs.Vocabulary.{registers_value, memory_value, Litmus, IsTest, Configuration, All-weaker, value_in, Reg, Entry}
+use Rattle.printed_laws.proofs.Vocabulary.{items_of, CoresExist, Choice, chosen, CoreState, core_of, IsD, ImD, SmD, line_name, store_text}
+use Rattle.printed_laws.proofs.Vocabulary.{later_stores, names_in_line, transient_name, LineState, option_map, bare_store, array_of_texts}
+use Rattle.printed_laws.proofs.Vocabulary.{table_of, Running, new_machine, machine_after, line_state, IsTraced, traced-first, traced-next}
+use Rattle.printed_laws.proofs.Vocabulary.{Transient, bus_holder_of, BusHolder, words_per_line, copy_json, sets_json, core_json, cores_json}
+use Rattle.printed_laws.proofs.Vocabulary.{words_in_line, words_on_bus, bus_json, machine_json, cached_lines_in, core_with}
 use Rattle.json.specs.Json as json
 use Rattle.snoop_bus.specs.declared.looking.CachedLine.{CachedLine}
 use Rattle.trace_report.specs.StepLaws.{after_choices}
@@ -23,7 +31,12 @@ later-part : (t : Litmus) (es : List Entry) → later_stores t es ≡ each_space
 later-part t [] = refl
 later-part t (e ∷ es) = ap (λ (l : List ℕ). codes " " ++ (store_text t e ++ l)) (later-part t es)
 
-stores-told : (t : Litmus) (xs ys : List Entry) → IsTest t → All (PendingFits t) xs → All (PendingFits t) ys → map (store_text t) xs ≡ map (store_text t) ys → map bare_store xs ≡ map bare_store ys
+stores-told : (t : Litmus) (xs ys : List Entry)
+    → IsTest t
+    → All (PendingFits t) xs
+    → All (PendingFits t) ys
+    → map (store_text t) xs ≡ map (store_text t) ys
+    → map bare_store xs ≡ map bare_store ys
 stores-told t xs ys test p q same =
     let spaced = later-part t xs ∙ (ap each_spaced same ∙ sym (later-part t ys)) in
     let fit = All-weaker (PendingFits t) (StoreFits t) (λ e f. (f.known, f.word)) xs p in
@@ -39,7 +52,12 @@ record CoresAlike (s u : CoreState) : Type 0 where
   registers : (reg : Reg) → value_in s.registers reg ≡ value_in u.registers reg
   buffer : map bare_store s.pending ≡ map bare_store u.pending
 
-core-told : (t : Litmus) (lines others : Data) (s u : CoreState) → IsTest t → CoreFits t s → CoreFits t u → outline (core-value t lines s) ≡ outline (core-value t others u) → CoresAlike s u
+core-told : (t : Litmus) (lines others : Data) (s u : CoreState)
+    → IsTest t
+    → CoreFits t s
+    → CoreFits t u
+    → outline (core-value t lines s) ≡ outline (core-value t others u)
+    → CoresAlike s u
 core-told t lines others s u test p q same =
     let few = p.place in
     let few' = q.place in
@@ -47,7 +65,9 @@ core-told t lines others s u test p q same =
       place = decimal_injective s.place u.place (omega (arith, few)) (omega (arith, few')) (ap (text_at 2) same);
       registers = registers-told s.registers u.registers p.registers q.registers (ap (value_at 3) same);
       buffer = stores-told t s.pending u.pending test p.pending q.pending
-          (sym (words-there (map (store_text t) s.pending)) ∙ (ap (λ (j : json.Json). texts_of (items_in (value_at 0 j))) same ∙ words-there (map (store_text t) u.pending)));
+          (sym (words-there (map (store_text t) s.pending))
+          ∙ (ap (λ (j : json.Json). texts_of (items_in (value_at 0 j))) same
+          ∙ words-there (map (store_text t) u.pending)));
     }
 
 -- ---- the copies in its cache
@@ -71,7 +91,8 @@ abbrev sets_in : json.Items → List (List Shown)
 sets_in json.no_items = []
 sets_in (json.item j js) = set_in (items_in j) ∷ sets_in js
 
-set-there : (m : Running) (core : ℕ) (copies : List CachedLine) → set_in (items_outline (items_of (map (copy_json m core) copies))) ≡ map (copy_shown m core) copies
+set-there : (m : Running) (core : ℕ) (copies : List CachedLine)
+    → set_in (items_outline (items_of (map (copy_json m core) copies))) ≡ map (copy_shown m core) copies
 set-there m core [] = refl
 set-there m core (c ∷ cs) =
     let state = state-again (line_state m core c.line) in
@@ -106,15 +127,24 @@ abbrev is_object : json.Json → Bool
 is_object (json.object ms) = true
 is_object _ = false
 
-bus-told : (m n : Running) (h k : Option BusHolder) → IfSome h (λ b. chosen b.choice < 256) → IfSome k (λ b. chosen b.choice < 256) → outline (bus_json m h) ≡ outline (bus_json n k)
+bus-told : (m n : Running) (h k : Option BusHolder)
+    → IfSome h (λ b. chosen b.choice < 256)
+    → IfSome k (λ b. chosen b.choice < 256)
+    → outline (bus_json m h) ≡ outline (bus_json n k)
     → option_map (holder_shown m) h ≡ option_map (holder_shown n) k
 bus-told m n None None p q same = refl
 bus-told m n None (Some k) p q same = uneven (sym (ap is_object same))
 bus-told m n (Some h) None p q same = uneven (ap is_object same)
 bus-told m n (Some h) (Some k) p q same =
-    let choice = choice-cut h.choice k.choice [] [] (core-small m.test 1 h.choice p) (core-small m.test 1 k.choice q) (ap (λ (j : json.Json). text_at 0 j ++ []) same) in
-    let state = transient-told h.transient k.transient (option-told (option_map transient_name h.transient) (option_map transient_name k.transient) (ap (value_at 3) same)) in
-    let line : line_name m.test (words_per_line m) (h.loc.0 / words_per_line m) ≡ line_name n.test (words_per_line n) (k.loc.0 / words_per_line n) = ap (text_at 2) same in
+    let choice =
+    choice-cut h.choice k.choice [] [] (core-small m.test 1 h.choice p) (core-small m.test 1 k.choice q)
+    (ap (λ (j : json.Json). text_at 0 j ++ []) same) in
+    let state =
+    transient-told h.transient k.transient
+    (option-told (option_map transient_name h.transient) (option_map transient_name k.transient) (ap (value_at 3) same)) in
+    let line : line_name m.test (words_per_line m) (h.loc.0 / words_per_line m)
+    ≡ line_name n.test (words_per_line n) (k.loc.0 / words_per_line n) =
+    ap (text_at 2) same in
     let kept = λ (x : Running) (b : BusHolder). words_on_bus b.transient (words_in_line (words_per_line x) x.state.flat.memory (b.loc.0 / words_per_line x)) in
     let words : map decimal (kept m h) ≡ map decimal (kept n k) =
     sym (digits-there (kept m h)) ∙ (ap (λ (j : json.Json). texts_of (items_in (value_at 4 j))) same ∙ digits-there (kept n k)) in
@@ -125,7 +155,10 @@ bus-told m n (Some h) (Some k) p q same =
 abbrev Cores : Running → ℕ → ℕ → json.Items
 Cores m core count = items_outline (items_of (cores_json m core count))
 
-each-core : (m n : Running) (core count k : ℕ) → Cores m core count ≡ Cores n core count → k < count → outline (core_json m (core + k)) ≡ outline (core_json n (core + k))
+each-core : (m n : Running) (core count k : ℕ)
+    → Cores m core count ≡ Cores n core count
+    → k < count
+    → outline (core_json m (core + k)) ≡ outline (core_json n (core + k))
 each-core m n core zero k same small = absurd (omega (arith, small))
 each-core m n core (suc rest) zero same small =
     let here : core ≡ core + 0 = omega arith in
@@ -141,7 +174,11 @@ record Follows (t : Litmus) (c : Configuration) (m : Running) : Type 0 where
   fits : MachineFits m
   each : length m.state.flat.memory ≡ length t.locations
 
-follows : (t : Litmus) (c : Configuration) (m : Running) (choices : List Choice) → IsTest t → CoresExist (length t.programs) choices → Follows t c m → Follows t c (after_choices m choices)
+follows : (t : Litmus) (c : Configuration) (m : Running) (choices : List Choice)
+    → IsTest t
+    → CoresExist (length t.programs) choices
+    → Follows t c m
+    → Follows t c (after_choices m choices)
 follows t c m [] test exist f = f
 follows t c m (choice ∷ choices) test exist f =
     let next = machine_after m choice in
@@ -165,7 +202,12 @@ by-test t c m own traced = (
   ap (λ (u : Litmus). outline (memory_value u m.state.flat.memory)) traced.test,
 )
 
-machine-told : (t : Litmus) (c d : Configuration) (m n : Running) (own other : List ℕ) → IsTest t → Follows t c m → Follows t d n → AreWordsOf t own → AreWordsOf t other
+machine-told : (t : Litmus) (c d : Configuration) (m n : Running) (own other : List ℕ)
+    → IsTest t
+    → Follows t c m
+    → Follows t d n
+    → AreWordsOf t own
+    → AreWordsOf t other
     → outline (machine_json m own) ≡ outline (machine_json n other) → ShowTheSameMachine t m n own other
 machine-told t c d m n own other test f g p q same =
     let a = by-test t c m own f.traced in
@@ -177,12 +219,18 @@ machine-told t c d m n own other test f g p q same =
     let values = subst (λ (i : ℕ). outline (core_json m i) ≡ outline (core_json n i)) zero_plus (each-core m n 0 (length t.programs) k cores small) in
     let x = ap (λ (u : Litmus). outline (core-value u (lines m k) (core_of m.state.flat k))) f.traced.test in
     let y = ap (λ (u : Litmus). outline (core-value u (lines n k) (core_of n.state.flat k))) g.traced.test in
-    core-told t (lines m k) (lines n k) (core_of m.state.flat k) (core_of n.state.flat k) test (subst (λ (u : Litmus). CoreFits u (core_of m.state.flat k)) f.traced.test (f.fits.cores k))
+    core-told t (lines m k) (lines n k) (core_of m.state.flat k) (core_of n.state.flat k) test
+    (subst (λ (u : Litmus). CoreFits u (core_of m.state.flat k)) f.traced.test (f.fits.cores k))
     (subst (λ (u : Litmus). CoreFits u (core_of n.state.flat k)) g.traced.test (g.fits.cores k)) (sym x ∙ (values ∙ y)) in
-    let copies : (k : ℕ) → k < length t.programs → copies_shown m k 0 m.statistics.caches.shape.sets ≡ copies_shown n k 0 n.statistics.caches.shape.sets = λ k small.
+    let copies : (k : ℕ)
+    → k < length t.programs
+    → copies_shown m k 0 m.statistics.caches.shape.sets ≡ copies_shown n k 0 n.statistics.caches.shape.sets =
+    λ k small.
     let zero_plus : 0 + k ≡ k = omega arith in
     let values = subst (λ (i : ℕ). outline (core_json m i) ≡ outline (core_json n i)) zero_plus (each-core m n 0 (length t.programs) k cores small) in
-    sym (sets-there m k 0 m.statistics.caches.shape.sets) ∙ (ap (λ (j : json.Json). sets_in (items_in (value_at 1 j))) values ∙ sets-there n k 0 n.statistics.caches.shape.sets) in
+    sym (sets-there m k 0 m.statistics.caches.shape.sets)
+    ∙ (ap (λ (j : json.Json). sets_in (items_in (value_at 1 j))) values
+    ∙ sets-there n k 0 n.statistics.caches.shape.sets) in
     record {
       bus = bus-told m n (bus_holder_of m) (bus_holder_of n) (holder-small m.test m m.state.holder m.statistics.caches.awaited f.fits.holder)
           (holder-small n.test n n.state.holder n.statistics.caches.awaited g.fits.holder) (ap (value_at 0) same);
@@ -190,7 +238,9 @@ machine-told t c d m n own other test f g p q same =
       places = λ k small. (core k small).place;
       registers = λ k small. (core k small).registers;
       buffers = λ k small. (core k small).buffer;
-      memory = memory-told t.locations own other test.locations_differ p.each q.each p.words_are q.words_are (ap members_in (sym a.1 ∙ (ap (value_at 2) same ∙ b.1)));
+      memory =
+          memory-told t.locations own other test.locations_differ p.each q.each p.words_are q.words_are
+          (ap members_in (sym a.1 ∙ (ap (value_at 2) same ∙ b.1)));
       seen = memory-told t.locations m.state.flat.memory n.state.flat.memory test.locations_differ f.each g.each f.fits.memory g.fits.memory
           (ap members_in (sym a.2 ∙ (ap (value_at 3) same ∙ b.2)));
     }

@@ -1,6 +1,17 @@
 -- What a machine holds fits its test, whatever the choices: its words are words, its pending stores and what it commits are entries
 -- that an order of the test may have, and no core is past its program.
-use Rattle.printed_laws.proofs.Vocabulary.{◌≡◌, ℕ, ◌<◌, Bool, true, false, List, [], ◌∷◌, ◌++◌, drop, refl, sym, subst, zero, suc, ◌≤◌, Option, arith, inl, inr, ◌+◌, length, slice_index, All, Some, None, slice_index_or, if◌then◌else◌, take, IfSome, nat_lt, slice_get, slice_set, Litmus, IsTest, IsProgram, KnownLocation, ConstantIsWord, Bus, Atomic, Split, All-head, All-tail, All-cons, All-nil, All-push, All-set, All-filter, All-drop, IsWord, AreRegisters, index_of, entry, fence, value_of, updated, Reg, Entry, HasAccess, IsEntryFor, Choice, Drain, chosen, CoreState, State, Effect, is_none_pending, stalled, advanced_with, stored, load_value, effect_by, idle, program_of, core_of, effect_of, memory_after, applied, started, start, Kind, R, W, F, LR, LW, Stall, Committed, Buffered, action_of, is_write, writes_to, MemoryAccess, Locks, access_of, Holder, Free, HeldBy, HeldBetween, Attempt, BusEffect, same_choice, needs_bus, acts, asks, begins, completes, as_read, writes_last, split_effect, Instr, Action, Store, Load, Move, Fence, Lock, ActionKnown, AccessKnown, step_of, next_of}
+use Rattle.printed_laws.proofs.Vocabulary.{◌≡◌, ℕ, ◌<◌, Bool, true, false, List, [], ◌∷◌, ◌++◌, drop, refl, sym, subst, zero, suc, ◌≤◌}
+use Rattle.printed_laws.proofs.Vocabulary.{Option, arith, inl, inr, ◌+◌, length, slice_index, All, Some, None, slice_index_or}
+use Rattle.printed_laws.proofs.Vocabulary.{if◌then◌else◌, take, IfSome, nat_lt, slice_get, slice_set, Litmus, IsTest, IsProgram}
+use Rattle.printed_laws.proofs.Vocabulary.{KnownLocation, ConstantIsWord, Bus, Atomic, Split, All-head, All-tail, All-cons, All-nil}
+use Rattle.printed_laws.proofs.Vocabulary.{All-push, All-set, All-filter, All-drop, IsWord, AreRegisters, index_of, entry, fence, value_of}
+use Rattle.printed_laws.proofs.Vocabulary.{updated, Reg, Entry, HasAccess, IsEntryFor, Choice, Drain, chosen, CoreState, State, Effect}
+use Rattle.printed_laws.proofs.Vocabulary.{is_none_pending, stalled, advanced_with, stored, load_value, effect_by, idle, program_of}
+use Rattle.printed_laws.proofs.Vocabulary.{core_of, effect_of, memory_after, applied, started, start, Kind, R, W, F, LR, LW, Stall}
+use Rattle.printed_laws.proofs.Vocabulary.{Committed, Buffered, action_of, is_write, writes_to, MemoryAccess, Locks, access_of, Holder}
+use Rattle.printed_laws.proofs.Vocabulary.{Free, HeldBy, HeldBetween, Attempt, BusEffect, same_choice, needs_bus, acts, asks, begins}
+use Rattle.printed_laws.proofs.Vocabulary.{completes, as_read, writes_last, split_effect, Instr, Action, Store, Load, Move, Fence, Lock}
+use Rattle.printed_laws.proofs.Vocabulary.{ActionKnown, AccessKnown, step_of, next_of}
 use Rattle.std.proofs.Common.{filter}
 use Rattle.tso_terms.specs.Axioms.{last_value}
 use Rattle.tso_terms.specs.EitherBus.{BusState, effect_on}
@@ -61,9 +72,17 @@ module _ (t : Litmus) where
   next-place s here h = record { place = omega (arith, here); registers = h.registers; pending = h.pending }
 
   with-fits : (s : CoreState) (reg : Reg) (value : ℕ) → s.place < 32 → CoreFits t s → IsWord value → CoreFits t (advanced_with s reg value)
-  with-fits s reg value here h w = record { place = omega (arith, here); registers = All-set IsWord s.registers (index_of reg) value w h.registers; pending = h.pending }
+  with-fits s reg value here h w = record {
+    place = omega (arith, here);
+    registers = All-set IsWord s.registers (index_of reg) value w h.registers;
+    pending = h.pending;
+  }
 
-  with-registers : (s : CoreState) (registers : List ℕ) → s.place < 32 → CoreFits t s → All IsWord registers → CoreFits t (record { place = s.place + 1; registers = registers; pending = s.pending })
+  with-registers : (s : CoreState) (registers : List ℕ)
+      → s.place < 32
+      → CoreFits t s
+      → All IsWord registers
+      → CoreFits t (record { place = s.place + 1; registers = registers; pending = s.pending })
   with-registers s registers here h words = record { place = omega (arith, here); registers = words; pending = h.pending }
 
   stored-fits : (depth : ℕ) (s : CoreState) (e : Entry) → s.place < 32 → CoreFits t s → PendingFits t e → EffectFits t (stored depth s e)
@@ -73,7 +92,14 @@ module _ (t : Litmus) where
       by_room : (b : Bool) → EffectFits t (if b
           then record { outcome = Buffered; after = record { place = s.place + 1; registers = s.registers; pending = s.pending ++ e ∷ [] }; commits = [] }
           else stalled stall.Full s)
-      by_room true = record { after = record { place = omega (arith, here); registers = h.registers; pending = All-push (PendingFits t) s.pending e h.pending p }; commits = nothing }
+      by_room true = record {
+        after = record {
+          place = omega (arith, here);
+          registers = h.registers;
+          pending = All-push (PendingFits t) s.pending e h.pending p;
+        };
+        commits = nothing;
+      }
       by_room false = stalled-fits s stall.Full h
 
   when-fits : (s : CoreState) (why : Stall) (f : Effect) (b : Bool) → CoreFits t s → EffectFits t f → EffectFits t (if b then f else stalled why s)
@@ -81,20 +107,35 @@ module _ (t : Litmus) where
   when-fits s why f false h p = stalled-fits s why h
 
   module _ (core : ℕ) (small : core < 256) where
-    action-fits : (depth : ℕ) (memory : List ℕ) (a : Action) (s : CoreState) → All IsWord memory → ActionKnown t a → NumberIsWord a → s.place < 32 → CoreFits t s
+    action-fits : (depth : ℕ) (memory : List ℕ) (a : Action) (s : CoreState)
+        → All IsWord memory
+        → ActionKnown t a
+        → NumberIsWord a
+        → s.place < 32
+        → CoreFits t s
         → EffectFits t (effect_by depth memory core a s)
     action-fits depth memory (Store loc operand) s m k n here h =
         stored-fits depth s (entry core s.place W loc (value_of s.registers operand)) here h
         (record { core = small; place = omega (arith, here); kind = refl; known = k; word = operand-word s.registers operand h.registers n })
     action-fits depth memory (Load reg loc) s m k n here h =
         let value = load_value memory s loc.0 in
-        let w : IsWord value = last-word t (filter (writes_to loc.0) s.pending) (slice_index memory loc.0) (All-filter (writes_to loc.0) (PendingFits t) s.pending h.pending) (word-at memory loc.0 m) in
-        record { after = with-fits s reg value here h w; commits = one (entry core s.place R loc value) (record { core = small; place = omega (arith, here); access = (k, w) }) }
+        let w : IsWord value =
+        last-word t (filter (writes_to loc.0) s.pending) (slice_index memory loc.0)
+        (All-filter (writes_to loc.0) (PendingFits t) s.pending h.pending) (word-at memory loc.0 m) in
+        record {
+          after = with-fits s reg value here h w;
+          commits =
+              one (entry core s.place R loc value) (record { core = small; place = omega (arith, here); access = (k, w) });
+        }
     action-fits depth memory (Move change) s m k n here h =
         record { after = with-registers s (changed change s.registers) here h (changed-words change s.registers n h.registers); commits = nothing }
     action-fits depth memory Fence s m k n here h =
         when-fits s stall.Fence _ (is_none_pending s.pending) h
-        (record { after = next-place s here h; commits = one (fence core s.place) (record { core = small; place = omega (arith, here); access = (refl, refl) }) })
+        (record {
+          after = next-place s here h;
+          commits =
+              one (fence core s.place) (record { core = small; place = omega (arith, here); access = (refl, refl) });
+        })
     action-fits depth memory (Lock loc reg update) s m k n here h =
         let word = slice_index memory loc.0 in
         let value = updated update s.registers word in
@@ -104,7 +145,12 @@ module _ (t : Litmus) where
         when-fits s stall.Lock _ (is_none_pending s.pending) h
         (record {
           after = with-registers s (with_taken s.registers reg word) here h (taken-words s.registers reg word h.registers w);
-          commits = All-cons (IsEntryFor t) (entry core s.place LR loc word) (wrote ∷ []) (record { core = small; place = omega (arith, here); access = (k, w) })
+          commits =
+              All-cons (IsEntryFor t) (entry core s.place LR loc word) (wrote ∷ []) (record {
+                core = small;
+                place = omega (arith, here);
+                access = (k, w);
+              })
               (one wrote (record { core = small; place = omega (arith, here); access = (k, v) }));
         })
 
@@ -132,7 +178,13 @@ module _ (t : Litmus) where
   constants-at (p ∷ ps) zero h = All-head (λ p. All ConstantIsWord p) p ps h
   constants-at (p ∷ ps) (suc core) h = constants-at ps core (All-tail (λ p. All ConstantIsWord p) p ps h)
 
-  step-fits : (core : ℕ) → core < 256 → (depth : ℕ) (memory : List ℕ) (i : Option Instr) (s : CoreState) (size : ℕ) → size ≤ 32 → All IsWord memory → IfSome i (InstrFits size s.place) → CoreFits t s
+  step-fits : (core : ℕ)
+      → core < 256
+      → (depth : ℕ) (memory : List ℕ) (i : Option Instr) (s : CoreState) (size : ℕ)
+      → size ≤ 32
+      → All IsWord memory
+      → IfSome i (InstrFits size s.place)
+      → CoreFits t s
       → EffectFits t (step_of depth memory core i s)
   step-fits core small depth memory None s size few m k h = stalled-fits s stall.Done h
   step-fits core small depth memory (Some i) s size few m k h =
@@ -153,7 +205,12 @@ module _ (t : Litmus) where
   abbrev pub CoresFit : State → Type 0
   CoresFit state = (core : ℕ) → CoreFits t (core_of state core)
 
-  flat-fits : (depth : ℕ) (state : State) (a : Choice) → IsTest t → chosen a < 256 → All IsWord state.memory → CoresFit state → EffectFits t (effect_of t depth state a)
+  flat-fits : (depth : ℕ) (state : State) (a : Choice)
+      → IsTest t
+      → chosen a < 256
+      → All IsWord state.memory
+      → CoresFit state
+      → EffectFits t (effect_of t depth state a)
   flat-fits depth state (Step core) test small m h =
       let program = program-at t.programs core.0 test.programs_fit in
       step-fits core.0 small depth state.memory (next_of t state core.0) (core_of state core.0) (length (program_of t core.0)) program.size m
@@ -177,7 +234,12 @@ module _ (t : Litmus) where
   asks-fits s a (HeldBy other) h small p = record { effect = stalled-fits s stall.Bus h; holder = p }
   asks-fits s a (HeldBetween e) h small p = record { effect = stalled-fits s stall.Bus h; holder = p }
 
-  begins-fits : (depth : ℕ) (state : State) (a : Attempt) (holder : Holder) → IsTest t → chosen a.choice < 256 → All IsWord state.memory → CoresFit state → HolderFits holder
+  begins-fits : (depth : ℕ) (state : State) (a : Attempt) (holder : Holder)
+      → IsTest t
+      → chosen a.choice < 256
+      → All IsWord state.memory
+      → CoresFit state
+      → HolderFits holder
       → BusFits (begins t depth state a holder)
   begins-fits depth state a holder test small m h p = go (needs_bus (access_of t depth state a.choice) a.hits)
     where
@@ -185,19 +247,37 @@ module _ (t : Litmus) where
       go true = asks-fits (core_of state (chosen a.choice)) a.choice holder (h (chosen a.choice)) small p
       go false = record { effect = flat-fits depth state a.choice test small m h; holder = p }
 
-  completes-fits : (depth : ℕ) (state : State) (a : Choice) (what : MemoryAccess) → IsTest t → chosen a < 256 → All IsWord state.memory → CoresFit state → AccessKnown t what
+  completes-fits : (depth : ℕ) (state : State) (a : Choice) (what : MemoryAccess)
+      → IsTest t
+      → chosen a < 256
+      → All IsWord state.memory
+      → CoresFit state
+      → AccessKnown t what
       → BusFits (completes t depth state a what)
   completes-fits depth state a (Locks loc) test small m h k =
       let s = core_of state (chosen a) in
       let w : IsWord (slice_index state.memory loc.0) = word-at state.memory loc.0 m in
       let place = (h (chosen a)).place in
       record {
-        effect = record { after = h (chosen a); commits = one (entry (chosen a) s.place LR loc (slice_index state.memory loc.0)) (record { core = small; place = omega (arith, place); access = (k, w) }) };
+        effect = record {
+          after = h (chosen a);
+          commits =
+              one (entry (chosen a) s.place LR loc (slice_index state.memory loc.0)) (record {
+                core = small;
+                place = omega (arith, place);
+                access = (k, w);
+              });
+        };
         holder = (small, w);
       }
   completes-fits depth state a what test small m h k = record { effect = flat-fits depth state a test small m h; holder = tt }
 
-  split-fits : (depth : ℕ) (state : State) (a : Attempt) (holder : Holder) → IsTest t → chosen a.choice < 256 → All IsWord state.memory → CoresFit state → HolderFits holder
+  split-fits : (depth : ℕ) (state : State) (a : Attempt) (holder : Holder)
+      → IsTest t
+      → chosen a.choice < 256
+      → All IsWord state.memory
+      → CoresFit state
+      → HolderFits holder
       → ((c : Choice) → AccessKnown t (access_of t depth state c)) → BusFits (split_effect t depth state a holder)
   split-fits depth state a Free test small m h p k = begins-fits depth state a Free test small m h p
   split-fits depth state a (HeldBy choice) test small m h p k = go (same_choice choice a.choice)
@@ -216,7 +296,12 @@ module _ (t : Litmus) where
           }
       go false = begins-fits depth state a (HeldBetween e) test small m h p
 
-  pub effect-fits : (bus : Bus) (depth : ℕ) (state : BusState) (a : Attempt) → IsTest t → chosen a.choice < 256 → All IsWord state.flat.memory → CoresFit state.flat → HolderFits state.holder
+  pub effect-fits : (bus : Bus) (depth : ℕ) (state : BusState) (a : Attempt)
+      → IsTest t
+      → chosen a.choice < 256
+      → All IsWord state.flat.memory
+      → CoresFit state.flat
+      → HolderFits state.holder
       → ((c : Choice) → AccessKnown t (access_of t depth state.flat c)) → BusFits (effect_on bus t depth state a)
   effect-fits Atomic depth state a test small m h p k = record { effect = flat-fits depth state.flat a.choice test small m h; holder = p }
   effect-fits Split depth state a test small m h p k = split-fits depth state.flat a state.holder test small m h p k
@@ -244,7 +329,9 @@ module _ (t : Litmus) where
   registers-at (r ∷ rs) zero h = (All-head AreRegisters r rs h).words
   registers-at (r ∷ rs) (suc core) h = registers-at rs core (All-tail AreRegisters r rs h)
 
-  started-registers : (core : ℕ) (ps : List (List Instr)) (registers : List (List ℕ)) (k : ℕ) → All AreRegisters registers → All IsWord (slice_index_or (started core ps registers) k idle).registers
+  started-registers : (core : ℕ) (ps : List (List Instr)) (registers : List (List ℕ)) (k : ℕ)
+      → All AreRegisters registers
+      → All IsWord (slice_index_or (started core ps registers) k idle).registers
   started-registers core [] registers k h = All-nil IsWord
   started-registers core (p ∷ ps) registers zero h = registers-at registers core h
   started-registers core (p ∷ ps) registers (suc k) h = started-registers (core + 1) ps registers k h

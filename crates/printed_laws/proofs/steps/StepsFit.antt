@@ -1,5 +1,15 @@
 -- Each step of a trace fits its test.
-use Rattle.printed_laws.proofs.Vocabulary.{◌≡◌, ℕ, ◌<◌, Bool, true, false, List, [], ◌∷◌, ◌++◌, drop, subst, ◌∙◌, zero, suc, ◌≤◌, Option, arith, ◌+◌, length, All, Some, None, ◌==◌, if◌then◌else◌, IfSome, slice_get, length-replicate, Litmus, IsTest, Bus, Atomic, Split, ProtocolKind, Configuration, IsConfigurationWithinLimits, All-head, All-tail, All-weaker, All-cons, All-nil, All-drop, All-append, IsWord, index_of, Entry, HasWord, IsEntryFor, has_ended, CoresExist, Choice, Drain, chosen, program_of, core_of, Core, IsAt, AreStoresKnown, LineRequest, StateChange, Asked, TraceStepFits, action_of, access_of, Instr, Action, Move, access-known, Table, table_of, Awaited, is_awaited, Running, new_machine, machine_after, moved_by, moved_at, moved_from, buffer_if_changed, placed, line_states, placed_states_from, number_of_lines, states_of, number_of_state, change_of, changes_in, steps_from, trace_under, trace_step_of, IsTraced, traced-first, step-known, traced-next, attempt_on, machine_effect, machine_use}
+use Rattle.printed_laws.proofs.Vocabulary.{◌≡◌, ℕ, ◌<◌, Bool, true, false, List, [], ◌∷◌, ◌++◌, drop, subst, ◌∙◌, zero, suc, ◌≤◌, Option}
+use Rattle.printed_laws.proofs.Vocabulary.{arith, ◌+◌, length, All, Some, None, ◌==◌, if◌then◌else◌, IfSome, slice_get, length-replicate}
+use Rattle.printed_laws.proofs.Vocabulary.{Litmus, IsTest, Bus, Atomic, Split, ProtocolKind, Configuration, IsConfigurationWithinLimits}
+use Rattle.printed_laws.proofs.Vocabulary.{All-head, All-tail, All-weaker, All-cons, All-nil, All-drop, All-append, IsWord, index_of, Entry}
+use Rattle.printed_laws.proofs.Vocabulary.{HasWord, IsEntryFor, has_ended, CoresExist, Choice, Drain, chosen, program_of, core_of, Core}
+use Rattle.printed_laws.proofs.Vocabulary.{IsAt, AreStoresKnown, LineRequest, StateChange, Asked, TraceStepFits, action_of, access_of}
+use Rattle.printed_laws.proofs.Vocabulary.{Instr, Action, Move, access-known, Table, table_of, Awaited, is_awaited, Running, new_machine}
+use Rattle.printed_laws.proofs.Vocabulary.{machine_after, moved_by, moved_at, moved_from, buffer_if_changed, placed, line_states}
+use Rattle.printed_laws.proofs.Vocabulary.{placed_states_from, number_of_lines, states_of, number_of_state, change_of, changes_in}
+use Rattle.printed_laws.proofs.Vocabulary.{steps_from, trace_under, trace_step_of, IsTraced, traced-first, step-known, traced-next}
+use Rattle.printed_laws.proofs.Vocabulary.{attempt_on, machine_effect, machine_use}
 use Rattle.basic_laws.specs.Types.{Step, Outcome, Change, Keep, Set, Swap}
 use Rattle.trace_report.specs.Steps.{given_by_move}
 use Rattle.printed_laws.specs.Traces.{MovesWords}
@@ -36,7 +46,8 @@ stores-known m f core = All-weaker (PendingFits m.test) (IsAt m.test) (λ e p. p
 
 bus-fits : (m : Running) (choice : Choice) → chosen choice < 256 → MachineFits m → BusFits m.test (machine_effect m choice)
 bus-fits m choice small f =
-    effect-fits m.test m.bus m.depth m.state (attempt_on m choice) f.test small f.memory f.cores f.holder (λ c. access-known m.test m.depth m.state.flat c f.test (stores-known m f))
+    effect-fits m.test m.bus m.depth m.state (attempt_on m choice) f.test small f.memory f.cores f.holder
+    (λ c. access-known m.test m.depth m.state.flat c f.test (stores-known m f))
 
 pub fits-next : (m : Running) (choice : Choice) → chosen choice < 256 → MachineFits m → MachineFits (machine_after m choice)
 fits-next m choice small f =
@@ -52,7 +63,9 @@ fits-next m choice small f =
 
 -- ---- the parts of a step
 
-moved-word : (t : Litmus) (place : ℕ) (choice : Choice) (registers : List ℕ) → All IsWord registers → IfSome (moved_from t place choice registers) (λ m. MovesWords m)
+moved-word : (t : Litmus) (place : ℕ) (choice : Choice) (registers : List ℕ)
+    → All IsWord registers
+    → IfSome (moved_from t place choice registers) (λ m. MovesWords m)
 moved-word t place (Drain core) registers all = tt
 moved-word t place (Step core) registers all = at (slice_get (program_of t core.0) place)
   where
@@ -89,12 +102,14 @@ IsChangeOfCore c = c.core.0 < 256
 
 line-cores : (m : Running) (core line count : ℕ) → core < 256 → All IsOfCore (line_states m core line count)
 line-cores m core line zero small = All-nil IsOfCore
-line-cores m core line (suc count) small = All-cons IsOfCore (placed m core line) (line_states m core (line + 1) count) small (line-cores m core (line + 1) count small)
+line-cores m core line (suc count) small =
+    All-cons IsOfCore (placed m core line) (line_states m core (line + 1) count) small (line-cores m core (line + 1) count small)
 
 core-cores : (m : Running) (core count : ℕ) → core + count ≤ 256 → All IsOfCore (placed_states_from m core count)
 core-cores m core zero few = All-nil IsOfCore
 core-cores m core (suc count) few =
-    All-append IsOfCore (line_states m core 0 (number_of_lines m)) (placed_states_from m (core + 1) count) (line-cores m core 0 (number_of_lines m) (omega (arith, few))) (core-cores m (core + 1) count (omega (arith, few)))
+    All-append IsOfCore (line_states m core 0 (number_of_lines m)) (placed_states_from m (core + 1) count)
+    (line-cores m core 0 (number_of_lines m) (omega (arith, few))) (core-cores m (core + 1) count (omega (arith, few)))
 
 change-cores : (b a : PlacedState) → IsOfCore b → All IsChangeOfCore (change_of b a)
 change-cores b a small = by_test (number_of_state b.state == number_of_state a.state)
@@ -107,11 +122,17 @@ changes-cores : (befores afters : List PlacedState) → All IsOfCore befores →
 changes-cores [] afters all = All-nil IsChangeOfCore
 changes-cores (b ∷ bs) [] all = All-nil IsChangeOfCore
 changes-cores (b ∷ bs) (a ∷ rest) all =
-    All-append IsChangeOfCore (change_of b a) (changes_in bs rest) (change-cores b a (All-head IsOfCore b bs all)) (changes-cores bs rest (All-tail IsOfCore b bs all))
+    All-append IsChangeOfCore (change_of b a) (changes_in bs rest) (change-cores b a (All-head IsOfCore b bs all))
+    (changes-cores bs rest (All-tail IsOfCore b bs all))
 
 -- ---- a step
 
-pub step-fits : (t : Litmus) (c : Configuration) (m : Running) (choice : Choice) → IsTest t → IsConfigurationWithinLimits c → IsTraced t c m → chosen choice < length t.programs → MachineFits m
+pub step-fits : (t : Litmus) (c : Configuration) (m : Running) (choice : Choice)
+    → IsTest t
+    → IsConfigurationWithinLimits c
+    → IsTraced t c m
+    → chosen choice < length t.programs
+    → MachineFits m
     → TraceStepFits t c.shape.words (trace_step_of m choice)
 unfolding trace_step_of
 step-fits t c m choice test within traced exists f =
@@ -125,7 +146,9 @@ step-fits t c m choice test within traced exists f =
     let is = next.cores (chosen choice) in
     let after : All (IsEntryFor m.test) pending = All-weaker (PendingFits m.test) (IsEntryFor m.test) (pending-entry m.test) pending is.pending in
     let entries : All (IsEntryFor m.test) ((machine_effect m choice).effect.commits ++ drop (length waited) pending) =
-    All-append (IsEntryFor m.test) (machine_effect m choice).effect.commits (drop (length waited) pending) made.effect.commits (All-drop (IsEntryFor m.test) (length waited) pending after) in
+    All-append (IsEntryFor m.test) (machine_effect m choice).effect.commits (drop (length waited) pending)
+    made.effect.commits
+    (All-drop (IsEntryFor m.test) (length waited) pending after) in
     let size = length m.statistics.caches.contents in
     let few_here = f.test.cores in
     let counted = f.counts in
@@ -141,7 +164,12 @@ step-fits t c m choice test within traced exists f =
       buffer = buffer-words m.test (length waited) pending is.pending;
     }
 
-steps-fit : (t : Litmus) (c : Configuration) (m : Running) (choices : List Choice) → IsTest t → IsConfigurationWithinLimits c → IsTraced t c m → CoresExist (length t.programs) choices → MachineFits m
+steps-fit : (t : Litmus) (c : Configuration) (m : Running) (choices : List Choice)
+    → IsTest t
+    → IsConfigurationWithinLimits c
+    → IsTraced t c m
+    → CoresExist (length t.programs) choices
+    → MachineFits m
     → All (TraceStepFits t c.shape.words) (steps_from m choices)
 steps-fit t c m [] test within traced exist f = All-nil (TraceStepFits t c.shape.words)
 steps-fit t c m (choice ∷ choices) test within traced exist f =
@@ -151,12 +179,17 @@ steps-fit t c m (choice ∷ choices) test within traced exist f =
     by_end (has_ended m.test m.state.flat) (step-fits t c m choice test within traced exist.0 f)
     (steps-fit t c (machine_after m choice) choices test within (traced-next t c m choice test traced) exist.1 (fits-next m choice small f))
   where
-    by_end : (ended : Bool) → TraceStepFits t c.shape.words (trace_step_of m choice) → All (TraceStepFits t c.shape.words) (steps_from (machine_after m choice) choices)
+    by_end : (ended : Bool)
+        → TraceStepFits t c.shape.words (trace_step_of m choice)
+        → All (TraceStepFits t c.shape.words) (steps_from (machine_after m choice) choices)
         → All (TraceStepFits t c.shape.words) (if ended then [] else trace_step_of m choice ∷ steps_from (machine_after m choice) choices)
     by_end true first further = All-nil (TraceStepFits t c.shape.words)
     by_end false first further = All-cons (TraceStepFits t c.shape.words) (trace_step_of m choice) (steps_from (machine_after m choice) choices) first further
 
-pub traces-fit : (t : Litmus) (kind : ProtocolKind) (c : Configuration) (choices : List Choice) → IsTest t → IsConfigurationWithinLimits c → CoresExist (length t.programs) choices
+pub traces-fit : (t : Litmus) (kind : ProtocolKind) (c : Configuration) (choices : List Choice)
+    → IsTest t
+    → IsConfigurationWithinLimits c
+    → CoresExist (length t.programs) choices
     → All (TraceStepFits t c.shape.words) (trace_under t kind c choices)
 traces-fit t kind c choices test within exist =
     let m = new_machine (table_of kind) c t in

@@ -1,5 +1,15 @@
 -- The JSON value of a trace is read back from its text.
-use Rattle.printed_laws.proofs.Vocabulary.{ℕ, ◌<◌, Bool, true, false, List, [], ◌∷◌, zero, suc, Option, arith, ◌+◌, length, slice_index, All, Some, None, map, ◌/◌, if◌then◌else◌, ◌*◌, take, IfSome, nat_lt, range_with_len, Data, outline, items_outline, IsNumber-decimal, Litmus, IsTest, ProtocolKind, Configuration, All-head, All-tail, All-cons, All-nil, All-drop, All-take, Condition, IsWord, items_of, has_ended, CoresExist, Choice, chosen, core_of, store_text, names_in_line, transient_name, MemoryAccess, NoAccess, Writes, Locks, access_of, Holder, Free, HeldBy, HeldBetween, table_of, Awaited, at_access, Running, new_machine, machine_after, trace_step_of, Transient, bus_holder, bus_holder_as, bus_holder_of, BusHolder, words_per_line, copy_json, sets_json, core_json, cores_json, words_on_bus, bus_json, machine_json, own_word, own_words_from, own_words, is_newer_in, instruction_text, program_value, programs_value, proposition_text, proposition_value, sourced_by, step_to, steps_json, trace_json}
+use Rattle.printed_laws.proofs.Vocabulary.{ℕ, ◌<◌, Bool, true, false, List, [], ◌∷◌, zero, suc, Option, arith, ◌+◌, length, slice_index}
+use Rattle.printed_laws.proofs.Vocabulary.{All, Some, None, map, ◌/◌, if◌then◌else◌, ◌*◌, take, IfSome, nat_lt, range_with_len, Data}
+use Rattle.printed_laws.proofs.Vocabulary.{outline, items_outline, IsNumber-decimal, Litmus, IsTest, ProtocolKind, Configuration, All-head}
+use Rattle.printed_laws.proofs.Vocabulary.{All-tail, All-cons, All-nil, All-drop, All-take, Condition, IsWord, items_of, has_ended}
+use Rattle.printed_laws.proofs.Vocabulary.{CoresExist, Choice, chosen, core_of, store_text, names_in_line, transient_name, MemoryAccess}
+use Rattle.printed_laws.proofs.Vocabulary.{NoAccess, Writes, Locks, access_of, Holder, Free, HeldBy, HeldBetween, table_of, Awaited}
+use Rattle.printed_laws.proofs.Vocabulary.{at_access, Running, new_machine, machine_after, trace_step_of, Transient, bus_holder}
+use Rattle.printed_laws.proofs.Vocabulary.{bus_holder_as, bus_holder_of, BusHolder, words_per_line, copy_json, sets_json, core_json}
+use Rattle.printed_laws.proofs.Vocabulary.{cores_json, words_on_bus, bus_json, machine_json, own_word, own_words_from, own_words}
+use Rattle.printed_laws.proofs.Vocabulary.{is_newer_in, instruction_text, program_value, programs_value, proposition_text}
+use Rattle.printed_laws.proofs.Vocabulary.{proposition_value, sourced_by, step_to, steps_json, trace_json}
 use Rattle.std.specs.Prelude.{option_map}
 use Rattle.tso_terms.specs.MemoryAccess.{Reads}
 use Rattle.snoop_bus.specs.Accesses.{with_words}
@@ -18,7 +28,8 @@ use Rattle.printed_laws.proofs.steps.TraceObjects.{step-back}
 -- the words of a line
 line-words : (words : ℕ) (seen : List ℕ) (line : ℕ) (offsets : List ℕ) → All IsWord seen → All IsWord (map (offset_of words seen line) offsets)
 line-words words seen line [] all = All-nil IsWord
-line-words words seen line (k ∷ ks) all = All-cons IsWord (offset_of words seen line k) (map (offset_of words seen line) ks) (inside (nat_lt k words)) (line-words words seen line ks all)
+line-words words seen line (k ∷ ks) all =
+    All-cons IsWord (offset_of words seen line k) (map (offset_of words seen line) ks) (inside (nat_lt k words)) (line-words words seen line ks all)
   where
     inside : (b : Bool) → IsWord (if b then slice_index seen (line * words + k) else 0)
     inside true = word-at seen (line * words + k) all
@@ -27,10 +38,20 @@ line-words words seen line (k ∷ ks) all = All-cons IsWord (offset_of words see
 module _ (m : Running) (memory : All IsWord m.state.flat.memory) where
   copy-back : (core : ℕ) (tag : ℕ × State) → ReadsBack 2 (outline (copy_json m core (with_words (words_per_line m) m.state.flat.memory tag)))
   copy-back core tag =
-      let words = line-words (words_per_line m) m.state.flat.memory tag.0 (range_with_len 0 most_words) memory in
-      (tt, (tt, (words-back 0 _ (All-take IsWord (length (names_in_line m.test.locations (words_per_line m) tag.0)) (line_of_words (words_per_line m) m.state.flat.memory tag.0) words), tt)))
+      let words = line-words (words_per_line m) m.state.flat.memory tag.0 (range_with_len 0 most_words) memory in (
+        tt,
+        (
+          tt,
+          (
+            words-back 0 _ (All-take IsWord (length (names_in_line m.test.locations (words_per_line m) tag.0))
+                (line_of_words (words_per_line m) m.state.flat.memory tag.0) words),
+            tt,
+          ),
+        ),
+      )
 
-  copies-back : (core : ℕ) (tags : List (ℕ × State)) → ItemsReadBack 2 (items_outline (items_of (map (copy_json m core) (map (with_words (words_per_line m) m.state.flat.memory) tags))))
+  copies-back : (core : ℕ) (tags : List (ℕ × State))
+      → ItemsReadBack 2 (items_outline (items_of (map (copy_json m core) (map (with_words (words_per_line m) m.state.flat.memory) tags))))
   copies-back core [] = tt
   copies-back core (tag ∷ tags) = (copy-back core tag, copies-back core tags)
 
@@ -54,7 +75,9 @@ module _ (m : Running) (memory : All IsWord m.state.flat.memory) where
 
 -- ---- the bus
 
-pub holder-small : (t : Litmus) (m : Running) (h : Holder) (awaited : Option Awaited) → HolderFits t h → IfSome (bus_holder_as m.test m.depth m.state.flat awaited h) (λ b. chosen b.choice < 256)
+pub holder-small : (t : Litmus) (m : Running) (h : Holder) (awaited : Option Awaited)
+    → HolderFits t h
+    → IfSome (bus_holder_as m.test m.depth m.state.flat awaited h) (λ b. chosen b.choice < 256)
 holder-small t m Free awaited fits = tt
 holder-small t m (HeldBetween e) awaited fits = fits.0
 holder-small t m (HeldBy choice) awaited fits = at (access_of m.test m.depth m.state.flat choice)
@@ -73,15 +96,28 @@ bus-back : (m : Running) (h : Option BusHolder) → All IsWord m.state.flat.memo
 bus-back m None memory small = tt
 bus-back m (Some h) memory small =
     let first = h.loc.0 / words_per_line m * words_per_line m in
-    let words = All-drop IsWord first (take (first + words_per_line m) m.state.flat.memory) (All-take IsWord (first + words_per_line m) m.state.flat.memory memory) in
-    (tt, (IsNumber-decimal (chosen h.choice) (omega (arith, small)), (tt, (text-back 5 (option_map transient_name h.transient), (words-back 4 _ (kept-words h.transient _ words), tt)))))
+    let words =
+    All-drop IsWord first (take (first + words_per_line m) m.state.flat.memory)
+    (All-take IsWord (first + words_per_line m) m.state.flat.memory memory) in (
+      tt,
+      (
+        IsNumber-decimal (chosen h.choice) (omega (arith, small)),
+        (
+          tt,
+          (text-back 5 (option_map transient_name h.transient), (words-back 4 _ (kept-words h.transient _ words), tt)),
+        ),
+      ),
+    )
 
 -- ---- the machine
 
 pub machine-back : (m : Running) (own : List ℕ) → MachineFits m → All IsWord own → ReadsBack 7 (outline (machine_json m own))
 machine-back m own f words = (
   bus-back m (bus_holder_of m) f.memory (holder-small m.test m m.state.holder m.statistics.caches.awaited f.holder),
-  (cores-back m f.memory f.cores 0 (length m.test.programs), (memory-back 5 m.test.locations own words, (memory-back 5 m.test.locations m.state.flat.memory f.memory, tt))),
+  (
+    cores-back m f.memory f.cores 0 (length m.test.programs),
+    (memory-back 5 m.test.locations own words, (memory-back 5 m.test.locations m.state.flat.memory f.memory, tt)),
+  ),
 )
 
 -- memory's own words are words
@@ -92,7 +128,8 @@ own-words m before all memory = from 0 before m.state.flat.memory all memory
     from loc [] seen p q = All-nil IsWord
     from loc (b ∷ bs) [] p q = All-nil IsWord
     from loc (b ∷ bs) (s ∷ seen) p q =
-        All-cons IsWord (own_word m loc b s) (own_words_from m (loc + 1) bs seen) (either (is_newer_in m (loc / m.statistics.caches.shape.words) (length m.test.programs)))
+        All-cons IsWord (own_word m loc b s) (own_words_from m (loc + 1) bs seen)
+        (either (is_newer_in m (loc / m.statistics.caches.shape.words) (length m.test.programs)))
         (from (loc + 1) bs seen (All-tail IsWord b bs p) (All-tail IsWord s seen q))
       where
         either : (newer : Bool) → IsWord (if newer then b else s)
@@ -116,9 +153,14 @@ steps-back m own (choice ∷ choices) test exist f words =
     let here = exist.0 in
     let fits = fits-next m choice (omega (arith, few, here)) f in
     let own_next = own-words next own words fits.memory in
-    by_end (has_ended m.test m.state.flat) (step_to (sourced_by m choice) next (own_words next own)) (steps_json next (own_words next own) choices) (step-to-back m choice (own_words next own) fits own_next) (steps-back next (own_words next own) choices test exist.1 fits own_next)
+    by_end (has_ended m.test m.state.flat) (step_to (sourced_by m choice) next (own_words next own))
+    (steps_json next (own_words next own) choices) (step-to-back m choice (own_words next own) fits own_next)
+    (steps-back next (own_words next own) choices test exist.1 fits own_next)
   where
-    by_end : (ended : Bool) (d : Data) (ds : List Data) → ReadsBack 8 (outline d) → ItemsReadBack 8 (items_outline (items_of ds)) → ItemsReadBack 8 (items_outline (items_of (if ended then [] else d ∷ ds)))
+    by_end : (ended : Bool) (d : Data) (ds : List Data)
+        → ReadsBack 8 (outline d)
+        → ItemsReadBack 8 (items_outline (items_of ds))
+        → ItemsReadBack 8 (items_outline (items_of (if ended then [] else d ∷ ds)))
     by_end true d ds p q = tt
     by_end false d ds p q = (p, q)
 
@@ -126,8 +168,10 @@ pub trace-back : (t : Litmus) (kind : ProtocolKind) (c : Configuration) (choices
     → ReadsBack 10 (outline (trace_json t kind c choices))
 trace-back t kind c choices test exist =
     let m = new_machine (table_of kind) c t in
-    let f = fits-first (table_of kind) c t test in
-    (deeper 7 9 (outline (machine_json m t.words)) (omega arith) (machine-back m t.words f test.values.words), (steps-back m t.words choices test exist f test.values.words, tt))
+    let f = fits-first (table_of kind) c t test in (
+      deeper 7 9 (outline (machine_json m t.words)) (omega arith) (machine-back m t.words f test.values.words),
+      (steps-back m t.words choices test exist f test.values.words, tt),
+    )
 
 -- ---- what is beside it
 

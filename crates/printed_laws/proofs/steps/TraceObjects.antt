@@ -1,5 +1,12 @@
 -- The object of a step tells the step: each member is read as the part of a line that has the same words.
-use Rattle.printed_laws.proofs.Vocabulary.{◌≡◌, ℕ, List, [], ◌∷◌, ◌++◌, get_or, refl, sym, ap, ◌∙◌, suc, ◌≤◌, Option, arith, Some, None, ◌==◌, map, if◌then◌else◌, IfSome, Data, string, outline, codes, Litmus, IsTest, IsReadable, Entry, printed_entry, printed_choice, Core, AccessKind, access_name, line_name, entries_text, moved_text, access_text, request_text, flush_text, write_back_text, changes_text, stall_name, printed_move, printed_request, printed_core, printed_change, LineRequest, StateChange, option_map, Stall, Done, Committed, Buffered, Moved, Asked, Stalled, TraceStepFits, told_by_object, SourceFits, ObjectsTellTheirSteps, text_or_null, outcome_word, stall_in, step_json, ShownStep}
+use Rattle.printed_laws.proofs.Vocabulary.{◌≡◌, ℕ, List, [], ◌∷◌, ◌++◌, get_or, refl, sym, ap, ◌∙◌, suc, ◌≤◌, Option, arith, Some, None}
+use Rattle.printed_laws.proofs.Vocabulary.{◌==◌, map, if◌then◌else◌, IfSome, Data, string, outline, codes, Litmus, IsTest, IsReadable}
+use Rattle.printed_laws.proofs.Vocabulary.{Entry, printed_entry, printed_choice, Core, AccessKind, access_name, line_name, entries_text}
+use Rattle.printed_laws.proofs.Vocabulary.{moved_text, access_text, request_text, flush_text, write_back_text, changes_text, stall_name}
+use Rattle.printed_laws.proofs.Vocabulary.{printed_move, printed_request, printed_core, printed_change, LineRequest, StateChange}
+use Rattle.printed_laws.proofs.Vocabulary.{option_map, Stall, Done, Committed, Buffered, Moved, Asked, Stalled, TraceStepFits}
+use Rattle.printed_laws.proofs.Vocabulary.{told_by_object, SourceFits, ObjectsTellTheirSteps, text_or_null, outcome_word, stall_in}
+use Rattle.printed_laws.proofs.Vocabulary.{step_json, ShownStep}
 use Rattle.json.specs.Json as json
 use Rattle.tso_terms.specs.declared.choice.Outcome.{Outcome}
 use Rattle.trace_report.specs.declared.step.Moved as move
@@ -112,7 +119,10 @@ outcome-told a b word stall = sym (outcome-there a) ∙ ((λ i. outcome_from (wo
 
 -- ---- the object
 
-pub step-told : (t : Litmus) (words : ℕ) (a b : ShownStep) (u v : Option Source) (after other : Data) → IsTest t → TraceStepFits t words a → TraceStepFits t words b
+pub step-told : (t : Litmus) (words : ℕ) (a b : ShownStep) (u v : Option Source) (after other : Data)
+    → IsTest t
+    → TraceStepFits t words a
+    → TraceStepFits t words b
     → outline (step_json t words a u after) ≡ outline (step_json t words b v other) → (told_by_object a ≡ told_by_object b) × (outline after ≡ outline other)
 step-told t words a b u v after other test p q same =
     let texts = λ (n : ℕ) (x y : Option (List ℕ)) (e : outline (text_or_null x) ≡ outline (text_or_null y)). option-told x y e in
@@ -122,7 +132,8 @@ step-told t words a b u v after other test p q same =
     let choice = choice-cut a.choice b.choice [] [] (core-small t words a.choice p.chosen_core) (core-small t words b.choice q.chosen_core)
     (alone (printed_choice a.choice) (printed_choice b.choice) (ap (text_at 2) same)) in
     let entries_same : map (printed_entry t) a.entries ≡ map (printed_entry t) b.entries =
-    sym (texts-there (printed_entry t) a.entries) ∙ (ap (λ (j : json.Json). texts_of (items_in (value_at 3 j))) same ∙ texts-there (printed_entry t) b.entries) in
+    sym (texts-there (printed_entry t) a.entries)
+    ∙ (ap (λ (j : json.Json). texts_of (items_in (value_at 3 j))) same ∙ texts-there (printed_entry t) b.entries) in
     let entries = entries-cut t a.entries b.entries [] [] test p.entries q.entries (nothing-follows 2 (omega arith)) (nothing-follows 2 (omega arith))
     (alone (entries_text t a.entries) (entries_text t b.entries) (entries-part t a.entries ∙ (ap each_spaced entries_same ∙ sym (entries-part t b.entries)))) in
     let flushed_same = texts 4 (option_map printed_core a.flushed) (option_map printed_core b.flushed) (ap (value_at 4) same) in
@@ -135,14 +146,24 @@ step-told t words a b u v after other test p q same =
     let stall_same = texts 8 (option_map stall_name (stall_in a.outcome)) (option_map stall_name (stall_in b.outcome)) (ap (value_at 8) same) in
     let outcome = outcome-told a.outcome b.outcome (ap (text_at 7) same) stall_same in
     let changes_same : map (printed_change t words) a.changes ≡ map (printed_change t words) b.changes =
-    sym (words-there (map (printed_change t words) a.changes)) ∙ (ap (λ (j : json.Json). texts_of (items_in (value_at 9 j))) same ∙ words-there (map (printed_change t words) b.changes)) in
-    let changes = changes-cut t words a.changes b.changes [] [] test (changes-fit t words a p) (changes-fit t words b q) (nothing-follows 9 (omega arith)) (nothing-follows 9 (omega arith))
-    (alone (changes_text t words a.changes) (changes_text t words b.changes) (changes-part t words a.changes ∙ (ap each_grouped changes_same ∙ sym (changes-part t words b.changes)))) in
+    sym (words-there (map (printed_change t words) a.changes))
+    ∙ (ap (λ (j : json.Json). texts_of (items_in (value_at 9 j))) same
+    ∙ words-there (map (printed_change t words) b.changes)) in
+    let changes =
+    changes-cut t words a.changes b.changes [] [] test (changes-fit t words a p) (changes-fit t words b q)
+    (nothing-follows 9 (omega arith)) (nothing-follows 9 (omega arith))
+    (alone (changes_text t words a.changes) (changes_text t words b.changes)
+    (changes-part t words a.changes ∙ (ap each_grouped changes_same ∙ sym (changes-part t words b.changes)))) in
     let request_same = texts 11 (option_map (printed_request t words) a.request) (option_map (printed_request t words) b.request) (ap (value_at 11) same) in
-    let request = request-cut t words a.request b.request [] [] test p.known.request q.known.request (nothing-follows 6 (omega arith)) (nothing-follows 6 (omega arith))
-    (alone (request_text t words a.request) (request_text t words b.request) (request-part t words a.request ∙ (ap spaced request_same ∙ sym (request-part t words b.request)))) in
+    let request =
+    request-cut t words a.request b.request [] [] test p.known.request q.known.request
+    (nothing-follows 6 (omega arith)) (nothing-follows 6 (omega arith))
+    (alone (request_text t words a.request) (request_text t words b.request)
+    (request-part t words a.request ∙ (ap spaced request_same ∙ sym (request-part t words b.request)))) in
     let wrote_back_same = texts 12 (option_map (line_name t words) a.wrote_back) (option_map (line_name t words) b.wrote_back) (ap (value_at 12) same) in
-    let wrote_back = write-back-cut t words a.wrote_back b.wrote_back [] [] test p.known.wrote_back q.known.wrote_back (nothing-follows 8 (omega arith)) (nothing-follows 8 (omega arith))
+    let wrote_back =
+    write-back-cut t words a.wrote_back b.wrote_back [] [] test p.known.wrote_back q.known.wrote_back
+    (nothing-follows 8 (omega arith)) (nothing-follows 8 (omega arith))
     (alone (write_back_text t words a.wrote_back) (write_back_text t words b.wrote_back)
     (write-back-part t words a.wrote_back ∙ (ap write_back_of wrote_back_same ∙ sym (write-back-part t words b.wrote_back)))) in (
       (λ i. record {

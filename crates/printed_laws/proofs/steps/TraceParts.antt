@@ -1,6 +1,13 @@
 -- The parts of a step's line, each after a space: what each begins a text with is told by the text. A part may be missing; which one
 -- is there is told by its first letters, or behind a core's number by the byte after it.
-use Rattle.printed_laws.proofs.Vocabulary.{◌≡◌, ℕ, ◌<◌, Bool, true, false, List, [], ◌∷◌, ◌++◌, get_or, drop, refl, sym, ap, ◌∙◌, ◌≤◌, Option, arith, ◌+◌, length, All, Some, None, ◌==◌, ◌||◌, ◌/◌, if◌then◌else◌, ◌*◌, take, IfSome, decimal, list_all, is_ascii_digit, and_parts, append_cancel_left, append_assoc, drop_more, get_or-take, length-take, codes, Litmus, IsTest, continues_name, IsWord, name_of, Reg, Entry, printed_entry, letters_of, printed_access, IsOrderFor, IsEntryFor, Eax, Core, IsD, ImD, SmD, AccessKind, IsLine, access_name, request_name, state_name, after_plus, joined_by_plus, line_name, entries_text, moved_text, forwarded_text, access_text, request_text, flush_text, write_back_text, changes_text, printed_change, LineRequest, LineState, StateChange}
+use Rattle.printed_laws.proofs.Vocabulary.{◌≡◌, ℕ, ◌<◌, Bool, true, false, List, [], ◌∷◌, ◌++◌, get_or, drop, refl, sym, ap, ◌∙◌, ◌≤◌}
+use Rattle.printed_laws.proofs.Vocabulary.{Option, arith, ◌+◌, length, All, Some, None, ◌==◌, ◌||◌, ◌/◌, if◌then◌else◌, ◌*◌, take, IfSome}
+use Rattle.printed_laws.proofs.Vocabulary.{decimal, list_all, is_ascii_digit, and_parts, append_cancel_left, append_assoc, drop_more}
+use Rattle.printed_laws.proofs.Vocabulary.{get_or-take, length-take, codes, Litmus, IsTest, continues_name, IsWord, name_of, Reg, Entry}
+use Rattle.printed_laws.proofs.Vocabulary.{printed_entry, letters_of, printed_access, IsOrderFor, IsEntryFor, Eax, Core, IsD, ImD, SmD}
+use Rattle.printed_laws.proofs.Vocabulary.{AccessKind, IsLine, access_name, request_name, state_name, after_plus, joined_by_plus, line_name}
+use Rattle.printed_laws.proofs.Vocabulary.{entries_text, moved_text, forwarded_text, access_text, request_text, flush_text, write_back_text}
+use Rattle.printed_laws.proofs.Vocabulary.{changes_text, printed_change, LineRequest, LineState, StateChange}
 use Rattle.std.proofs.Math.Nat.{mul-div_cancel}
 use Rattle.protocol_tables.specs.declared.requests.Request.{Request}
 use Rattle.protocol_tables.specs.declared.requests.Request.TheVariants.{GetS, GetM}
@@ -88,14 +95,20 @@ entry-rank t e more =
 pub entries-follow : (t : Litmus) (es : List Entry) (rest : List ℕ) → Follows 2 rest → Follows 1 (entries_text t es ++ rest)
 entries-follow t [] rest f = earlier 1 rest f
 entries-follow t (e ∷ es) rest f =
-    is-part 1 (entries_text t (e ∷ es) ++ rest) refl (ap rank (append_assoc (codes " " ++ printed_entry t e) (entries_text t es) rest) ∙ entry-rank t e (entries_text t es ++ rest))
+    is-part 1 (entries_text t (e ∷ es) ++ rest) refl
+    (ap rank (append_assoc (codes " " ++ printed_entry t e) (entries_text t es) rest)
+    ∙ entry-rank t e (entries_text t es ++ rest))
 
 pub entries-cut : (t : Litmus) (xs ys : List Entry) (rest other : List ℕ) → IsTest t → IsOrderFor t xs → IsOrderFor t ys → Follows 2 rest → Follows 2 other
     → entries_text t xs ++ rest ≡ entries_text t ys ++ other → (xs ≡ ys) × (rest ≡ other)
 entries-cut t xs ys rest other test p q f f' same =
     let cut = list-cut (IsEntryFor t) Ends (Follows 2) (λ n e. codes " " ++ printed_entry t e) (λ n. entries_text t) (λ e. e) (λ n. refl) (λ n e es. refl)
-    (λ n a b rest other p q ends ends' e. entry-cut t a b rest other test p q ends ends' (append_cancel_left (codes " ") (printed_entry t a ++ rest) (printed_entry t b ++ other) e))
-    (λ n es rest all f. (entries-follow t es rest f).ends) (λ n e more rest fits f same. missing 1 ((codes " " ++ printed_entry t e) ++ more) rest (entry-rank t e more) f same) 0 xs ys rest other p q f f' same in
+    (λ n a b rest other p q ends ends' e.
+    entry-cut t a b rest other test p q ends ends' (append_cancel_left (codes " ") (printed_entry t a ++ rest) (printed_entry t b ++ other) e))
+    (λ n es rest all f. (entries-follow t es rest f).ends)
+    (λ n e more rest fits f same.
+    missing 1 ((codes " " ++ printed_entry t e) ++ more) rest (entry-rank t e more) f same)
+    0 xs ys rest other p q f f' same in
     (all-told xs ys cut.0, cut.1)
 
 -- ---- registers
@@ -125,10 +138,18 @@ pub moved-follows : (m : Option Moved) (rest : List ℕ) → Follows 3 rest → 
 moved-follows None rest f = earlier 2 rest f
 moved-follows (Some m) rest f = is-part 2 (moved_text (Some m) ++ rest) refl (moved-rank m rest)
 
-given-cut : (a b : Given) (rest other : List ℕ) → IsWord a.value → IsWord b.value → Ends rest → Ends other → given_text a ++ rest ≡ given_text b ++ other → (a ≡ b) × (rest ≡ other)
+given-cut : (a b : Given) (rest other : List ℕ)
+    → IsWord a.value
+    → IsWord b.value
+    → Ends rest
+    → Ends other
+    → given_text a ++ rest ≡ given_text b ++ other
+    → (a ≡ b) × (rest ≡ other)
 given-cut a b rest other p q ends ends' e =
     let flat = sym (moved-flat (name_of a.reg) (decimal a.value) rest) ∙ (e ∙ moved-flat (name_of b.reg) (decimal b.value) other) in
-    let reg = register-cut a.reg b.reg (codes "=" ++ (decimal a.value ++ rest)) (codes "=" ++ (decimal b.value ++ other)) (append_cancel_left (codes " ") _ _ flat) in
+    let reg =
+    register-cut a.reg b.reg (codes "=" ++ (decimal a.value ++ rest)) (codes "=" ++ (decimal b.value ++ other))
+    (append_cancel_left (codes " ") _ _ flat) in
     let value = next-cut (codes "=") a.value b.value rest other (omega (arith, p)) (omega (arith, q)) (ends-stop rest ends) (ends-stop other ends') reg.1 in
     ((λ i. record { reg = reg.0 i; value = value.0 i }), value.1)
 
@@ -158,7 +179,11 @@ pub forwarded-follows : (b : Bool) (rest : List ℕ) → Follows 4 rest → Foll
 forwarded-follows false rest f = earlier 3 rest f
 forwarded-follows true rest f = is-part 3 (forwarded_text true ++ rest) refl refl
 
-pub forwarded-cut : (a b : Bool) (rest other : List ℕ) → Follows 4 rest → Follows 4 other → forwarded_text a ++ rest ≡ forwarded_text b ++ other → (a ≡ b) × (rest ≡ other)
+pub forwarded-cut : (a b : Bool) (rest other : List ℕ)
+    → Follows 4 rest
+    → Follows 4 other
+    → forwarded_text a ++ rest ≡ forwarded_text b ++ other
+    → (a ≡ b) × (rest ≡ other)
 forwarded-cut false false rest other f f' e = (refl, e)
 forwarded-cut false true rest other f f' e = missing 3 (forwarded_text true ++ other) rest refl f (sym e)
 forwarded-cut true false rest other f f' e = missing 3 (forwarded_text true ++ rest) other refl f' e
@@ -179,12 +204,18 @@ access-again : (kind : AccessKind) (rest : List ℕ) → read_access (access_nam
 access-again Hit rest = refl
 access-again kind rest = refl
 
-pub access-cut : (a b : Option AccessKind) (rest other : List ℕ) → Follows 5 rest → Follows 5 other → access_text a ++ rest ≡ access_text b ++ other → (a ≡ b) × (rest ≡ other)
+pub access-cut : (a b : Option AccessKind) (rest other : List ℕ)
+    → Follows 5 rest
+    → Follows 5 other
+    → access_text a ++ rest ≡ access_text b ++ other
+    → (a ≡ b) × (rest ≡ other)
 access-cut None None rest other f f' e = (refl, e)
 access-cut None (Some b) rest other f f' e = missing 4 (access_text (Some b) ++ other) rest (access-rank b other) f (sym e)
 access-cut (Some a) None rest other f f' e = missing 4 (access_text (Some a) ++ rest) other (access-rank a rest) f' e
 access-cut (Some a) (Some b) rest other f f' e =
-    let cut = read-cut access_name read_access a b rest other access-again (append_cancel_left (codes " ") (access_name a ++ rest) (access_name b ++ other) e) in
+    let cut =
+    read-cut access_name read_access a b rest other access-again
+    (append_cancel_left (codes " ") (access_name a ++ rest) (access_name b ++ other) e) in
     (ap Some cut.0, cut.1)
 
 -- ---- lines of the caches, by the names of their locations
@@ -212,7 +243,8 @@ line-cut t words m n rest other test known known' ends ends' e =
     let split = λ (number : ℕ) (is : IsLine t words number) (after : List ℕ).
     ap (λ (l : List ℕ). l ++ after) (line-begins t words number is) ∙ append_assoc (get_or t.locations (number * words) []) (others number) after in
     let first = location-cut t (m * words) (n * words) (others m ++ rest) (others n ++ other) test known.begins known'.begins
-    (others-end (drop (m * words + 1) (take (m * words + words) t.locations)) rest ends) (others-end (drop (n * words + 1) (take (n * words + words) t.locations)) other ends')
+    (others-end (drop (m * words + 1) (take (m * words + words) t.locations)) rest ends)
+    (others-end (drop (n * words + 1) (take (n * words + words) t.locations)) other ends')
     (sym (split m known rest) ∙ (e ∙ split n known' other)) in
     let same : m ≡ n = sym (mul-div_cancel m known.some) ∙ (ap (λ (k : ℕ). k / words) first.0 ∙ mul-div_cancel n known'.some) in
     (same, same-cut (line_name t words m) (line_name t words n) rest other (ap (line_name t words) same) e)
@@ -229,7 +261,8 @@ request-again GetM rest = refl
 request-flat : (name line rest : List ℕ) → (codes " " ++ (name ++ (codes " " ++ line))) ++ rest ≡ codes " " ++ (name ++ (codes " " ++ (line ++ rest)))
 request-flat name line rest = simp append_assoc
 
-request-rank : (t : Litmus) (words : ℕ) (r : Request) (number : ℕ) (rest : List ℕ) → rank (request_text t words (Some (record { request = r; line = number })) ++ rest) ≡ 5
+request-rank : (t : Litmus) (words : ℕ) (r : Request) (number : ℕ) (rest : List ℕ)
+    → rank (request_text t words (Some (record { request = r; line = number })) ++ rest) ≡ 5
 request-rank t words GetS number rest = refl
 request-rank t words GetM number rest = refl
 
@@ -237,16 +270,27 @@ pub request-follows : (t : Litmus) (words : ℕ) (r : Option LineRequest) (rest 
 request-follows t words None rest f = earlier 5 rest f
 request-follows t words (Some r) rest f = is-part 5 (request_text t words (Some r) ++ rest) refl (request-rank t words r.request r.line rest)
 
-pub request-cut : (t : Litmus) (words : ℕ) (a b : Option LineRequest) (rest other : List ℕ) → IsTest t → IfSome a (λ r. IsLine t words r.line) → IfSome b (λ r. IsLine t words r.line)
+pub request-cut : (t : Litmus) (words : ℕ) (a b : Option LineRequest) (rest other : List ℕ)
+    → IsTest t
+    → IfSome a (λ r. IsLine t words r.line)
+    → IfSome b (λ r. IsLine t words r.line)
     → Follows 6 rest → Follows 6 other → request_text t words a ++ rest ≡ request_text t words b ++ other → (a ≡ b) × (rest ≡ other)
 request-cut t words None None rest other test p q f f' e = (refl, e)
-request-cut t words None (Some b) rest other test p q f f' e = missing 5 (request_text t words (Some b) ++ other) rest (request-rank t words b.request b.line other) f (sym e)
-request-cut t words (Some a) None rest other test p q f f' e = missing 5 (request_text t words (Some a) ++ rest) other (request-rank t words a.request a.line rest) f' e
+request-cut t words None (Some b) rest other test p q f f' e =
+    missing 5 (request_text t words (Some b) ++ other) rest (request-rank t words b.request b.line other) f (sym e)
+request-cut t words (Some a) None rest other test p q f f' e =
+    missing 5 (request_text t words (Some a) ++ rest) other (request-rank t words a.request a.line rest) f' e
 request-cut t words (Some a) (Some b) rest other test p q f f' e =
-    let flat = sym (request-flat (request_name a.request) (line_name t words a.line) rest) ∙ (e ∙ request-flat (request_name b.request) (line_name t words b.line) other) in
-    let name = read-cut request_name read_request a.request b.request (codes " " ++ (line_name t words a.line ++ rest)) (codes " " ++ (line_name t words b.line ++ other)) request-again
+    let flat =
+    sym (request-flat (request_name a.request) (line_name t words a.line) rest)
+    ∙ (e ∙ request-flat (request_name b.request) (line_name t words b.line) other) in
+    let name =
+    read-cut request_name read_request a.request b.request (codes " " ++ (line_name t words a.line ++ rest))
+    (codes " " ++ (line_name t words b.line ++ other)) request-again
     (append_cancel_left (codes " ") _ _ flat) in
-    let line = line-cut t words a.line b.line rest other test p q f.ends f'.ends (append_cancel_left (codes " ") (line_name t words a.line ++ rest) (line_name t words b.line ++ other) name.1) in
+    let line =
+    line-cut t words a.line b.line rest other test p q f.ends f'.ends
+    (append_cancel_left (codes " ") (line_name t words a.line ++ rest) (line_name t words b.line ++ other) name.1) in
     (ap Some (λ i. record { request = name.0 i; line = line.0 i }), line.1)
 
 pub flush-follows : (core : Option Core) (rest : List ℕ) → Follows 7 rest → Follows 6 (flush_text core ++ rest)
@@ -266,13 +310,20 @@ pub write-back-follows : (t : Litmus) (words : ℕ) (line : Option ℕ) (rest : 
 write-back-follows t words None rest f = earlier 7 rest f
 write-back-follows t words (Some line) rest f = is-part 7 (write_back_text t words (Some line) ++ rest) refl refl
 
-pub write-back-cut : (t : Litmus) (words : ℕ) (a b : Option ℕ) (rest other : List ℕ) → IsTest t → IfSome a (IsLine t words) → IfSome b (IsLine t words) → Follows 8 rest → Follows 8 other
+pub write-back-cut : (t : Litmus) (words : ℕ) (a b : Option ℕ) (rest other : List ℕ)
+    → IsTest t
+    → IfSome a (IsLine t words)
+    → IfSome b (IsLine t words)
+    → Follows 8 rest
+    → Follows 8 other
     → write_back_text t words a ++ rest ≡ write_back_text t words b ++ other → (a ≡ b) × (rest ≡ other)
 write-back-cut t words None None rest other test p q f f' e = (refl, e)
 write-back-cut t words None (Some b) rest other test p q f f' e = missing 7 (write_back_text t words (Some b) ++ other) rest refl f (sym e)
 write-back-cut t words (Some a) None rest other test p q f f' e = missing 7 (write_back_text t words (Some a) ++ rest) other refl f' e
 write-back-cut t words (Some a) (Some b) rest other test p q f f' e =
-    let cut = line-cut t words a b rest other test p q f.ends f'.ends (append_cancel_left (codes " write-back ") (line_name t words a ++ rest) (line_name t words b ++ other) e) in
+    let cut =
+    line-cut t words a b rest other test p q f.ends f'.ends
+    (append_cancel_left (codes " write-back ") (line_name t words a ++ rest) (line_name t words b ++ other) e) in
     (ap Some cut.0, cut.1)
 
 -- ---- the lines whose states changed
@@ -299,7 +350,9 @@ state-again (state.Stable tag.I) = refl
 state-again (state.Transient IsD) = refl
 state-again s = refl
 
-change-flat : (core line before after more : List ℕ) → (codes " " ++ (codes "P" ++ (core ++ (codes "." ++ (line ++ (codes " " ++ (before ++ (codes ">" ++ after)))))))) ++ more
+change-flat : (core line before after more : List ℕ)
+    → (codes " " ++ (codes "P" ++ (core ++ (codes "." ++ (line ++ (codes " " ++ (before ++ (codes ">" ++ after))))))))
+    ++ more
     ≡ codes " P" ++ (core ++ 46 ∷ (line ++ (codes " " ++ (before ++ (codes ">" ++ (after ++ more))))))
 change-flat core line before after more = simp append_assoc
 
@@ -307,7 +360,9 @@ change-flat core line before after more = simp append_assoc
 abbrev behind-core : Litmus → ℕ → StateChange → List ℕ → List ℕ
 behind-core t words c after = line_name t words c.line ++ (codes " " ++ (state_name c.before ++ (codes ">" ++ (state_name c.after ++ after))))
 
-change-split : (t : Litmus) (words : ℕ) (c : StateChange) (more : List ℕ) → (codes " " ++ printed_change t words c) ++ more ≡ codes " P" ++ (decimal c.core.0 ++ 46 ∷ behind-core t words c more)
+change-split : (t : Litmus) (words : ℕ) (c : StateChange) (more : List ℕ)
+    → (codes " " ++ printed_change t words c) ++ more
+    ≡ codes " P" ++ (decimal c.core.0 ++ 46 ∷ behind-core t words c more)
 change-split t words c more = change-flat (decimal c.core.0) (line_name t words c.line) (state_name c.before) (state_name c.after) more
 
 change-rank : (t : Litmus) (words : ℕ) (c : StateChange) (more : List ℕ) → rank ((codes " " ++ printed_change t words c) ++ more) ≡ 8
@@ -316,7 +371,9 @@ change-rank t words c more = ap rank (change-split t words c more) ∙ core-rank
 pub changes-follow : (t : Litmus) (words : ℕ) (cs : List StateChange) (rest : List ℕ) → Follows 9 rest → Follows 8 (changes_text t words cs ++ rest)
 changes-follow t words [] rest f = earlier 8 rest f
 changes-follow t words (c ∷ cs) rest f =
-    is-part 8 (changes_text t words (c ∷ cs) ++ rest) refl (ap rank (append_assoc (codes " " ++ printed_change t words c) (changes_text t words cs) rest) ∙ change-rank t words c (changes_text t words cs ++ rest))
+    is-part 8 (changes_text t words (c ∷ cs) ++ rest) refl
+    (ap rank (append_assoc (codes " " ++ printed_change t words c) (changes_text t words cs) rest)
+    ∙ change-rank t words c (changes_text t words cs ++ rest))
 
 -- a change of one of the test's lines, by a core's number
 abbrev pub ChangeFits : Litmus → ℕ → StateChange → Type 0
@@ -328,19 +385,33 @@ change-cut t words test a b rest other p q ends ends' e =
     let small' = q.0 in
     let from_after = λ (c : StateChange) (after : List ℕ). state_name c.after ++ after in
     let from_before = λ (c : StateChange) (after : List ℕ). state_name c.before ++ (codes ">" ++ from_after c after) in
-    let core = next-cut (codes " P") a.core.0 b.core.0 (46 ∷ behind-core t words a rest) (46 ∷ behind-core t words b other) (omega (arith, small)) (omega (arith, small')) refl refl
+    let core =
+    next-cut (codes " P") a.core.0 b.core.0 (46 ∷ behind-core t words a rest) (46 ∷ behind-core t words b other)
+    (omega (arith, small)) (omega (arith, small')) refl refl
     (sym (change-split t words a rest) ∙ (e ∙ change-split t words b other)) in
     let line = line-cut t words a.line b.line (codes " " ++ from_before a rest) (codes " " ++ from_before b other) test p.1 q.1 refl refl
     (append_cancel_left (codes ".") (behind-core t words a rest) (behind-core t words b other) core.1) in
-    let before = word-cut state_name read_state a.before b.before (codes ">" ++ from_after a rest) (codes ">" ++ from_after b other) state-plain state-again refl refl
+    let before =
+    word-cut state_name read_state a.before b.before (codes ">" ++ from_after a rest)
+    (codes ">" ++ from_after b other) state-plain state-again refl refl
     (append_cancel_left (codes " ") (from_before a rest) (from_before b other) line.1) in
-    let after = word-cut state_name read_state a.after b.after rest other state-plain state-again ends ends' (append_cancel_left (codes ">") (from_after a rest) (from_after b other) before.1) in
+    let after =
+    word-cut state_name read_state a.after b.after rest other state-plain state-again ends ends'
+    (append_cancel_left (codes ">") (from_after a rest) (from_after b other) before.1) in
     let cores = same-core a.core b.core core.0 in
     ((λ i. record { core = cores i; line = line.0 i; before = before.0 i; after = after.0 i }), after.1)
 
-pub changes-cut : (t : Litmus) (words : ℕ) (xs ys : List StateChange) (rest other : List ℕ) → IsTest t → All (ChangeFits t words) xs → All (ChangeFits t words) ys
+pub changes-cut : (t : Litmus) (words : ℕ) (xs ys : List StateChange) (rest other : List ℕ)
+    → IsTest t
+    → All (ChangeFits t words) xs
+    → All (ChangeFits t words) ys
     → Follows 9 rest → Follows 9 other → changes_text t words xs ++ rest ≡ changes_text t words ys ++ other → (xs ≡ ys) × (rest ≡ other)
 changes-cut t words xs ys rest other test p q f f' e =
-    let cut = list-cut (ChangeFits t words) Ends (Follows 9) (λ n c. codes " " ++ printed_change t words c) (λ n. changes_text t words) (λ c. c) (λ n. refl) (λ n c cs. refl) (λ n. change-cut t words test)
-    (λ n cs rest all f. (changes-follow t words cs rest f).ends) (λ n c more rest fits f same. missing 8 ((codes " " ++ printed_change t words c) ++ more) rest (change-rank t words c more) f same) 0 xs ys rest other p q f f' e in
+    let cut =
+    list-cut (ChangeFits t words) Ends (Follows 9) (λ n c. codes " " ++ printed_change t words c)
+    (λ n. changes_text t words) (λ c. c) (λ n. refl) (λ n c cs. refl) (λ n. change-cut t words test)
+    (λ n cs rest all f. (changes-follow t words cs rest f).ends)
+    (λ n c more rest fits f same.
+    missing 8 ((codes " " ++ printed_change t words c) ++ more) rest (change-rank t words c more) f same)
+    0 xs ys rest other p q f f' e in
     (all-told xs ys cut.0, cut.1)

@@ -1,5 +1,10 @@
 -- The words of a trace: what each begins a text with is told by the text.
-use Rattle.printed_laws.proofs.Vocabulary.{◌≡◌, ℕ, ◌^◌, ◌<◌, true, false, List, [], ◌∷◌, ◌++◌, get_or, refl, sym, ap, subst, ◌∙◌, Option, unwrap_or, arith, length, ◌==◌, if◌then◌else◌, decimal, list_all, is_ascii_digit, append_cancel_left, append_assoc, codes, Litmus, IsTest, continues_name, name_of, Reg, Entry, printed_entry, letters_of, printed_access, HasAccess, IsEntryFor, Eax, Ebx, Ecx, Edx, Esi, Edi, nat_tests, Choice, Drain, printed_choice, Core, Loc, Kind, R, W, F, LR, LW, all_of_location, location_again}
+use Rattle.printed_laws.proofs.Vocabulary.{◌≡◌, ℕ, ◌^◌, ◌<◌, true, false, List, [], ◌∷◌, ◌++◌, get_or, refl, sym, ap, subst, ◌∙◌, Option}
+use Rattle.printed_laws.proofs.Vocabulary.{unwrap_or, arith, length, ◌==◌, if◌then◌else◌, decimal, list_all, is_ascii_digit}
+use Rattle.printed_laws.proofs.Vocabulary.{append_cancel_left, append_assoc, codes, Litmus, IsTest, continues_name, name_of, Reg, Entry}
+use Rattle.printed_laws.proofs.Vocabulary.{printed_entry, letters_of, printed_access, HasAccess, IsEntryFor, Eax, Ebx, Ecx, Edx, Esi, Edi}
+use Rattle.printed_laws.proofs.Vocabulary.{nat_tests, Choice, Drain, printed_choice, Core, Loc, Kind, R, W, F, LR, LW, all_of_location}
+use Rattle.printed_laws.proofs.Vocabulary.{location_again}
 use Rattle.tso_terms.specs.declared.choice.Choice.TheVariants.{Step}
 use Rattle.order_builder.specs.inner.Reading.{location_named}
 use Rattle.printed_laws.proofs.texts.Cutting.{BeginsWithout, Stops, unlike, run-cut, number-cut, next-cut, same-cut}
@@ -85,7 +90,9 @@ choice-cut (Drain a) (Step b) rest other p q e =
 pub location-cut : (t : Litmus) (i j : ℕ) (rest other : List ℕ) → IsTest t → i < length t.locations → j < length t.locations → Ends rest → Ends other
     → get_or t.locations i [] ++ rest ≡ get_or t.locations j [] ++ other → (i ≡ j) × (rest ≡ other)
 location-cut t i j rest other test known known' ends ends' e =
-    let cut = run-cut continues_name (get_or t.locations i []) (get_or t.locations j []) rest other (all_of_location t i test known) (all_of_location t j test known') ends ends' e in
+    let cut =
+    run-cut continues_name (get_or t.locations i []) (get_or t.locations j []) rest other
+    (all_of_location t i test known) (all_of_location t j test known') ends ends' e in
     let both = sym (location_again t i test known) ∙ (ap (location_named t) cut.0 ∙ location_again t j test known') in
     (ap (λ (o : Option ℕ). unwrap_or o 0) both, cut.1)
 
@@ -107,8 +114,17 @@ kind-again kind = refl
 named-flat : (name value rest : List ℕ) → (codes " " ++ (name ++ (codes "=" ++ value))) ++ rest ≡ codes " " ++ (name ++ (codes "=" ++ (value ++ rest)))
 named-flat name value rest = simp append_assoc
 
-pub value-cut : (t : Litmus) (i j v w : ℕ) (rest other : List ℕ) → IsTest t → i < length t.locations → j < length t.locations → v < 2 ^ 32 → w < 2 ^ 32 → Ends rest → Ends other
-    → get_or t.locations i [] ++ (codes "=" ++ (decimal v ++ rest)) ≡ get_or t.locations j [] ++ (codes "=" ++ (decimal w ++ other)) → (i ≡ j) × (v ≡ w) × (rest ≡ other)
+pub value-cut : (t : Litmus) (i j v w : ℕ) (rest other : List ℕ)
+    → IsTest t
+    → i < length t.locations
+    → j < length t.locations
+    → v < 2 ^ 32
+    → w < 2 ^ 32
+    → Ends rest
+    → Ends other
+    → get_or t.locations i [] ++ (codes "=" ++ (decimal v ++ rest))
+    ≡ get_or t.locations j [] ++ (codes "=" ++ (decimal w ++ other))
+    → (i ≡ j) × (v ≡ w) × (rest ≡ other)
 value-cut t i j v w rest other test known known' small small' ends ends' e =
     let name = location-cut t i j (codes "=" ++ (decimal v ++ rest)) (codes "=" ++ (decimal w ++ other)) test known known' refl refl e in
     let value = next-cut (codes "=") v w rest other (omega (arith, small)) (omega (arith, small')) (ends-stop rest ends) (ends-stop other ends') name.1 in
@@ -119,8 +135,15 @@ access-ends : (t : Litmus) (kind : Kind) (loc value : ℕ) (rest : List ℕ) →
 access-ends t F loc value rest ends = ends
 access-ends t kind loc value rest ends = refl
 
-by-name : (t : Litmus) (i j v w : ℕ) (rest other : List ℕ) → IsTest t → (i < length t.locations) × (v < 2 ^ 32) → (j < length t.locations) × (w < 2 ^ 32) → Ends rest → Ends other
-    → (codes " " ++ (get_or t.locations i [] ++ (codes "=" ++ decimal v))) ++ rest ≡ (codes " " ++ (get_or t.locations j [] ++ (codes "=" ++ decimal w))) ++ other → (i ≡ j) × (v ≡ w) × (rest ≡ other)
+by-name : (t : Litmus) (i j v w : ℕ) (rest other : List ℕ)
+    → IsTest t
+    → (i < length t.locations) × (v < 2 ^ 32)
+    → (j < length t.locations) × (w < 2 ^ 32)
+    → Ends rest
+    → Ends other
+    → (codes " " ++ (get_or t.locations i [] ++ (codes "=" ++ decimal v))) ++ rest
+    ≡ (codes " " ++ (get_or t.locations j [] ++ (codes "=" ++ decimal w))) ++ other
+    → (i ≡ j) × (v ≡ w) × (rest ≡ other)
 by-name t i j v w rest other test p q ends ends' e =
     let flat = sym (named-flat (get_or t.locations i []) (decimal v) rest) ∙ (e ∙ named-flat (get_or t.locations j []) (decimal w) other) in
     value-cut t i j v w rest other test p.0 q.0 p.1 q.1 ends ends' (append_cancel_left (codes " ") _ _ flat)
@@ -148,7 +171,9 @@ entry-cut t a b rest other test p q ends ends' e =
     let few = p.place in
     let few' = q.place in
     let core = next-cut (codes "P") a.core.0 b.core.0 (from_place a rest) (from_place b other) (omega (arith, small)) (omega (arith, small')) refl refl flat in
-    let place = next-cut (codes ":") a.place b.place (codes " " ++ from_kind a rest) (codes " " ++ from_kind b other) (omega (arith, few)) (omega (arith, few')) refl refl core.1 in
+    let place =
+    next-cut (codes ":") a.place b.place (codes " " ++ from_kind a rest) (codes " " ++ from_kind b other)
+    (omega (arith, few)) (omega (arith, few')) refl refl core.1 in
     let kind = word-cut letters_of read_kind a.kind b.kind (access a ++ rest) (access b ++ other) kind-plain kind-again
     (access-ends t a.kind a.loc.0 a.value rest ends) (access-ends t b.kind b.loc.0 b.value other ends')
     (append_cancel_left (codes " ") (from_kind a rest) (from_kind b other) place.1) in

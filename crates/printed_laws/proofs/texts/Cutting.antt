@@ -1,5 +1,8 @@
 -- Texts that begin alike are cut alike: after a text that both begin with, and after a number.
-use Rattle.printed_laws.proofs.Vocabulary.{◌≡◌, ℕ, ◌^◌, ◌<◌, Bool, true, false, List, [], ◌∷◌, ◌++◌, get_or, drop, refl, sym, ap, subst, ◌∙◌, arith, length, All, ◌==◌, map, not, decimal, list_all, AllByRecursion, is_ascii_digit, and_parts, and_from, decimal_injective, append_cancel_left, All-head, All-tail, IsWord, nat_tests}
+use Rattle.printed_laws.proofs.Vocabulary.{◌≡◌, ℕ, ◌^◌, ◌<◌, Bool, true, false, List, [], ◌∷◌, ◌++◌, get_or, drop, refl, sym, ap, subst}
+use Rattle.printed_laws.proofs.Vocabulary.{◌∙◌, arith, length, All, ◌==◌, map, not, decimal, list_all, AllByRecursion, is_ascii_digit}
+use Rattle.printed_laws.proofs.Vocabulary.{and_parts, and_from, decimal_injective, append_cancel_left, All-head, All-tail, IsWord}
+use Rattle.printed_laws.proofs.Vocabulary.{nat_tests}
 use Rattle.printed_laws.proofs.texts.Digits.{all-digits}
 
 -- the text doesn't begin with such a byte
@@ -80,12 +83,19 @@ filled-stops ((b ∷ bs) ∷ labels) (n ∷ numbers) rest are stops = no-digit (
 filled-stops ([] ∷ labels) (n ∷ numbers) rest are stops = let no : ⊥ = cc in absurd no
 filled-stops labels numbers rest are stops = stops
 
-pub filled-cut : (labels : List (List ℕ)) (ms ns rest other : List ℕ) → list_all is_label labels ≡ true → length ms ≡ length labels → length ns ≡ length labels → AreSmall ms → AreSmall ns
+pub filled-cut : (labels : List (List ℕ)) (ms ns rest other : List ℕ)
+    → list_all is_label labels ≡ true
+    → length ms ≡ length labels
+    → length ns ≡ length labels
+    → AreSmall ms
+    → AreSmall ns
     → Stops rest → Stops other → filled labels ms rest ≡ filled labels ns other → (ms ≡ ns) × (rest ≡ other)
 filled-cut [] [] [] rest other are m n p q stops stops' e = (refl, e)
 filled-cut (label ∷ labels) (x ∷ xs) (y ∷ ys) rest other are m n p q stops stops' e =
     let more = (and_parts (is_label label) (list_all is_label labels) are).1 in
-    let first = next-cut label x y (filled labels xs rest) (filled labels ys other) p.0 q.0 (filled-stops labels xs rest more stops) (filled-stops labels ys other more stops') e in
+    let first =
+    next-cut label x y (filled labels xs rest) (filled labels ys other) p.0 q.0
+    (filled-stops labels xs rest more stops) (filled-stops labels ys other more stops') e in
     let further = filled-cut labels xs ys rest other more (omega (arith, m)) (omega (arith, n)) p.1 q.1 stops stops' first.1 in
     ((λ i. first.0 i ∷ further.0 i), further.1)
 filled-cut _ _ _ rest other are m n p q stops stops' e = absurd (omega (arith, m, n))

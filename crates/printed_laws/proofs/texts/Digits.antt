@@ -1,5 +1,8 @@
 -- The digits of a number, however great, and texts that are cut where a byte comes last.
-use Rattle.printed_laws.proofs.Vocabulary.{◌≡◌, ℕ, ◌<◌, Bool, true, false, List, [], ◌∷◌, ◌++◌, get_or, drop, refl, sym, ap, subst, ◌∙◌, zero, suc, arith, ◌+◌, ◌==◌, cond, not, ◌/◌, ◌%◌, lt-ltb, le-leb, eq-eqb, decimal, list_all, is_ascii_digit, and_parts, and_from, nat_tests, list_all-append, digits, digits_onto, digit_glyph}
+use Rattle.printed_laws.proofs.Vocabulary.{◌≡◌, ℕ, ◌<◌, Bool, true, false, List, [], ◌∷◌, ◌++◌, get_or, drop, refl, sym, ap, subst, ◌∙◌}
+use Rattle.printed_laws.proofs.Vocabulary.{zero, suc, arith, ◌+◌, ◌==◌, cond, not, ◌/◌, ◌%◌, lt-ltb, le-leb, eq-eqb, decimal, list_all}
+use Rattle.printed_laws.proofs.Vocabulary.{is_ascii_digit, and_parts, and_from, nat_tests, list_all-append, digits, digits_onto}
+use Rattle.printed_laws.proofs.Vocabulary.{digit_glyph}
 
 -- ---- digits
 
@@ -33,7 +36,10 @@ digits-are p (b ∷ bs) each all =
 abbrev pub is_other : ℕ → ℕ → Bool
 is_other byte b = not (b == byte)
 
-pub both-other : (byte : ℕ) (xs ys : List ℕ) → list_all (is_other byte) xs ≡ true → list_all (is_other byte) ys ≡ true → list_all (is_other byte) (xs ++ ys) ≡ true
+pub both-other : (byte : ℕ) (xs ys : List ℕ)
+    → list_all (is_other byte) xs ≡ true
+    → list_all (is_other byte) ys ≡ true
+    → list_all (is_other byte) (xs ++ ys) ≡ true
 both-other byte xs ys p q = list_all-append (is_other byte) xs ys ∙ and_from _ _ p q
 
 pub there : (byte : ℕ) (xs ys : List ℕ) → list_all (is_other byte) (xs ++ byte ∷ ys) ≡ true → ⊥
@@ -44,10 +50,15 @@ there byte [] ys all = clash (byte == byte) (eq-eqb byte byte refl) (and_parts _
 there byte (x ∷ xs) ys all = there byte xs ys (and_parts _ _ all).1
 
 -- of texts that are cut where the byte comes last
-pub last-cut : (byte : ℕ) (xs ys a b : List ℕ) → list_all (is_other byte) a ≡ true → list_all (is_other byte) b ≡ true → xs ++ byte ∷ a ≡ ys ++ byte ∷ b → (xs ≡ ys) × (a ≡ b)
+pub last-cut : (byte : ℕ) (xs ys a b : List ℕ)
+    → list_all (is_other byte) a ≡ true
+    → list_all (is_other byte) b ≡ true
+    → xs ++ byte ∷ a ≡ ys ++ byte ∷ b
+    → (xs ≡ ys) × (a ≡ b)
 last-cut byte [] [] a b p q e = (refl, ap (λ (l : List ℕ). drop 1 l) e)
 last-cut byte [] (y ∷ ys) a b p q e = absurd (there byte ys b (subst (λ (l : List ℕ). list_all (is_other byte) l ≡ true) (ap (λ (l : List ℕ). drop 1 l) e) p))
-last-cut byte (x ∷ xs) [] a b p q e = absurd (there byte xs a (subst (λ (l : List ℕ). list_all (is_other byte) l ≡ true) (sym (ap (λ (l : List ℕ). drop 1 l) e)) q))
+last-cut byte (x ∷ xs) [] a b p q e =
+    absurd (there byte xs a (subst (λ (l : List ℕ). list_all (is_other byte) l ≡ true) (sym (ap (λ (l : List ℕ). drop 1 l) e)) q))
 last-cut byte (x ∷ xs) (y ∷ ys) a b p q e =
     let first : x ≡ y = ap (λ (l : List ℕ). get_or l 0 0) e in
     let more = last-cut byte xs ys a b p q (ap (λ (l : List ℕ). drop 1 l) e) in

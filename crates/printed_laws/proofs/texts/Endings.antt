@@ -1,5 +1,8 @@
 -- What a text ends in; and that it ends in one verdict at most.
-use Rattle.printed_laws.proofs.Vocabulary.{◌≡◌, ℕ, Bool, true, false, List, [], ◌∷◌, ◌++◌, drop, refl, sym, ap, subst, ◌∙◌, suc, arith, length, append-nil, list_all, flat_map, append_cancel_right, append_assoc, length-append, Data, string, Members, no_members, member, object, compact_text, codes, line, escape_byte, verdict_word, PrintsVerdict, quoted, members_text}
+use Rattle.printed_laws.proofs.Vocabulary.{◌≡◌, ℕ, Bool, true, false, List, [], ◌∷◌, ◌++◌, drop, refl, sym, ap, subst, ◌∙◌, suc, arith}
+use Rattle.printed_laws.proofs.Vocabulary.{length, append-nil, list_all, flat_map, append_cancel_right, append_assoc, length-append, Data}
+use Rattle.printed_laws.proofs.Vocabulary.{string, Members, no_members, member, object, compact_text, codes, line, escape_byte}
+use Rattle.printed_laws.proofs.Vocabulary.{verdict_word, PrintsVerdict, quoted, members_text}
 use Rattle.serde_json.specs.Data.{null}
 use Rattle.printed_laws.proofs.texts.Cutting.{unlike}
 use Rattle.printed_laws.proofs.texts.Digits.{is_other, there}
@@ -59,12 +62,16 @@ ends-so true verdict out says = (says.front, says.text)
 pub one-verdict : (json verdict other : Bool) (out : List ℕ) → EndsIn (verdict_tail json verdict) out → EndsIn (verdict_tail json other) out → verdict ≡ other
 one-verdict json true true out p q = refl
 one-verdict json false false out p q = refl
-one-verdict false verdict other out p q = unlike 10 (verdict_tail false verdict) (verdict_tail false other) refl (one-tail out (verdict_tail false verdict) (verdict_tail false other) refl p q)
-one-verdict true verdict other out p q = unlike 13 (verdict_tail true verdict) (verdict_tail true other) refl (one-tail out (verdict_tail true verdict) (verdict_tail true other) refl p q)
+one-verdict false verdict other out p q =
+    unlike 10 (verdict_tail false verdict) (verdict_tail false other) refl
+    (one-tail out (verdict_tail false verdict) (verdict_tail false other) refl p q)
+one-verdict true verdict other out p q =
+    unlike 13 (verdict_tail true verdict) (verdict_tail true other) refl (one-tail out (verdict_tail true verdict) (verdict_tail true other) refl p q)
 
 -- one line alone has none
 pub no-verdict-line : (verdict : Bool) (text : List ℕ) → list_all (is_other 10) text ≡ true → EndsIn (verdict_tail false verdict) (line text) → ⊥
-no-verdict-line verdict text plain e = there 10 e.0 (codes "Verdict " ++ verdict_word verdict) (subst (λ (l : List ℕ). list_all (is_other 10) l ≡ true) (cut verdict (e.1)) plain)
+no-verdict-line verdict text plain e =
+    there 10 e.0 (codes "Verdict " ++ verdict_word verdict) (subst (λ (l : List ℕ). list_all (is_other 10) l ≡ true) (cut verdict (e.1)) plain)
   where
     cut : (v : Bool) → line text ≡ e.0 ++ verdict_tail false v → text ≡ e.0 ++ 10 ∷ (codes "Verdict " ++ verdict_word v)
     cut true is = append_cancel_right text (e.0 ++ 10 ∷ codes "Verdict Ok") (10 ∷ []) (is ∙ sym (append_assoc e.0 (10 ∷ codes "Verdict Ok") (10 ∷ [])))
@@ -75,13 +82,15 @@ pub no-verdict-null : (verdict : Bool) (text : List ℕ) → EndsIn (codes ",\"v
 no-verdict-null verdict text p q =
     let last = subst (λ (l : List ℕ). EndsIn l text) (sym (append_assoc (codes ",\"verdict\":\"") (verdict_word verdict) (codes "\"}\n"))) q in
     unlike 0 (codes "l}\n") (codes "\"}\n") refl
-    (one-tail text (codes "l}\n") (codes "\"}\n") refl (shorter text (codes ",\"verdict\":nul") (codes "l}\n") p) (shorter text (codes ",\"verdict\":\"" ++ verdict_word verdict) (codes "\"}\n") last))
+    (one-tail text (codes "l}\n") (codes "\"}\n") refl (shorter text (codes ",\"verdict\":nul") (codes "l}\n") p)
+    (shorter text (codes ",\"verdict\":\"" ++ verdict_word verdict) (codes "\"}\n") last))
 
 -- an object whose last member is an object has none
 pub no-verdict-member : (verdict : Bool) (text : List ℕ) → EndsIn (codes "}}\n") text → EndsIn (verdict_tail true verdict) text → ⊥
 no-verdict-member verdict text p q =
     let last = subst (λ (l : List ℕ). EndsIn l text) (sym (append_assoc (codes ",\"verdict\":\"") (verdict_word verdict) (codes "\"}\n"))) q in
-    unlike 0 (codes "}}\n") (codes "\"}\n") refl (one-tail text (codes "}}\n") (codes "\"}\n") refl p (shorter text (codes ",\"verdict\":\"" ++ verdict_word verdict) (codes "\"}\n") last))
+    unlike 0 (codes "}}\n") (codes "\"}\n") refl
+    (one-tail text (codes "}}\n") (codes "\"}\n") refl p (shorter text (codes ",\"verdict\":\"" ++ verdict_word verdict) (codes "\"}\n") last))
 
 -- ---- the last member of an object
 
@@ -96,7 +105,9 @@ members-end (member k d (member l e ms)) =
 members-end no_members = itself (members_text true no_members)
 members-end (member k d no_members) = itself (members_text true (member k d no_members))
 
-verdict-end : (verdict : Bool) (text : List ℕ) → EndsIn (members_text true (member (codes "verdict") (string (verdict_word verdict)) no_members)) text → EndsIn (verdict_tail true verdict) (line text)
+verdict-end : (verdict : Bool) (text : List ℕ)
+    → EndsIn (members_text true (member (codes "verdict") (string (verdict_word verdict)) no_members)) text
+    → EndsIn (verdict_tail true verdict) (line text)
 unfolding escape_byte
 verdict-end true text e = with-more text (members_text true (member (codes "verdict") (string (verdict_word true)) no_members)) (10 ∷ []) e
 verdict-end false text e = with-more text (members_text true (member (codes "verdict") (string (verdict_word false)) no_members)) (10 ∷ []) e
@@ -110,15 +121,21 @@ null-end : (text : List ℕ) → EndsIn (members_text true (member (codes "verdi
 unfolding escape_byte
 null-end text e = with-more text (members_text true (member (codes "verdict") null no_members)) (10 ∷ []) e
 
-pub object-ends-undecided : (value : Data) → last_in value ≡ member (codes "verdict") null no_members → EndsIn (codes ",\"verdict\":null}\n") (line (compact_text value))
+pub object-ends-undecided : (value : Data)
+    → last_in value ≡ member (codes "verdict") null no_members
+    → EndsIn (codes ",\"verdict\":null}\n") (line (compact_text value))
 object-ends-undecided (object (member k d ms)) last =
     let tail = members_text true (member (codes "verdict") null no_members) in
-    null-end _ (behind (123 ∷ quoted k) _ tail (behind (58 ∷ compact_text d) _ tail (subst (λ l. EndsIn (members_text true l) (members_text true ms)) last (members-end ms))))
+    null-end _ (behind (123 ∷ quoted k) _ tail
+    (behind (58 ∷ compact_text d) _ tail (subst (λ l. EndsIn (members_text true l) (members_text true ms)) last (members-end ms))))
 object-ends-undecided _ last = absurd cc
 
 -- an object whose last member is a verdict
-pub object-ends : (verdict : Bool) (value : Data) → last_in value ≡ member (codes "verdict") (string (verdict_word verdict)) no_members → EndsIn (verdict_tail true verdict) (line (compact_text value))
+pub object-ends : (verdict : Bool) (value : Data)
+    → last_in value ≡ member (codes "verdict") (string (verdict_word verdict)) no_members
+    → EndsIn (verdict_tail true verdict) (line (compact_text value))
 object-ends verdict (object (member k d ms)) last =
     let tail = members_text true (member (codes "verdict") (string (verdict_word verdict)) no_members) in
-    verdict-end verdict _ (behind (123 ∷ quoted k) _ tail (behind (58 ∷ compact_text d) _ tail (subst (λ l. EndsIn (members_text true l) (members_text true ms)) last (members-end ms))))
+    verdict-end verdict _ (behind (123 ∷ quoted k) _ tail
+    (behind (58 ∷ compact_text d) _ tail (subst (λ l. EndsIn (members_text true l) (members_text true ms)) last (members-end ms))))
 object-ends verdict _ last = absurd cc

@@ -1,5 +1,6 @@
 -- Lists of things, each told by a text that begins with it.
-use Rattle.printed_laws.proofs.Vocabulary.{◌≡◌, ℕ, List, [], ◌∷◌, ◌++◌, refl, sym, ap, ◌∙◌, zero, suc, arith, ◌+◌, slice_index, All, map, append_assoc, All-head, All-tail, All-cons, All-nil, IsWord}
+use Rattle.printed_laws.proofs.Vocabulary.{◌≡◌, ℕ, List, [], ◌∷◌, ◌++◌, refl, sym, ap, ◌∙◌, zero, suc, arith, ◌+◌, slice_index, All, map}
+use Rattle.printed_laws.proofs.Vocabulary.{append_assoc, All-head, All-tail, All-cons, All-nil, IsWord}
 
 -- what is printed of a thing that fits tells this of it, with what may come after it
 abbrev pub Tells : {A B : Type 0} → (A → Type 0) → (List ℕ → Type 0) → (A → List ℕ) → (A → B) → Type 0
@@ -25,7 +26,9 @@ module _ {A B : Type 0} (Fits : A → Type 0) (Within After : List ℕ → Type 
   list-cut n (x ∷ xs) (y ∷ ys) rest other p q f f' e =
       let later = All-tail Fits x xs p in
       let later' = All-tail Fits y ys q in
-      let first = each n x y (prints (n + 1) xs ++ rest) (prints (n + 1) ys ++ other) (All-head Fits x xs p) (All-head Fits y ys q) (within (n + 1) xs rest later f) (within (n + 1) ys other later' f')
+      let first =
+      each n x y (prints (n + 1) xs ++ rest) (prints (n + 1) ys ++ other) (All-head Fits x xs p)
+      (All-head Fits y ys q) (within (n + 1) xs rest later f) (within (n + 1) ys other later' f')
       (sym (split n x xs rest) ∙ (e ∙ split n y ys other)) in
       let further = list-cut (n + 1) xs ys rest other later later' f f' first.1 in
       ((λ i. first.0 i ∷ further.0 i), further.1)

@@ -13,7 +13,8 @@ ghost use Rattle.protocol_tables.specs.declared.kind.ProtocolKind.{ProtocolKind}
 ghost use Rattle.trace_report.specs.TracedRun.{json_ended, json_unended};
 ghost use Rattle.trace_report.specs.Lines.{trace_text};
 ghost use Rattle.tso_cli.specs.Answers.{IsAnswer};
-ghost use Rattle.tso_cli.specs.Machines.{AreAtomicAtOneDepth, DifferInLines, DifferInMembers, EndedObjectsDiffer, ReportsDiffer, SweepsDiffer, TracesDiffer, TracesDifferIn, UnendedObjectsDiffer};
+ghost use Rattle.tso_cli.specs.Machines.{AreAtomicAtOneDepth, DifferInLines, DifferInMembers, EndedObjectsDiffer, ReportsDiffer};
+ghost use Rattle.tso_cli.specs.Machines.{SweepsDiffer, TracesDiffer, TracesDifferIn, UnendedObjectsDiffer};
 ghost use Rattle.tso_report.specs.Json.{cache_value, json_report, machine_value};
 ghost use Rattle.tso_report.specs.JsonFrame.{json_with};
 ghost use Rattle.tso_report.specs.Report.{cache_lines, head, machine_line};

@@ -145,7 +145,8 @@ pub fn each_command_gives_one_answer()
     ensures sweeps { (kind : ProtocolKind) (config : Configuration) (set : Instructions) (plan : Plan) (input out other : List ℕ) (status again : Status)
         → IsAnswer (Settings.Sweep kind config set plan) (Some input) out status
         → IsAnswer (Settings.Sweep kind config set plan) (Some input) other again → (out ≡ other) × (status ≡ again) }
-    ensures counts { (kind : ProtocolKind) (config : Configuration) (set : Instructions) (plan : Option Plan) (json : Bool) (input out other : List ℕ) (status again : Status)
+    ensures counts { (kind : ProtocolKind) (config : Configuration) (set : Instructions) (plan : Option Plan)
+        (json : Bool) (input out other : List ℕ) (status again : Status)
         → IsAnswer (Settings.Counts kind config set plan json) (Some input) out status
         → IsAnswer (Settings.Counts kind config set plan json) (Some input) other again → (out ≡ other) × (status ≡ again) }
     ensures checks { (set : Instructions) (input out other : List ℕ) (status again : Status) → IsAnswer (Settings.Check set) (Some input) out status

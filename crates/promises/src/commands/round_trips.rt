@@ -56,7 +56,8 @@ pub fn choices_of_a_witness_end_with_its_order()
 
 /// The choices that `why` prints beside an execution, handed to `run` at the depth of its model, end with the execution's order.
 pub fn choices_beside_an_execution_end_with_its_order()
-    ensures { (kind : ProtocolKind) (c : Configuration) (set : Instructions) (plan : Explanation) (json told assert : Bool) (input out : List ℕ) (status : Status)
+    ensures { (kind : ProtocolKind) (c : Configuration) (set : Instructions) (plan : Explanation)
+        (json told assert : Bool) (input out : List ℕ) (status : Status)
         → c.bus ≡ Atomic → c.depth ≡ depth_of plan.model → IsWithinLimits (Settings.Run kind c set json) → IsJoinable (parts_of input).test
         → IsPrinted status → IsAnswer (Settings.Why plan set told assert) (Some input) out status
         → IsExplained kind c set json plan.model told (parts_of input).test out }

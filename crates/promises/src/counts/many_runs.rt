@@ -30,7 +30,8 @@ pub fn lines_are_of_the_runs_of_a_plan(
     plan: SweepPlan,
 ) -> Result<String, NoMemory>
     ensures lines { IfOk result (λ text. string_bytes text
-        ≡ printed.counts_text setup.now.test.now setup.now.protocol setup.now.config (Some plan) (counted_by setup.now.test.now setup.now.protocol setup.now.config plan)) }
+        ≡ printed.counts_text setup.now.test.now setup.now.protocol setup.now.config (Some plan)
+        (counted_by setup.now.test.now setup.now.protocol setup.now.config plan)) }
     ensures answers { OnOk result (AnswersFitFrom setup.now.test.now setup.now.protocol setup.now.config plan.length plan.from plan.seeds) }
 {
     let runs = count_seeds(alloc, setup, plan)?;
@@ -53,7 +54,8 @@ pub fn json_is_of_the_run_that_is_given(
     requires cores { CoresExist (length setup.now.test.now.programs) choices.now }
     requires few { length choices.now ≤ most_choices }
     ensures object { IfOk result (λ text. string_bytes text
-        ≡ json_counts setup.now.test.now setup.now.protocol setup.now.config None (counted_once setup.now.test.now setup.now.protocol setup.now.config choices.now)) }
+        ≡ json_counts setup.now.test.now setup.now.protocol setup.now.config None
+        (counted_once setup.now.test.now setup.now.protocol setup.now.config choices.now)) }
     ensures answers { OnOk result (AnswersFit setup.now.test.now setup.now.protocol setup.now.config choices.now) }
 {
     let runs = count_given(alloc, setup, choices)?;

@@ -36,12 +36,15 @@ use counted_steps::{counts_are_sums_of_steps, traffic_is_sums_of_steps};
 
 /// What is printed is counted of the runs, over those alone that ended, and the order of each of these is a TSO execution.
 pub fn counts_are_of_executions()
-    ensures printed { (t : Litmus) (kind : ProtocolKind) (c : Configuration) (plan : Option Plan) (json : Bool) (choices_in : ℕ → List Choice) (runs : ℕ) (out : List ℕ)
+    ensures printed { (t : Litmus) (kind : ProtocolKind) (c : Configuration) (plan : Option Plan) (json : Bool)
+        (choices_in : ℕ → List Choice) (runs : ℕ) (out : List ℕ)
         (said : PrintsCounts t kind c plan json choices_in runs out) → out ≡ told_counts json t kind c plan said.counted }
-    ensures tells { (t : Litmus) (kind : ProtocolKind) (c : Configuration) (plan : Option Plan) (json : Bool) (choices_in : ℕ → List Choice) (runs : ℕ) (out : List ℕ)
+    ensures tells { (t : Litmus) (kind : ProtocolKind) (c : Configuration) (plan : Option Plan) (json : Bool)
+        (choices_in : ℕ → List Choice) (runs : ℕ) (out : List ℕ)
         (said : PrintsCounts t kind c plan json choices_in runs out)
         → TellsRuns (λ i. numbers_under t kind c (choices_in i)) (12 * length t.programs) runs said.counted }
-    ensures executions { (t : Litmus) (kind : ProtocolKind) (c : Configuration) (plan : Option Plan) (json : Bool) (choices_in : ℕ → List Choice) (runs : ℕ) (out : List ℕ)
+    ensures executions { (t : Litmus) (kind : ProtocolKind) (c : Configuration) (plan : Option Plan) (json : Bool)
+        (choices_in : ℕ → List Choice) (runs : ℕ) (out : List ℕ)
         → PrintsCounts t kind c plan json choices_in runs out → (i : ℕ) → i < runs → (run_under t kind c (choices_in i)).ended ≡ true
         → IsTsoExecution t (run_under t kind c (choices_in i)).commits }
 {}
@@ -80,11 +83,13 @@ pub fn counts_of_a_run_add_up()
     ensures requests { (t : Litmus) (kind : ProtocolKind) (c : Configuration) (choices : List Choice) (core : ℕ)
         → AnswersFit t kind c choices → (run_under t kind c choices).ended ≡ true → core < length t.programs
         → (slice_index_or (counts_under t kind c choices) core no_counts).misses + (slice_index_or (counts_under t kind c choices) core no_counts).upgrades
-        ≡ (traffic_of (table_of kind) core (uses_of (table_of kind) c t choices)).get_s + (traffic_of (table_of kind) core (uses_of (table_of kind) c t choices)).get_m }
+        ≡ (traffic_of (table_of kind) core (uses_of (table_of kind) c t choices)).get_s
+        + (traffic_of (table_of kind) core (uses_of (table_of kind) c t choices)).get_m }
     ensures supplies { (t : Litmus) (kind : ProtocolKind) (c : Configuration) (choices : List Choice) (core : ℕ)
         → AnswersFit t kind c choices → (run_under t kind c choices).ended ≡ true → core < length t.programs
         → (slice_index_or (counts_under t kind c choices) core no_counts).misses
-        ≡ (traffic_of (table_of kind) core (uses_of (table_of kind) c t choices)).from_caches + (traffic_of (table_of kind) core (uses_of (table_of kind) c t choices)).from_memory }
+        ≡ (traffic_of (table_of kind) core (uses_of (table_of kind) c t choices)).from_caches
+        + (traffic_of (table_of kind) core (uses_of (table_of kind) c t choices)).from_memory }
 {
     counts_add_up();
 }

@@ -3,7 +3,8 @@
 ghost use Rattle.std.specs.Prelude.{◌≡◌, ◌<◌, false, None, Some, IsOk, IfOk, length, slice_set};
 ghost use Rattle.snoop_bus.specs.Bus.{words_of, cores_of, holder_of, IsFree, IsCoherent, IsSameMachine};
 ghost use Rattle.snoop_bus.specs.Held.{holder};
-ghost use Rattle.snoop_bus.specs.Accesses.{awaited_of, memory_of, would_hit, memory_after_ask, memory_after_completion, ask_of, completion_of, CompletesAt, IsCurrentWord};
+ghost use Rattle.snoop_bus.specs.Accesses.{awaited_of, memory_of, would_hit, memory_after_ask, memory_after_completion, ask_of};
+ghost use Rattle.snoop_bus.specs.Accesses.{completion_of, CompletesAt, IsCurrentWord};
 
 use protocol_tables::Protocol;
 use snoop_bus::{Access, BusRequest, SnoopBus, Stage};

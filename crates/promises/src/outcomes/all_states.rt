@@ -13,7 +13,8 @@ ghost use Rattle.tso_laws.specs.Closed.{AreClosed, IsAlikeOneOf};
 ghost use Rattle.tso_laws.specs.Dead as dead;
 ghost use Rattle.tso_laws.specs.Exchanged.{AreAllAlike};
 ghost use Rattle.explorer.specs.Settled.{LeadsToForgotten, LeadsBy};
-ghost use Rattle.explorer.specs.FinalStates.{AreReached, HaveEveryEnd, HasMoreStates, AreDistinct, AreWhatTsoAllows, AreWhatSequentialConsistencyAllows, AreAmong, Have};
+ghost use Rattle.explorer.specs.FinalStates.{AreReached, HaveEveryEnd, HasMoreStates, AreDistinct, AreWhatTsoAllows};
+ghost use Rattle.explorer.specs.FinalStates.{AreWhatSequentialConsistencyAllows, AreAmong, Have};
 ghost use Rattle.search_report.specs.Hidden.{AreNotShown};
 ghost use Rattle.explorer.specs.declared.fault.ExploreFault.{ExploreFault};
 ghost use Rattle.explorer.specs.declared.final_states.FinalState.{FinalState};
@@ -112,7 +113,9 @@ pub fn the_same_states_are_printed_alike()
 
 /// Two answers of `outcomes` that print states print the same ones, with one status; or one of them says that it prints some.
 pub fn two_answers_show_the_same_states()
-    ensures { (search : Search) (set : Instructions) (json assert : Bool) (input out other : List ℕ) (status again : Status) → IsPrinted status → IsPrinted again
+    ensures { (search : Search) (set : Instructions) (json assert : Bool) (input out other : List ℕ) (status again : Status)
+        → IsPrinted status
+        → IsPrinted again
         → IsAnswer (Settings.Outcomes search set json assert) (Some input) out status
         → IsAnswer (Settings.Outcomes search set json assert) (Some input) other again
         → (ShowTheSameStates search json out other × (status ≡ again)) ⊎ (ShowsPart search json out ⊎ ShowsPart search json other) }

@@ -16,7 +16,8 @@ ghost use Rattle.search_report.specs.OutcomesJson.{holds_in};
 ghost use Rattle.search_report.specs.Verdict.{verdict_word};
 ghost use Rattle.printed_laws.specs.Observed.{truth_after};
 ghost use Rattle.printed_laws.specs.Verdicts.{IsAsClaimed, IsNotAsClaimed, NamesTrueStates, NumbersOfTrueStates};
-ghost use Rattle.printed_laws.specs.Verdicts.{EndsInNumbers, EndsInVerdict, EndsInVerdictMember, PrintsVerdict, StatusTells, StatusTellsNoVerdict, VerdictMeans, VerdictsAgree};
+ghost use Rattle.printed_laws.specs.Verdicts.{EndsInNumbers, EndsInVerdict, EndsInVerdictMember, PrintsVerdict, StatusTells};
+ghost use Rattle.printed_laws.specs.Verdicts.{StatusTellsNoVerdict, VerdictMeans, VerdictsAgree};
 ghost use Rattle.tso_report.specs.ShownNames.{names_shown, values_at};
 ghost use Rattle.tso_cli.specs.OutcomesHeadline.{PrintsAllOutcomes};
 ghost use Rattle.tso_terms.specs.Axioms.{IsTsoExecution};
@@ -94,7 +95,8 @@ pub fn why_and_outcomes_agree()
 /// With `Verdict No` the status is 4 where that is asserted, and with `Verdict Ok` 0; where nothing is asserted it is 0, or 3 of a search
 /// that met its limit.
 pub fn a_status_tells_the_verdict()
-    ensures outcomes_no { (search : Search) (set : Instructions) (json : Bool) → StatusTells (Settings.Outcomes search set json true) json (codes "No") NotAsClaimed }
+    ensures outcomes_no { (search : Search) (set : Instructions) (json : Bool)
+        → StatusTells (Settings.Outcomes search set json true) json (codes "No") NotAsClaimed }
     ensures outcomes_ok { (search : Search) (set : Instructions) (json : Bool) → StatusTells (Settings.Outcomes search set json true) json (codes "Ok") Good }
     ensures outcomes_unasserted { (search : Search) (set : Instructions) (json verdict : Bool)
         → StatusTellsNoVerdict (Settings.Outcomes search set json false) json (verdict_word verdict) }

@@ -1,9 +1,11 @@
-use Rattle.relational_model.proofs.Vocabulary.{◌≡◌, ℕ, zero, suc, true, false, [], refl, sym, ◌∙◌, filter, writes_to, sb, sb_order, n6, n6_order, IsCandidateOf, sb_candidate, n6_candidate, independent}
+use Rattle.relational_model.proofs.Vocabulary.{◌≡◌, ℕ, zero, suc, true, false, [], refl, sym, ◌∙◌, filter, writes_to, sb, sb_order, n6}
+use Rattle.relational_model.proofs.Vocabulary.{n6_order, IsCandidateOf, sb_candidate, n6_candidate, independent}
 use Rattle.relational_model.proofs.Allowed.{Whole, is-allowed}
 use Rattle.relational_model.proofs.Found.{has-candidate}
 use Rattle.relational_model.proofs.Left.{leave-the-same}
 use Rattle.relational_model.proofs.Independent.{no-opposite-registers}
-use Rattle.relational_model.proofs.Forbidden.{fenced-is-forbidden, exchanged-is-forbidden, passing-is-forbidden, buffering-is-forbidden, independent-is-forbidden, between-is-forbidden}
+use Rattle.relational_model.proofs.Forbidden.{fenced-is-forbidden, exchanged-is-forbidden, passing-is-forbidden, buffering-is-forbidden}
+use Rattle.relational_model.proofs.Forbidden.{independent-is-forbidden, between-is-forbidden}
 use Rattle.relational_model.proofs.Unseen.{unseen-is-forbidden, unseen-by-uniproc}
 use Rattle.relational_model.proofs.Worked.{sources-from, filter-none, not-first, not-second}
 use Rattle.relational_model.proofs.worked_candidates.Goals as goal

@@ -1,5 +1,6 @@
 -- The caches of all cores and memory at an access that is made whole: what it rests on, and what it leaves.
-use Rattle.std.specs.Prelude.{◌≡◌, ◌<◌, ◌≤◌, ◌⊎◌, ℕ, Bool, true, false, IsTrue, nat_eq, if◌then◌else◌, List, length, slice_set, slice_index, Option, Some, None, IfSome}
+use Rattle.std.specs.Prelude.{◌≡◌, ◌<◌, ◌≤◌, ◌⊎◌, ℕ, Bool, true, false, IsTrue, nat_eq, if◌then◌else◌, List, length, slice_set, slice_index}
+use Rattle.std.specs.Prelude.{Option, Some, None, IfSome}
 use Rattle.snoop_bus.specs.Vocabulary.{copy_with, M, most_cores, Table}
 use Rattle.snoop_bus.specs.declared.access.AccessReport.{AccessReport}
 use Rattle.snoop_bus.specs.declared.access.Updated.{Updated}

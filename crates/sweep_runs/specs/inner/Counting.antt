@@ -12,7 +12,8 @@ abbrev pub EachKindWith : Table → (ProtocolKind → Type 0) → Type 0
 EachKindWith table P = (kind : ProtocolKind) → table ≡ table_of kind → P kind
 
 -- one makes runs of this test again, which are those that the other makes, and so are the answers of the caches
-pub record CanRunAgain {R : Type 0} (runs : R → Litmus → Type 0) (run_of : R → Litmus → List Choice → Run) (fits : R → List Choice → Type 0) (t : Litmus) (old new : R) : Type 0 where
+pub record CanRunAgain {R : Type 0} (runs : R → Litmus → Type 0) (run_of : R → Litmus → List Choice → Run)
+    (fits : R → List Choice → Type 0) (t : Litmus) (old new : R) : Type 0 where
   pub again : runs new t
   pub same : (choices : List Choice) → run_of new t choices ≡ run_of old t choices
   pub fit : (choices : List Choice) → fits new choices → fits old choices

@@ -1,6 +1,7 @@
 -- Memory's own words as a trace tells them are those of the bus: along a run, each call of the bus leaves them so.
 use Rattle.std.specs.Prelude.{ℕ, ◌≡◌, ◌<◌, false, List, length}
-use Rattle.trace_report.specs.Vocabulary.{Configuration, ImD, is_dirty, IsD, IsTest, line_state, LineState, Litmus, M, machine_after, new_machine, ProtocolKind, Running, SmD, State, table_of}
+use Rattle.trace_report.specs.Vocabulary.{Configuration, ImD, is_dirty, IsD, IsTest, line_state, LineState, Litmus, M, machine_after}
+use Rattle.trace_report.specs.Vocabulary.{new_machine, ProtocolKind, Running, SmD, State, table_of}
 use Rattle.tso_terms.specs.declared.choice.Choice.{Choice}
 use Rattle.snoop_bus.specs.Coherent.{state_of_copy}
 use Rattle.cache_set.specs.Copies.{copy_at}

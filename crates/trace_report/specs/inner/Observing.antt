@@ -1,6 +1,7 @@
 -- What becomes of the observer that makes a trace, or its last step alone.
 use Rattle.std.specs.Prelude.{ℕ, ◌≡◌, List, [], ◌∷◌, ◌++◌, map, Some, None, IfSome, option_map}
-use Rattle.trace_report.specs.Vocabulary.{array, Configuration, Data, items_of, Litmus, machine_after, new_machine, ProtocolKind, Running, shown_step, table_of, view}
+use Rattle.trace_report.specs.Vocabulary.{array, Configuration, Data, items_of, Litmus, machine_after, new_machine, ProtocolKind, Running}
+use Rattle.trace_report.specs.Vocabulary.{shown_step, table_of, view}
 use Rattle.serde_json.specs.declared.value.Value.{Value}
 use Rattle.tso_terms.specs.declared.choice.Choice.{Choice}
 use Rattle.trace_report.specs.Known.{StepNamesExist}

@@ -1,5 +1,6 @@
 -- What a breach needs to be printed: its locations are among the test's, so that each has a name.
-use Rattle.tso_cli.specs.Vocabulary.{Breach, Extra, HasLocation, IsLocationFor, Litmus, Missing, NoMemory, NotAdjacent, ProgramOrder, ReadValue, Twice, WrongValue}
+use Rattle.tso_cli.specs.Vocabulary.{Breach, Extra, HasLocation, IsLocationFor, Litmus, Missing, NoMemory, NotAdjacent, ProgramOrder}
+use Rattle.tso_cli.specs.Vocabulary.{ReadValue, Twice, WrongValue}
 
 -- the locations of what the breach names are the test's
 abbrev pub CanBeNamed : Litmus → Breach → Type 0

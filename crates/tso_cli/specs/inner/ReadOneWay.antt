@@ -1,6 +1,7 @@
 -- What the crates below say of texts and orders, put together: each is read in one way.
 use Rattle.std.specs.Prelude.{ℕ, ◌≡◌, ◌<◌, ◌≤◌, ◌^◌, List, length}
-use Rattle.tso_cli.specs.Vocabulary.{Breach, Entry, HasFault, Instructions, IsDecidedAsChoices, IsFirstBreach, IsTest, IsTsoExecution, Litmus, OrderFault, SpellsOrder, TextFault}
+use Rattle.tso_cli.specs.Vocabulary.{Breach, Entry, HasFault, Instructions, IsDecidedAsChoices, IsFirstBreach, IsTest, IsTsoExecution}
+use Rattle.tso_cli.specs.Vocabulary.{Litmus, OrderFault, SpellsOrder, TextFault}
 use Rattle.litmus_reader.specs.Limits.{longest_text}
 use Rattle.litmus_reader.specs.Spelling.{SpellsTest, IsRefused as IsRefusedTest}
 

@@ -7,7 +7,11 @@ returns-in_err-layout-clause-judged g c =
     let t = c.args.test.now in
     let order = c.args.order.now.order in
     let p = err_from_is_err_and c.from_residual.result c.from_residual.ensures.1 in
-    rw (p.1, p.2) (record { valid = tt; accepted = no-memory-else t order c.in_err-layout.field-0.0 c.in_err-layout.ensures.breach; first = c.in_err-layout.ensures.breach })
+    rw (p.1, p.2) (record {
+      valid = tt;
+      accepted = no-memory-else t order c.in_err-layout.field-0.0 c.in_err-layout.ensures.breach;
+      first = c.in_err-layout.ensures.breach;
+    })
 
 pub returns-in-Some-clause-judged : goal.returns-in-Some-clause-judged
 returns-in-Some-clause-judged g c =

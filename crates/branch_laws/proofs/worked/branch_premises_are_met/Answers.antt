@@ -1,5 +1,6 @@
 use Rattle.std.proofs.Common.{refl}
-use Rattle.branch_laws.proofs.WorkedTests.{try-lock-tests, exchange-tests, counter-tests, counter-rounds, message-tests, message-shows, message-own, spins-alike}
+use Rattle.branch_laws.proofs.WorkedTests.{try-lock-tests, exchange-tests, counter-tests, counter-rounds, message-tests, message-shows}
+use Rattle.branch_laws.proofs.WorkedTests.{message-own, spins-alike}
 use Rattle.branch_laws.proofs.worked.branch_premises_are_met.Goals as goal
 
 pub returns-clause-lock_tests : goal.returns-clause-lock_tests

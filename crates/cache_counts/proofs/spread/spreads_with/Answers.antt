@@ -9,8 +9,11 @@ pub loop-place-preserved : goal.loop-place-preserved
 loop-place-preserved c =
     let next = IsSumOf (c.args.runs + 1) in
     record {
-      laid = laid-in c.args.spreads.now c.args.numbers.now c.loop-place.place _ c.loop-place.next.items c.push.new.self.items c.spread_with.result c.spread_at.result
+      laid =
+          laid-in c.args.spreads.now c.args.numbers.now c.loop-place.place _ c.loop-place.next.items
+          c.push.new.self.items c.spread_with.result c.spread_at.result
           c.loop-place-test.true c.spread_at.ensures c.spread_with.ensures.value c.in_ok-push.ensures.items c.loop-place.invariant.laid;
       few = subst (λ (list : List Spread). All next list) (sym c.in_ok-push.ensures.items)
-          (All-append next c.loop-place.next.items (c.spread_with.result ∷ []) c.loop-place.invariant.few (All-cons next c.spread_with.result [] c.spread_with.ensures.few (All-nil next)));
+          (All-append next c.loop-place.next.items (c.spread_with.result ∷ []) c.loop-place.invariant.few
+          (All-cons next c.spread_with.result [] c.spread_with.ensures.few (All-nil next)));
     }

@@ -17,15 +17,19 @@ pub invariant_of-self : goal.invariant_of-self
 invariant_of-self c =
     let h : way_of c.args.line c.self.inside.ways.entries ≡ Some c.unwrap-number.result = sym (rw c.unwrap-number.ensures at c.way_of.ensures) in
     let once = once-distinct c.self.inside.ways.entries c.len-numbers.ensures.valid.0 in
-    rw (contents-emptied c.args.line c.unwrap-number.result c.self.inside.ways.cap c.unwrap-way.result.now c.self.inside.ways.entries once h)
-    (IsCacheSet-without c.args.line _ c.self.invariant.0, AreWays-set c.unwrap-number.result c.self.inside.ways.cap _ c.self.inside.ways.entries c.self.invariant.1)
+    rw (contents-emptied c.args.line c.unwrap-number.result c.self.inside.ways.cap c.unwrap-way.result.now c.self.inside.ways.entries once h) (
+      IsCacheSet-without c.args.line _ c.self.invariant.0,
+      AreWays-set c.unwrap-number.result c.self.inside.ways.cap _ c.self.inside.ways.entries c.self.invariant.1,
+    )
 
 pub returns-clause-content : goal.returns-clause-content
 returns-clause-content c =
     let h : way_of c.args.line c.self.inside.ways.entries ≡ Some c.unwrap-number.result = sym (rw c.unwrap-number.ensures at c.way_of.ensures) in
     let once = once-distinct c.self.inside.ways.entries c.len-numbers.ensures.valid.0 in
-    let found : lookup (nat_eq c.unwrap-number.result) c.self.inside.ways.entries ≡ Some c.unwrap-way.result.now = sym (rw c.unwrap-way.ensures at c.peek_mut.ensures.value) in
-    sym (lookup-way c.args.line c.unwrap-number.result c.unwrap-way.result.now c.self.inside.ways.entries once h found).1.1 ∙ ap (λ (s : Contents). copy_of s c.args.line) c.self.view_is
+    let found : lookup (nat_eq c.unwrap-number.result) c.self.inside.ways.entries ≡ Some c.unwrap-way.result.now =
+    sym (rw c.unwrap-way.ensures at c.peek_mut.ensures.value) in
+    sym (lookup-way c.args.line c.unwrap-number.result c.unwrap-way.result.now c.self.inside.ways.entries once h found).1.1
+    ∙ ap (λ (s : Contents). copy_of s c.args.line) c.self.view_is
 
 pub returns-clause-exact : goal.returns-clause-exact
 returns-clause-exact c =

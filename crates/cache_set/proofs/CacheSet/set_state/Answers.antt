@@ -17,18 +17,25 @@ pub invariant_of-self : goal.invariant_of-self
 invariant_of-self c =
     let h : way_of c.args.line c.self.inside.ways.entries ≡ Some c.unwrap-number.result = sym (rw c.unwrap-number.ensures at c.way_of.ensures) in
     let once = once-distinct c.self.inside.ways.entries c.len-numbers.ensures.valid.0 in
-    let found : lookup (nat_eq c.unwrap-number.result) c.self.inside.ways.entries ≡ Some c.unwrap-way.result.now = sym (rw c.unwrap-way.ensures at c.peek_mut.ensures.value) in
+    let found : lookup (nat_eq c.unwrap-number.result) c.self.inside.ways.entries ≡ Some c.unwrap-way.result.now =
+    sym (rw c.unwrap-way.ensures at c.peek_mut.ensures.value) in
     let full = is_invalid-valid c.args.state c.requires.valid in
-    rw (contents-changed (with_state c.args.state) c.args.line c.unwrap-number.result c.self.inside.ways.cap c.unwrap-way.result.now c.self.inside.ways.entries c.self.invariant.0 once h found full)
-    (IsCacheSet-with_changed (with_state c.args.state) c.args.line _ (λ copy _. c.requires.valid) c.self.invariant.0, AreWays-set c.unwrap-number.result c.self.inside.ways.cap _ c.self.inside.ways.entries c.self.invariant.1)
+    rw (contents-changed (with_state c.args.state) c.args.line c.unwrap-number.result c.self.inside.ways.cap
+    c.unwrap-way.result.now c.self.inside.ways.entries c.self.invariant.0 once h found full) (
+      IsCacheSet-with_changed (with_state c.args.state) c.args.line _ (λ copy _. c.requires.valid) c.self.invariant.0,
+      AreWays-set c.unwrap-number.result c.self.inside.ways.cap _ c.self.inside.ways.entries c.self.invariant.1,
+    )
 
 pub returns-clause-exact : goal.returns-clause-exact
 returns-clause-exact c =
     let h : way_of c.args.line c.self.inside.ways.entries ≡ Some c.unwrap-number.result = sym (rw c.unwrap-number.ensures at c.way_of.ensures) in
     let once = once-distinct c.self.inside.ways.entries c.len-numbers.ensures.valid.0 in
-    let found : lookup (nat_eq c.unwrap-number.result) c.self.inside.ways.entries ≡ Some c.unwrap-way.result.now = sym (rw c.unwrap-way.ensures at c.peek_mut.ensures.value) in
+    let found : lookup (nat_eq c.unwrap-number.result) c.self.inside.ways.entries ≡ Some c.unwrap-way.result.now =
+    sym (rw c.unwrap-way.ensures at c.peek_mut.ensures.value) in
     let full = is_invalid-valid c.args.state c.requires.valid in
-    rw (← c.self.view_is) (contents-changed (with_state c.args.state) c.args.line c.unwrap-number.result c.self.inside.ways.cap c.unwrap-way.result.now c.self.inside.ways.entries c.self.invariant.0 once h found full)
+    rw (← c.self.view_is)
+    (contents-changed (with_state c.args.state) c.args.line c.unwrap-number.result c.self.inside.ways.cap
+    c.unwrap-way.result.now c.self.inside.ways.entries c.self.invariant.0 once h found full)
 
 pub returns-clause-valid : goal.returns-clause-valid
 returns-clause-valid c = (invariant_of-self c).0

@@ -11,14 +11,17 @@ pub invariant_of-self : goal.invariant_of-self
 invariant_of-self c =
     let h : way_of c.args.line c.self.inside.ways.entries ≡ Some c.unwrap-number.result = sym (rw c.unwrap-number.ensures at c.way_of.ensures) in
     let once = once-distinct c.self.inside.ways.entries c.len-numbers.ensures.valid.0 in
-    rw (c.promote.ensures.entries, contents-promoted c.args.line c.unwrap-number.result c.self.inside.ways.cap c.self.inside.ways.entries once h)
-    (IsCacheSet-to_front c.args.line _ c.self.invariant.0, AreWays-promoted c.args.line c.unwrap-number.result c.self.inside.ways.cap c.self.inside.ways.entries h c.self.invariant.1)
+    rw (c.promote.ensures.entries, contents-promoted c.args.line c.unwrap-number.result c.self.inside.ways.cap c.self.inside.ways.entries once h) (
+      IsCacheSet-to_front c.args.line _ c.self.invariant.0,
+      AreWays-promoted c.args.line c.unwrap-number.result c.self.inside.ways.cap c.self.inside.ways.entries h c.self.invariant.1,
+    )
 
 pub returns-clause-exact : goal.returns-clause-exact
 returns-clause-exact c =
     let h : way_of c.args.line c.self.inside.ways.entries ≡ Some c.unwrap-number.result = sym (rw c.unwrap-number.ensures at c.way_of.ensures) in
     let once = once-distinct c.self.inside.ways.entries c.len-numbers.ensures.valid.0 in
-    rw (c.promote.ensures.entries, ← c.self.view_is) (contents-promoted c.args.line c.unwrap-number.result c.self.inside.ways.cap c.self.inside.ways.entries once h)
+    rw (c.promote.ensures.entries, ← c.self.view_is)
+    (contents-promoted c.args.line c.unwrap-number.result c.self.inside.ways.cap c.self.inside.ways.entries once h)
 
 pub returns-clause-valid : goal.returns-clause-valid
 returns-clause-valid c = (invariant_of-self c).0

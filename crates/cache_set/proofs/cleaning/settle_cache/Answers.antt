@@ -13,9 +13,14 @@ loop-line-init g c = record {
 
 pub loop-line-preserved : goal.loop-line-preserved
 loop-line-preserved g c = record {
-  tags = c.settle_line.ensures.tags ∙ ap (λ (ts : List TagSet). map (cleaned_at c.loop-line.line) ts) c.loop-line.invariant.tags ∙ below_more c.loop-line.line (map tags_in c.args.cache.now);
+  tags =
+      c.settle_line.ensures.tags
+      ∙ ap (λ (ts : List TagSet). map (cleaned_at c.loop-line.line) ts) c.loop-line.invariant.tags
+      ∙ below_more c.loop-line.line (map tags_in c.args.cache.now);
   copies = copies_more c.args.cache.now c.loop-line.cache c.settle_line.new.cache c.loop-line.line c.loop-line.invariant.copies c.settle_line.ensures.copies;
-  memory = memory_more c.args.cache.now c.loop-line.cache c.args.memory.now c.loop-line.memory c.settle_line.new.memory c.loop-line.line c.loop-line.invariant.copies c.loop-line.invariant.memory c.settle_line.ensures.memory;
+  memory =
+      memory_more c.args.cache.now c.loop-line.cache c.args.memory.now c.loop-line.memory c.settle_line.new.memory
+      c.loop-line.line c.loop-line.invariant.copies c.loop-line.invariant.memory c.settle_line.ensures.memory;
   ways = c.settle_line.ensures.ways ∙ c.loop-line.invariant.ways;
 }
 

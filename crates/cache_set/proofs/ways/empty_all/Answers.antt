@@ -23,5 +23,10 @@ loop-preserved c =
     let h : first_full c.loop.ways.entries ≡ Some c.in-Some.number = sym c.first_full.ensures ∙ c.in-Some.is in
     let once = once-distinct c.loop.ways.entries c.len-numbers.ensures.valid.0 in
     let fewer = length-emptied c.in-Some.number (emptied c.unwrap-way.result.now) c.loop.ways.entries once h refl in
-    let most = c.loop.invariant.0 in
-    (omega arith, (c.loop.invariant.1.0, AreWays-set c.in-Some.number c.loop.ways.cap (emptied c.unwrap-way.result.now) c.loop.ways.entries c.loop.invariant.1.1))
+    let most = c.loop.invariant.0 in (
+      omega arith,
+      (
+        c.loop.invariant.1.0,
+        AreWays-set c.in-Some.number c.loop.ways.cap (emptied c.unwrap-way.result.now) c.loop.ways.entries c.loop.invariant.1.1,
+      ),
+    )

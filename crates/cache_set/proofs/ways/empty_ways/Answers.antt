@@ -6,5 +6,7 @@ pub loop-number-preserved : goal.loop-number-preserved
 loop-number-preserved c =
     let all = c.loop-number.invariant in
     let less = c.loop-number-test.true in
-    let put = put-unused c.loop-number.number c.loop-number.ways.cap c.unused.result c.loop-number.ways.entries (omega arith) all.0 all.1.0 all.1.1 c.unused.ensures in
+    let put =
+    put-unused c.loop-number.number c.loop-number.ways.cap c.unused.result c.loop-number.ways.entries (omega arith)
+    all.0 all.1.0 all.1.1 c.unused.ensures in
     rw (c.in_ok-push.ensures.entries, add-one) (put.0, (put.1.0, put.1.1, all.1.2))

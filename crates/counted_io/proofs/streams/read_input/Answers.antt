@@ -13,7 +13,15 @@ returns-in_err-extend_from_slice-in-Ok-clause-most g c = (
 
 pub loop-chunk-preserved : goal.loop-chunk-preserved
 loop-chunk-preserved g c = record {
-  bytes = rw (c.in_ok-extend_from_slice-in-Ok.ensures.items, take-append-le c.in-Ok.n c.read.new.buf _ c.in-Ok.ensures.bound.0) (consumes-more _ _ _ _ _ c.loop-chunk.invariant.bytes c.in-Ok.ensures.bytes.0);
-  size = let l = c.in_ok-extend_from_slice-in-Ok.ensures.len in let b = c.in-Ok.ensures.bound in let m = c.min-room.ensures in let n = c.len-in-loop-chunk.ensures in omega (arith, l, length-take {A = ℕ});
+  bytes =
+      rw
+      (c.in_ok-extend_from_slice-in-Ok.ensures.items, take-append-le c.in-Ok.n c.read.new.buf _ c.in-Ok.ensures.bound.0)
+      (consumes-more _ _ _ _ _ c.loop-chunk.invariant.bytes c.in-Ok.ensures.bytes.0);
+  size =
+      let l = c.in_ok-extend_from_slice-in-Ok.ensures.len in
+      let b = c.in-Ok.ensures.bound in
+      let m = c.min-room.ensures in
+      let n = c.len-in-loop-chunk.ensures in
+      omega (arith, l, length-take {A = ℕ});
   faults = c.in-Ok.ensures.failures ∙ c.loop-chunk.invariant.faults;
 }

@@ -31,4 +31,5 @@ loop-number-preserved c =
     subst (λ (ms : Members). HasMembers c.member-numbers.result ms)
     (ap (λ name. put name value (spreads_members (12 * c.args.core + (i + 1)) (drop (i + 1) count_names) ss)) c.name_at.ensures
     ∙ one-before (12 * c.args.core) i count_names ss below)
-    (c.member-numbers.ensures _ value before (subst (λ (s : Spread). IfOk c.spread_value.result (λ made. view made ≡ spread_value s)) c.spread_at-spread.ensures c.spread_value.ensures))
+    (c.member-numbers.ensures _ value before
+    (subst (λ (s : Spread). IfOk c.spread_value.result (λ made. view made ≡ spread_value s)) c.spread_at-spread.ensures c.spread_value.ensures))

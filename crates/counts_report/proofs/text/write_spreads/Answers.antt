@@ -9,11 +9,18 @@ loop-number-preserved c =
     let name = slice_index_or count_names c.loop-number.number [] in
     next-number (12 * c.args.core) c.loop-number.number count_names c.args.spreads.now written (string_bytes c.write_spread.new.text) _
     (subst (λ n. c.loop-number.number < n) (sym twelve-names) c.loop-number-test.true)
-    (c.in_ok-write_spread.ensures ∙ ap (λ n. written ++ spread_text n c.spread_at.result) c.name_at.ensures ∙ ap (λ s. written ++ spread_text name s) c.spread_at.ensures)
+    (c.in_ok-write_spread.ensures
+    ∙ ap (λ n. written ++ spread_text n c.spread_at.result) c.name_at.ensures
+    ∙ ap (λ s. written ++ spread_text name s) c.spread_at.ensures)
     c.loop-number.invariant
 
 pub returns : goal.returns
 returns c =
     last-number (12 * c.args.core) c.loop-number.number count_names c.args.spreads.now (string_bytes c.loop-number.text) _
-    (let size = twelve-names in let here = c.loop-number-test.false in let most = c.loop-number.auto.number-end in let z : length count_names ≡ c.loop-number.number = omega arith in z)
+    (let size =
+    twelve-names in
+    let here = c.loop-number-test.false in
+    let most = c.loop-number.auto.number-end in
+    let z : length count_names ≡ c.loop-number.number = omega arith in
+    z)
     c.loop-number.invariant

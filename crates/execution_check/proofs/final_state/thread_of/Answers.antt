@@ -18,24 +18,34 @@ pub thread_entries-requires-clause-reads : goal.thread_entries-requires-clause-r
 thread_entries-requires-clause-reads c =
     let program = slice_index_or c.args.test.now.programs c.args.core.0 [] in
     ap length (c.deref.ensures.value
-    ∙ all-read c.args.core.0 c.loop-instr.place c.program-instr-items.result.now program c.args.order.now c.loop-instr.instr-index c.loop-instr.values.items c.loop-instr-test.false
+    ∙ all-read c.args.core.0 c.loop-instr.place c.program-instr-items.result.now program c.args.order.now
+    c.loop-instr.instr-index c.loop-instr.values.items c.loop-instr-test.false
     c.loop-instr.invariant.values c.program-instr-items.ensures.value)
     ∙ reads-count c.args.core.0 0 program c.args.order.now
 
 pub returns-clause-entries : goal.returns-clause-entries
 returns-clause-entries c =
     let program = slice_index_or c.args.test.now.programs c.args.core.0 [] in
-    subst (λ values. IfOk c.thread_entries.result (λ thread. thread.entries.items ≡ entries_of c.args.core.0 0 program (slice_index_or c.args.test.now.registers c.args.core.0 []) values))
+    subst (λ values.
+    IfOk c.thread_entries.result
+    (λ thread.
+    thread.entries.items
+    ≡ entries_of c.args.core.0 0 program (slice_index_or c.args.test.now.registers c.args.core.0 []) values))
     (c.deref.ensures.value
-    ∙ all-read c.args.core.0 c.loop-instr.place c.program-instr-items.result.now program c.args.order.now c.loop-instr.instr-index c.loop-instr.values.items c.loop-instr-test.false
+    ∙ all-read c.args.core.0 c.loop-instr.place c.program-instr-items.result.now program c.args.order.now
+    c.loop-instr.instr-index c.loop-instr.values.items c.loop-instr-test.false
     c.loop-instr.invariant.values c.program-instr-items.ensures.value)
     c.thread_entries.ensures.entries
 
 pub returns-clause-registers : goal.returns-clause-registers
 returns-clause-registers c =
     let program = slice_index_or c.args.test.now.programs c.args.core.0 [] in
-    subst (λ values. IfOk c.thread_entries.result (λ thread. thread.registers ≡ registers_after program (slice_index_or c.args.test.now.registers c.args.core.0 []) values))
+    subst (λ values.
+    IfOk c.thread_entries.result
+    (λ thread.
+    thread.registers ≡ registers_after program (slice_index_or c.args.test.now.registers c.args.core.0 []) values))
     (c.deref.ensures.value
-    ∙ all-read c.args.core.0 c.loop-instr.place c.program-instr-items.result.now program c.args.order.now c.loop-instr.instr-index c.loop-instr.values.items c.loop-instr-test.false
+    ∙ all-read c.args.core.0 c.loop-instr.place c.program-instr-items.result.now program c.args.order.now
+    c.loop-instr.instr-index c.loop-instr.values.items c.loop-instr-test.false
     c.loop-instr.invariant.values c.program-instr-items.ensures.value)
     c.thread_entries.ensures.registers

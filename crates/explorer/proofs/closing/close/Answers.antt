@@ -11,7 +11,9 @@ loop-at-preserved c =
     record {
       grows = grows-on _ _ _ c.loop-at.invariant.grows c.in_ok-add_all_exchanged.ensures.grows;
       found = c.in_ok-add_all_exchanged.ensures.found;
-      exchanged = all-exchanged-more c.args.plan.now.test.now c.args.plan.now.alike.items _ _ c.loop-at.at within c.in_ok-add_all_exchanged.ensures.grows c.loop-at.invariant.exchanged
+      exchanged =
+          all-exchanged-more c.args.plan.now.test.now c.args.plan.now.alike.items _ _ c.loop-at.at within
+          c.in_ok-add_all_exchanged.ensures.grows c.loop-at.invariant.exchanged
           c.in_ok-add_all_exchanged.ensures.exchanged;
     }
 

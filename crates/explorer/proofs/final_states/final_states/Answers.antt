@@ -5,7 +5,10 @@ use Rattle.explorer.proofs.final_states.final_states.Goals.{then-has_ended+in_ok
 
 pub loop-at-init : goal.loop-at-init
 loop-at-init c = record {
-  finals = subst (λ z. AreFinalsOf c.args.plan.now.depth c.args.plan.now.test.now c.args.plan.now.hidden.now c.args.found.now.states.keys 0 z) (sym c.new-final_states.ensures.items)
+  finals =
+      subst (λ z.
+      AreFinalsOf c.args.plan.now.depth c.args.plan.now.test.now c.args.plan.now.hidden.now c.args.found.now.states.keys 0 z)
+      (sym c.new-final_states.ensures.items)
       (finals-none c.args.plan.now.depth c.args.plan.now.test.now c.args.plan.now.hidden.now c.args.found.now.states.keys);
   cores = c.in_ok-state.ensures.cores;
 }
@@ -22,7 +25,8 @@ loop-at-preserved c = record {
     | then-has_ended+in_ok-final_state+in_ok-push w ↦
         subst (λ z. AreFinalsOf c.args.plan.now.depth c.args.plan.now.test.now c.args.plan.now.hidden.now c.args.found.now.states.keys (c.loop-at.at + 1) z)
         (sym (ap (λ z. z.items) w.final_states-is ∙ w.in_ok-push.ensures.items))
-        (finals-more c.dead_registers_change_nothing.ensures c.args.plan.now.depth c.args.plan.now.test.now c.args.plan.now.hidden.now c.args.found.now.states.keys c.loop-at.at c.loop-at.final_states.items
+        (finals-more c.dead_registers_change_nothing.ensures c.args.plan.now.depth c.args.plan.now.test.now
+        c.args.plan.now.hidden.now c.args.found.now.states.keys c.loop-at.at c.loop-at.final_states.items
         w.in_ok-final_state.field-0 c.len-at-end.ensures.unique c.requires.cores c.loop-at.invariant.finals (record {
           at = c.loop-at.at;
           kept = c.index.result.now;
@@ -32,8 +36,12 @@ loop-at-preserved c = record {
           made = w.in_ok-final_state.ensures c.index.result.now c.index.ensures;
         }) refl)
     | else-has_ended w ↦
-        subst (λ z. AreFinalsOf c.args.plan.now.depth c.args.plan.now.test.now c.args.plan.now.hidden.now c.args.found.now.states.keys (c.loop-at.at + 1) z) (sym (ap (λ z. z.items) w.final_states-is))
-        (finals-skip c.args.plan.now.depth c.args.plan.now.test.now c.args.plan.now.hidden.now c.args.found.now.states.keys c.loop-at.at c.loop-at.final_states.items c.index.result.now c.loop-at.invariant.finals
+        subst (λ z.
+        AreFinalsOf c.args.plan.now.depth c.args.plan.now.test.now c.args.plan.now.hidden.now c.args.found.now.states.keys (c.loop-at.at + 1) z)
+        (sym (ap (λ z. z.items) w.final_states-is))
+        (finals-skip c.args.plan.now.depth c.args.plan.now.test.now c.args.plan.now.hidden.now
+        c.args.found.now.states.keys c.loop-at.at c.loop-at.final_states.items c.index.result.now
+        c.loop-at.invariant.finals
         c.index.ensures (ap (has_ended c.args.plan.now.test.now) (sym c.in_ok-unpack.ensures.value) ∙ sym c.has_ended.ensures ∙ w.if-has_ended.false))
   ];
   cores = c.in_ok-unpack.ensures.cores ∙ c.loop-at.invariant.cores;

@@ -1,4 +1,6 @@
-use Rattle.explorer.proofs.Vocabulary.{◌≡◌, ◌<◌, ◌∙◌, ℕ, ◌-◌, List, cleared, ap, sym, subst, refl, arith, length, map, slice_index_or, Some, length-set, slice_get-get_or, program_of, hidden_of, forgotten_core, core_of_processor, AreDead, Processor, map-at, map-set}
+use Rattle.explorer.proofs.Vocabulary.{◌≡◌, ◌<◌, ◌∙◌, ℕ, ◌-◌, List, cleared, ap, sym, subst, refl, arith, length, map, slice_index_or, Some}
+use Rattle.explorer.proofs.Vocabulary.{length-set, slice_get-get_or, program_of, hidden_of, forgotten_core, core_of_processor, AreDead}
+use Rattle.explorer.proofs.Vocabulary.{Processor, map-at, map-set}
 use Rattle.explorer.proofs.Ending.{length-map}
 use Rattle.explorer.proofs.Forgets.{row-is, forgets-more, forgets-all}
 use Rattle.explorer.proofs.forgetting.forget.Goals as goal
@@ -26,19 +28,32 @@ loop-core-preserved c =
     let h2 = c.index.ensures in
     let rows-is : c.index.result.now ≡ slice_index_or c.args.plan.now.dead.items k c.index.result.now = cc in
     let rows : AreDead (program_of c.args.plan.now.test.now k) (hidden_of c.args.plan.now.hidden.now k) c.index.result.now.items =
-    c.requires.plan.each k c.index.result.now (slice_get-get_or c.args.plan.now.dead.items k c.index.result.now (omega (arith, a, b, o)) ∙ ap Some (sym rows-is)) in
+    c.requires.plan.each k c.index.result.now
+    (slice_get-get_or c.args.plan.now.dead.items k c.index.result.now (omega (arith, a, b, o))
+    ∙ ap Some (sym rows-is)) in
     let left : c.saturating_sub-left.result ≡ length (program_of c.args.plan.now.test.now k) - p.place =
-    c.saturating_sub-left.ensures ∙ ap (λ z. length c.program-program.result.now - z) c.from.ensures ∙ ap (λ z. length z - p.place) c.program-program.ensures.value in
-    let row = c.index-in-loop-core.ensures ∙ row-is (program_of c.args.plan.now.test.now k) (hidden_of c.args.plan.now.hidden.now k) c.index.result.now.items p.place c.saturating_sub-left.result _ rows left in
-    let core-is : core_of_processor (kept p c.clear.new.registers) ≡ forgotten_core (program_of c.args.plan.now.test.now k) (hidden_of c.args.plan.now.hidden.now k) (core_of_processor p) =
+    c.saturating_sub-left.ensures
+    ∙ ap (λ z. length c.program-program.result.now - z) c.from.ensures
+    ∙ ap (λ z. length z - p.place) c.program-program.ensures.value in
+    let row =
+    c.index-in-loop-core.ensures
+    ∙ row-is (program_of c.args.plan.now.test.now k) (hidden_of c.args.plan.now.hidden.now k)
+    c.index.result.now.items p.place c.saturating_sub-left.result _ rows left in
+    let core-is : core_of_processor (kept p c.clear.new.registers)
+    ≡ forgotten_core (program_of c.args.plan.now.test.now k) (hidden_of c.args.plan.now.hidden.now k) (core_of_processor p) =
     ap (λ z. core_of_processor (kept p z)) (c.clear.ensures ∙ ap (λ z. cleared z p.registers) row) in
     record {
       count = length-set c.loop-core.state.cores.items c.from-at.result (kept p c.clear.new.registers) ∙ n;
       memory = c.loop-core.invariant.memory;
-      cores = forgets-more c.args.plan.now.test.now c.args.plan.now.hidden.now (map core_of_processor c.args.state.now.cores.items) (map core_of_processor c.loop-core.state.cores.items) _ k
-          (core_of_processor (kept p c.clear.new.registers)) c.loop-core.invariant.cores (let w = length-map c.loop-core.state.cores.items in omega (arith, w, within))
+      cores =
+          forgets-more c.args.plan.now.test.now c.args.plan.now.hidden.now
+          (map core_of_processor c.args.state.now.cores.items) (map core_of_processor c.loop-core.state.cores.items) _ k
+          (core_of_processor (kept p c.clear.new.registers)) c.loop-core.invariant.cores
+          (let w = length-map c.loop-core.state.cores.items in omega (arith, w, within))
           (map-set c.loop-core.state.cores.items c.from-at.result (kept p c.clear.new.registers) ∙ (rw at refl))
-          (core-is ∙ ap (forgotten_core (program_of c.args.plan.now.test.now k) (hidden_of c.args.plan.now.hidden.now k)) (ap core_of_processor p-is ∙ sym (map-at c.loop-core.state.cores.items k p within)));
+          (core-is
+          ∙ ap (forgotten_core (program_of c.args.plan.now.test.now k) (hidden_of c.args.plan.now.hidden.now k))
+          (ap core_of_processor p-is ∙ sym (map-at c.loop-core.state.cores.items k p within)));
     }
 
 pub returns : goal.returns
@@ -48,7 +63,10 @@ returns c =
     let n = c.loop-core.invariant.count in
     let m = c.requires.cores in
     let w = length-map c.loop-core.state.cores.items in
-    let f = forgets-all c.args.plan.now.test.now c.args.plan.now.hidden.now (map core_of_processor c.args.state.now.cores.items) (map core_of_processor c.loop-core.state.cores.items) c.loop-core.core
+    let f =
+    forgets-all c.args.plan.now.test.now c.args.plan.now.hidden.now
+    (map core_of_processor c.args.state.now.cores.items) (map core_of_processor c.loop-core.state.cores.items)
+    c.loop-core.core
     c.loop-core.invariant.cores (omega (arith, a, b, n, m, w)) in
     record {
       value = rw (c.loop-core.invariant.memory, f) refl;

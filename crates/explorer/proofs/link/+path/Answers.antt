@@ -37,8 +37,11 @@ returns t c =
     ∙ ap (λ z. played z was) c.deref-turn-items.ensures.value in
     elim c.if-at-gt0.branch [
       | then-at-gt0+in_ok-choices w ↦
-          path-on c.dead_registers_change_nothing.ensures c.alike_cores_are_exchangeable.ensures links c.args.at w.index-links-at.result link c.loop-turn.choices.items was w.in_ok-choices.choices.items
+          path-on c.dead_registers_change_nothing.ensures c.alike_cores_are_exchangeable.ensures links c.args.at
+          w.index-links-at.result link c.loop-turn.choices.items was w.in_ok-choices.choices.items
           w.if-at-gt0.true c.requires.at w.in_ok-choices.ensures items (ap (λ z. z.items) w.choices-is)
       | else-at-gt0 w ↦
-          path-first c.alike_cores_are_exchangeable.ensures links c.args.at link c.loop-turn.choices.items was w.if-at-gt0.false c.requires.at items (ap (λ z. z.items) w.choices-is ∙ c.new-choices.ensures.items)
+          path-first c.alike_cores_are_exchangeable.ensures links c.args.at link c.loop-turn.choices.items was
+          w.if-at-gt0.false c.requires.at items
+          (ap (λ z. z.items) w.choices-is ∙ c.new-choices.ensures.items)
     ]

@@ -15,6 +15,7 @@ loop-pair-preserved c =
 
 pub returns : goal.returns
 returns c =
-    c.loop-pair.invariant ∙ (ap (λ z. c.loop-choice.turns.items ++ map Exchanged z) (take_all c.loop-pair.pair-index c.args.exchanges.now c.loop-pair-test.false)
+    c.loop-pair.invariant
+    ∙ (ap (λ z. c.loop-choice.turns.items ++ map Exchanged z) (take_all c.loop-pair.pair-index c.args.exchanges.now c.loop-pair-test.false)
     ∙ ap (λ z. z ++ map Exchanged c.args.exchanges.now)
     (c.loop-choice.invariant ∙ ap (map Made) (take_all c.loop-choice.choice-index c.args.choices.now c.loop-choice-test.false)))

@@ -12,4 +12,6 @@ pub loop-word-init : goal.loop-word-init
 loop-word-init c = packs-none number_bytes read_word c.args.bytes.now.items
 
 pub returns : goal.returns
-returns c = all-packed number_bytes read_word c.args.words.now c.loop-word.word-index _ _ c.loop-word-test.false c.loop-word.auto.word-index-end c.loop-word.invariant
+returns c =
+    all-packed number_bytes read_word c.args.words.now c.loop-word.word-index _ _ c.loop-word-test.false
+    c.loop-word.auto.word-index-end c.loop-word.invariant

@@ -5,13 +5,21 @@ use Rattle.explorer.proofs.plan.plan_of.Goals as goal
 pub loop-core-init : goal.loop-core-init
 loop-core-init c = record {
   count = ap length c.new-dead.ensures.items;
-  each = plan-none (λ k rows. AreDead (program_of c.args.test.now k) (hidden_of c.args.hidden.now k) rows.items) c.new-dead.result.items c.new-dead.ensures.items;
+  each =
+      plan-none (λ k rows. AreDead (program_of c.args.test.now k) (hidden_of c.args.hidden.now k) rows.items)
+      c.new-dead.result.items c.new-dead.ensures.items;
 }
 
 pub loop-core-preserved : goal.loop-core-preserved
 loop-core-preserved c = record {
-  count = let a = ap length c.in_ok-push.ensures.items in let b = length-append c.loop-core.dead.items (c.in_ok-dead_registers.field-0 ∷ []) in let n = c.loop-core.invariant.count in omega (arith, a, b, n);
-  each = plan-more (λ k rows. AreDead (program_of c.args.test.now k) (hidden_of c.args.hidden.now k) rows.items) c.loop-core.dead.items c.loop-core.core c.in_ok-dead_registers.field-0 c.push.new.self.items
+  count =
+      let a = ap length c.in_ok-push.ensures.items in
+      let b = length-append c.loop-core.dead.items (c.in_ok-dead_registers.field-0 ∷ []) in
+      let n = c.loop-core.invariant.count in
+      omega (arith, a, b, n);
+  each =
+      plan-more (λ k rows. AreDead (program_of c.args.test.now k) (hidden_of c.args.hidden.now k) rows.items)
+      c.loop-core.dead.items c.loop-core.core c.in_ok-dead_registers.field-0 c.push.new.self.items
       c.loop-core.invariant.count c.in_ok-push.ensures.items
       (subst (λ z. AreDead z (hidden_of c.args.hidden.now c.loop-core.core) c.in_ok-dead_registers.field-0.items) c.program.ensures.value
       (subst (λ z. AreDead c.program.result.now z c.in_ok-dead_registers.field-0.items) c.hidden_of-hidden.ensures c.in_ok-dead_registers.ensures))
@@ -19,9 +27,14 @@ loop-core-preserved c = record {
 }
 
 pub returns : goal.returns
-returns c = let l = c.loop-core-test.false in let m = c.loop-core.auto.core-end in let n = c.cores-core-end.ensures.value in let k = c.loop-core.invariant.count in record {
-  plan = record { count = omega (arith, l, m, n, k); each = c.loop-core.invariant.each; alike = c.in_ok-alike.ensures };
-  test = refl;
-  depth = refl;
-  hidden = refl;
-}
+returns c =
+    let l = c.loop-core-test.false in
+    let m = c.loop-core.auto.core-end in
+    let n = c.cores-core-end.ensures.value in
+    let k = c.loop-core.invariant.count in
+    record {
+      plan = record { count = omega (arith, l, m, n, k); each = c.loop-core.invariant.each; alike = c.in_ok-alike.ensures };
+      test = refl;
+      depth = refl;
+      hidden = refl;
+    }

@@ -13,7 +13,8 @@ returns-clause-found c =
     (inr (
       kept,
       c.index.ensures,
-      appended-leads plan.depth plan.test.now plan.hidden.now (state_of_packed kept) (state_of_snapshot c.unpack.new.state) (state_of_snapshot c.take_turns-2.new.state)
+      appended-leads plan.depth plan.test.now plan.hidden.now (state_of_packed kept)
+          (state_of_snapshot c.unpack.new.state) (state_of_snapshot c.take_turns-2.new.state)
           (state_of_snapshot c.forget.new.state) _ _ _ c.clear.ensures.items c.clear-2.ensures.items c.in_ok-unpack.ensures.value
           (all-appended _ _ _ _ _ _ _ _ c.in_ok-take_turns.ensures.made c.in_ok-take_turns-2.ensures.made) c.forget.ensures.value,
     ))) c.keep.ensures.found

@@ -7,5 +7,6 @@ invariant-loop-core l = record {
   found : IsInOrder l.plan l.found;
   current : l.found.current ≡ l.initial.found.current;
   visited : (k : ℕ) → k < l.core
-      → ArePicksVisited l.plan.depth l.plan.test.now l.plan.hidden.now l.plan.alike.items l.found.states.keys (state_of_snapshot l.initial.found.current) (set_of l.picked) k;
+      → ArePicksVisited l.plan.depth l.plan.test.now l.plan.hidden.now l.plan.alike.items l.found.states.keys
+      (state_of_snapshot l.initial.found.current) (set_of l.picked) k;
 }

@@ -25,7 +25,8 @@ expand-requires-clause-found g c =
 pub returns-after-loop-at-clause-closed : goal.returns-after-loop-at-clause-closed
 returns-after-loop-at-clause-closed g c = λ whole.
     let all : length c.loop-at.found.states.keys ≤ c.loop-at.at = let l = c.loop-at-test.false in omega (arith, l, whole) in
-    closes c.args.plan.now.depth c.args.plan.now.test.now c.args.plan.now.hidden.now c.args.plan.now.alike.items c.loop-at.found.states.keys c.loop-at.at all c.loop-at.invariant.first c.loop-at.invariant.each
+    closes c.args.plan.now.depth c.args.plan.now.test.now c.args.plan.now.hidden.now c.args.plan.now.alike.items
+    c.loop-at.found.states.keys c.loop-at.at all c.loop-at.invariant.first c.loop-at.invariant.each
 
 pub returns-then-at-len-clause-closed : goal.returns-then-at-len-clause-closed
 returns-then-at-len-clause-closed g c = λ whole.
@@ -33,7 +34,8 @@ returns-then-at-len-clause-closed g c = λ whole.
       | then-at-len-via-then-at-len v ↦ let l = v.if-at-len.true in let n = c.len.ensures.len in omega (arith, l, n)
       | then-at-len-via-else-at-len+then-len-limit v ↦ let l = v.if-len-limit.true in let n = v.len-else-at-len.ensures.len in omega (arith, l, n, whole)
     ] in
-    closes c.args.plan.now.depth c.args.plan.now.test.now c.args.plan.now.hidden.now c.args.plan.now.alike.items c.loop-at.found.states.keys c.loop-at.at all c.loop-at.invariant.first c.loop-at.invariant.each
+    closes c.args.plan.now.depth c.args.plan.now.test.now c.args.plan.now.hidden.now c.args.plan.now.alike.items
+    c.loop-at.found.states.keys c.loop-at.at all c.loop-at.invariant.first c.loop-at.invariant.each
 
 pub loop-at-init : goal.loop-at-init
 loop-at-init g c = record {

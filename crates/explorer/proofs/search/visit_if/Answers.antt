@@ -16,7 +16,10 @@ returns-in_ok-keep-clause-found c =
     (inr (
       current.kept,
       current.stands,
-      subst (λ z. LeadToExchanged c.args.plan.now.depth c.args.plan.now.test.now c.args.plan.now.hidden.now z c.reach.new.reached.choices.items c.reach.new.reached.exchanges.items (state_of_snapshot c.reach.new.reached.state))
+      subst (λ z.
+          LeadToExchanged c.args.plan.now.depth c.args.plan.now.test.now c.args.plan.now.hidden.now z
+          c.reach.new.reached.choices.items c.reach.new.reached.exchanges.items
+          (state_of_snapshot c.reach.new.reached.state))
           (sym current.state_is) (c.in_ok-reach.ensures.reached c.if-branch.true).leads,
     ))
 

@@ -22,7 +22,10 @@ returns-clause-value c =
     let k = c.args.state.now.cores.ok.0 in
     let m = c.loop-at.invariant.count in
     let bytes = c.in_ok-bytes.bytes.now in
-    let count = c.requires ∙ ap (λ z. length (state_of_bytes z).cores) (sym c.deref.ensures.value) ∙ ap length (state-cores c.deref.result.now _ _ c.in_ok-bytes.ensures) in
+    let count =
+    c.requires
+    ∙ ap (λ z. length (state_of_bytes z).cores) (sym c.deref.ensures.value)
+    ∙ ap length (state-cores c.deref.result.now _ _ c.in_ok-bytes.ensures) in
     let cores : map core_of_processor c.loop-at.state.cores.items ≡ (read_list read_core bytes).0 =
     cores-read bytes _ _ _ c.loop-at.at c.loop-at.state.cores.items c.take_number.ensures (m ∙ count) (omega (arith, l, e, n, k, m)) c.loop-at.invariant.read in
     ap (λ z. let s : State = record { memory = z.items; cores = map core_of_processor c.loop-at.state.cores.items } in s) c.loop-at.invariant.memory

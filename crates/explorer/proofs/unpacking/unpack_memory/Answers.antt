@@ -7,7 +7,8 @@ loop-at-init c = ap (λ z. (z, c.take_number-count.result.1.now)) (sym c.clear.e
 
 pub loop-at-preserved : goal.loop-at-preserved
 loop-at-preserved c =
-    read-one-more (λ _. []) read_word c.loop-at._at _ _ _ _ _ c.loop-at.invariant (sym c.take_word-word.ensures) ∙ ap (λ z. (z, c.take_word-word.result.1.now)) (sym c.in_ok-push.ensures.items)
+    read-one-more (λ _. []) read_word c.loop-at._at _ _ _ _ _ c.loop-at.invariant (sym c.take_word-word.ensures)
+    ∙ ap (λ z. (z, c.take_word-word.result.1.now)) (sym c.in_ok-push.ensures.items)
 
 pub returns : goal.returns
 returns c =

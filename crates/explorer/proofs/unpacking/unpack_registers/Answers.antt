@@ -7,7 +7,9 @@ pub loop-at-preserved : goal.loop-at-preserved
 loop-at-preserved c =
     let l = c.loop-at-test.true in let n = c.loop-at.invariant.count in
     record {
-      read = next-read read_word c.loop-at.at c.args.bytes.now _ _ c.loop-at.registers _ (omega (arith, l, n)) c.loop-at.invariant.read c.take_word-word.ensures;
+      read =
+          next-read read_word c.loop-at.at c.args.bytes.now _ _ c.loop-at.registers _ (omega (arith, l, n))
+          c.loop-at.invariant.read c.take_word-word.ensures;
       count = length-set c.loop-at.registers c.loop-at.at _ ∙ n;
     }
 
@@ -18,4 +20,6 @@ returns c =
     let m = c.loop-at.auto.at-end in
     let n = c.loop-at.invariant.count in
     let six : c.loop-at.at ≡ 6 = omega (arith, l, m) in
-    sym (ap (λ k. read_all read_word k c.args.bytes.now) (sym six) ∙ c.loop-at.invariant.read ∙ ap (λ z. (z, c.loop-at.rest.now)) (take_all c.loop-at.at c.loop-at.registers (omega (arith, l, n))))
+    sym (ap (λ k. read_all read_word k c.args.bytes.now) (sym six)
+    ∙ c.loop-at.invariant.read
+    ∙ ap (λ z. (z, c.loop-at.rest.now)) (take_all c.loop-at.at c.loop-at.registers (omega (arith, l, n))))

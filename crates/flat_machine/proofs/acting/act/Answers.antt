@@ -1,4 +1,5 @@
-use Rattle.flat_machine.proofs.Vocabulary.{◌≡◌, ◌<◌, ℕ, slice_get, slice_index_or, length, arith, ap, sym, refl, ◌∙◌, effect_by, drain_of, program_of, core_of, step, drain, core_of_processor, state_of_snapshot, Processor}
+use Rattle.flat_machine.proofs.Vocabulary.{◌≡◌, ◌<◌, ℕ, slice_get, slice_index_or, length, arith, ap, sym, refl, ◌∙◌, effect_by, drain_of}
+use Rattle.flat_machine.proofs.Vocabulary.{program_of, core_of, step, drain, core_of_processor, state_of_snapshot, Processor}
 use Rattle.flat_machine.proofs.Choosing.{on-ok-2, core-at, draining, acted, beyond, ends, step-is}
 use Rattle.flat_machine.proofs.acting.act.Goals as goal
 
@@ -15,9 +16,12 @@ returns-then-place-program-clause-after c =
     let g = c.program-program.ensures.value in
     let h4 = c.from-place.ensures in
     let h5 = c.if-place-program.true in
-    let place-is : (core_of (state_of_snapshot c.args.state.now) k).place ≡ c.from-place.result = ap (λ z. z.place) (core-at c.args.test.now c.args.depth c.args.state.now k p l q) ∙ sym h4 in
+    let place-is : (core_of (state_of_snapshot c.args.state.now) k).place ≡ c.from-place.result =
+    ap (λ z. z.place) (core-at c.args.test.now c.args.depth c.args.state.now k p l q) ∙ sym h4 in
     rw c.in-Step.is (ends c.args.test.now c.args.depth (state_of_snapshot c.args.state.now) k
-    (ap (λ z. slice_get (program_of c.args.test.now k) z) place-is ∙ ap (λ z. slice_get z c.from-place.result) (sym g) ∙ beyond c.program-program.result.now c.from-place.result h5))
+    (ap (λ z. slice_get (program_of c.args.test.now k) z) place-is
+    ∙ ap (λ z. slice_get z c.from-place.result) (sym g)
+    ∙ beyond c.program-program.result.now c.from-place.result h5))
 
 pub returns-else-place-program-clause-outcome : goal.returns-else-place-program-clause-outcome
 returns-else-place-program-clause-outcome c =
@@ -31,7 +35,9 @@ returns-else-place-program-clause-outcome c =
     let h8 = c.from.ensures in
     let q : c.index_mut-processor.result.now ≡ slice_index_or c.args.state.now.cores.items k c.index_mut-processor.result.now = cc in
     let q2 : c.index.result.now ≡ slice_index_or c.args.state.now.cores.items k c.index.result.now = cc in
-    let e = step-is c.args.test.now c.args.depth c.args.state.now k c.index_mut-processor.result.now c.index.result.now c.program-program.result.now c.from-place.result c.action-action.result _
+    let e =
+    step-is c.args.test.now c.args.depth c.args.state.now k c.index_mut-processor.result.now c.index.result.now
+    c.program-program.result.now c.from-place.result c.action-action.result _
     l q q2 c.program-program.ensures.value c.from-place.ensures c.if-place-program.false c.action-action.ensures in
     rw (c.in-Step.is, e) c.step.ensures.outcome
 
@@ -47,10 +53,13 @@ returns-else-place-program-clause-after c =
     let h8 = c.from.ensures in
     let q : c.index_mut-processor.result.now ≡ slice_index_or c.args.state.now.cores.items k c.index_mut-processor.result.now = cc in
     let q2 : c.index.result.now ≡ slice_index_or c.args.state.now.cores.items k c.index.result.now = cc in
-    let e = step-is c.args.test.now c.args.depth c.args.state.now k c.index_mut-processor.result.now c.index.result.now c.program-program.result.now c.from-place.result c.action-action.result _
+    let e =
+    step-is c.args.test.now c.args.depth c.args.state.now k c.index_mut-processor.result.now c.index.result.now
+    c.program-program.result.now c.from-place.result c.action-action.result _
     l q q2 c.program-program.ensures.value c.from-place.ensures c.if-place-program.false c.action-action.ensures in
     on-ok-2 c.step.result (λ u v. rw c.in-Step.is (acted c.args.test.now c.args.depth c.args.state.now k c.index_mut-processor.result.now l q (step k)
-    (effect_by c.args.depth c.args.state.now.memory.items k c.action-action.result (core_of_processor c.index_mut-processor.result.now)) _ _ c.step.new.processor refl e u v (rw h2 refl)))
+    (effect_by c.args.depth c.args.state.now.memory.items k c.action-action.result (core_of_processor c.index_mut-processor.result.now))
+    _ _ c.step.new.processor refl e u v (rw h2 refl)))
     c.step.ensures.after c.step.ensures.memory
 
 pub returns-in-Drain-clause-after : goal.returns-in-Drain-clause-after

@@ -17,7 +17,9 @@ loop-ended-preserved g c =
       words = as-many-words t c.args.depth now c.in-Some.choice (state_of_snapshot c.act.new.state) after ∙ i.words;
       chosen = (subst (CoresExist (length t.programs)) c.in-Some.ensures i.chosen).1;
       over = i.over ∙ ap (has_ended t) (sym (after ∙ stays));
-      on_its_way = one-more t c.args.depth (state_of_snapshot c.args.state.now) (g.C.Choices.coming c.args.choices.now) now (g.C.Choices.coming c.loop-ended.choices)
+      on_its_way =
+          one-more t c.args.depth (state_of_snapshot c.args.state.now) (g.C.Choices.coming c.args.choices.now) now
+          (g.C.Choices.coming c.loop-ended.choices)
           c.in-Some.choice (g.C.Choices.coming c.next.new.self) (state_of_snapshot c.act.new.state) i.on_its_way going c.in-Some.ensures after;
     }
 
@@ -25,10 +27,12 @@ pub returns-clause-ended : goal.returns-clause-ended
 returns-clause-ended g c =
     let i = c.loop-ended.invariant in
     let ended : has_ended c.args.test.now (state_of_snapshot c.loop-ended.state) ≡ true = sym i.over ∙ c.loop-ended-test.false in
-    (over c.args.test.now c.args.depth (state_of_snapshot c.args.state.now) (g.C.Choices.coming c.args.choices.now) (state_of_snapshot c.loop-ended.state) (g.C.Choices.coming c.loop-ended.choices) i.on_its_way ended).0
+    (over c.args.test.now c.args.depth (state_of_snapshot c.args.state.now) (g.C.Choices.coming c.args.choices.now)
+    (state_of_snapshot c.loop-ended.state) (g.C.Choices.coming c.loop-ended.choices) i.on_its_way ended).0
 
 pub returns-clause-state : goal.returns-clause-state
 returns-clause-state g c =
     let i = c.loop-ended.invariant in
     let ended : has_ended c.args.test.now (state_of_snapshot c.loop-ended.state) ≡ true = sym i.over ∙ c.loop-ended-test.false in
-    (over c.args.test.now c.args.depth (state_of_snapshot c.args.state.now) (g.C.Choices.coming c.args.choices.now) (state_of_snapshot c.loop-ended.state) (g.C.Choices.coming c.loop-ended.choices) i.on_its_way ended).1
+    (over c.args.test.now c.args.depth (state_of_snapshot c.args.state.now) (g.C.Choices.coming c.args.choices.now)
+    (state_of_snapshot c.loop-ended.state) (g.C.Choices.coming c.loop-ended.choices) i.on_its_way ended).1

@@ -9,7 +9,8 @@ invariant-loop-ended g l = record {
   words : length l.state.memory.items ≡ length l.initial.state.memory.items;
   chosen : CoresExist (length l.test.programs) (g.C.Choices.coming l.choices);
   over : l.ended ≡ has_ended l.test (state_of_snapshot l.state);
-  on_its_way : IsOnItsWay l.test l.fn.depth (state_of_snapshot l.initial.state) (g.C.Choices.coming l.initial.choices) (state_of_snapshot l.state) (g.C.Choices.coming l.choices);
+  on_its_way : IsOnItsWay l.test l.fn.depth (state_of_snapshot l.initial.state) (g.C.Choices.coming l.initial.choices)
+      (state_of_snapshot l.state) (g.C.Choices.coming l.choices);
 }
 
 abbrev pub decreases-loop-ended : goal.decreases-loop-ended

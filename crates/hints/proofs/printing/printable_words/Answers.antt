@@ -8,4 +8,7 @@ returns c =
     let least = c.min-at-end.ensures in
     let within = c.loop-at.auto.at-end in
     let past = c.loop-at-test.false in
-    c.loop-at.invariant ∙ ap (map shown_byte) (cut most_hint_bytes c.loop-at.at c.args.words.now (omega (arith, least, within)) (omega (arith, least, within)) (λ lt. omega (arith, least, past, lt)))
+    c.loop-at.invariant
+    ∙ ap (map shown_byte)
+    (cut most_hint_bytes c.loop-at.at c.args.words.now (omega (arith, least, within)) (omega (arith, least, within))
+    (λ lt. omega (arith, least, past, lt)))

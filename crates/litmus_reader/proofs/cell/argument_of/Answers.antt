@@ -7,12 +7,16 @@ pub loop-at-init : goal.loop-at-init
 loop-at-init c = omega arith
 
 pub loop-at-preserved : goal.loop-at-preserved
-loop-at-preserved c = search_on (λ (t : Token). is_symbol c.args.symbol (piece_of t)) c.args.tokens.now c.loop-at.at _ c.loop-at-test.true (sym c.is_symbol.ensures ∙ c.if-is_symbol.false) ∙ c.loop-at.invariant
+loop-at-preserved c =
+    search_on (λ (t : Token). is_symbol c.args.symbol (piece_of t)) c.args.tokens.now c.loop-at.at _ c.loop-at-test.true
+    (sym c.is_symbol.ensures ∙ c.if-is_symbol.false)
+    ∙ c.loop-at.invariant
 
 pub returns-then-is_symbol : goal.returns-then-is_symbol
 returns-then-is_symbol c =
     found_at (λ (t : Token). is_symbol c.args.symbol (piece_of t)) c.args.tokens.now c.loop-at.at _ c.loop-at-test.true c.loop-at.invariant
-    (search_here (λ (t : Token). is_symbol c.args.symbol (piece_of t)) c.args.tokens.now c.loop-at.at _ c.loop-at-test.true (sym c.is_symbol.ensures ∙ c.if-is_symbol.true))
+    (search_here (λ (t : Token). is_symbol c.args.symbol (piece_of t)) c.args.tokens.now c.loop-at.at _
+    c.loop-at-test.true (sym c.is_symbol.ensures ∙ c.if-is_symbol.true))
 
 pub returns : goal.returns
 returns c =

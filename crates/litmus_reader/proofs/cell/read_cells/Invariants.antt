@@ -4,7 +4,8 @@ use Rattle.litmus_reader.proofs.cell.read_cells.Given as goal
 
 abbrev pub invariant-cells : goal.invariant-cells
 invariant-cells l = record {
-  same : cells_in l.set l.core l.instrs.items (texts l.names.items) (cells_after l.remaining) ≡ cells_in l.set 0 l.initial.instrs.items (texts l.initial.names.items) (cells_of (pieces l.row));
+  same : cells_in l.set l.core l.instrs.items (texts l.names.items) (cells_after l.remaining)
+      ≡ cells_in l.set 0 l.initial.instrs.items (texts l.initial.names.items) (cells_of (pieces l.row));
   bound : l.core + room_of l.remaining ≤ length l.row + 1;
 }
 

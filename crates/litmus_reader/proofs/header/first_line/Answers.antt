@@ -8,7 +8,9 @@ pub loop-at-init : goal.loop-at-init
 loop-at-init c = omega arith
 
 pub loop-at-preserved : goal.loop-at-preserved
-loop-at-preserved c = search_on (λ (b : ℕ). eqb b 10) c.args.bytes.now c.loop-at.at 0 c.loop-at-test.true (ne_eqb _ _ c.if-bytes-at-eq10.false) ∙ c.loop-at.invariant
+loop-at-preserved c =
+    search_on (λ (b : ℕ). eqb b 10) c.args.bytes.now c.loop-at.at 0 c.loop-at-test.true (ne_eqb _ _ c.if-bytes-at-eq10.false)
+    ∙ c.loop-at.invariant
 
 pub returns-then-bytes-at-eq10-clause-value : goal.returns-then-bytes-at-eq10-clause-value
 returns-then-bytes-at-eq10-clause-value c =

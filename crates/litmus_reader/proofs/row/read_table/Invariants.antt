@@ -4,7 +4,9 @@ use Rattle.litmus_reader.proofs.row.read_table.Given as goal
 
 abbrev pub invariant-rows : goal.invariant-rows
 invariant-rows l = record {
-  rows : RowsAfter l.set (stop_of l.set l.text) l.cores l.table.instrs.items (texts l.names.items) (tokens_in l.set l.rest) (rows_at l.set (stop_of l.set l.text) l.cores (texts l.initial.names.items) (tokens_in l.set l.initial.rest));
+  rows : RowsAfter l.set (stop_of l.set l.text) l.cores l.table.instrs.items (texts l.names.items)
+      (tokens_in l.set l.rest)
+      (rows_at l.set (stop_of l.set l.text) l.cores (texts l.initial.names.items) (tokens_in l.set l.initial.rest));
   stop_kept : stop_of l.set l.rest ≡ stop_of l.set l.text;
   cores_kept : l.table.cores ≡ l.cores;
   registers_kept : l.table.registers.items ≡ l.initial.table.registers.items;

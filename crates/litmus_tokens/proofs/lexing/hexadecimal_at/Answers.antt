@@ -8,4 +8,5 @@ returns-clause-value c =
 
 pub returns-clause-shorter : goal.returns-clause-shorter
 returns-clause-shorter c =
-    sixteens_shorter c.args.bytes.now c.split_at.result.1.now c.split_at-2.result.1.now c.hexadecimal_len.result c.requires c.split_at.ensures.back c.split_at-2.ensures.back
+    sixteens_shorter c.args.bytes.now c.split_at.result.1.now c.split_at-2.result.1.now c.hexadecimal_len.result
+    c.requires c.split_at.ensures.back c.split_at-2.ensures.back

@@ -36,7 +36,8 @@ returns-in-None-clause-value c =
 
 pub returns-then-begins-clause-shorter : goal.returns-then-begins-clause-shorter
 returns-then-begins-clause-shorter c =
-    after_run c.args.bytes.now c.split_at.result.1.now c.in-Some.first.now c.name_len.result c.in-Some.ensures.value c.name_len.ensures.some c.split_at.ensures.back
+    after_run c.args.bytes.now c.split_at.result.1.now c.in-Some.first.now c.name_len.result c.in-Some.ensures.value
+    c.name_len.ensures.some c.split_at.ensures.back
 
 pub returns-then-is_minus-clause-value : goal.returns-then-is_minus-clause-value
 returns-then-is_minus-clause-value c =
@@ -46,4 +47,5 @@ returns-then-is_minus-clause-value c =
 
 pub returns-then-is_minus-clause-shorter : goal.returns-then-is_minus-clause-shorter
 returns-then-is_minus-clause-shorter c =
-    after_run c.args.bytes.now c.split_at-then-is_minus.result.1.now c.in-Some.first.now 1 c.in-Some.ensures.value (omega arith) c.split_at-then-is_minus.ensures.back
+    after_run c.args.bytes.now c.split_at-then-is_minus.result.1.now c.in-Some.first.now 1 c.in-Some.ensures.value
+    (omega arith) c.split_at-then-is_minus.ensures.back

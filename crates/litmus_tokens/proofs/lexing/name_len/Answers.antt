@@ -9,11 +9,17 @@ loop-at-init c = record { some = omega arith; same = prefix_begins names.continu
 pub loop-at-preserved : goal.loop-at-preserved
 loop-at-preserved c = record {
   some = omega arith;
-  same = prefix_on names.continues_name c.args.bytes.now c.loop-at.at _ c.loop-at-test.true (sym c.goes_on.ensures ∙ c.if-not-goes_on.false) ∙ c.loop-at.invariant.same;
+  same =
+      prefix_on names.continues_name c.args.bytes.now c.loop-at.at _ c.loop-at-test.true (sym c.goes_on.ensures ∙ c.if-not-goes_on.false)
+      ∙ c.loop-at.invariant.same;
 }
 
 pub returns-then-not-goes_on-clause-value : goal.returns-then-not-goes_on-clause-value
-returns-then-not-goes_on-clause-value c = prefix_is names.continues_name c.args.bytes.now c.loop-at.at _ c.loop-at-test.true (sym c.goes_on.ensures ∙ c.if-not-goes_on.true) c.loop-at.invariant.same
+returns-then-not-goes_on-clause-value c =
+    prefix_is names.continues_name c.args.bytes.now c.loop-at.at _ c.loop-at-test.true
+    (sym c.goes_on.ensures ∙ c.if-not-goes_on.true) c.loop-at.invariant.same
 
 pub returns-clause-value : goal.returns-clause-value
-returns-clause-value c = prefix_all names.continues_name c.args.bytes.now c.loop-at.at c.loop-at-test.false (c.loop-at.auto.at-end (let some = c.requires.some in omega (arith, some))) c.loop-at.invariant.same
+returns-clause-value c =
+    prefix_all names.continues_name c.args.bytes.now c.loop-at.at c.loop-at-test.false
+    (c.loop-at.auto.at-end (let some = c.requires.some in omega (arith, some))) c.loop-at.invariant.same

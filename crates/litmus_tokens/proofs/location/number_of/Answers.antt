@@ -7,7 +7,9 @@ pub loop-number-init : goal.loop-number-init
 loop-number-init c = omega arith
 
 pub loop-number-preserved : goal.loop-number-preserved
-loop-number-preserved c = search_on (is_name c.args.name.now) c.args.names.now c.loop-number.number _ c.loop-number-test.true (sym c.eq.ensures ∙ c.if-eq.false) ∙ c.loop-number.invariant
+loop-number-preserved c =
+    search_on (is_name c.args.name.now) c.args.names.now c.loop-number.number _ c.loop-number-test.true (sym c.eq.ensures ∙ c.if-eq.false)
+    ∙ c.loop-number.invariant
 
 pub returns-then-eq : goal.returns-then-eq
 returns-then-eq c =
@@ -19,4 +21,6 @@ returns c =
     let n = c.loop-number-test.false in
     let m = c.loop-number.auto.number-end in
     let all : length c.args.names.now ≡ c.loop-number.number = omega (arith, n, m) in
-    all ∙ number_is c.args.names.now c.args.name.now c.loop-number.number _ c.loop-number.invariant (search_ends (is_name c.args.name.now) c.args.names.now c.loop-number.number n m)
+    all
+    ∙ number_is c.args.names.now c.args.name.now c.loop-number.number _ c.loop-number.invariant
+    (search_ends (is_name c.args.name.now) c.args.names.now c.loop-number.number n m)

@@ -13,10 +13,12 @@ fits-settled t m new fits config processors on_bus words = record {
 }
 
 pub returns-in_err-memory-clause-fits : goal.returns-in_err-memory-clause-fits
-returns-in_err-memory-clause-fits g c = fits-settled c.args.test.now c.args.hardware.now _ c.requires.fits refl refl c.settled_memory.ensures.machine.cores c.settled_memory.ensures.words
+returns-in_err-memory-clause-fits g c =
+    fits-settled c.args.test.now c.args.hardware.now _ c.requires.fits refl refl c.settled_memory.ensures.machine.cores c.settled_memory.ensures.words
 
 pub returns-clause-fits : goal.returns-clause-fits
-returns-clause-fits g c = fits-settled c.args.test.now c.args.hardware.now _ c.requires.fits refl refl c.settled_memory.ensures.machine.cores c.settled_memory.ensures.words
+returns-clause-fits g c =
+    fits-settled c.args.test.now c.args.hardware.now _ c.requires.fits refl refl c.settled_memory.ensures.machine.cores c.settled_memory.ensures.words
 
 pub returns-clause-memory : goal.returns-clause-memory
 returns-clause-memory g c =

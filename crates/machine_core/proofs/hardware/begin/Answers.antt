@@ -14,8 +14,12 @@ returns-clause-begun g c = record {
         (c.in_ok-processors.ensures.depths (length (words_of c.in_ok-bus.bus)));
   };
   held = held-freed c.args.test.now _ (record { memory = words_of c.in_ok-bus.bus; cores = _ }) _ _ (ap holder_of c.in_ok-bus.ensures.exact);
-  state = begun-state _ _ c.args.test.now _ _ c.in_ok-processors.ensures.states (c.in_ok-bus.ensures.words ∙ c.initial_words.ensures.value) (ap holder_of c.in_ok-bus.ensures.exact);
+  state =
+      begun-state _ _ c.args.test.now _ _ c.in_ok-processors.ensures.states
+      (c.in_ok-bus.ensures.words ∙ c.initial_words.ensures.value) (ap holder_of c.in_ok-bus.ensures.exact);
   commits = search rules;
   tallied = tallied-first c.args.test.now _ _ c.cores.ensures.test c.in_ok-processors.ensures.states
-      (c.in_ok-counts.ensures.items_if_clones_equal (λ y e. e) ∙ ap (λ n. replicate n no_counts) (c.from.ensures ∙ c.cores.ensures.value)) (rw c.in_ok-bus.ensures.exact refl);
+      (c.in_ok-counts.ensures.items_if_clones_equal (λ y e. e)
+      ∙ ap (λ n. replicate n no_counts) (c.from.ensures ∙ c.cores.ensures.value))
+      (rw c.in_ok-bus.ensures.exact refl);
 }

@@ -9,24 +9,29 @@ tally-requires-clause-flusher g c =
 
 pub tally-requires-clause-few : goal.tally-requires-clause-few
 tally-requires-clause-few g c =
-    few-next c.args.test.now c.args.hardware.now c.deref_mut.result.now c.requires.consistent.fits c.requires.tallied (c.deref_mut.ensures.value ∙ c.act_on_bus.ensures.keeps.counts)
+    few-next c.args.test.now c.args.hardware.now c.deref_mut.result.now c.requires.consistent.fits c.requires.tallied
+    (c.deref_mut.ensures.value ∙ c.act_on_bus.ensures.keeps.counts)
 
 pub tally-requires-clause-committed : goal.tally-requires-clause-committed
 tally-requires-clause-committed g c = λ other.
-    uncounted-next c.args.test.now c.args.hardware.now c.args.choice c.act_on_bus.new.hardware.bus c.in_ok-outcome.cache_use c.requires.consistent.fits c.requires.core c.requires.consistent.holder
+    uncounted-next c.args.test.now c.args.hardware.now c.args.choice c.act_on_bus.new.hardware.bus
+    c.in_ok-outcome.cache_use c.requires.consistent.fits c.requires.core c.requires.consistent.holder
     c.requires.tallied c.in_ok-outcome.ensures.makes.caches (λ is. other (c.in_ok-outcome.ensures.makes.ok.outcome ∙ is))
 
 pub returns-clause-tallied : goal.returns-clause-tallied
 returns-clause-tallied g c =
     tallied-next c.args.test.now c.args.hardware.now c.act_on_bus.new.hardware c.args.choice c.in_ok-outcome.outcome c.in_ok-outcome.cache_use
-    c.core_of.result.0 c.act_on_bus.new.hardware.counts.len c.deref_mut.result.now c.tally.new.counts _ c.requires.consistent.fits c.requires.core c.requires.consistent.holder c.requires.tallied c.in_ok-outcome.ensures.makes.ok
+    c.core_of.result.0 c.act_on_bus.new.hardware.counts.len c.deref_mut.result.now c.tally.new.counts _
+    c.requires.consistent.fits c.requires.core c.requires.consistent.holder c.requires.tallied
+    c.in_ok-outcome.ensures.makes.ok
     c.in_ok-outcome.ensures.makes.caches c.core_of.ensures.chosen (c.deref_mut.ensures.value ∙ c.act_on_bus.ensures.keeps.counts) c.tally.ensures
     (c.act_on_bus.new.hardware.counts.ok.0 ∙ ap length (sym c.deref_mut.ensures.value))
 
 pub tally-requires-clause-core : goal.tally-requires-clause-core
 tally-requires-clause-core g c =
     let cores : length c.args.hardware.now.counts.items ≡ length c.args.test.now.programs = c.requires.tallied.cores in
-    let same : length c.deref_mut.result.now ≡ length c.args.hardware.now.counts.items = ap length (c.deref_mut.ensures.value ∙ c.act_on_bus.ensures.keeps.counts) in
+    let same : length c.deref_mut.result.now ≡ length c.args.hardware.now.counts.items =
+    ap length (c.deref_mut.ensures.value ∙ c.act_on_bus.ensures.keeps.counts) in
     omega (arith, c.core_of.ensures.chosen, c.requires.core)
 
 pub returns-in_err-outcome-clause-tallied : goal.returns-in_err-outcome-clause-tallied

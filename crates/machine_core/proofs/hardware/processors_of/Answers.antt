@@ -1,4 +1,5 @@
-use Rattle.machine_core.proofs.Vocabulary.{◌≡◌, ◌+◌, append-nil, ◌∷◌, [], ap, sym, ◌∙◌, refl, subst, length, length-append, arith, drop, All, ◌++◌, started, core_states, IsCore, Processor}
+use Rattle.machine_core.proofs.Vocabulary.{◌≡◌, ◌+◌, append-nil, ◌∷◌, [], ap, sym, ◌∙◌, refl, subst, length, length-append, arith, drop}
+use Rattle.machine_core.proofs.Vocabulary.{All, ◌++◌, started, core_states, IsCore, Processor}
 use Rattle.multiprocessor.proofs.CoreLemmas.{started-next, IsCore-new, All-one_more}
 use Rattle.machine_core.proofs.DoneCores.{all-dropped}
 use Rattle.machine_core.proofs.hardware.processors_of.Goals as goal
@@ -10,7 +11,10 @@ pub loop-core-preserved : goal.loop-core-preserved
 unfolding begun
 loop-core-preserved c = record {
   states =
-      ap (λ ps. core_states 0 ps ++ started (c.loop-core.core + 1) (drop (c.loop-core.core + 1) c.args.test.now.programs) c.args.test.now.registers) c.in_ok-push.ensures.items
+      ap (λ ps.
+      core_states 0 ps
+      ++ started (c.loop-core.core + 1) (drop (c.loop-core.core + 1) c.args.test.now.programs) c.args.test.now.registers)
+      c.in_ok-push.ensures.items
       ∙ started-next c.loop-core.processors.items (begun c) c.loop-core.core c.args.test.now.programs c.args.test.now.registers
       (omega (arith, c.cores-core-end.ensures.value, c.loop-core-test.true))
       refl c.initial_registers-registers.ensures (ap (λ s. s.items) c.in_ok-stores.ensures)
@@ -40,7 +44,8 @@ returns c =
     let all : core ≡ length programs = omega (arith, c.loop-core-test.false, c.loop-core.auto.core-end, c.cores-core-end.ensures.value) in
     record {
       states = sym (append-nil (core_states 0 c.loop-core.processors.items))
-          ∙ ap (λ left. core_states 0 c.loop-core.processors.items ++ started core left c.args.test.now.registers) (sym (all-dropped core programs (omega (arith, all))))
+          ∙ ap (λ left. core_states 0 c.loop-core.processors.items ++ started core left c.args.test.now.registers)
+          (sym (all-dropped core programs (omega (arith, all))))
           ∙ c.loop-core.invariant.states;
       depths = c.loop-core.invariant.depths;
       count = c.loop-core.invariant.size ∙ all;

@@ -1,4 +1,5 @@
-use Rattle.machine_core.proofs.Vocabulary.{◌≡◌, arith, ap, ◌∙◌, sym, subst, rules, replicate, no_counts, length, All, with_items_is, words_of, holder_of, awaited_of, core_states, IsCore}
+use Rattle.machine_core.proofs.Vocabulary.{◌≡◌, arith, ap, ◌∙◌, sym, subst, rules, replicate, no_counts, length, All, with_items_is}
+use Rattle.machine_core.proofs.Vocabulary.{words_of, holder_of, awaited_of, core_states, IsCore}
 use Rattle.std.specs.Vec.{vec_len}
 use Rattle.machine_core.proofs.Beginning.{begun-state, begun-statistics}
 use Rattle.machine_core.proofs.TallyLemmas.{tallied-first}
@@ -18,10 +19,13 @@ returns-clause-begun g c =
         on_bus = c.restart.ensures.machine.cores ∙ c.requires.fits.on_bus;
         words = ap length c.restart.ensures.words ∙ c.initial_words.ensures.each;
         each = subst (λ qs. All (IsCore m.config.depth n) qs) (sym ps)
-            (c.restart_cores.ensures.depths m.config.depth (length (words_of m.bus)) n (subst (λ qs. All (IsCore m.config.depth (length (words_of m.bus))) qs) (sym before) c.requires.fits.each));
+            (c.restart_cores.ensures.depths m.config.depth (length (words_of m.bus)) n
+            (subst (λ qs. All (IsCore m.config.depth (length (words_of m.bus))) qs) (sym before) c.requires.fits.each));
       };
       held = held-freed c.args.test.now _ (record { memory = words_of c.restart.new.self; cores = _ }) _ _ (ap holder_of c.restart.ensures.exact);
-      state = begun-state _ _ c.args.test.now _ _ (ap (core_states 0) ps ∙ c.restart_cores.ensures.states) (c.restart.ensures.words ∙ c.initial_words.ensures.value) (ap holder_of c.restart.ensures.exact);
+      state =
+          begun-state _ _ c.args.test.now _ _ (ap (core_states 0) ps ∙ c.restart_cores.ensures.states)
+          (c.restart.ensures.words ∙ c.initial_words.ensures.value) (ap holder_of c.restart.ensures.exact);
       commits = search rules;
       tallied = tallied-first c.args.test.now _ _ c.requires.test (ap (core_states 0) ps ∙ c.restart_cores.ensures.states)
           (c.fill.ensures.items (λ y e. e) ∙ ap (λ n. replicate n no_counts) counted) (ap awaited_of c.restart.ensures.exact);

@@ -10,7 +10,8 @@ returns-in-None-clause-value g c =
     let core = c.in-Step.core in
     let here : core.0 < length c.args.test.now.programs = subst (λ choice. chosen choice < length c.args.test.now.programs) c.in-Step.is c.requires.core in
     let within = within-cores c.args.test.now c.args.hardware.now core.0 c.requires.fits here in
-    let got : slice_get (program_of c.args.test.now core.0) p.place ≡ None = ap (λ xs. slice_get xs p.place) (sym c.program.ensures.value) ∙ sym c.in-None.ensures in
+    let got : slice_get (program_of c.args.test.now core.0) p.place ≡ None =
+    ap (λ xs. slice_get xs p.place) (sym c.program.ensures.value) ∙ sym c.in-None.ensures in
     rw c.in-Step.is (sym (access_of-done c.args.test.now c.args.hardware.now core p within c.index-processor.ensures got))
 
 pub returns-in-Some-clause-value : goal.returns-in-Some-clause-value
@@ -19,15 +20,19 @@ returns-in-Some-clause-value g c =
     let core = c.in-Step.core in
     let here : core.0 < length c.args.test.now.programs = subst (λ choice. chosen choice < length c.args.test.now.programs) c.in-Step.is c.requires.core in
     let within = within-cores c.args.test.now c.args.hardware.now core.0 c.requires.fits here in
-    let got : slice_get (program_of c.args.test.now core.0) p.place ≡ Some c.in-Some.instr = ap (λ xs. slice_get xs p.place) (sym c.program.ensures.value) ∙ sym c.in-Some.ensures in
+    let got : slice_get (program_of c.args.test.now core.0) p.place ≡ Some c.in-Some.instr =
+    ap (λ xs. slice_get xs p.place) (sym c.program.ensures.value) ∙ sym c.in-Some.ensures in
     let kept = IsCore-at c.args.test.now c.args.hardware.now core.0 p c.requires.fits here c.index-processor.ensures in
     rw c.in-Step.is
-    (c.step_access.ensures.value core.0 ∙ sym (access_of-step c.args.test.now c.args.hardware.now core p c.in-Some.instr within c.index-processor.ensures kept.depth_is got))
+    (c.step_access.ensures.value core.0
+    ∙ sym (access_of-step c.args.test.now c.args.hardware.now core p c.in-Some.instr within c.index-processor.ensures kept.depth_is got))
 
 pub returns-in-Some-clause-known : goal.returns-in-Some-clause-known
 returns-in-Some-clause-known g c =
     let got : slice_get c.program.result.now c.index-processor.result.now.place ≡ Some c.in-Some.instr = sym c.in-Some.ensures in
-    let known = All-got (KnownLocation (length c.args.test.now.locations)) c.program.result.now c.index-processor.result.now.place c.in-Some.instr c.program.ensures.locations got in
+    let known =
+    All-got (KnownLocation (length c.args.test.now.locations)) c.program.result.now
+    c.index-processor.result.now.place c.in-Some.instr c.program.ensures.locations got in
     c.step_access.ensures.known (length (words_of c.args.hardware.now.bus)) (subst (λ n. KnownLocation n c.in-Some.instr) (sym c.requires.fits.words) known)
 
 pub returns-in-None-oldest-clause-value : goal.returns-in-None-oldest-clause-value
@@ -51,6 +56,7 @@ returns-in-Some-oldest-clause-value g c =
 pub returns-in-Some-oldest-clause-known : goal.returns-in-Some-oldest-clause-known
 returns-in-Some-oldest-clause-known g c =
     let p = c.index-processor-in-Drain.result.now in
-    let here : c.in-Drain.core.0 < length c.args.test.now.programs = subst (λ choice. chosen choice < length c.args.test.now.programs) c.in-Drain.is c.requires.core in
+    let here : c.in-Drain.core.0 < length c.args.test.now.programs =
+    subst (λ choice. chosen choice < length c.args.test.now.programs) c.in-Drain.is c.requires.core in
     let kept = IsCore-at c.args.test.now c.args.hardware.now c.in-Drain.core.0 p c.requires.fits here c.index-processor-in-Drain.ensures in
     All-got (λ s. s.loc.0 < length (words_of c.args.hardware.now.bus)) p.stores.items 0 c.in-Some-oldest.store kept.known (sym c.in-Some-oldest.ensures)

@@ -1,4 +1,5 @@
-use Rattle.machine_core.proofs.Vocabulary.{Some, sym, ap, ◌∙◌, subst, IfOk, Step, IsOther, holder_by, state_in, attempt_in, SucceedsUnlessCommitting, HasMade, writes_last_in, rules}
+use Rattle.machine_core.proofs.Vocabulary.{Some, sym, ap, ◌∙◌, subst, IfOk, Step, IsOther, holder_by, state_in, attempt_in}
+use Rattle.machine_core.proofs.Vocabulary.{SucceedsUnlessCommitting, HasMade, writes_last_in, rules}
 use Rattle.machine_core.proofs.NextChoices.{other-begins, is-asked, asked-completes, last-writes, fits-asked, fits-last}
 use Rattle.machine_core.proofs.split.act_on_split.Goals as goal
 use Rattle.machine_core.proofs.split.act_on_split.Goals.{After-begin}
@@ -41,11 +42,16 @@ returns-in-Some-Write g c =
     let m = c.args.hardware.now in
     let holder = ap holder_by (sym c.in-Some-Write.ensures ∙ ap Some c.in-Some-Write.field-0-is) in
     let same = sym (last-writes t m c.in-Some-Write.read c.args.choice holder c.if-is_same-2.ensures) in
-    let made = subst (λ choice. IfOk c.write_last.result (HasMade t m c.write_last.new.hardware choice (writes_last_in t m c.in-Some-Write.read))) (is-asked (Step c.in-Some-Write.read.core) c.args.choice c.if-is_same-2.ensures) c.write_last.ensures.makes in
+    let made =
+    subst (λ choice.
+    IfOk c.write_last.result (HasMade t m c.write_last.new.hardware choice (writes_last_in t m c.in-Some-Write.read)))
+    (is-asked (Step c.in-Some-Write.read.core) c.args.choice c.if-is_same-2.ensures) c.write_last.ensures.makes in
     record {
       makes = subst (λ f. IfOk c.write_last.result (HasMade t m c.write_last.new.hardware c.args.choice f)) same made;
       succeeds = λ other. absurd (other (sym (ap (λ f. f.effect.outcome) same) ∙ c.write_last.ensures.commits_at_once));
-      answer = fits-last t m.config.depth (state_in m).flat (attempt_in t m c.args.choice) c.in-Some-Write.read (state_in m).holder holder c.if-is_same-2.ensures;
+      answer =
+          fits-last t m.config.depth (state_in m).flat (attempt_in t m c.args.choice) c.in-Some-Write.read
+          (state_in m).holder holder c.if-is_same-2.ensures;
       err = c.write_last.ensures.err;
       keeps = c.write_last.ensures.keeps;
       of_test = c.write_last.ensures.of_test;

@@ -12,7 +12,8 @@ returns-in-None-clause-value c = λ core.
 pub returns-in-Some-clause-value : goal.returns-in-Some-clause-value
 returns-in-Some-clause-value c = λ core.
     rw (sym c.action.ensures ∙ c.in-Load.is)
-    (forwarded c.in-Load.loc (writes_to c.in-Load.loc.0) (pending_in core c.args.processor.now) (answered core c.in-Load.loc.0 _ c.args.processor.now.stores.items c.in-Some.ensures))
+    (forwarded c.in-Load.loc (writes_to c.in-Load.loc.0) (pending_in core c.args.processor.now)
+    (answered core c.in-Load.loc.0 _ c.args.processor.now.stores.items c.in-Some.ensures))
 
 pub returns-else-is_empty-clause-value : goal.returns-else-is_empty-clause-value
 returns-else-is_empty-clause-value c = λ core.

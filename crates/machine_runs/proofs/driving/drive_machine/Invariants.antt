@@ -11,7 +11,8 @@ invariant-loop-ended g l = record {
   over : l.ended ≡ has_ended l.machine.test l.machine.state.flat;
   so_far : SoFar l.initial.machine l.machine (g.C.Choices.coming l.initial.choices) (g.C.Choices.coming l.choices) l.used l.stalled;
   watches : g.O.Observer.watches l.observer l.machine;
-  watched : WatchedSoFar g.O.Observer.makes l.initial.observer l.observer l.initial.machine l.machine (g.C.Choices.coming l.initial.choices) (g.C.Choices.coming l.choices) l.used;
+  watched : WatchedSoFar g.O.Observer.makes l.initial.observer l.observer l.initial.machine l.machine
+      (g.C.Choices.coming l.initial.choices) (g.C.Choices.coming l.choices) l.used;
 }
 
 abbrev pub decreases-loop-ended : goal.decreases-loop-ended

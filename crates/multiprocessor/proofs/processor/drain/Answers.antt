@@ -1,4 +1,5 @@
-use Rattle.multiprocessor.proofs.Vocabulary.{◌≡◌, ◌<◌, ap, sym, length, drop, subst, All, All-drop, words_of, drain_access, core_state, pending_in, effect_of_drain, MayMake}
+use Rattle.multiprocessor.proofs.Vocabulary.{◌≡◌, ◌<◌, ap, sym, length, drop, subst, All, All-drop, words_of, drain_access, core_state}
+use Rattle.multiprocessor.proofs.Vocabulary.{pending_in, effect_of_drain, MayMake}
 use Rattle.multiprocessor.proofs.CoreLemmas.{drain_of-nothing}
 use Rattle.multiprocessor.proofs.ActedLemmas.{whole-none, acts-stalls, acts-drains}
 use Rattle.multiprocessor.proofs.Acting.{writes-nothing, writes-oldest}
@@ -29,8 +30,13 @@ pub write-requires : goal.write-requires
 write-requires g c = record {
   access = record {
     core = c.requires.core;
-    free = subst (MayMake c.args.turn c.args.bus.now) (sym (writes-oldest c.args.turn.core.0 c.args.processor.now.stores.items c.in-Some.store c.in-Some.ensures)) c.requires.free;
-    known = All-got (λ s. s.loc.0 < length (words_of c.args.bus.now)) c.args.processor.now.stores.items 0 c.in-Some.store c.requires.stores (sym c.in-Some.ensures);
+    free =
+        subst (MayMake c.args.turn c.args.bus.now)
+        (sym (writes-oldest c.args.turn.core.0 c.args.processor.now.stores.items c.in-Some.store c.in-Some.ensures))
+        c.requires.free;
+    known =
+        All-got (λ s. s.loc.0 < length (words_of c.args.bus.now)) c.args.processor.now.stores.items 0 c.in-Some.store
+        c.requires.stores (sym c.in-Some.ensures);
   };
 }
 

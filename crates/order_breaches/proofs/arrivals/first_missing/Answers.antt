@@ -18,7 +18,8 @@ returns-then-is_none-clause-found c = (
 
 pub loop-i-preserved : goal.loop-i-preserved
 loop-i-preserved c =
-    came-too c.args.shape.now c.args.came.now c.loop-i.i c.loop-i.invariant (λ e. not-none-there c.kept.result (c.is_none.ensures ∙ ap not c.if-is_none.false) (c.kept.ensures ∙ e))
+    came-too c.args.shape.now c.args.came.now c.loop-i.i c.loop-i.invariant
+    (λ e. not-none-there c.kept.result (c.is_none.ensures ∙ ap not c.if-is_none.false) (c.kept.ensures ∙ e))
 
 pub returns-clause-none : goal.returns-clause-none
 returns-clause-none c _ = none_at_all c.args.shape.now (HasNotCome c.args.came.now) c.loop-i.i c.loop-i-test.false c.loop-i.invariant

@@ -20,7 +20,8 @@ loop-at-preserved g c =
 
 pub returns-clause-none : goal.returns-clause-none
 returns-clause-none g c _ =
-    none_at_all c.args.order.now.order (IsStray c.args.shape.now c.args.order.now.order) c.loop-at.at (let l = c.loop-at-test.false in omega (arith, l, c.len-at-end.ensures)) c.loop-at.invariant.none
+    none_at_all c.args.order.now.order (IsStray c.args.shape.now c.args.order.now.order) c.loop-at.at
+    (let l = c.loop-at-test.false in omega (arith, l, c.len-at-end.ensures)) c.loop-at.invariant.none
 
 pub loop-at-init : goal.loop-at-init
 loop-at-init g c = record {
@@ -37,5 +38,6 @@ returns-in-Some-clause-found g c =
 
 pub returns-in-Some-clause-looks : goal.returns-in-Some-clause-looks
 returns-in-Some-clause-looks g c =
-    looks-here c.args.order.now.looks c.loop-at.at (length c.args.order.now.order) c.loop-at.order.looks c.look-x.new.self.looks c.loop-at.invariant.looks (ap (λ s. s.looks) c.look-x.ensures.counted)
+    looks-here c.args.order.now.looks c.loop-at.at (length c.args.order.now.order) c.loop-at.order.looks
+    c.look-x.new.self.looks c.loop-at.invariant.looks (ap (λ s. s.looks) c.look-x.ensures.counted)
     (subst (λ n. c.loop-at.at < n) c.len-at-end.ensures c.loop-at-test.true)

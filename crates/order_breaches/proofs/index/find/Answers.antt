@@ -22,4 +22,5 @@ returns-in_default-clause-none c _ =
 
 pub returns-in_default-2-clause-none : goal.returns-in_default-2-clause-none
 returns-in_default-2-clause-none c _ =
-    found-none c.args.list.now c.args.slots.now c.requires c.args.x.now (ap (λ n. kept_in c.args.slots.now n) (sym c.slot.ensures) ∙ sym c.kept.ensures ∙ c.in_default.is)
+    found-none c.args.list.now c.args.slots.now c.requires c.args.x.now
+    (ap (λ n. kept_in c.args.slots.now n) (sym c.slot.ensures) ∙ sym c.kept.ensures ∙ c.in_default.is)

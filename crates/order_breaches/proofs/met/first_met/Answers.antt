@@ -7,7 +7,8 @@ returns-in-None-clause-none g c t matched met _ =
 
 pub returns-in-Some-first_overtaking-clause-found : goal.returns-in-Some-first_overtaking-clause-found
 returns-in-Some-first_overtaking-clause-found g c t matched met =
-    names-met-late t c.args.order.now.order c.args.met matched met c.in_default.is c.in-Some-late.at c.in-Some-late.a c.in-Some-late.is c.in-Some-first_overtaking.b c.in-Some-first_overtaking.ensures.found
+    names-met-late t c.args.order.now.order c.args.met matched met c.in_default.is c.in-Some-late.at c.in-Some-late.a
+    c.in-Some-late.is c.in-Some-first_overtaking.b c.in-Some-first_overtaking.ensures.found
 
 pub returns-in-Some-separated-clause-found : goal.returns-in-Some-separated-clause-found
 returns-in-Some-separated-clause-found g c t matched met =
@@ -19,4 +20,5 @@ returns-in-None-wrong_read-clause-none g c t matched met _ =
 
 pub returns-in-Some-wrong_read-clause-found : goal.returns-in-Some-wrong_read-clause-found
 returns-in-Some-wrong_read-clause-found g c t matched met =
-    names-met-read t c.args.order.now.order c.args.met matched met c.in_default.is c.in_default-late.is c.in_default-separated.is c.in-Some-wrong_read.x c.in-Some-wrong_read.due c.in-Some-wrong_read.is
+    names-met-read t c.args.order.now.order c.args.met matched met c.in_default.is c.in_default-late.is
+    c.in_default-separated.is c.in-Some-wrong_read.x c.in-Some-wrong_read.due c.in-Some-wrong_read.is

@@ -11,5 +11,8 @@ loop-j-preserved g c =
     record {
       order = ap (λ s. s.order) c.look-b.ensures.counted ∙ c.loop-j.invariant.order;
       looks = omega (arith, looked, before);
-      none = one-more-fails order (λ y. must_stand_before c.args.a.now y) c.loop-j.j c.look-b.result here c.loop-j.invariant.none (sym c.must_stand_before.ensures ∙ c.if-must_stand_before.false);
+      none =
+          one-more-fails order (λ y. must_stand_before c.args.a.now y) c.loop-j.j c.look-b.result here
+          c.loop-j.invariant.none
+          (sym c.must_stand_before.ensures ∙ c.if-must_stand_before.false);
     }

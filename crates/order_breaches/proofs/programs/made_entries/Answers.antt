@@ -10,7 +10,8 @@ loop-number-init c = record {
 
 pub split_at-requires : goal.split_at-requires
 split_at-requires c =
-    reads-here c.loop-number.number c.args.test.now.programs c.args.test.now.registers (subst (λ n. c.loop-number.number < n) c.cores-number-end.ensures.value c.loop-number-test.true)
+    reads-here c.loop-number.number c.args.test.now.programs c.args.test.now.registers
+    (subst (λ n. c.loop-number.number < n) c.cores-number-end.ensures.value c.loop-number-test.true)
     c.read_count-count.result (length c.loop-number.left.now) c.read_count-count.ensures c.loop-number.invariant.enough
 
 pub loop-number-preserved : goal.loop-number-preserved
@@ -24,10 +25,14 @@ loop-number-preserved c =
           (c.split_at.ensures.front ∙ ap (λ n. take n c.loop-number.left.now) count) (c.split_at.ensures.back ∙ ap (λ n. drop n c.loop-number.left.now) count)
           _ c.loop-number.entries.items c.in_ok-thread.thread.entries.items c.extend_from_slice.new.self.items c.in_ok-thread.ensures.entries
           (c.in_ok-extend_from_slice.ensures.items ∙ ap (λ es. c.loop-number.entries.items ++ es) c.deref.ensures.value) c.loop-number.invariant.entries;
-      enough = reads-behind core t.programs t.registers within c.read_count-count.result (length c.loop-number.left.now) (length c.split_at.result.1.now) count c.split_at.ensures.back_len c.loop-number.invariant.enough;
+      enough =
+          reads-behind core t.programs t.registers within c.read_count-count.result (length c.loop-number.left.now)
+          (length c.split_at.result.1.now) count c.split_at.ensures.back_len c.loop-number.invariant.enough;
     }
 
 pub returns : goal.returns
 returns c =
-    made-all (λ ps. made_reading c.loop-number.number ps c.args.test.now.registers c.loop-number.left.now) c.args.test.now.programs c.loop-number.number refl (subst (λ n. n ≤ c.loop-number.number) c.cores-number-end.ensures.value c.loop-number-test.false)
+    made-all (λ ps. made_reading c.loop-number.number ps c.args.test.now.registers c.loop-number.left.now)
+    c.args.test.now.programs c.loop-number.number refl
+    (subst (λ n. n ≤ c.loop-number.number) c.cores-number-end.ensures.value c.loop-number-test.false)
     _ c.loop-number.entries.items c.loop-number.invariant.entries

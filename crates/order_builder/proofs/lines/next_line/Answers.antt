@@ -7,7 +7,8 @@ returns-then-is_empty-clause-none c = lines_of-nil c.args.text.now (eqb-true _ _
 
 pub returns-in-Some-clause-some : goal.returns-in-Some-clause-some
 returns-in-Some-clause-some c =
-    lines_of-split_once c.args.text.now c.in-Some.line.now c.in-Some.rest.now c.in-Some.ensures.value ∙ ap (λ (l : List ℕ). l ∷ lines_of c.in-Some.rest.now) (sym c.without_return.ensures)
+    lines_of-split_once c.args.text.now c.in-Some.line.now c.in-Some.rest.now c.in-Some.ensures.value
+    ∙ ap (λ (l : List ℕ). l ∷ lines_of c.in-Some.rest.now) (sym c.without_return.ensures)
 
 pub returns-in-None-clause-some : goal.returns-in-None-clause-some
 returns-in-None-clause-some c =

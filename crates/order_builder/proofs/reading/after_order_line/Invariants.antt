@@ -2,7 +2,10 @@ use Rattle.order_builder.proofs.Vocabulary.{◌≡◌, ◌+◌, ◌≤◌, lengt
 use Rattle.order_builder.proofs.reading.after_order_line.Given as goal
 
 abbrev pub invariant-loop-line : goal.invariant-loop-line
-invariant-loop-line l = record { same : order_start l.lines (lines_of l.rest) ≡ order_start 0 (lines_of l.text); within : l.lines + length l.rest ≤ length l.text }
+invariant-loop-line l = record {
+  same : order_start l.lines (lines_of l.rest) ≡ order_start 0 (lines_of l.text);
+  within : l.lines + length l.rest ≤ length l.text;
+}
 
 abbrev pub decreases-loop-line : goal.decreases-loop-line
 decreases-loop-line l = length l.rest

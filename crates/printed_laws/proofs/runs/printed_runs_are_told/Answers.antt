@@ -12,5 +12,6 @@ unfinished line object true = object
 
 pub returns : goal.returns
 returns c =
-    runs-told (reports c.reports_tell_their_runs.ensures.lines c.reports_tell_their_runs.ensures.json) (unfinished c.unfinished_runs_are_told.ensures.line c.unfinished_runs_are_told.ensures.json)
+    runs-told (reports c.reports_tell_their_runs.ensures.lines c.reports_tell_their_runs.ensures.json)
+    (unfinished c.unfinished_runs_are_told.ensures.line c.unfinished_runs_are_told.ensures.json)
     c.runs_fit_their_tests.ensures.ended c.runs_fit_their_tests.ensures.choices

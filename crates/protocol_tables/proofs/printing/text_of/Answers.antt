@@ -10,5 +10,6 @@ returns g c =
     let name = name_line (g.P.Protocol.called c.args.protocol.now) in
     let fills = fill_line (t.filled false) (t.filled true) in
     let named : string_bytes c.write.new.self ≡ name = search rules in
-    let filled : string_bytes c.write-2.new.self ≡ string_bytes c.write.new.self ++ fills = rw (c.in_ok-write-2.ensures.bytes, c.filled-alone.ensures, c.filled-shared.ensures) refl in
+    let filled : string_bytes c.write-2.new.self ≡ string_bytes c.write.new.self ++ fills =
+    rw (c.in_ok-write-2.ensures.bytes, c.filled-alone.ensures, c.filled-shared.ensures) refl in
     c.in_ok-write_rows.ensures ∙ ap (λ z. z ++ rows t strongest_first) (filled ∙ ap (λ z. z ++ fills) named) ∙ append_assoc name fills (rows t strongest_first)

@@ -8,5 +8,7 @@ use Rattle.reading_tables.proofs.counting.counted_values.Given as goal
 
 abbrev pub invariant-loop-w : goal.invariant-loop-w
 invariant-loop-w l =
-    added_up l.told.test.now (facts_of l.told.facts.now) (readings_of l.told.readings.now) (store_part l.read) (filter (writes_to l.read.loc.0) l.w-items) (Some (slice_index l.told.test.now.words l.read.loc.0 ∷ []))
-    ≡ added_up l.told.test.now (facts_of l.told.facts.now) (readings_of l.told.readings.now) (store_part l.read) (filter (writes_to l.read.loc.0) (drop l.w-index l.w-items)) (known_of l.words)
+    added_up l.told.test.now (facts_of l.told.facts.now) (readings_of l.told.readings.now) (store_part l.read)
+    (filter (writes_to l.read.loc.0) l.w-items) (Some (slice_index l.told.test.now.words l.read.loc.0 ∷ []))
+    ≡ added_up l.told.test.now (facts_of l.told.facts.now) (readings_of l.told.readings.now) (store_part l.read)
+    (filter (writes_to l.read.loc.0) (drop l.w-index l.w-items)) (known_of l.words)

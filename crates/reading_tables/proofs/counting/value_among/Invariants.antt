@@ -5,4 +5,6 @@ use Rattle.reading_tables.proofs.counting.value_among.Given as goal
 
 abbrev pub invariant-loop-x : goal.invariant-loop-x
 invariant-loop-x l =
-    (made : List Expression) → expression_among (map (written_of made) l.written) l.write ≡ expression_among (map (written_of made) (drop l.x-index l.written)) l.write
+    (made : List Expression)
+    → expression_among (map (written_of made) l.written) l.write
+    ≡ expression_among (map (written_of made) (drop l.x-index l.written)) l.write

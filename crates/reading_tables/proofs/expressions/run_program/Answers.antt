@@ -34,7 +34,8 @@ loop-instr-preserved c =
 pub returns-clause-written : goal.returns-clause-written
 returns-clause-written c =
     sym (all-done (λ p. told_writes c.loop-instr.walk ++ written_in c.args.core.0 c.loop-instr.place p (held_registers c.loop-instr.walk))
-    c.program-instr-items.result.now c.loop-instr.instr-index c.loop-instr-test.false _ c.loop-instr.invariant.written ∙ append-nil (told_writes c.loop-instr.walk))
+    c.program-instr-items.result.now c.loop-instr.instr-index c.loop-instr-test.false _ c.loop-instr.invariant.written
+    ∙ append-nil (told_writes c.loop-instr.walk))
     ∙ ap (λ p. told_writes c.args.walk.now ++ written_in c.args.core.0 0 p (held_registers c.args.walk.now)) c.program-instr-items.ensures.value
 
 pub returns-clause-registers : goal.returns-clause-registers

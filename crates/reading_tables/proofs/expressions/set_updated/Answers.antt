@@ -28,6 +28,7 @@ returns-clause-registers c =
     let new = c.updated_by.new.walk in
     let n = index_of c.args.reg in
     c.set_register.ensures.held (made_in new)
-    ∙ (ap (λ rs. slice_set rs n (held_of (made_in new) c.in_ok-held.held)) (same-registers old new c.in_ok-held.ensures.more c.requires c.updated_by.ensures.registers)
+    ∙ (ap (λ rs. slice_set rs n (held_of (made_in new) c.in_ok-held.held))
+    (same-registers old new c.in_ok-held.ensures.more c.requires c.updated_by.ensures.registers)
     ∙ ap (λ e. slice_set (held_registers old) n e)
     (c.in_ok-held.ensures.held ∙ ap (updated_by c.args.update (held_registers old)) (c.held_in-word.ensures.held (made_in old))))

@@ -4,4 +4,6 @@ use Rattle.reading_tables.specs.Told.{facts_of}
 use Rattle.reading_tables.proofs.facts.source_fits.Given as goal
 
 abbrev pub invariant-loop-fact : goal.invariant-loop-fact
-invariant-loop-fact l = list_all (fits_source l.read l.source) (facts_of l.facts) ≡ list_all (fits_source l.read l.source) (facts_of (drop l.fact-index l.facts))
+invariant-loop-fact l =
+    list_all (fits_source l.read l.source) (facts_of l.facts)
+    ≡ list_all (fits_source l.read l.source) (facts_of (drop l.fact-index l.facts))

@@ -8,4 +8,5 @@ use Rattle.reading_tables.proofs.orders.is_last.Given as goal
 abbrev pub invariant-loop-w : goal.invariant-loop-w
 invariant-loop-w l =
     list_all (same_event l.v) (filter (can_be_last l.told.test.now (facts_of l.told.facts.now) (readings_of l.told.readings.now) l.v.loc.0) l.w-items)
-    ≡ list_all (same_event l.v) (filter (can_be_last l.told.test.now (facts_of l.told.facts.now) (readings_of l.told.readings.now) l.v.loc.0) (drop l.w-index l.w-items))
+    ≡ list_all (same_event l.v)
+    (filter (can_be_last l.told.test.now (facts_of l.told.facts.now) (readings_of l.told.readings.now) l.v.loc.0) (drop l.w-index l.w-items))

@@ -8,4 +8,6 @@ use Rattle.reading_tables.proofs.rounds.next_readings.Given as goal
 abbrev pub invariant-loop-e : goal.invariant-loop-e
 invariant-loop-e l =
     map (reading_after l.told.test.now (facts_of l.told.facts.now) (readings_of l.told.readings.now)) (filter is_read l.e-items)
-    ≡ readings_of l.readings.items ++ map (reading_after l.told.test.now (facts_of l.told.facts.now) (readings_of l.told.readings.now)) (filter is_read (drop l.e-index l.e-items))
+    ≡ readings_of l.readings.items
+    ++ map (reading_after l.told.test.now (facts_of l.told.facts.now) (readings_of l.told.readings.now))
+    (filter is_read (drop l.e-index l.e-items))

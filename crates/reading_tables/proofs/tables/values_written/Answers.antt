@@ -10,5 +10,6 @@ returns-then-same_event c =
     let told = c.args.told in
     subst (λ n. known_of (slice_index_or told.values.now n c.index-told-number.result)
     ≡ spec.values_written told.test.now (readings_of told.readings.now) c.args.write.now) (sym c.loop-x.invariant.number)
-    (found told.test.now (readings_of told.readings.now) (all_made told.makings.now) told.written.now told.values.now c.loop-x.x-index c.index-told-number.result _
+    (found told.test.now (readings_of told.readings.now) (all_made told.makings.now) told.written.now told.values.now
+    c.loop-x.x-index c.index-told-number.result _
     c.args.write.now c.requires.values c.loop-x-test.true c.loop-x.invariant.rest (sym c.same_event.ensures ∙ c.if-same_event.true))

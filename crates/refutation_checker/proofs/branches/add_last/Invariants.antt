@@ -7,7 +7,9 @@ abbrev pub invariant-loop-left : goal.invariant-loop-left
 invariant-loop-left l = record {
   within : l.left ≤ length l.told.events.now;
   branches : branches_of l.branches.items
-      ≡ map (λ answer. answer ++ facts_of l.facts) (map (λ w. given.Last w true ∷ []) (filter (can_be_last l.told.test.now (facts_of l.told.facts.now) (readings_of l.told.readings.now) l.loc) (drop l.left l.told.events.now)))
+      ≡ map (λ answer. answer ++ facts_of l.facts)
+      (map (λ w. given.Last w true ∷ [])
+      (filter (can_be_last l.told.test.now (facts_of l.told.facts.now) (readings_of l.told.readings.now) l.loc) (drop l.left l.told.events.now)))
       ++ branches_of l.fn.branches.items;
 }
 

@@ -7,7 +7,9 @@ abbrev pub invariant-loop-left : goal.invariant-loop-left
 invariant-loop-left l = record {
   within : l.left ≤ length l.told.events.now;
   branches : branches_of l.branches.items
-      ≡ map (λ answer. answer ++ facts_of l.facts) (map (λ r. given.From r l.word true ∷ []) (filter (reads_word l.told.test.now (knowledge_of l.told) l.loc l.word) (drop l.left l.told.events.now)))
+      ≡ map (λ answer. answer ++ facts_of l.facts)
+      (map (λ r. given.From r l.word true ∷ [])
+      (filter (reads_word l.told.test.now (knowledge_of l.told) l.loc l.word) (drop l.left l.told.events.now)))
       ++ branches_of l.fn.branches.items;
 }
 

@@ -1,4 +1,5 @@
-use Rattle.refutation_checker.proofs.Vocabulary.{◌+◌, ◌&&◌, drop, list_all, is_event, at_drop_more, at_drop_all, ap, sym, ◌∙◌, is_edge, leads_back, knowledge_of, relations_of}
+use Rattle.refutation_checker.proofs.Vocabulary.{◌+◌, ◌&&◌, drop, list_all, is_event, at_drop_more, at_drop_all, ap, sym, ◌∙◌, is_edge}
+use Rattle.refutation_checker.proofs.Vocabulary.{leads_back, knowledge_of, relations_of}
 use Rattle.refutation_checker.proofs.Walking.{all-done}
 use Rattle.refutation_checker.proofs.Relating.{begun, leads-on, leads-off}
 use Rattle.refutation_checker.proofs.edges.is_cycle.Goals as goal
@@ -30,4 +31,7 @@ returns-then-not-leads_to c =
 pub returns : goal.returns
 returns c =
     let edge = is_edge c.args.told.test.now (knowledge_of c.args.told) (relations_of c.args.acyclic) in
-    c.leads_to-2.ensures ∙ sym (all-done (leads_back edge c.in-Some.first.now c.loop-next.last.now) c.in-Some.rest.now c.loop-next.next-index c.loop-next-test.false _ c.loop-next.invariant)
+    c.leads_to-2.ensures
+    ∙ sym
+    (all-done (leads_back edge c.in-Some.first.now c.loop-next.last.now) c.in-Some.rest.now c.loop-next.next-index
+    c.loop-next-test.false _ c.loop-next.invariant)

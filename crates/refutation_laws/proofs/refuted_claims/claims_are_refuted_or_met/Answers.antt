@@ -1,4 +1,5 @@
-use Rattle.refutation_laws.proofs.Vocabulary.{◌≡◌, true, sym, subst, ◌⊎◌, inl, inr, most_depth, Litmus, IsTest, Claim, truth_of, final_words, run, registers_left, HasCandidate, HasExecution, HasRun, Model, Tso, Sequential}
+use Rattle.refutation_laws.proofs.Vocabulary.{◌≡◌, true, sym, subst, ◌⊎◌, inl, inr, most_depth, Litmus, IsTest, Claim, truth_of}
+use Rattle.refutation_laws.proofs.Vocabulary.{final_words, run, registers_left, HasCandidate, HasExecution, HasRun, Model, Tso, Sequential}
 use Rattle.refutation_laws.proofs.Completeness.{refuted-or-candidate, six-of}
 use Rattle.refutation_laws.proofs.refuted_claims.claims_are_refuted_or_met.Goals as goal
 

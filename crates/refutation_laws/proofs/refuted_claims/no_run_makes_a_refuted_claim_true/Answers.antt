@@ -1,4 +1,5 @@
-use Rattle.refutation_laws.proofs.Vocabulary.{◌≡◌, List, ℕ, false, subst, sym, Litmus, Claim, truth_of, registers_in, Run, run, Candidate, registers_left, words_left, IsCandidateOfRun, IsEnd, Tso, Sequential}
+use Rattle.refutation_laws.proofs.Vocabulary.{◌≡◌, List, ℕ, false, subst, sym, Litmus, Claim, truth_of, registers_in, Run, run, Candidate}
+use Rattle.refutation_laws.proofs.Vocabulary.{registers_left, words_left, IsCandidateOfRun, IsEnd, Tso, Sequential}
 use Rattle.refutation_laws.proofs.refuted_claims.no_run_makes_a_refuted_claim_true.Goals as goal
 
 of-the-run : (t : Litmus) (r : Run) (d : Candidate) (claim : Claim) → IsCandidateOfRun t r d

@@ -1,4 +1,7 @@
-use Rattle.refutation_laws.proofs.Vocabulary.{◌≡◌, ℕ, List, true, false, length, subst, Litmus, Claim, truth_of, NamesExist, IsTsoExecution, final_words, final_registers, Entry, Candidate, registers_left, words_left, IsCandidateOf, LeaveTheSame, IsAllowedBy, IsExecutionOf, IsFinalStateOf, Node, refutes, Model, Tso, Sequential}
+use Rattle.refutation_laws.proofs.Vocabulary.{◌≡◌, ℕ, List, true, false, length, subst, Litmus, Claim, truth_of, NamesExist, IsTsoExecution}
+use Rattle.refutation_laws.proofs.Vocabulary.{final_words, final_registers, Entry, Candidate, registers_left, words_left, IsCandidateOf}
+use Rattle.refutation_laws.proofs.Vocabulary.{LeaveTheSame, IsAllowedBy, IsExecutionOf, IsFinalStateOf, Node, refutes, Model, Tso}
+use Rattle.refutation_laws.proofs.Vocabulary.{Sequential}
 use Rattle.refutation_laws.proofs.Soundness.{refuted-is-false}
 use Rattle.refutation_laws.proofs.refuted_claims.refuted_claims_are_false.Goals as goal
 

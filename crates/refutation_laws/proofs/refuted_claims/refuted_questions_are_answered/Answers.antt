@@ -1,4 +1,6 @@
-use Rattle.refutation_laws.proofs.Vocabulary.{◌≡◌, ℕ, Bool, List, true, false, not, length, Option, Some, None, refl, sym, subst, Litmus, IsTest, IsCondition, Claim, Condition, truth_of, NamesExist, final_words, final_registers, Quantifier, Exists, NotExists, Forall, Entry, asked_claim, asked_by}
+use Rattle.refutation_laws.proofs.Vocabulary.{◌≡◌, ℕ, Bool, List, true, false, not, length, Option, Some, None, refl, sym, subst, Litmus}
+use Rattle.refutation_laws.proofs.Vocabulary.{IsTest, IsCondition, Claim, Condition, truth_of, NamesExist, final_words, final_registers}
+use Rattle.refutation_laws.proofs.Vocabulary.{Quantifier, Exists, NotExists, Forall, Entry, asked_claim, asked_by}
 use Rattle.refutation_laws.proofs.refuted_claims.refuted_questions_are_answered.Goals as goal
 
 asked-names : (cores locations : ℕ) (q : Quantifier) (claim : Claim) → NamesExist cores locations claim → NamesExist cores locations (asked_by q claim)

@@ -23,5 +23,7 @@ loop-number-init c = ap (λ es. es ++ map bare (events_from 0 c.args.test.now.pr
 
 pub returns : goal.returns
 returns c =
-    all-appended (λ ps. map bare (events_from c.loop-number.number ps c.args.test.now.registers [])) c.args.test.now.programs c.loop-number.number c.loop-number.events.items _
+    all-appended
+    (λ ps. map bare (events_from c.loop-number.number ps c.args.test.now.registers [])) c.args.test.now.programs
+    c.loop-number.number c.loop-number.events.items _
     (subst (λ n. n ≤ c.loop-number.number) c.cores-number-end.ensures.value c.loop-number-test.false) refl c.loop-number.invariant

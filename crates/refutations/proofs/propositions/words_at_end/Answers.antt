@@ -19,5 +19,6 @@ loop-w-preserved c =
 
 pub returns : goal.returns
 returns c =
-    all-kept c.args.test.now (known_of c.args.answers.now) c.args.loc.0 c.args.events.now c.requires.events (sym c.has_writes.ensures ∙ c.if-not-has_writes.false)
+    all-kept c.args.test.now (known_of c.args.answers.now) c.args.loc.0 c.args.events.now c.requires.events
+    (sym c.has_writes.ensures ∙ c.if-not-has_writes.false)
     c.loop-w.w-index c.loop-w.words.items c.loop-w-test.false c.loop-w.invariant

@@ -32,7 +32,8 @@ pub returns-clause-writes : goal.returns-clause-writes
 returns-clause-writes c =
     let given = returned c.args.reads.test.now c.args.reads.writes.now c.args.reads.sources.now in
     sym (all-done (λ p. c.loop-instr.walk.writes.items ++ writes_of given c.args.core.0 c.loop-instr.place p c.loop-instr.walk.registers)
-    c.program-instr-items.result.now c.loop-instr.instr-index c.loop-instr-test.false _ c.loop-instr.invariant.writes ∙ append-nil c.loop-instr.walk.writes.items)
+    c.program-instr-items.result.now c.loop-instr.instr-index c.loop-instr-test.false _ c.loop-instr.invariant.writes
+    ∙ append-nil c.loop-instr.walk.writes.items)
     ∙ ap (λ p. c.args.walk.now.writes.items ++ writes_of given c.args.core.0 0 p c.args.walk.now.registers) c.program-instr-items.ensures.value
 
 pub returns-clause-registers : goal.returns-clause-registers

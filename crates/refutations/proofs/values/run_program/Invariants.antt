@@ -6,7 +6,9 @@ abbrev pub invariant-loop-instr : goal.invariant-loop-instr
 invariant-loop-instr l = record {
   place : l.place ≡ l.instr-index;
   writes : l.fn.walk.writes.items ++ writes_of (returned l.reads.test.now l.reads.writes.now l.reads.sources.now) l.core.0 0 l.instr-items l.fn.walk.registers
-      ≡ l.walk.writes.items ++ writes_of (returned l.reads.test.now l.reads.writes.now l.reads.sources.now) l.core.0 l.place (drop l.instr-index l.instr-items) l.walk.registers;
+      ≡ l.walk.writes.items
+      ++ writes_of (returned l.reads.test.now l.reads.writes.now l.reads.sources.now) l.core.0 l.place
+      (drop l.instr-index l.instr-items) l.walk.registers;
   registers : left_of (returned l.reads.test.now l.reads.writes.now l.reads.sources.now) l.core.0 0 l.instr-items l.fn.walk.registers
       ≡ left_of (returned l.reads.test.now l.reads.writes.now l.reads.sources.now) l.core.0 l.place (drop l.instr-index l.instr-items) l.walk.registers;
 }

@@ -30,13 +30,22 @@ loop-passed-preserved c =
     let at = entry-fits c.args.cores c.args.order.now c.loop-passed.passed none c.requires.cores c.requires.places c.loop-passed-test.true in
     let law = c.needed_is_the_most_that_is_asked.ensures.first in
     elim c.match-entry.branch [
-      | in-R w ↦ rw (w.stores-is, w.most-is) (onward-load law c.args.order.now c.loop-passed.passed none _ c.args.cores c.loop-passed.stores.items c.loop-passed.most w.max-most.result
+      | in-R w ↦
+          rw (w.stores-is, w.most-is)
+          (onward-load law c.args.order.now c.loop-passed.passed none _ c.args.cores c.loop-passed.stores.items c.loop-passed.most w.max-most.result
           w.sum_of.result c.from-core.result c.from-place.result w.index.result.now
-          c.loop-passed-test.true refl w.in-R.is at.0 at.1 c.from-core.ensures c.from-place.ensures w.index.ensures w.sum_of.ensures (w.max-most.ensures ∙ greatest _ _) c.loop-passed.invariant)
-      | in-W w ↦ rw (w.stores-is, w.most-is) (onward-store law c.args.order.now c.loop-passed.passed none _ c.args.cores c.loop-passed.stores.items c.loop-passed.most w.max-most-in-W.result
+          c.loop-passed-test.true refl w.in-R.is at.0 at.1 c.from-core.ensures c.from-place.ensures w.index.ensures
+          w.sum_of.ensures (w.max-most.ensures ∙ greatest _ _) c.loop-passed.invariant)
+      | in-W w ↦
+          rw (w.stores-is, w.most-is)
+          (onward-store law c.args.order.now c.loop-passed.passed none _ c.args.cores c.loop-passed.stores.items
+          c.loop-passed.most w.max-most-in-W.result
           c.from-core.result c.from-place.result w.index_mut.result.now
-          c.loop-passed-test.true refl w.in-W.is at.0 at.1 c.from-core.ensures c.from-place.ensures w.index_mut.ensures.value w.max-most-in-W.ensures c.loop-passed.invariant)
-      | in-F w ↦ rw (w.stores-is, w.most-is) (onward-other law c.args.order.now c.loop-passed.passed none _ c.args.cores c.loop-passed.stores.items c.loop-passed.most
+          c.loop-passed-test.true refl w.in-W.is at.0 at.1 c.from-core.ensures c.from-place.ensures
+          w.index_mut.ensures.value w.max-most-in-W.ensures c.loop-passed.invariant)
+      | in-F w ↦
+          rw (w.stores-is, w.most-is)
+          (onward-other law c.args.order.now c.loop-passed.passed none _ c.args.cores c.loop-passed.stores.items c.loop-passed.most
           c.loop-passed-test.true refl w.in-F.is c.loop-passed.invariant)
     ]
 

@@ -10,16 +10,19 @@ returns-in_default-first_word-clause-item c = seeded_short c.args.room c.args.nu
 
 pub returns-in_default-seed_of-clause-item : goal.returns-in_default-seed_of-clause-item
 returns-in_default-seed_of-clause-item c =
-    seeded_bad_seed c.args.room c.args.number _ _ _ _ _ c.in-Some.ensures.some c.in-Some-first_word.ensures.some (sym c.in_default-seed_of.is ∙ c.seed_of.ensures)
+    seeded_bad_seed c.args.room c.args.number _ _ _ _ _ c.in-Some.ensures.some c.in-Some-first_word.ensures.some
+    (sym c.in_default-seed_of.is ∙ c.seed_of.ensures)
 
 pub returns-then-not-is_numeral-clause-item : goal.returns-then-not-is_numeral-clause-item
 returns-then-not-is_numeral-clause-item c =
-    seeded_bad_count c.args.room c.args.number _ _ _ _ _ _ c.in-Some.ensures.some c.in-Some-first_word.ensures.some (sym c.in-Some-seed_of.is ∙ c.seed_of.ensures)
+    seeded_bad_count c.args.room c.args.number _ _ _ _ _ _ c.in-Some.ensures.some c.in-Some-first_word.ensures.some
+    (sym c.in-Some-seed_of.is ∙ c.seed_of.ensures)
     (sym c.is_numeral.ensures ∙ c.if-not-is_numeral.true)
 
 pub returns-in_default-number_up_to-clause-item : goal.returns-in_default-number_up_to-clause-item
 returns-in_default-number_up_to-clause-item c =
-    seeded_too_many c.args.room c.args.number _ _ _ _ _ _ c.in-Some.ensures.some c.in-Some-first_word.ensures.some (sym c.in-Some-seed_of.is ∙ c.seed_of.ensures)
+    seeded_too_many c.args.room c.args.number _ _ _ _ _ _ c.in-Some.ensures.some c.in-Some-first_word.ensures.some
+    (sym c.in-Some-seed_of.is ∙ c.seed_of.ensures)
     (sym c.is_numeral.ensures ∙ c.if-not-is_numeral.false) (sym c.in_default-number_up_to.is ∙ c.number_up_to.ensures.value)
 
 pub returns-clause-item : goal.returns-clause-item

@@ -17,8 +17,11 @@ returns-then-at-len-clause-closed c =
     let cs = c.args.closed.now in
     let first = c.index_mut.result.now in
     let within : c.place_of-at.result < length cs.items = let l = c.if-at-len.true in let n = c.len.ensures in let m = cs.ok.0 in omega (arith, l, n, m) in
-    closed-together c.args.test.now (string_bytes c.in_ok-text.text) (shown_facts_of c.args.answer) (shown_closing_of c.args.closing) c.in_ok-text.ensures cs.items c.requires
-    c.place_of-at.result (c.place_of-at.ensures ∙ (λ i. place_with_text (c.deref.ensures.value i) (c.deref-2.ensures i))) within first _ c.index_mut.ensures.value
+    closed-together c.args.test.now (string_bytes c.in_ok-text.text) (shown_facts_of c.args.answer)
+    (shown_closing_of c.args.closing) c.in_ok-text.ensures cs.items c.requires
+    c.place_of-at.result
+    (c.place_of-at.ensures ∙ (λ i. place_with_text (c.deref.ensures.value i) (c.deref-2.ensures i))) within first _
+    c.index_mut.ensures.value
     (λ i. record {
       answers = (ap (map shown_facts_of) c.in_ok-push.ensures.items ∙ map-last shown_facts_of first.answers.items c.args.answer) i;
       closing = shown_closing_of first.closing;
@@ -26,7 +29,8 @@ returns-then-at-len-clause-closed c =
 
 pub returns-clause-told : goal.returns-clause-told
 returns-clause-told c =
-    subst (HaveTheirTexts c.args.test.now) (sym c.in_ok-push-3.ensures.items) (texts-apart c.args.test.now c.args.closed.now.items _ c.requires c.in_ok-text.ensures)
+    subst (HaveTheirTexts c.args.test.now) (sym c.in_ok-push-3.ensures.items)
+    (texts-apart c.args.test.now c.args.closed.now.items _ c.requires c.in_ok-text.ensures)
 
 pub returns-clause-closed : goal.returns-clause-closed
 returns-clause-closed c =

@@ -38,7 +38,8 @@ loop-branch-preserved c =
           record {
             told = subst (λ (v : Vec Closed Global). HaveTheirTexts t v.items) (sym w.closed-is) w.in_ok-add_closed-in-Some-Closed.ensures.told;
             closed = ap (λ (v : Vec Closed Global). spec.closed_among t (map closed_of v.items) rest) w.closed-is
-                ∙ (ap (λ cs. spec.closed_among t cs rest) w.in_ok-add_closed-in-Some-Closed.ensures.closed ∙ (sym (ap (spec.closed_among t closed) taken) ∙ inv.closed));
+                ∙ (ap (λ cs. spec.closed_among t cs rest) w.in_ok-add_closed-in-Some-Closed.ensures.closed
+                ∙ (sym (ap (spec.closed_among t closed) taken) ∙ inv.closed));
             left = ap (λ (v : Vec Open Global). map open_of v.items ++ spec.open_among rest) w.left-is
                 ∙ (sym (ap (λ ps. map open_of left ++ spec.open_among ps) taken) ∙ inv.left);
             rest = sym (dropped-part old.items new.items p last n b c.loop-branch-test.true) ∙ inv.rest;
@@ -49,11 +50,14 @@ loop-branch-preserved c =
           let taken = taken-part old.items new.items (part.Open o) last n b c.loop-branch-test.true in
           record {
             told = subst (λ (v : Vec Closed Global). HaveTheirTexts t v.items) (sym w.closed-is) inv.told;
-            closed = ap (λ (v : Vec Closed Global). spec.closed_among t (map closed_of v.items) rest) w.closed-is ∙ (sym (ap (spec.closed_among t closed) taken) ∙ inv.closed);
+            closed =
+                ap (λ (v : Vec Closed Global). spec.closed_among t (map closed_of v.items) rest) w.closed-is
+                ∙ (sym (ap (spec.closed_among t closed) taken) ∙ inv.closed);
             left = ap (λ (v : Vec Open Global). map open_of v.items ++ spec.open_among rest) w.left-is
                 ∙ (ap (λ os. map open_of os ++ spec.open_among rest) w.in_ok-push-in-Some-Open.ensures.items
                 ∙ (ap (λ os. os ++ spec.open_among rest) (map-last open_of left o)
-                ∙ (append_assoc (map open_of left) (open_of o ∷ []) (spec.open_among rest) ∙ (sym (ap (λ ps. map open_of left ++ spec.open_among ps) taken) ∙ inv.left))));
+                ∙ (append_assoc (map open_of left) (open_of o ∷ []) (spec.open_among rest)
+                ∙ (sym (ap (λ ps. map open_of left ++ spec.open_among ps) taken) ∙ inv.left))));
             rest = sym (dropped-part old.items new.items (part.Open o) last n b c.loop-branch-test.true) ∙ inv.rest;
           }
     ]

@@ -9,4 +9,6 @@ returns-in-Places c =
     let bytes = string_bytes c.args.text.now in
     on_ok_weaker c.write_each-in-Places.result
     (λ e. e
-    ∙ (ap (λ z. bytes ++ z) (sym (flat_map-map (place_text t) place_of c.in-Places.places.now)) ∙ ap (λ p. bytes ++ content_text t p) (sym c.in-Places.is))) c.write_each-in-Places.ensures
+    ∙ (ap (λ z. bytes ++ z) (sym (flat_map-map (place_text t) place_of c.in-Places.places.now))
+    ∙ ap (λ p. bytes ++ content_text t p) (sym c.in-Places.is)))
+    c.write_each-in-Places.ensures

@@ -26,7 +26,8 @@ loop-state-preserved c =
 
 pub returns-clause-held : goal.returns-clause-held
 returns-clause-held c =
-    all-counted (claim_of c.args.cond.now.prop) c.loop-state.held c.loop-state.state-iterator c.args.outcomes.now.entries c.in-None.ensures.steps.0 c.loop-state.invariant
+    all-counted (claim_of c.args.cond.now.prop) c.loop-state.held c.loop-state.state-iterator
+    c.args.outcomes.now.entries c.in-None.ensures.steps.0 c.loop-state.invariant
 
 pub returns-clause-failed : goal.returns-clause-failed
 returns-clause-failed c =

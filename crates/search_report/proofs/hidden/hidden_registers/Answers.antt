@@ -1,4 +1,5 @@
-use Rattle.search_report.proofs.Vocabulary.{◌≡◌, ◌∙◌, false, Some, slice_get, slice_index_or, length, inl, inr, ap, sym, subst, refl, arith, index_of, none_hidden, names_shown, IsHidden, IsNotHidden}
+use Rattle.search_report.proofs.Vocabulary.{◌≡◌, ◌∙◌, false, Some, slice_get, slice_index_or, length, inl, inr, ap, sym, subst, refl, arith}
+use Rattle.search_report.proofs.Vocabulary.{index_of, none_hidden, names_shown, IsHidden, IsNotHidden}
 use Rattle.search_report.proofs.Hiding.{core-known, whole, get-or, get-within, lt-or, not-shown}
 use Rattle.search_report.proofs.Staying.{six-hidden, got, unnamed}
 use Rattle.search_report.proofs.hidden.hidden_registers.Goals as goal
@@ -31,11 +32,15 @@ loop-named-preserved c =
         | inl m ↦ c.reveal.ensures.others n (subst (λ z. IsNotHidden z n) (sym c.deref_mut.ensures.value) (c.loop-named.invariant.shown j n m at))
         | inr m ↦
             let q : j ≡ c.loop-named.named-index = omega (arith, l, m) in
-            subst (IsNotHidden c.reveal.new.hidden) (get-or c.deref-named-items.result.now c.loop-named.named-index _ n (subst (λ z. slice_get c.deref-named-items.result.now z ≡ Some n) q at)) c.reveal.ensures.shown
+            subst (IsNotHidden c.reveal.new.hidden)
+            (get-or c.deref-named-items.result.now c.loop-named.named-index _ n
+            (subst (λ z. slice_get c.deref-named-items.result.now z ≡ Some n) q at))
+            c.reveal.ensures.shown
       ]);
       unnamed = λ core reg l none.
           subst (λ z. IsHidden z core reg) (sym same)
-          (c.reveal.ensures.hidden (record { 0 = core }) reg (λ is. none c.loop-named.named-index _ (got _ c.loop-named.named-index _ c.loop-named-test.true) is)
+          (c.reveal.ensures.hidden (record { 0 = core }) reg
+          (λ is. none c.loop-named.named-index _ (got _ c.loop-named.named-index _ c.loop-named-test.true) is)
           (subst (λ z. IsHidden z core reg) (sym c.deref_mut.ensures.value) (c.loop-named.invariant.unnamed core reg l none)));
     }
 
@@ -49,4 +54,5 @@ returns-clause-not_shown c =
 
 pub returns-clause-all : goal.returns-clause-all
 returns-clause-all c = λ core reg l not_shown.
-    c.loop-named.invariant.unnamed core reg l (unnamed c.args.show c.args.test.now _ core reg (c.deref-named-items.ensures.value ∙ c.in_ok-names.ensures.list) not_shown)
+    c.loop-named.invariant.unnamed core reg l
+    (unnamed c.args.show c.args.test.now _ core reg (c.deref-named-items.ensures.value ∙ c.in_ok-names.ensures.list) not_shown)

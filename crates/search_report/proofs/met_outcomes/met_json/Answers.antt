@@ -14,7 +14,9 @@ line-requires c =
     let name : c.name.result.now ≡ t.name = c.name.ensures in
     let whole =
     subst (HasMembers c.member-4.result)
-    (λ i. put (codes "verdict") (decided_value t.condition (c.requires.met i)) (put (codes "unfinished") (limit_value c.args.limit) (put (codes "test") (string (name i))
+    (λ i.
+    put (codes "verdict") (decided_value t.condition (c.requires.met i))
+    (put (codes "unfinished") (limit_value c.args.limit) (put (codes "test") (string (name i))
     (put (codes "met") (states_value t c.args.names.now outcomes) no_members))))
     (c.member-4.ensures _ _ (c.member-3.ensures _ (limit_value c.args.limit) (c.member-2.ensures _ _ (c.member.ensures _ _ c.new.ensures c.states_value.ensures)
     c.word_value.ensures) c.object_of.ensures) c.decided_value.ensures) in
@@ -27,7 +29,9 @@ returns c =
     let name : c.name.result.now ≡ t.name = c.name.ensures in
     let whole =
     subst (HasMembers c.member-4.result)
-    (λ i. put (codes "verdict") (decided_value t.condition (c.requires.met i)) (put (codes "unfinished") (limit_value c.args.limit) (put (codes "test") (string (name i))
+    (λ i.
+    put (codes "verdict") (decided_value t.condition (c.requires.met i))
+    (put (codes "unfinished") (limit_value c.args.limit) (put (codes "test") (string (name i))
     (put (codes "met") (states_value t c.args.names.now outcomes) no_members))))
     (c.member-4.ensures _ _ (c.member-3.ensures _ (limit_value c.args.limit) (c.member-2.ensures _ _ (c.member.ensures _ _ c.new.ensures c.states_value.ensures)
     c.word_value.ensures) c.object_of.ensures) c.decided_value.ensures) in

@@ -17,12 +17,16 @@ loop-values-preserved c =
     let names = c.args.names.now in
     let es = c.args.outcomes.now.entries in
     let steps = c.in-Some.ensures.steps in (
-      c.with-states.ensures _ _ _ (next-made t names c.loop-values.states c.loop-values.values-iterator c.next.new.self es c.in-Some.values.now c.in-Some.state.now c.deref.result.now
+      c.with-states.ensures _ _ _
+          (next-made t names c.loop-values.states c.loop-values.values-iterator c.next.new.self es c.in-Some.values.now
+          c.in-Some.state.now c.deref.result.now
           steps c.deref.ensures.value c.loop-values.invariant) c.state_value.ensures,
-      others-shown t names c.loop-values.states c.loop-values.values-iterator c.next.new.self es c.in-Some.values.now c.in-Some.state.now steps c.loop-values.invariant,
+      others-shown t names c.loop-values.states c.loop-values.values-iterator c.next.new.self es c.in-Some.values.now
+          c.in-Some.state.now steps c.loop-values.invariant,
     )
 
 pub returns : goal.returns
 returns c =
-    c.value.ensures _ (all-made c.args.test.now c.args.names.now c.loop-values.states c.loop-values.values-iterator c.args.outcomes.now.entries c.in-None.ensures.steps.0
+    c.value.ensures _ (all-made c.args.test.now c.args.names.now c.loop-values.states c.loop-values.values-iterator
+    c.args.outcomes.now.entries c.in-None.ensures.steps.0
     c.requires.shown c.loop-values.invariant)

@@ -17,17 +17,20 @@ overflow_add-number c =
 
 pub cond_holds-requires : goal.cond_holds-requires
 cond_holds-requires c =
-    next-has (claim_of c.args.cond.now.prop) _ _ c.loop-state.number (string_bytes c.loop-state.text) c.loop-state.state-iterator c.next.new.self c.in-Some.state.now
+    next-has (claim_of c.args.cond.now.prop) _ _ c.loop-state.number (string_bytes c.loop-state.text)
+    c.loop-state.state-iterator c.next.new.self c.in-Some.state.now
     c.deref.result.now c.deref-in-loop-state.result.now c.in-Some.ensures.steps c.deref.ensures.value c.deref-in-loop-state.ensures.value c.loop-state.invariant
 
 pub loop-state-preserved-in-Continue-1 : goal.loop-state-preserved-in-Continue-1
 loop-state-preserved-in-Continue-1 c =
-    one-true (claim_of c.args.cond.now.prop) _ _ c.loop-state.number (string_bytes c.loop-state.text) c.loop-state.state-iterator c.next.new.self c.in-Some.state.now
+    one-true (claim_of c.args.cond.now.prop) _ _ c.loop-state.number (string_bytes c.loop-state.text)
+    c.loop-state.state-iterator c.next.new.self c.in-Some.state.now
     c.deref.result.now c.deref-in-loop-state.result.now c.cond_holds.result c.in-Some.ensures.steps c.deref.ensures.value c.deref-in-loop-state.ensures.value
     c.cond_holds.ensures c.loop-state.invariant (string_bytes c.write_number.new.text) c.if-cond_holds.true c.in_ok-write_number.ensures
 
 pub loop-state-preserved : goal.loop-state-preserved
 loop-state-preserved c =
-    one-false (claim_of c.args.cond.now.prop) _ _ c.loop-state.number (string_bytes c.loop-state.text) c.loop-state.state-iterator c.next.new.self c.in-Some.state.now
+    one-false (claim_of c.args.cond.now.prop) _ _ c.loop-state.number (string_bytes c.loop-state.text)
+    c.loop-state.state-iterator c.next.new.self c.in-Some.state.now
     c.deref.result.now c.deref-in-loop-state.result.now c.cond_holds.result c.in-Some.ensures.steps c.deref.ensures.value c.deref-in-loop-state.ensures.value
     c.cond_holds.ensures c.loop-state.invariant c.if-cond_holds.false

@@ -8,13 +8,15 @@ outcomes_of-requires-clause-finals c =
 
 pub text_of-requires-clause-shown : goal.text_of-requires-clause-shown
 text_of-requires-clause-shown c =
-    kept-is-shown c.args.test.now c.in_ok-names.names.items c.deref.result.now c.deref-2.result.now c.args.finals.now (kept_of c.in_ok-outcomes.outcomes.entries)
+    kept-is-shown c.args.test.now c.in_ok-names.names.items c.deref.result.now c.deref-2.result.now c.args.finals.now
+    (kept_of c.in_ok-outcomes.outcomes.entries)
     (reached-whole c.args.test.now c.args.depth c.args.finals.now c.ended_runs_are_executions.ensures c.know_limits.ensures c.requires)
     c.deref.ensures.value c.deref-2.ensures.value c.in_ok-outcomes.ensures
 
 pub is_met_in-requires : goal.is_met_in-requires
 is_met_in-requires c =
-    kept-is-shown c.args.test.now c.in_ok-names.names.items c.deref.result.now c.deref-3.result.now c.args.finals.now (kept_of c.in_ok-outcomes.outcomes.entries)
+    kept-is-shown c.args.test.now c.in_ok-names.names.items c.deref.result.now c.deref-3.result.now c.args.finals.now
+    (kept_of c.in_ok-outcomes.outcomes.entries)
     (reached-whole c.args.test.now c.args.depth c.args.finals.now c.ended_runs_are_executions.ensures c.know_limits.ensures c.requires)
     c.deref.ensures.value c.deref-3.ensures.value c.in_ok-outcomes.ensures
 

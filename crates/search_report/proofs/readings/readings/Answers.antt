@@ -12,11 +12,13 @@ pub loop-read-preserved : goal.loop-read-preserved
 loop-read-preserved c =
     elim c.if-is_read.branch [
       | then-is_read+in_ok-push w ↦
-          reading-more c.args.order.now c.deref-read-items.result.now c.loop-read.read-index (c.loop-read.read-index + 1) _ c.loop-read-test.true refl c.is_read.result
+          reading-more c.args.order.now c.deref-read-items.result.now c.loop-read.read-index
+          (c.loop-read.read-index + 1) _ c.loop-read-test.true refl c.is_read.result
           c.is_read.ensures c.loop-read.all.items c.if-is_read.all.items c.loop-read.invariant w.if-is_read.true _ w.event_of.ensures w.source_in.ensures
           (ap (λ v. v.items) w.all-is ∙ w.in_ok-push.ensures.items)
       | else-is_read w ↦
-          reading-less c.args.order.now c.deref-read-items.result.now c.loop-read.read-index (c.loop-read.read-index + 1) _ c.loop-read-test.true refl c.is_read.result
+          reading-less c.args.order.now c.deref-read-items.result.now c.loop-read.read-index
+          (c.loop-read.read-index + 1) _ c.loop-read-test.true refl c.is_read.result
           c.is_read.ensures c.loop-read.all.items c.if-is_read.all.items c.loop-read.invariant w.if-is_read.false (ap (λ v. v.items) w.all-is)
     ]
 

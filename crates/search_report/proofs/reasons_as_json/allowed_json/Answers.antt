@@ -9,8 +9,11 @@ line-requires c =
     let shown = c.args.shown.now in (
       _,
       (c.member-9.ensures _ _ (c.member-8.ensures _ _ (c.member-7.ensures _ _ (c.member-6.ensures _ _ (c.member-5.ensures _ _ (c.member-4.ensures _ _
-          (c.member-3.ensures _ _ (c.member-2.ensures _ _ (c.member.ensures _ _ c.new.ensures c.word_value.ensures) c.asked_value.ensures) c.choices_value.ensures)
-          c.coherence_value.ensures) c.word_value-2.ensures) c.array_of.ensures) c.word_value-3.ensures) c.values_value.ensures) c.outcomes_verdict_value.ensures),
+          (c.member-3.ensures _ _
+          (c.member-2.ensures _ _ (c.member.ensures _ _ c.new.ensures c.word_value.ensures) c.asked_value.ensures)
+          c.choices_value.ensures)
+          c.coherence_value.ensures) c.word_value-2.ensures) c.array_of.ensures) c.word_value-3.ensures) c.values_value.ensures)
+          c.outcomes_verdict_value.ensures),
       allowed-has-no-float t shown.order.now shown.readings.now shown.choices.now c.name.result.now c.model_name.result.now shown.names.now shown.values.now,
     )
 
@@ -20,8 +23,10 @@ returns c =
     let shown = c.args.shown.now in
     IfOk-weaker c.line.result _ _
     (λ text e d is. e ∙ ap (λ v. line (compact_text v))
-    (value-is c.args.model t shown.order.now shown.readings.now shown.values.now shown.choices.now d is c.name.result.now c.model_name.result.now shown.names.now
+    (value-is c.args.model t shown.order.now shown.readings.now shown.values.now shown.choices.now d is
+    c.name.result.now c.model_name.result.now shown.names.now
     c.name.ensures c.model_name.ensures c.requires.names))
-    (c.line.ensures _ (c.member-9.ensures _ _ (c.member-8.ensures _ _ (c.member-7.ensures _ _ (c.member-6.ensures _ _ (c.member-5.ensures _ _ (c.member-4.ensures _ _
+    (c.line.ensures _ (c.member-9.ensures _ _
+    (c.member-8.ensures _ _ (c.member-7.ensures _ _ (c.member-6.ensures _ _ (c.member-5.ensures _ _ (c.member-4.ensures _ _
     (c.member-3.ensures _ _ (c.member-2.ensures _ _ (c.member.ensures _ _ c.new.ensures c.word_value.ensures) c.asked_value.ensures) c.choices_value.ensures)
     c.coherence_value.ensures) c.word_value-2.ensures) c.array_of.ensures) c.word_value-3.ensures) c.values_value.ensures) c.outcomes_verdict_value.ensures))

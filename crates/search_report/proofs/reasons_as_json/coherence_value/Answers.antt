@@ -1,5 +1,7 @@
 use Rattle.tso_report.specs.inner.Objects.{HasMembers}
-use Rattle.search_report.proofs.Vocabulary.{◌≡◌, ◌∙◌, ◌+◌, ◌-◌, ◌<◌, [], arith, ap, refl, subst, sym, drop, length, slice_index_or, put, map, filter, string, array, items_of, printed_entry, writes_to, with_coherence, coherence_members_by}
+use Rattle.search_report.proofs.Vocabulary.{◌≡◌, ◌∙◌, ◌+◌, ◌-◌, ◌<◌, [], arith, ap, refl, subst, sym, drop, length, slice_index_or, put}
+use Rattle.search_report.proofs.Vocabulary.{map, filter, string, array, items_of, printed_entry, writes_to, with_coherence}
+use Rattle.search_report.proofs.Vocabulary.{coherence_members_by}
 use Rattle.search_report.proofs.ShownReasons.{none-go, member-is, members-more}
 use Rattle.search_report.proofs.reasons_as_json.coherence_value.Goals as goal
 

@@ -1,4 +1,5 @@
-use Rattle.search_report.proofs.Vocabulary.{true, ◌∙◌, ◌++◌, ◌∷◌, [], ap, codes, string_bytes, flat_map, reading_line, coherence_by, asked_line, verdict_line, on_ok_weaker}
+use Rattle.search_report.proofs.Vocabulary.{true, ◌∙◌, ◌++◌, ◌∷◌, [], ap, codes, string_bytes, flat_map, reading_line, coherence_by}
+use Rattle.search_report.proofs.Vocabulary.{asked_line, verdict_line, on_ok_weaker}
 use Rattle.scheduler.specs.Printed.{printed_after}
 use Rattle.tso_report.specs.Tally.{printed_values}
 use Rattle.search_report.proofs.ShownReasons.{text-is}
@@ -19,5 +20,6 @@ returns c =
     ∙ ap (λ z. z ++ coherence_by t shown.order.now 0 t.locations) (c.in_ok-write_each.ensures
     ∙ ap (λ z. z ++ flat_map (reading_line t) shown.readings.now) (c.in_ok-write_asked.ensures
     ∙ ap (λ z. z ++ asked_line t.condition) c.in_ok-write_pieces.ensures))))))))
-    ∙ text-is c.args.model t shown.order.now shown.readings.now shown.values.now shown.choices.now d is c.name.result.now c.model_name.result.now shown.names.now
+    ∙ text-is c.args.model t shown.order.now shown.readings.now shown.values.now shown.choices.now d is
+    c.name.result.now c.model_name.result.now shown.names.now
     c.name.ensures c.model_name.ensures c.requires.names (string_bytes c.args.text.now))) c.write_verdict.ensures

@@ -11,7 +11,8 @@ loop-next-preserved c =
     let rest = c.in-Some.rest.now in
     let edges = c.loop-next.edges.items in
     listed edges c.push.new.self.items _ _ _ _ (c.in_ok-push.ensures.items ∙ ap (λ e. edges ++ (e ∷ [])) c.edge_at.ensures)
-    (ap (spec.edges_back t k (relations_of c.args.acyclic) c.in-Some.first.now c.loop-next.last.now) (drop_more rest c.loop-next.next-index _ c.loop-next-test.true))
+    (ap (spec.edges_back t k (relations_of c.args.acyclic) c.in-Some.first.now c.loop-next.last.now)
+    (drop_more rest c.loop-next.next-index _ c.loop-next-test.true))
     c.loop-next.invariant
 
 -- the edge back to the first event is the last one

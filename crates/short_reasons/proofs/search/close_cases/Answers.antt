@@ -1,9 +1,13 @@
-use Rattle.short_reasons.proofs.Vocabulary.{◌≡◌, ◌<◌, ◌≤◌, ◌/◌, ◌∙◌, true, arith, refl, ap, length, map, sym, subst, counted_as, events_of, nil_from_length, Vec, node_of, facts_of, branches_of, asked_claim, refutes, IsCaseStep, AreOpenAfter}
+use Rattle.short_reasons.proofs.Vocabulary.{◌≡◌, ◌<◌, ◌≤◌, ◌/◌, ◌∙◌, true, arith, refl, ap, length, map, sym, subst, counted_as, events_of}
+use Rattle.short_reasons.proofs.Vocabulary.{nil_from_length, Vec, node_of, facts_of, branches_of, asked_claim, refutes, IsCaseStep}
+use Rattle.short_reasons.proofs.Vocabulary.{AreOpenAfter}
 use Rattle.refutation_checker.specs.Trees.{lemma_of}
 use Rattle.refutation_checker.specs.declared.tree.Node.{Node}
-use Rattle.short_reasons.proofs.Searching.{IsSearch, first-case, its-branch, one-too-many, lighter-by-leaf, lighter-by-question, after-leaf, after-question, all-done}
+use Rattle.short_reasons.proofs.Searching.{IsSearch, first-case, its-branch, one-too-many, lighter-by-leaf, lighter-by-question, after-leaf}
+use Rattle.short_reasons.proofs.Searching.{after-question, all-done}
 use Rattle.short_reasons.proofs.search.close_cases.Goals as goal
-use Rattle.short_reasons.proofs.search.close_cases.Goals.{in-Leaf+in_ok-told_node-in-Leaf+in_ok-push-in-Leaf, in-Question+in_ok-told_node-in-Question+in_ok-push-in-Question}
+use Rattle.short_reasons.proofs.search.close_cases.Goals.{in-Leaf+in_ok-told_node-in-Leaf+in_ok-push-in-Leaf}
+use Rattle.short_reasons.proofs.search.close_cases.Goals.{in-Question+in_ok-told_node-in-Question+in_ok-push-in-Question}
 
 pub loop-facts-init : goal.loop-facts-init
 loop-facts-init c =
@@ -22,7 +26,11 @@ pub returns-then-len-most : goal.returns-then-len-most
 returns-then-len-most c =
     let t = c.args.problem.now.test.now in
     let events : c.len.result ≡ length (events_of t) =
-    (let counted = c.len.ensures in let size = c.args.problem.now.events.ok.0 in let same = ap length c.requires.problem.events in omega (arith, counted, size, same)) in
+    (let counted =
+    c.len.ensures in
+    let size = c.args.problem.now.events.ok.0 in
+    let same = ap length c.requires.problem.events in
+    omega (arith, counted, size, same)) in
     let cost : c.counted_as.result ≡ counted_as (length (events_of t)) = c.counted_as.ensures.counted ∙ ap counted_as events in
     let late : c.args.limit / c.counted_as.result ≤ length c.loop-facts.nodes.items =
     (let reached = c.if-len-most.true in let counted = c.len-in-Some.ensures in let size = c.loop-facts.nodes.ok.0 in omega (arith, reached, counted, size)) in
@@ -37,14 +45,20 @@ loop-facts-smaller c =
           lighter-by-leaf c.args.model c.args.problem.now.test.now c.loop-facts.branches.items c.pop.new.self.items c.in-Some.facts c.in-Some.ensures.items
           c.deref.result.now c.deref.ensures.value
           w.in-Leaf.leaf c.take_step.new.branches.items
-          (subst (AreOpenAfter c.args.problem.now.test.now (facts_of c.deref.result.now) (branches_of c.pop.new.self.items) (branches_of c.take_step.new.branches.items)) w.in-Leaf.is
+          (subst
+          (AreOpenAfter c.args.problem.now.test.now (facts_of c.deref.result.now) (branches_of c.pop.new.self.items)
+          (branches_of c.take_step.new.branches.items))
+          w.in-Leaf.is
           c.in_ok-leaf.ensures.added)
       | in-Question+in_ok-told_node-in-Question+in_ok-push-in-Question w ↦
           lighter-by-question c.args.model c.args.problem.now.test.now c.loop-facts.branches.items c.pop.new.self.items c.in-Some.facts c.in-Some.ensures.items
           c.deref.result.now c.deref.ensures.value
           w.in-Question.question c.take_step.new.branches.items
           (subst (IsCaseStep c.args.model c.args.problem.now.test.now (facts_of c.deref.result.now)) w.in-Question.is c.in_ok-leaf.ensures.step)
-          (subst (AreOpenAfter c.args.problem.now.test.now (facts_of c.deref.result.now) (branches_of c.pop.new.self.items) (branches_of c.take_step.new.branches.items)) w.in-Question.is
+          (subst
+          (AreOpenAfter c.args.problem.now.test.now (facts_of c.deref.result.now) (branches_of c.pop.new.self.items)
+          (branches_of c.take_step.new.branches.items))
+          w.in-Question.is
           c.in_ok-leaf.ensures.added)
     ]
 
@@ -52,22 +66,33 @@ pub loop-facts-preserved : goal.loop-facts-preserved
 loop-facts-preserved c =
     elim c.match-branch-3.branch [
       | in-Leaf+in_ok-told_node-in-Leaf+in_ok-push-in-Leaf w ↦
-          subst (λ (v : Vec Node). IsSearch c.args.model c.args.problem.now.test.now (branches_of c.take_step.new.branches.items) (map node_of v.items)) (sym w.nodes-is)
+          subst (λ (v : Vec Node).
+          IsSearch c.args.model c.args.problem.now.test.now (branches_of c.take_step.new.branches.items) (map node_of v.items))
+          (sym w.nodes-is)
           (after-leaf c.args.model c.args.problem.now.test.now c.loop-facts.branches.items c.pop.new.self.items c.in-Some.facts c.in-Some.ensures.items
           c.deref.result.now c.deref.ensures.value
           w.in-Leaf.leaf w.in_ok-told_node-in-Leaf.field-0 w.in_ok-told_node-in-Leaf.ensures c.loop-facts.nodes.items w.push.new.self.items
           w.in_ok-push-in-Leaf.ensures.items c.loop-facts.invariant c.take_step.new.branches.items
           (subst (IsCaseStep c.args.model c.args.problem.now.test.now (facts_of c.deref.result.now)) w.in-Leaf.is c.in_ok-leaf.ensures.step)
-          (subst (AreOpenAfter c.args.problem.now.test.now (facts_of c.deref.result.now) (branches_of c.pop.new.self.items) (branches_of c.take_step.new.branches.items)) w.in-Leaf.is
+          (subst
+          (AreOpenAfter c.args.problem.now.test.now (facts_of c.deref.result.now) (branches_of c.pop.new.self.items)
+          (branches_of c.take_step.new.branches.items))
+          w.in-Leaf.is
           c.in_ok-leaf.ensures.added))
       | in-Question+in_ok-told_node-in-Question+in_ok-push-in-Question w ↦
-          subst (λ (v : Vec Node). IsSearch c.args.model c.args.problem.now.test.now (branches_of c.take_step.new.branches.items) (map node_of v.items)) (sym w.nodes-is)
+          subst (λ (v : Vec Node).
+          IsSearch c.args.model c.args.problem.now.test.now (branches_of c.take_step.new.branches.items) (map node_of v.items))
+          (sym w.nodes-is)
           (after-question c.args.model c.args.problem.now.test.now c.loop-facts.branches.items c.pop.new.self.items c.in-Some.facts c.in-Some.ensures.items
           c.deref.result.now c.deref.ensures.value
-          w.in-Question.question w.in_ok-told_node-in-Question.field-0 w.in_ok-told_node-in-Question.ensures c.loop-facts.nodes.items w.push-in-Question.new.self.items
+          w.in-Question.question w.in_ok-told_node-in-Question.field-0 w.in_ok-told_node-in-Question.ensures
+          c.loop-facts.nodes.items w.push-in-Question.new.self.items
           w.in_ok-push-in-Question.ensures.items c.loop-facts.invariant c.take_step.new.branches.items
           (subst (IsCaseStep c.args.model c.args.problem.now.test.now (facts_of c.deref.result.now)) w.in-Question.is c.in_ok-leaf.ensures.step)
-          (subst (AreOpenAfter c.args.problem.now.test.now (facts_of c.deref.result.now) (branches_of c.pop.new.self.items) (branches_of c.take_step.new.branches.items)) w.in-Question.is
+          (subst
+          (AreOpenAfter c.args.problem.now.test.now (facts_of c.deref.result.now) (branches_of c.pop.new.self.items)
+          (branches_of c.take_step.new.branches.items))
+          w.in-Question.is
           c.in_ok-leaf.ensures.added))
     ]
 

@@ -1,4 +1,5 @@
-use Rattle.refutation_laws.proofs.Vocabulary.{◌≡◌, List, ℕ, false, subst, sym, Litmus, Claim, truth_of, registers_in, Run, run, Candidate, registers_left, words_left, IsCandidateOfRun, IsEnd}
+use Rattle.refutation_laws.proofs.Vocabulary.{◌≡◌, List, ℕ, false, subst, sym, Litmus, Claim, truth_of, registers_in, Run, run, Candidate}
+use Rattle.refutation_laws.proofs.Vocabulary.{registers_left, words_left, IsCandidateOfRun, IsEnd}
 use Rattle.refutation_laws.specs.declared.model.Model.TheVariants.{Tso, Sequential}
 use Rattle.short_refutations.proofs.refuted_claims.no_run_meets_what_is_refuted.Goals as goal
 

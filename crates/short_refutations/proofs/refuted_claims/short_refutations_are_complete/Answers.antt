@@ -1,4 +1,5 @@
-use Rattle.refutation_laws.proofs.Vocabulary.{◌≡◌, true, sym, subst, ◌⊎◌, inl, inr, most_depth, Litmus, IsTest, Claim, truth_of, final_words, run, registers_left, HasCandidate, HasExecution, HasRun}
+use Rattle.refutation_laws.proofs.Vocabulary.{◌≡◌, true, sym, subst, ◌⊎◌, inl, inr, most_depth, Litmus, IsTest, Claim, truth_of}
+use Rattle.refutation_laws.proofs.Vocabulary.{final_words, run, registers_left, HasCandidate, HasExecution, HasRun}
 use Rattle.refutation_laws.specs.declared.model.Model.{Model}
 use Rattle.refutation_laws.specs.declared.model.Model.TheVariants.{Tso, Sequential}
 use Rattle.refutation_laws.proofs.Completeness.{six-of}
@@ -13,7 +14,8 @@ pub returns-clause-candidates : goal.returns-clause-candidates
 returns-clause-candidates c = λ model t claim test names. refuted-or-candidate c.last_words_are_possible.ensures model t claim names (six-of t test)
 
 pub returns-clause-executions : goal.returns-clause-executions
-returns-clause-executions c = λ model t claim test names. further (λ m. by model t claim m) (refuted-or-candidate c.last_words_are_possible.ensures model t claim names (six-of t test))
+returns-clause-executions c = λ model t claim test names.
+    further (λ m. by model t claim m) (refuted-or-candidate c.last_words_are_possible.ensures model t claim names (six-of t test))
   where
     by : (model : Model) (t : Litmus) (claim : Claim) → HasCandidate model t claim → HasExecution model t claim
     by Tso t claim m =
@@ -36,7 +38,8 @@ returns-clause-executions c = λ model t claim test names. further (λ m. by mod
         }
 
 pub returns-clause-runs : goal.returns-clause-runs
-returns-clause-runs c = λ model t claim test names. further (λ m. by model t claim test m) (refuted-or-candidate c.last_words_are_possible.ensures model t claim names (six-of t test))
+returns-clause-runs c = λ model t claim test names.
+    further (λ m. by model t claim test m) (refuted-or-candidate c.last_words_are_possible.ensures model t claim names (six-of t test))
   where
     by : (model : Model) (t : Litmus) (claim : Claim) → IsTest t → HasCandidate model t claim → HasRun model t claim
     by Tso t claim test m =

@@ -1,8 +1,11 @@
-use Rattle.refutation_laws.proofs.Vocabulary.{◌≡◌, ℕ, List, true, false, length, subst, Litmus, Claim, truth_of, NamesExist, IsTsoExecution, final_words, final_registers, Entry, Candidate, registers_left, words_left, IsCandidateOf, LeaveTheSame, IsAllowedBy, IsExecutionOf, IsFinalStateOf}
+use Rattle.refutation_laws.proofs.Vocabulary.{◌≡◌, ℕ, List, true, false, length, subst, Litmus, Claim, truth_of, NamesExist, IsTsoExecution}
+use Rattle.refutation_laws.proofs.Vocabulary.{final_words, final_registers, Entry, Candidate, registers_left, words_left, IsCandidateOf}
+use Rattle.refutation_laws.proofs.Vocabulary.{LeaveTheSame, IsAllowedBy, IsExecutionOf, IsFinalStateOf}
 use Rattle.refutation_laws.specs.declared.model.Model.{Model}
 use Rattle.refutation_laws.specs.declared.model.Model.TheVariants.{Tso, Sequential}
 use Rattle.refutation_laws.proofs.Soundness.{as-tso}
-use Rattle.short_refutations.proofs.Vocabulary.{◌∷◌, [], Bool, refl, ◌∙◌, and-both, given_by, Node, Lemma, hold, close, refutes, TruthsAreThoseLeft, ClaimsGiveFacts}
+use Rattle.short_refutations.proofs.Vocabulary.{◌∷◌, [], Bool, refl, ◌∙◌, and-both, given_by, Node, Lemma, hold, close, refutes}
+use Rattle.short_refutations.proofs.Vocabulary.{TruthsAreThoseLeft, ClaimsGiveFacts}
 use Rattle.short_refutations.proofs.Below.{Laws}
 use Rattle.short_refutations.proofs.Soundness.{never-met}
 use Rattle.short_refutations.proofs.refuted_claims.short_refutations_are_sound.Goals as goal

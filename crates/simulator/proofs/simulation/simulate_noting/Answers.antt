@@ -11,7 +11,8 @@ returns-clause-counting c = λ atomic.
 pub returns-clause-unbuffered : goal.returns-clause-unbuffered
 returns-clause-unbuffered c = λ none.
     all-order c.args.test.now (run_under c.args.test.now c.args.protocol c.args.config c.args.choices.now) c.in_ok-ending.ending
-    (c.ended_runs_of_machines_are_executions.ensures.unbuffered (table_of c.args.protocol) c.args.config c.args.test.now c.args.choices.now none c.know_limits.ensures c.in_ok-ending.ensures.answers)
+    (c.ended_runs_of_machines_are_executions.ensures.unbuffered (table_of c.args.protocol) c.args.config c.args.test.now
+    c.args.choices.now none c.know_limits.ensures c.in_ok-ending.ensures.answers)
     c.in_ok-ending.ensures.ending
 
 pub returns-clause-fair : goal.returns-clause-fair

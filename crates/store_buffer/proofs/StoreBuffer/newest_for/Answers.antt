@@ -7,7 +7,10 @@ use Rattle.store_buffer.proofs.StoreBuffer.newest_for.Goals as goal
 pub returns : goal.returns
 returns c =
     let items = c.self.inside.ring.items in
-    let over = YieldsList-end (YieldsList-from_rest items (c.into_iter-p-iterator.ensures.into_iter_gives ∙ c.iter-p-items.ensures.rest)) c.loop-p.yielded _ c.loop-p.yielded_by _ _ c.in-None.is c.next.ensures.steps in
+    let over =
+    YieldsList-end
+    (YieldsList-from_rest items (c.into_iter-p-iterator.ensures.into_iter_gives ∙ c.iter-p-items.ensures.rest))
+    c.loop-p.yielded _ c.loop-p.yielded_by _ _ c.in-None.is c.next.ensures.steps in
     rw (← c.self.view_is) (c.loop-p.invariant ∙ (ap (fold (newer c.args.loc.0) None) over.0 ∙ newest_for-fold c.args.loc.0 items))
 
 pub loop-p-preserved-then-eq : goal.loop-p-preserved-then-eq

@@ -1,4 +1,6 @@
-use Rattle.sweep_runs.proofs.Vocabulary.{◌≡◌, ◌==◌, ◌&&◌, ◌+◌, ℕ, Bool, List, map, refl, ap, sym, subst, ◌∙◌, add-one, arith, Run, Choice, choice_of_word, drawn_words, seeded_choices, RunCounts, Ascend, runs_in, run_under, AnswersFit, choices_of, seeded_run, with_one_run, counts_from}
+use Rattle.sweep_runs.proofs.Vocabulary.{◌≡◌, ◌==◌, ◌&&◌, ◌+◌, ℕ, Bool, List, map, refl, ap, sym, subst, ◌∙◌, add-one, arith, Run, Choice}
+use Rattle.sweep_runs.proofs.Vocabulary.{choice_of_word, drawn_words, seeded_choices, RunCounts, Ascend, runs_in, run_under, AnswersFit}
+use Rattle.sweep_runs.proofs.Vocabulary.{choices_of, seeded_run, with_one_run, counts_from}
 use Rattle.sweep_runs.proofs.StateLemmas.{ascend-none}
 use Rattle.sweep_runs.proofs.RunsCounted.{ended-with, ascend-run, runs-with, fit-more}
 use Rattle.sweep_runs.proofs.runner.count_runs.Goals as goal
@@ -34,7 +36,8 @@ loop-at-preserved g c =
     let r = g.R.Runner.run_of c.loop-at.runner t cs in
     let drawn : cs ≡ choices_of t c.args.plan.length (c.args.plan.from + c.loop-at.at) =
     c.new-choices.ensures.exact ∙ ap (λ (n : ℕ). seeded_choices n c.seed.result c.length-length.result) c.cores.ensures.value
-    ∙ ap (λ (s : ℕ). choices_of t c.length-length.result s) c.seed.ensures ∙ ap (λ (n : ℕ). choices_of t n (c.args.plan.from + c.loop-at.at)) c.length-length.ensures in
+    ∙ ap (λ (s : ℕ). choices_of t c.length-length.result s) c.seed.ensures
+    ∙ ap (λ (n : ℕ). choices_of t n (c.args.plan.from + c.loop-at.at)) c.length-length.ensures in
     let one : c.count_run.new.tally.counts ≡ with_one_run t r before = c.in_ok-ended.ensures.counts in
     let joined : c.if-all_ended.all_ended ≡ (c.loop-at.all_ended && c.in_ok-ended.ended) = elim c.if-all_ended.branch [
       | then-all_ended w ↦ w.all_ended-is ∙ ap (λ (b : Bool). b && c.in_ok-ended.ended) (sym w.if-all_ended.true)
@@ -48,11 +51,17 @@ loop-at-preserved g c =
       counts = λ kind config is. rw add-one (one
           ∙ ap (λ (r : Run). with_one_run t r before) (i.same cs ∙ (is cs ∙ ap (λ (l : List Choice). run_under t kind config l) drawn))
           ∙ ap (λ (k : RunCounts). with_one_run t (seeded_run t kind config c.args.plan.length (c.args.plan.from + c.loop-at.at)) k) (i.counts kind config is));
-      answers = λ kind config fit. fit-more t kind config c.args.plan.length c.args.plan.from c.loop-at.at c.args.plan.length (c.args.plan.from + c.loop-at.at) (i.answers kind config fit) refl refl
+      answers = λ kind config fit.
+          fit-more t kind config c.args.plan.length c.args.plan.from c.loop-at.at c.args.plan.length
+          (c.args.plan.from + c.loop-at.at) (i.answers kind config fit) refl refl
           (subst (λ (l : List Choice). AnswersFit t kind config l) drawn (fit cs (i.fits cs c.in_ok-ended.ensures.answers)));
       ascend = subst (λ (k : RunCounts). Ascend k.states) (sym one) (ascend-run t r before i.ascend);
       number = ap runs_in one ∙ runs-with t r before i.ascend ∙ ap (λ (n : ℕ). n + 1) i.number;
-      ended = joined ∙ ap (λ (e : Bool). c.loop-at.all_ended && e) c.in_ok-ended.ensures.ended ∙ ended-with t r before c.loop-at.all_ended i.ended ∙ ap (λ (k : RunCounts). k.unfinished == 0) (sym one);
+      ended =
+          joined
+          ∙ ap (λ (e : Bool). c.loop-at.all_ended && e) c.in_ok-ended.ensures.ended
+          ∙ ended-with t r before c.loop-at.all_ended i.ended
+          ∙ ap (λ (k : RunCounts). k.unfinished == 0) (sym one);
     }
 
 pub returns-clause-counts : goal.returns-clause-counts

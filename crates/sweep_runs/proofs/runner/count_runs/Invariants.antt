@@ -1,4 +1,5 @@
-use Rattle.sweep_runs.proofs.Vocabulary.{◌≡◌, ◌==◌, List, Choice, ProtocolKind, Configuration, run_under, AnswersFit, Ascend, runs_in, counts_from, AnswersFitFrom}
+use Rattle.sweep_runs.proofs.Vocabulary.{◌≡◌, ◌==◌, List, Choice, ProtocolKind, Configuration, run_under, AnswersFit, Ascend, runs_in}
+use Rattle.sweep_runs.proofs.Vocabulary.{counts_from, AnswersFitFrom}
 use Rattle.sweep_runs.proofs.runner.count_runs.Given as goal
 
 -- the runs of the seeds so far are counted, and the runner makes the same runs again

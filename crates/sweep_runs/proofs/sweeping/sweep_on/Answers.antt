@@ -10,10 +10,16 @@ count_runs-requires-clause-runs g c = (
 
 pub returns-clause-counts : goal.returns-clause-counts
 returns-clause-counts g c = λ kind is. on-ok c.count_runs.result
-    (λ counts. counts kind c.args.config (λ cs. run-is-under (g.P.Protocol.table c.args.protocol) c.args.config c.args.test.now kind c.in_ok-machine.machine cs c.in_ok-machine.ensures is))
+    (λ counts.
+    counts kind c.args.config
+    (λ cs.
+    run-is-under (g.P.Protocol.table c.args.protocol) c.args.config c.args.test.now kind c.in_ok-machine.machine cs c.in_ok-machine.ensures is))
     c.count_runs.ensures.counts
 
 pub returns-clause-answers : goal.returns-clause-answers
 returns-clause-answers g c = λ kind is. on-ok c.count_runs.result
-    (λ answers. answers kind c.args.config (λ cs. fits-under (g.P.Protocol.table c.args.protocol) c.args.config c.args.test.now kind c.in_ok-machine.machine cs c.in_ok-machine.ensures is))
+    (λ answers.
+    answers kind c.args.config
+    (λ cs.
+    fits-under (g.P.Protocol.table c.args.protocol) c.args.config c.args.test.now kind c.in_ok-machine.machine cs c.in_ok-machine.ensures is))
     c.count_runs.ensures.answers

@@ -8,7 +8,8 @@ use Rattle.trace_report.proofs.kept_trace.simulate_telling.Goals as goal
 
 pub simulate_observed-requires-clause-begins : goal.simulate_observed-requires-clause-begins
 simulate_observed-requires-clause-begins c = λ table. (
-  subst (λ (o : Tracer). CanFollow o.follower (new_machine table c.args.setup.now.config c.args.setup.now.test.now)) (sym c.new-limited.ensures.observer) (c.in_ok-follower.ensures.can table),
+  subst (λ (o : Tracer). CanFollow o.follower (new_machine table c.args.setup.now.config c.args.setup.now.test.now))
+      (sym c.new-limited.ensures.observer) (c.in_ok-follower.ensures.can table),
   ap (λ (o : Tracer). o.last) c.new-limited.ensures.observer,
 )
 
@@ -21,8 +22,11 @@ returns-clause-told c = λ few.
     let m = new_machine (table_of kind) config t in
     let first = c.new-limited.ensures.observer in
     let none : c.new-2.result.items ≡ [] = search rules in
-    let watched = shown-whole (λ l. l.observer) (λ l. l.is_passed) OpensTrace MakesStep (λ o m n. view n.told ≡ told_by o m) _ c.simulate_observed.new.observer m choices
+    let watched =
+    shown-whole (λ l. l.observer) (λ l. l.is_passed) OpensTrace MakesStep (λ o m n. view n.told ≡ told_by o m) _
+    c.simulate_observed.new.observer m choices
     c.in_ok-ending.ensures.watched c.new-limited.ensures.unpassed (few-steps c.traces_tell_their_runs.ensures kind config t choices few) in
     ap view c.replace-told.ensures.value
-    ∙ told-whole c.args.extent m _ c.simulate_observed.new.observer.observer choices watched (ap (λ (o : Tracer). o.extent) first) (ap (λ (o : Tracer). o.steps.items) first ∙ none)
+    ∙ told-whole c.args.extent m _ c.simulate_observed.new.observer.observer choices watched
+    (ap (λ (o : Tracer). o.extent) first) (ap (λ (o : Tracer). o.steps.items) first ∙ none)
     (ap (λ (o : Tracer). o.follower.memory.items) first ∙ c.in_ok-follower.ensures.memory)

@@ -9,8 +9,10 @@ loop-loc-preserved g c =
     let there : c.loop-loc.loc < length c.args.test.now.locations = omega arith in
     let room : c.loop-loc.loc < length memory = omega arith in
     let seen : c.loop-loc.loc < length m.state.flat.memory = omega arith in
-    one-word m c.args.words (length m.test.programs) c.loop-loc.loc c.is_newer_in-is_newer.result memory (own_words m c.args.memory.now) c.unwrap_or-seen.result c.memory_word.result
-    room seen c.requires.looked.words_are refl c.is_newer_in-is_newer.ensures (c.unwrap_or-seen.ensures ∙ ap (λ o. unwrap_or o 0) c.seen.ensures) c.memory_word.ensures c.loop-loc.invariant
+    one-word m c.args.words (length m.test.programs) c.loop-loc.loc c.is_newer_in-is_newer.result memory
+    (own_words m c.args.memory.now) c.unwrap_or-seen.result c.memory_word.result
+    room seen c.requires.looked.words_are refl c.is_newer_in-is_newer.ensures
+    (c.unwrap_or-seen.ensures ∙ ap (λ o. unwrap_or o 0) c.seen.ensures) c.memory_word.ensures c.loop-loc.invariant
 
 pub returns-clause-words : goal.returns-clause-words
 returns-clause-words g c =

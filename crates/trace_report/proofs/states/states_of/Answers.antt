@@ -1,4 +1,5 @@
-use Rattle.trace_report.proofs.Vocabulary.{◌≡◌, ◌<◌, ◌-◌, ◌++◌, ◌∙◌, ap, sym, append-nil, rules, length, arith, line_states, number_of_lines, placed_states_from, PlacedState, LineState}
+use Rattle.trace_report.proofs.Vocabulary.{◌≡◌, ◌<◌, ◌-◌, ◌++◌, ◌∙◌, ap, sym, append-nil, rules, length, arith, line_states}
+use Rattle.trace_report.proofs.Vocabulary.{number_of_lines, placed_states_from, PlacedState, LineState}
 use Rattle.trace_report.proofs.Listing.{one-core, one-line}
 use Rattle.trace_report.proofs.states.states_of.Goals as goal
 
@@ -8,7 +9,8 @@ loop-line-preserved g c =
     let core = c.loop-number.number in
     let made : LineState → PlacedState = λ s. record { core = record { 0 = core }; line = c.loop-line.line; state = s } in
     one-line m core c.loop-line.line c.div_ceil-lines.result (made c.line_state-state.result) c.loop-line.states.items c.push.new.self.items
-    (c.loop-number.states.items ++ line_states m core 0 c.div_ceil-lines.result) c.loop-line-test.true (search rules) (ap made c.line_state-state.ensures) c.loop-line.invariant
+    (c.loop-number.states.items ++ line_states m core 0 c.div_ceil-lines.result) c.loop-line-test.true (search rules)
+    (ap made c.line_state-state.ensures) c.loop-line.invariant
 
 pub loop-number-preserved : goal.loop-number-preserved
 loop-number-preserved g c =

@@ -4,4 +4,5 @@ use Rattle.trace_report.proofs.step_as_json.changes_value.Given as goal
 
 abbrev pub invariant-loop-change : goal.invariant-loop-change
 invariant-loop-change l =
-    IsBegun l.values (map string (map (printed_change l.test l.words) (drop l.change-index l.changes))) (map string (map (printed_change l.test l.words) l.initial.changes))
+    IsBegun l.values (map string (map (printed_change l.test l.words) (drop l.change-index l.changes)))
+    (map string (map (printed_change l.test l.words) l.initial.changes))

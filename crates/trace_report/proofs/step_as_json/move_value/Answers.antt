@@ -1,4 +1,5 @@
-use Rattle.trace_report.proofs.Vocabulary.{◌≡◌, ◌∙◌, ap, ◌++◌, [], ◌∷◌, List, ℕ, Some, codes, subst, sym, append_assoc, append-nil, IfOk, string, view, printed_move}
+use Rattle.trace_report.proofs.Vocabulary.{◌≡◌, ◌∙◌, ap, ◌++◌, [], ◌∷◌, List, ℕ, Some, codes, subst, sym, append_assoc, append-nil, IfOk}
+use Rattle.trace_report.proofs.Vocabulary.{string, view, printed_move}
 use Rattle.std.specs.Fmt.{decimal}
 use Rattle.tso_terms.specs.Registers.{name_of}
 use Rattle.trace_report.specs.declared.step.Given.{Given}
@@ -17,4 +18,5 @@ returns-in-Some-Both c =
     let inner : c.in-Some-Both.field-0 ≡ Both g h = rw c.in-Some-Both.is at c.in-Some-Both.field-0-is in
     let moved : c.args.moved ≡ Some (Both g h) = c.in-Some-Both.is ∙ ap Some inner in
     rw moved (subst (λ text. IfOk c.text_value-in-Some-Both.result (λ value. view value ≡ string text))
-    (both-printed c.name-in-Some-Both.result.now c.name-in-Some-Both-2.result.now g h c.name-in-Some-Both.ensures c.name-in-Some-Both-2.ensures) c.text_value-in-Some-Both.ensures)
+    (both-printed c.name-in-Some-Both.result.now c.name-in-Some-Both-2.result.now g h c.name-in-Some-Both.ensures c.name-in-Some-Both-2.ensures)
+    c.text_value-in-Some-Both.ensures)

@@ -7,7 +7,8 @@ loop-core-preserved g c =
     let m = c.args.machine.now in
     let cores = length c.args.test.now.programs in
     let within : c.loop-core.core < cores = omega arith in
-    let quiet : supplies (copy_on m c.loop-core.core c.args.line) ≡ false = sym (ap supplies c.copy_state.ensures) ∙ (sym c.supplies.ensures ∙ c.if-supplies.false) in
+    let quiet : supplies (copy_on m c.loop-core.core c.args.line) ≡ false =
+    sym (ap supplies c.copy_state.ensures) ∙ (sym c.supplies.ensures ∙ c.if-supplies.false) in
     next-core m c.args.line c.loop-core.core cores (supplier_from m c.args.line 0 cores) within quiet c.loop-core.invariant
 
 pub returns-then-supplies : goal.returns-then-supplies
@@ -15,5 +16,6 @@ returns-then-supplies g c =
     let m = c.args.machine.now in
     let cores = length c.args.test.now.programs in
     let within : c.loop-core.core < cores = omega arith in
-    let sends : supplies (copy_on m c.loop-core.core c.args.line) ≡ true = sym (ap supplies c.copy_state.ensures) ∙ (sym c.supplies.ensures ∙ c.if-supplies.true) in
+    let sends : supplies (copy_on m c.loop-core.core c.args.line) ≡ true =
+    sym (ap supplies c.copy_state.ensures) ∙ (sym c.supplies.ensures ∙ c.if-supplies.true) in
     ap supplier_or_memory (this-core m c.args.line c.loop-core.core cores (supplier_from m c.args.line 0 cores) within sends c.loop-core.invariant)

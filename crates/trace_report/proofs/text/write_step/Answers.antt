@@ -17,4 +17,5 @@ returns c =
     (string_bytes c.write_bus_traffic.new.text) (string_bytes c.write_changes.new.text) (string_bytes c.write_buffer.new.text)
     (string_bytes c.write_pieces.new.text) c.in_ok-write_outcome.ensures c.in_ok-write_done.ensures c.in_ok-write_bus_traffic.ensures
     (c.in_ok-write_changes.ensures ∙ ap (λ cs. string_bytes c.write_bus_traffic.new.text ++ changes_text t words cs) c.deref.ensures.value)
-    (c.in_ok-write_buffer.ensures ∙ ap (λ core. string_bytes c.write_changes.new.text ++ buffer_text t core s.buffer) c.core_of.ensures) e) c.write_pieces.ensures
+    (c.in_ok-write_buffer.ensures ∙ ap (λ core. string_bytes c.write_changes.new.text ++ buffer_text t core s.buffer) c.core_of.ensures) e)
+    c.write_pieces.ensures

@@ -1,4 +1,5 @@
-use Rattle.tso_cli.proofs.Vocabulary.{arith, ◌≤◌, length, refl, refusal, Refused, longest_input, IsInputAnswer, IsAnswerTo, too_large, refused, answered, input_refusal, test_refusal, parts_of}
+use Rattle.tso_cli.proofs.Vocabulary.{arith, ◌≤◌, length, refl, refusal, Refused, longest_input, IsInputAnswer, IsAnswerTo, too_large}
+use Rattle.tso_cli.proofs.Vocabulary.{refused, answered, input_refusal, test_refusal, parts_of}
 use Rattle.tso_cli.proofs.answering.judged_answer.Goals as goal
 use Rattle.tso_cli.proofs.AnswerLemmas.{answer-is, answer-means}
 
@@ -23,4 +24,13 @@ returns-in-Err-Fault g c =
     let fault = c.in-Err-Fault.fault in
     answer-is (IsInputAnswer c.args.settings.now c.args.input.now) c.refused_test.result (test_refusal (refusal text fault)) Refused
     (rw c.parts_of-parts.ensures.test at c.refused_test.ensures)
-    (refused (refusal text fault) small (record { at_fault = fault; is = rw (c.parts_of-parts.ensures.test, c.instructions.ensures) at (c.in-Err-Fault.ensures.fault fault (rw c.in-Err-Fault.field-0-is refl)); line = refl; why = refl }))
+    (refused (refusal text fault) small (record {
+      at_fault = fault;
+      is =
+          rw (
+            c.parts_of-parts.ensures.test,
+            c.instructions.ensures,
+          ) at (c.in-Err-Fault.ensures.fault fault (rw c.in-Err-Fault.field-0-is refl));
+      line = refl;
+      why = refl;
+    }))

@@ -9,7 +9,9 @@ returns-clause-exact g c =
       c.as_bytes.result.now,
       subst (λ out. IsAnswer c.args.settings.now input out c.in_ok-answer.answer.status) (sym c.as_bytes.ensures.value)
           (answer-read c.args.settings.now input c.deref.result.now _ _
-          (rw c.deref.ensures.value (rw c.most_read.ensures at (input-is _ _ _ _ c.in_ok-input.ensures.bytes c.in_ok-input.ensures.size c.in_ok-input.ensures.end))) c.in_ok-answer.ensures.exact),
+          (rw c.deref.ensures.value
+          (rw c.most_read.ensures at (input-is _ _ _ _ c.in_ok-input.ensures.bytes c.in_ok-input.ensures.size c.in_ok-input.ensures.end)))
+          c.in_ok-answer.ensures.exact),
       c.in_ok-write_output.ensures.ok,
     )
 
@@ -19,7 +21,9 @@ returns-clause-headline g c =
       c.as_bytes.result.now,
       subst (λ out. Headline c.args.settings.now input out) (sym c.as_bytes.ensures.value)
           (headline-read c.args.settings.now input c.deref.result.now _
-          (rw c.deref.ensures.value (rw c.most_read.ensures at (input-is _ _ _ _ c.in_ok-input.ensures.bytes c.in_ok-input.ensures.size c.in_ok-input.ensures.end))) c.in_ok-answer.ensures.headline),
+          (rw c.deref.ensures.value
+          (rw c.most_read.ensures at (input-is _ _ _ _ c.in_ok-input.ensures.bytes c.in_ok-input.ensures.size c.in_ok-input.ensures.end)))
+          c.in_ok-answer.ensures.headline),
       c.in_ok-write_output.ensures.ok,
     )
 
@@ -31,6 +35,8 @@ returns-in_err-write_output-clause-writer_fault g c =
       c.as_bytes.result.now,
       subst (λ out. IsAnswer c.args.settings.now input out c.in_ok-answer.answer.status) (sym c.as_bytes.ensures.value)
           (answer-read c.args.settings.now input c.deref.result.now _ _
-          (rw c.deref.ensures.value (rw c.most_read.ensures at (input-is _ _ _ _ c.in_ok-input.ensures.bytes c.in_ok-input.ensures.size c.in_ok-input.ensures.end))) c.in_ok-answer.ensures.exact),
+          (rw c.deref.ensures.value
+          (rw c.most_read.ensures at (input-is _ _ _ _ c.in_ok-input.ensures.bytes c.in_ok-input.ensures.size c.in_ok-input.ensures.end)))
+          c.in_ok-answer.ensures.exact),
       c.write_output.ensures.beginning,
     )

@@ -1,4 +1,5 @@
-use Rattle.tso_cli.proofs.Vocabulary.{◌≡◌, ◌∙◌, false, map, string_bytes, ap, subst, sym, LeadTo, ShowsExecution, short_refutation_in, unfinished_cases_in, status_of_verdict, IsWhyAnswer, never, allowed, Unended}
+use Rattle.tso_cli.proofs.Vocabulary.{◌≡◌, ◌∙◌, false, map, string_bytes, ap, subst, sym, LeadTo, ShowsExecution, short_refutation_in}
+use Rattle.tso_cli.proofs.Vocabulary.{unfinished_cases_in, status_of_verdict, IsWhyAnswer, never, allowed, Unended}
 use Rattle.refutation_laws.specs.Models.{depth_of}
 use Rattle.refutation_checker.specs.Trees.{lemma_of, node_of}
 use Rattle.short_reasons.specs.Reasons.{IsShortReason}
@@ -15,10 +16,15 @@ returns-in_ok-text-in-Never c =
     let refuted = subst (λ model. IsShortReason model t c.cases-cases.result (reasons.Never c.in-Never.lemmas c.in-Never.tree)) c.model-model.ensures
     (subst (IsShortReason c.model-model.result t c.cases-cases.result) c.in-Never.is c.in_ok-lemmas.ensures) in
     let is : string_bytes c.in_ok-text-in-Never.text ≡ short_refutation_in c.args.json c.args.plan.model t lemmas tree =
-    c.in_ok-text-in-Never.ensures ∙ (λ i. short_refutation_in c.args.json (c.model-model.ensures i) t (map lemma_of (c.deref.ensures.value i)) (map node_of (c.deref-in-Never.ensures.value i))) in
+    c.in_ok-text-in-Never.ensures
+    ∙ (λ i.
+    short_refutation_in c.args.json (c.model-model.ensures i) t (map lemma_of (c.deref.ensures.value i))
+    (map node_of (c.deref-in-Never.ensures.value i))) in
     subst (λ how. IsWhyAnswer t c.args.plan c.args.json c.args.assert (string_bytes c.in_ok-text-in-Never.text) how)
     (sym (c.of_verdict.ensures ∙ ap (status_of_verdict c.args.assert) c.is_as_claimed.ensures))
-    (subst (λ out. IsWhyAnswer t c.args.plan c.args.json c.args.assert out (status_of_verdict c.args.assert (is_as_claimed t.condition false))) (sym is) (never lemmas tree refuted))
+    (subst (λ out.
+    IsWhyAnswer t c.args.plan c.args.json c.args.assert out (status_of_verdict c.args.assert (is_as_claimed t.condition false)))
+    (sym is) (never lemmas tree refuted))
 
 pub returns-in_ok-text-in-Allowed : goal.returns-in_ok-text-in-Allowed
 returns-in_ok-text-in-Allowed c =

@@ -20,5 +20,6 @@ returns c =
       checks = λ set input out other. checks-one set input out other law decided;
       outcomes = λ search set json again assert asserted input out other.
           searches-one search set json again assert asserted input out other law decided c.outcomes_of_the_same_values_are_alike.ensures;
-      reasons = λ plan another set json again assert asserted input out other. reasons-one plan another set json again assert asserted input out other law decided;
+      reasons = λ plan another set json again assert asserted input out other.
+          reasons-one plan another set json again assert asserted input out other law decided;
     }

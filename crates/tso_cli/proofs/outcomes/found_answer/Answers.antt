@@ -12,5 +12,6 @@ returns c =
     let claimed = c.in_ok-printed.printed.is_as_claimed in
     search-answers t c.args.search c.args.json c.args.assert claimed c.args.finals.now text c.of_verdict.result c.requires.reached c.requires.complete
     (subst (λ show. PrintsOutcomes t (names_shown show t) c.args.search.depth c.args.json c.args.finals.now text claimed) c.show.ensures
-    (subst (λ depth. PrintsOutcomes t (names_shown c.show.result t) depth c.args.json c.args.finals.now text claimed) c.depth.ensures.value c.in_ok-printed.ensures))
+    (subst (λ depth. PrintsOutcomes t (names_shown c.show.result t) depth c.args.json c.args.finals.now text claimed)
+    c.depth.ensures.value c.in_ok-printed.ensures))
     c.of_verdict.ensures

@@ -10,7 +10,8 @@ found_answer-requires-clause-reached g c =
 pub found_answer-requires-clause-complete : goal.found_answer-requires-clause-complete
 found_answer-requires-clause-complete g c =
     let t = c.args.test.now in
-    search-shows t (names_shown c.args.search.show t) (names_shown c.show.result t) c.depth.result c.args.search.depth c.deref.result.now c.in_ok-hidden.hidden.items
+    search-shows t (names_shown c.args.search.show t) (names_shown c.show.result t) c.depth.result c.args.search.depth
+    c.deref.result.now c.in_ok-hidden.hidden.items
     c.in_ok-met.met.final_states.items c.deref-in-Whole.result.now (c.in_ok-met.ensures.complete c.in-Whole.is) c.in_ok-hidden.ensures.not_shown
     (ap (λ show. names_shown show t) c.show.ensures) c.depth.ensures.value c.deref.ensures.value c.deref-in-Whole.ensures.value
 
@@ -22,4 +23,5 @@ unfinished_answer-requires-clause-reached g c =
 pub unfinished_answer-requires-clause-more : goal.unfinished_answer-requires-clause-more
 unfinished_answer-requires-clause-more g c =
     subst (λ states. HasMoreStates c.args.test.now c.args.search.depth states) c.states.ensures
-    (subst (λ depth. HasMoreStates c.args.test.now depth c.states.result) c.depth.ensures.value (c.in_ok-met.ensures.kept c.states.result (c.in_ok-met.ensures.more c.in-Cut.is)))
+    (subst (λ depth. HasMoreStates c.args.test.now depth c.states.result) c.depth.ensures.value
+    (c.in_ok-met.ensures.kept c.states.result (c.in_ok-met.ensures.more c.in-Cut.is)))

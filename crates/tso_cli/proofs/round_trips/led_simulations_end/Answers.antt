@@ -5,5 +5,6 @@ use Rattle.tso_cli.proofs.round_trips.led_simulations_end.Goals as goal
 pub returns : goal.returns
 returns c = record {
   led = led-ends;
-  along = λ t depth order ending test is enough. led-ends t depth (choices_along t order) order ending (c.every_execution_is_reached.ensures t depth order test is enough);
+  along = λ t depth order ending test is enough.
+      led-ends t depth (choices_along t order) order ending (c.every_execution_is_reached.ensures t depth order test is enough);
 }

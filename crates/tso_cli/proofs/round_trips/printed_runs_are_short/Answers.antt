@@ -14,4 +14,5 @@ returns c =
       report_spells = c.report_spells_its_order.ensures;
     } in
     let laws : RunLaws = record { atomic = c.atomic_runs_are_flat_runs.ensures; stops = c.runs_on_either_bus_stop_where_they_end.ensures } in
-    λ kind config set input out within is. printed-short kind config set input out c.texts_are_read_one_way.ensures runs laws c.reports_are_short.ensures within is
+    λ kind config set input out within is.
+    printed-short kind config set input out c.texts_are_read_one_way.ensures runs laws c.reports_are_short.ensures within is

@@ -17,7 +17,8 @@ returns-clause-inputs c =
     } in
     let laws : RunLaws = record { atomic = c.atomic_runs_are_flat_runs.ensures; stops = c.runs_on_either_bus_stop_where_they_end.ensures } in
     λ kind config set input out answer status within joinable is checked.
-    rechecked kind config set input out answer status texts runs laws c.reports_are_short.ensures within (c.joined_parts_are_separated.ensures (parts_of input).test out joinable) is checked
+    rechecked kind config set input out answer status texts runs laws c.reports_are_short.ensures within
+    (c.joined_parts_are_separated.ensures (parts_of input).test out joinable) is checked
 
 pub returns-clause-tests : goal.returns-clause-tests
 returns-clause-tests c =

@@ -13,4 +13,5 @@ returns c =
       spelled = c.printed_choices_are_spelled.ensures;
     } in
     λ kind config set json input out answer status atomic within joinable is ran.
-    replayed kind config set json input out answer status texts reaching atomic within (c.joined_parts_are_separated.ensures (parts_of input).test out joinable) is ran
+    replayed kind config set json input out answer status texts reaching atomic within
+    (c.joined_parts_are_separated.ensures (parts_of input).test out joinable) is ran

@@ -21,6 +21,7 @@ returns-in_ok-text_of_ending-in-Ok c =
 
 pub returns-in-Err : goal.returns-in-Err
 returns-in-Err c =
-    refusal-is (IsRunAnswer c.args.test.now c.args.protocol c.args.config c.args.json c.args.text.now) (c.in-Err.fault ≢ faults.NoMemory) c.refused_choices.result
+    refusal-is (IsRunAnswer c.args.test.now c.args.protocol c.args.config c.args.json c.args.text.now)
+    (c.in-Err.fault ≢ faults.NoMemory) c.refused_choices.result
     (choices_refusal c.in-Err.fault) Refused c.refused_choices.ensures.says c.refused_choices.ensures.real
     (λ real. refused c.in-Err.fault (rw c.cores.ensures.value at (c.in-Err.ensures.refused real)))

@@ -1,4 +1,5 @@
-use Rattle.tso_cli.proofs.Vocabulary.{arith, ◌≤◌, length, refl, refusal, Refused, too_large, refused, longest_input, input_refusal, test_refusal, parts_of, IsStepAnswer, IsLastStep}
+use Rattle.tso_cli.proofs.Vocabulary.{arith, ◌≤◌, length, refl, refusal, Refused, too_large, refused, longest_input, input_refusal}
+use Rattle.tso_cli.proofs.Vocabulary.{test_refusal, parts_of, IsStepAnswer, IsLastStep}
 use Rattle.tso_cli.specs.Step as step
 use Rattle.tso_cli.proofs.StepLemmas.{step-of-test}
 use Rattle.tso_cli.proofs.stepping.step_answer.Goals as goal
@@ -31,4 +32,10 @@ returns-in-Err-Fault c =
     answer-is (IsStepAnswer c.args.protocol c.args.config c.args.instructions c.args.input.now) c.refused_test.result line Refused
     says
     (step.refused line (refused (refusal text fault) small
-    (record { at_fault = fault; is = rw c.parts_of-parts.ensures.test at (c.in-Err-Fault.ensures.fault fault (rw c.in-Err-Fault.field-0-is refl)); line = refl; why = refl })))
+    (record {
+      at_fault = fault;
+      is =
+          rw c.parts_of-parts.ensures.test at (c.in-Err-Fault.ensures.fault fault (rw c.in-Err-Fault.field-0-is refl));
+      line = refl;
+      why = refl;
+    })))

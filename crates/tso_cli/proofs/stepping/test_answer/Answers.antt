@@ -8,6 +8,7 @@ use Rattle.tso_cli.proofs.AnswerLemmas.{refusal-is}
 pub returns-in-Err : goal.returns-in-Err
 returns-in-Err c =
     let line = choices_refusal c.in-Err.fault in
-    refusal-is (IsLastStep c.args.setup.now.test.now c.args.setup.now.protocol c.args.setup.now.config c.args.text.now) (c.in-Err.fault ≢ faults.NoMemory) c.refused_choices.result
+    refusal-is (IsLastStep c.args.setup.now.test.now c.args.setup.now.protocol c.args.setup.now.config c.args.text.now)
+    (c.in-Err.fault ≢ faults.NoMemory) c.refused_choices.result
     line Refused c.refused_choices.ensures.says c.refused_choices.ensures.real
     (λ real. refused line (trace.refused c.in-Err.fault (rw c.cores.ensures.value at (c.in-Err.ensures.refused real))))

@@ -9,5 +9,8 @@ returns c =
       text = lines-of c.args.test.now c.in_ok-swept.swept.tally.test c.args.protocol c.args.config c.args.plan c.in_ok-swept.swept.tally.counts _ _ _ _ _
           joined c.in_ok-text.ensures c.in_ok-text-2.ensures c.in_ok-swept.ensures.test c.in_ok-swept.ensures.counts c.from.ensures c.length.ensures;
       answers = c.in_ok-swept.ensures.answers;
-      status_is = c.status_of.ensures ∙ ap (λ (b : Bool). cond b Good Unended) (c.in_ok-swept.ensures.ended ∙ ap (λ (k : RunCounts). k.unfinished == 0) c.in_ok-swept.ensures.counts);
+      status_is =
+          c.status_of.ensures
+          ∙ ap (λ (b : Bool). cond b Good Unended)
+          (c.in_ok-swept.ensures.ended ∙ ap (λ (k : RunCounts). k.unfinished == 0) c.in_ok-swept.ensures.counts);
     }

@@ -1,4 +1,5 @@
-use Rattle.tso_cli.proofs.Vocabulary.{◌∙◌, ◌++◌, refl, ap, string_bytes, table_of, false, run_under, counts_under, head, trace_text, trace_under, ending_text, traced_in, status_under, traced, IsTraceAnswer}
+use Rattle.tso_cli.proofs.Vocabulary.{◌∙◌, ◌++◌, refl, ap, string_bytes, table_of, false, run_under, counts_under, head, trace_text}
+use Rattle.tso_cli.proofs.Vocabulary.{trace_under, ending_text, traced_in, status_under, traced, IsTraceAnswer}
 use Rattle.trace_report.proofs.Traced.{traced-first}
 use Rattle.tso_cli.proofs.AnswerLemmas.{same-answer}
 use Rattle.tso_cli.proofs.StepLemmas.{status-is}
@@ -22,7 +23,10 @@ returns c =
     let text = three-pieces (head t kind config) (trace_text t config.shape.words (trace_under t kind config choices)) (ending_text t counts r)
     (string_bytes c.in_ok-head.head) (string_bytes c.simulate_observed.new.observer.text) (string_bytes c.write_left.new.text)
     c.in_ok-head.ensures told
-    (c.in_ok-write_left.ensures ∙ ap (λ x. string_bytes c.simulate_observed.new.observer.text ++ x) (lines-are t counts r c.in_ok-ending.ending c.in_ok-ending.ensures.ending c.in_ok-ending.ensures.counts)) in
-    same-answer (IsTraceAnswer t kind config false c.args.text.now) _ (traced_in false t kind config choices) c.status_in-status.result (status_under t kind config choices)
+    (c.in_ok-write_left.ensures
+    ∙ ap (λ x. string_bytes c.simulate_observed.new.observer.text ++ x)
+    (lines-are t counts r c.in_ok-ending.ending c.in_ok-ending.ensures.ending c.in_ok-ending.ensures.counts)) in
+    same-answer (IsTraceAnswer t kind config false c.args.text.now) _ (traced_in false t kind config choices)
+    c.status_in-status.result (status_under t kind config choices)
     text (c.status_in-status.ensures ∙ status-is t r c.in_ok-ending.ending c.in_ok-ending.ensures.ending)
     (traced choices c.requires.spelled c.in_ok-ending.ensures.answers (lines-fit r))

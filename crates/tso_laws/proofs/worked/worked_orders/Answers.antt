@@ -1,4 +1,5 @@
-use Rattle.tso_laws.proofs.Vocabulary.{◌≡◌, ◌<◌, ℕ, [], Some, slice_get, arith, refl, ap, ◌∙◌, rules, IsTest, sb, sb_choices, n6, separated_order, loc_x, loc_y, entry, IsStorePart, Entry, R, W, LR, LW, n6_along}
+use Rattle.tso_laws.proofs.Vocabulary.{◌≡◌, ◌<◌, ℕ, [], Some, slice_get, arith, refl, ap, ◌∙◌, rules, IsTest, sb, sb_choices, n6}
+use Rattle.tso_laws.proofs.Vocabulary.{separated_order, loc_x, loc_y, entry, IsStorePart, Entry, R, W, LR, LW, n6_along}
 use Rattle.tso_laws.proofs.SoFar.{test-locations}
 use Rattle.tso_laws.proofs.Beginnings.{run-is-execution}
 use Rattle.tso_laws.proofs.worked.worked_orders.Goals as goal
@@ -19,7 +20,9 @@ pub returns-clause-short_is_not_whole : goal.returns-clause-short_is_not_whole
 returns-clause-short_is_not_whole c = λ tso. let count : 3 ≡ 4 = tso.whole.count in absurd (omega arith)
 
 pub returns-clause-turned_breaks_program_order : goal.returns-clause-turned_breaks_program_order
-returns-clause-turned_breaks_program_order c = λ tso. let less : 3 < 2 = tso.program_order 3 2 (entry 1 0 W loc_y 2) (entry 1 1 W loc_x 2) refl refl refl refl in absurd (omega arith)
+returns-clause-turned_breaks_program_order c = λ tso.
+    let less : 3 < 2 = tso.program_order 3 2 (entry 1 0 W loc_y 2) (entry 1 1 W loc_x 2) refl refl refl refl in
+    absurd (omega arith)
 
 pub returns-clause-separated_is_not_adjacent : goal.returns-clause-separated_is_not_adjacent
 returns-clause-separated_is_not_adjacent c = λ tso.

@@ -1,4 +1,5 @@
-use Rattle.tso_laws.proofs.BusVocabulary.{◌≡◌, ◌<◌, ℕ, zero, suc, [], ◌∷◌, arith, refl, inl, inr, entry, choices_in, loc_x, loc_y, R, W, LR, LW, IsRound, one_round}
+use Rattle.tso_laws.proofs.BusVocabulary.{◌≡◌, ◌<◌, ℕ, zero, suc, [], ◌∷◌, arith, refl, inl, inr, entry, choices_in, loc_x, loc_y, R, W, LR}
+use Rattle.tso_laws.proofs.BusVocabulary.{LW, IsRound, one_round}
 use Rattle.tso_laws.proofs.worked_split.split_laws_need_their_premises.Goals as goal
 
 pub returns-clause-store_between_is_refuted : goal.returns-clause-store_between_is_refuted

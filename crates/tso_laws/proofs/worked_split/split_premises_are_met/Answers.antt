@@ -1,4 +1,5 @@
-use Rattle.tso_laws.proofs.BusVocabulary.{zero, suc, [], arith, refl, inl, inr, rules, IsTest, start, unheld, HitsFit, choices_in, Split, IsRound, added_and_loaded_elsewhere, load_between, one_round}
+use Rattle.tso_laws.proofs.BusVocabulary.{zero, suc, [], arith, refl, inl, inr, rules, IsTest, start, unheld, HitsFit, choices_in, Split}
+use Rattle.tso_laws.proofs.BusVocabulary.{IsRound, added_and_loaded_elsewhere, load_between, one_round}
 use Rattle.tso_laws.proofs.worked_split.split_premises_are_met.Goals as goal
 
 is-test : IsTest added_and_loaded_elsewhere

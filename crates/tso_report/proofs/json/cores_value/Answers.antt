@@ -6,7 +6,9 @@ pub loop-registers-preserved : goal.loop-registers-preserved
 loop-registers-preserved c =
     let xs = c.args.registers.now in
     let still = ap (map registers_value) (drop_more xs c.loop-registers.registers-index _ c.loop-registers-test.true) in
-    c.with-values.ensures _ _ _ (subst (λ ds. IsBegun c.loop-registers.values ds (map registers_value xs)) still c.loop-registers.invariant) c.registers_value.ensures
+    c.with-values.ensures _ _ _
+    (subst (λ ds. IsBegun c.loop-registers.values ds (map registers_value xs)) still c.loop-registers.invariant)
+    c.registers_value.ensures
 
 pub returns : goal.returns
 returns c =

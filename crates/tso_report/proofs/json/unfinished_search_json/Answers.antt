@@ -1,4 +1,5 @@
-use Rattle.tso_report.proofs.Vocabulary.{◌≡◌, refl, subst, codes, IfOk, line, compact_text, string_bytes, string, count, Members, no_members, member, object, put}
+use Rattle.tso_report.proofs.Vocabulary.{◌≡◌, refl, subst, codes, IfOk, line, compact_text, string_bytes, string, count, Members}
+use Rattle.tso_report.proofs.Vocabulary.{no_members, member, object, put}
 use Rattle.tso_report.proofs.json.unfinished_search_json.Goals as goal
 
 pub line-requires : goal.line-requires

@@ -7,8 +7,12 @@ loop-key-init c = (no_members, c.new-object.ensures, refl)
 
 pub loop-key-preserved : goal.loop-key-preserved
 loop-key-preserved c =
-    let so_far = c.loop-key.invariant in
-    (_, c.member-object.ensures _ _ so_far.1 c.datum_value.ensures, sym (ap (λ l. with_data l so_far.0) (drop_more c.args.fields.now c.loop-key.key-index _ c.loop-key-test.true)) ∙ so_far.2)
+    let so_far = c.loop-key.invariant in (
+      _,
+      c.member-object.ensures _ _ so_far.1 c.datum_value.ensures,
+      sym (ap (λ l. with_data l so_far.0) (drop_more c.args.fields.now c.loop-key.key-index _ c.loop-key-test.true))
+          ∙ so_far.2,
+    )
 
 pub returns : goal.returns
 returns c =

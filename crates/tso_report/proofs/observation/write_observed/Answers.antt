@@ -9,5 +9,8 @@ returns c =
     let failed : List ℕ = decimal c.args.failed in
     on_ok_weaker c.write_pieces.result
     (λ e. e ∙ ap (λ text. string_bytes c.args.text.now ++ text)
-    (ap (λ word. codes "Observation " ++ (c.args.name.now ++ (codes " " ++ (word ++ (codes " " ++ (held ++ (codes " " ++ (failed ++ 10 ∷ [])))))))) c.frequency.ensures
+    (ap (λ word.
+    codes "Observation "
+    ++ (c.args.name.now ++ (codes " " ++ (word ++ (codes " " ++ (held ++ (codes " " ++ (failed ++ 10 ∷ []))))))))
+    c.frequency.ensures
     ∙ observed_nested c.args.name.now (frequency c.args.held c.args.failed) held failed)) c.write_pieces.ensures

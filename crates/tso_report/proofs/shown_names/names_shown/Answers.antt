@@ -6,7 +6,8 @@ use Rattle.tso_report.proofs.shown_names.names_shown.Goals as goal
 
 pub loop-loc-init : goal.loop-loc-init
 loop-loc-init c =
-    registers-noted (is_shown c.args.show c.args.test.now) c.args.test.now c.new-list.result.items c.note_registers.new.list.items c.new-list.ensures.items c.in_ok-note_registers.ensures
+    registers-noted (is_shown c.args.show c.args.test.now) c.args.test.now c.new-list.result.items
+    c.note_registers.new.list.items c.new-list.ensures.items c.in_ok-note_registers.ensures
 
 pub loop-loc-preserved : goal.loop-loc-preserved
 loop-loc-preserved c =
@@ -17,7 +18,8 @@ loop-loc-preserved c =
 pub returns-clause-list : goal.returns-clause-list
 returns-clause-list c =
     let t = c.args.test.now in
-    all-noted (is_shown c.args.show t) t (names_shown c.args.show t) c.loop-loc.list.items c.loop-loc.loc (omega (arith, c.loop-loc-test.false, c.locations-loc-end.ensures.value)) c.loop-loc.invariant
+    all-noted (is_shown c.args.show t) t (names_shown c.args.show t) c.loop-loc.list.items c.loop-loc.loc
+    (omega (arith, c.loop-loc-test.false, c.locations-loc-end.ensures.value)) c.loop-loc.invariant
 
 pub returns-clause-known : goal.returns-clause-known
 returns-clause-known c = shown-known c.args.show c.args.test.now c.loop-loc.list.items (returns-clause-list c)

@@ -6,5 +6,6 @@ pub returns : goal.returns
 returns c =
     on_ok_weaker c.write_pieces.result
     (λ e. e ∙ ap (λ text. string_bytes c.args.text.now ++ text)
-    (sweep_nested (decimal c.args.from) (decimal (c.args.ended + c.args.unfinished)) (decimal c.args.length) (decimal c.args.ended) (decimal c.args.unfinished)))
+    (sweep_nested (decimal c.args.from) (decimal (c.args.ended + c.args.unfinished)) (decimal c.args.length)
+    (decimal c.args.ended) (decimal c.args.unfinished)))
     c.write_pieces.ensures

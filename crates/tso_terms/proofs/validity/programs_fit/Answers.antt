@@ -11,7 +11,9 @@ returns-then-not-program_fits c =
       λ wrong. absurd (false≢true wrong),
       λ each.
           let fits = All-from_map (IsProgram c.args.locations) (λ program. program.items) programs each in
-          let here = All-get_or (λ program. IsProgram c.args.locations program.items) programs c.loop-program.program-index c.program-item.result c.loop-program-test.true fits in
+          let here =
+          All-get_or (λ program. IsProgram c.args.locations program.items) programs c.loop-program.program-index
+          c.program-item.result c.loop-program-test.true fits in
           let this = subst (λ program. IsProgram c.args.locations program.items) (sym c.program-item.is) here in
           sym c.if-not-program_fits.true ∙ c.program_fits.ensures.1 (rw c.deref.ensures.value this),
     )
@@ -19,7 +21,11 @@ returns-then-not-program_fits c =
 pub returns : goal.returns
 returns c =
     let programs = c.args.programs.now in
-    let within = AllWithin-upto (λ program. IsProgram c.args.locations program.items) programs 0 c.loop-program.program-index _ (omega arith) c.loop-program.invariant in (
-      λ _. All-map (IsProgram _) (λ program. program.items) programs (All-from_all_within (λ program. IsProgram c.args.locations program.items) programs within),
+    let within =
+    AllWithin-upto (λ program. IsProgram c.args.locations program.items) programs 0 c.loop-program.program-index _
+    (omega arith) c.loop-program.invariant in (
+      λ _.
+          All-map (IsProgram _) (λ program. program.items) programs
+          (All-from_all_within (λ program. IsProgram c.args.locations program.items) programs within),
       λ _. refl,
     )

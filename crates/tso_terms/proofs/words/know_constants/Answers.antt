@@ -10,4 +10,6 @@ loop-instr-preserved c =
     (HoldsAt-from_one ConstantIsWord c.args.program.now c.loop-instr.instr-index _ c.loop-instr-test.true (c.know_constant.ensures))
 
 pub returns : goal.returns
-returns c = All-from_all_within ConstantIsWord c.args.program.now (AllWithin-upto ConstantIsWord c.args.program.now 0 c.loop-instr.instr-index _ (omega arith) c.loop-instr.invariant)
+returns c =
+    All-from_all_within ConstantIsWord c.args.program.now
+    (AllWithin-upto ConstantIsWord c.args.program.now 0 c.loop-instr.instr-index _ (omega arith) c.loop-instr.invariant)

@@ -10,4 +10,6 @@ loop-program-preserved c =
     (rw c.deref.ensures.value at c.know_constants.ensures))
 
 pub returns : goal.returns
-returns c = All-from_all_within (λ p. All ConstantIsWord p.items) c.args.programs.now (AllWithin-upto (λ p. All ConstantIsWord p.items) c.args.programs.now 0 c.loop-program.program-index _ (omega arith) c.loop-program.invariant)
+returns c =
+    All-from_all_within (λ p. All ConstantIsWord p.items) c.args.programs.now
+    (AllWithin-upto (λ p. All ConstantIsWord p.items) c.args.programs.now 0 c.loop-program.program-index _ (omega arith) c.loop-program.invariant)

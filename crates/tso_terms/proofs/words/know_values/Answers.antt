@@ -7,5 +7,7 @@ pub returns : goal.returns
 returns c = record {
   words = rw c.deref.ensures.value at c.know_words.ensures;
   registers = rw c.deref-2.ensures.value at c.know_registers.ensures;
-  constants = All-map (λ p. All ConstantIsWord p) (λ program. program.items) c.args.parts.now.programs.items (rw c.deref-3.ensures.value at c.know_programs.ensures);
+  constants =
+      All-map (λ p. All ConstantIsWord p) (λ program. program.items) c.args.parts.now.programs.items
+      (rw c.deref-3.ensures.value at c.know_programs.ensures);
 }

@@ -9,5 +9,7 @@ pub invariant_of-self : goal.invariant_of-self
 invariant_of-self c =
     let all : length c.self.inside.sets.items ≤ c.loop-at.at = omega arith in
     let cleared : c.loop-at.self-inside.sets.items ≡ map emptied c.self.inside.sets.items =
-    c.loop-at.invariant ∙ rw (take_all c.loop-at.at c.self.inside.sets.items all, drop_all c.loop-at.at c.self.inside.sets.items all) (append-nil (map emptied c.self.inside.sets.items)) in
+    c.loop-at.invariant
+    ∙ rw (take_all c.loop-at.at c.self.inside.sets.items all, drop_all c.loop-at.at c.self.inside.sets.items all)
+    (append-nil (map emptied c.self.inside.sets.items)) in
     rw cleared (home-emptied c.self.inside.sets.items c.self.invariant.0)

@@ -25,6 +25,7 @@ returns g c =
     let t = c.self.inside.test.now in
     let old = c.self.inside.hardware in
     let new = c.restart.new.hardware in
-    Running-same _ t old.config.bus new.config.bus old.config.depth new.config.depth (unheld (start t)) (state_in new) [] new.commits.entries _ (statistics_in new) false false
+    Running-same _ t old.config.bus new.config.bus old.config.depth new.config.depth (unheld (start t)) (state_in new)
+    [] new.commits.entries _ (statistics_in new) false false
     refl (ap (λ config. config.bus) r.config) (ap (λ config. config.depth) r.config) r.begun.state r.begun.commits r.statistics refl
     ∙ ap restarted c.self.view_is

@@ -10,4 +10,5 @@ pub returns-clause-tests : goal.returns-clause-tests
 returns-clause-tests given = λ t kind c r out answer status p1 p2 p3 p4. (given.printed_runs_are_valid.ensures.tests t kind c r out answer status p1 p2 p3 p4)
 
 pub returns-clause-inputs : goal.returns-clause-inputs
-returns-clause-inputs given = λ kind c input out answer status p1 p2 p3 p4. (given.printed_runs_are_valid.ensures.inputs kind c input out answer status p1 p2 p3 p4)
+returns-clause-inputs given = λ kind c input out answer status p1 p2 p3 p4.
+    (given.printed_runs_are_valid.ensures.inputs kind c input out answer status p1 p2 p3 p4)

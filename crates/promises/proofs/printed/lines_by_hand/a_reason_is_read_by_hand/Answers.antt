@@ -1,10 +1,12 @@
 use Rattle.promises.proofs.printed.lines_by_hand.a_reason_is_read_by_hand.Goals as goal
 
 pub returns-clause-text : goal.returns-clause-text
-returns-clause-text c = λ model t lemmas tree refuted. let is = c.printed_lines_refute.ensures.printed model t lemmas tree refuted in (is.lines, is.refute, is.text)
+returns-clause-text c = λ model t lemmas tree refuted.
+    let is = c.printed_lines_refute.ensures.printed model t lemmas tree refuted in (is.lines, is.refute, is.text)
 
 pub returns-clause-object : goal.returns-clause-object
-returns-clause-object c = λ model t lemmas tree refuted. let is = c.printed_lines_refute.ensures.printed model t lemmas tree refuted in (is.lines, is.refute, is.object)
+returns-clause-object c = λ model t lemmas tree refuted.
+    let is = c.printed_lines_refute.ensures.printed model t lemmas tree refuted in (is.lines, is.refute, is.object)
 
 pub returns-clause-executions : goal.returns-clause-executions
 returns-clause-executions c = λ model t claim lines order names read execution.

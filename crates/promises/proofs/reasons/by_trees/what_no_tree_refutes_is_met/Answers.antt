@@ -2,10 +2,12 @@ use Rattle.promises.proofs.Refuting.{candidate-of, execution-of, run-of}
 use Rattle.promises.proofs.reasons.by_trees.what_no_tree_refutes_is_met.Goals as goal
 
 pub returns-clause-candidate : goal.returns-clause-candidate
-returns-clause-candidate c = λ model t claim test names none. candidate-of model t claim none (c.claims_are_refuted_or_met.ensures.candidates model t claim test names)
+returns-clause-candidate c = λ model t claim test names none.
+    candidate-of model t claim none (c.claims_are_refuted_or_met.ensures.candidates model t claim test names)
 
 pub returns-clause-execution : goal.returns-clause-execution
-returns-clause-execution c = λ model t claim test names none. execution-of model t claim none (c.claims_are_refuted_or_met.ensures.executions model t claim test names)
+returns-clause-execution c = λ model t claim test names none.
+    execution-of model t claim none (c.claims_are_refuted_or_met.ensures.executions model t claim test names)
 
 pub returns-clause-ended_run : goal.returns-clause-ended_run
 returns-clause-ended_run c = λ model t claim test names none. run-of model t claim none (c.claims_are_refuted_or_met.ensures.runs model t claim test names)

@@ -9,5 +9,6 @@ returns-then-self-eq0 c =
 
 pub returns : goal.returns
 returns c =
-    one-drawn (choice_of_word c.args.self.now.cores) c.args.self.now.left c.args.self.now.generator c.next_word.new.self c.next_word.result c.choice_of_word.result
+    one-drawn (choice_of_word c.args.self.now.cores) c.args.self.now.left c.args.self.now.generator c.next_word.new.self
+    c.next_word.result c.choice_of_word.result
     c.if-self-eq0.false c.next_word.ensures c.choice_of_word.ensures

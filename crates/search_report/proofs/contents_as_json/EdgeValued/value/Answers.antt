@@ -8,5 +8,9 @@ returns c =
     let edge = c.args.self.now in
     let relation : c.relation_text-relation.result.now ≡ relation_text edge.relation = c.relation_text-relation.ensures in
     subst (λ (d : Data). IfOk c.value.result (λ value. view value ≡ d))
-    (λ i. object (put (codes "to") (string (event_text t edge.target)) (put (codes "relation") (string (relation i)) (put (codes "from") (string (event_text t edge.source)) no_members))))
-    (c.value.ensures _ (c.member-3.ensures _ _ (c.member-2.ensures _ _ (c.member.ensures _ _ c.new.ensures c.text_value.ensures) c.text_value-2.ensures) c.text_value-3.ensures))
+    (λ i.
+    object (put (codes "to") (string (event_text t edge.target))
+    (put (codes "relation") (string (relation i)) (put (codes "from") (string (event_text t edge.source)) no_members))))
+    (c.value.ensures _ (c.member-3.ensures _ _
+    (c.member-2.ensures _ _ (c.member.ensures _ _ c.new.ensures c.text_value.ensures) c.text_value-2.ensures)
+    c.text_value-3.ensures))

@@ -8,7 +8,8 @@ use Rattle.search_report.proofs.line_json.ClosingValued.value.Goals as goal
 pub returns-in-Between : goal.returns-in-Between
 returns-in-Between c =
     subst (λ (x : Closing). IfOk c.value.result (λ value. view value ≡ closing_value c.args.test.now (shown_closing_of x))) (sym c.in-Between.is)
-    (c.value.ensures _ (c.member-in-Between-3.ensures _ _ (c.member-in-Between-2.ensures _ _ (c.member-in-Between.ensures _ _ (c.member.ensures _ _ c.new.ensures
+    (c.value.ensures _
+    (c.member-in-Between-3.ensures _ _ (c.member-in-Between-2.ensures _ _ (c.member-in-Between.ensures _ _ (c.member.ensures _ _ c.new.ensures
     c.content_value.ensures) c.content_value-in-Between.ensures) c.word_value.ensures) c.content_value-in-Between-2.ensures))
 
 pub returns-in-False : goal.returns-in-False
@@ -21,7 +22,8 @@ returns-in-False c =
 pub returns-in-NoAnswer : goal.returns-in-NoAnswer
 returns-in-NoAnswer c =
     subst (λ (x : Closing). IfOk c.value-in-NoAnswer.result (λ value. view value ≡ closing_value c.args.test.now (shown_closing_of x))) (sym c.in-NoAnswer.is)
-    (c.value-in-NoAnswer.ensures _ (c.member-in-NoAnswer-3.ensures _ _ (c.member-in-NoAnswer-2.ensures _ _ (c.member-in-NoAnswer.ensures _ _ c.new-in-NoAnswer.ensures
+    (c.value-in-NoAnswer.ensures _
+    (c.member-in-NoAnswer-3.ensures _ _ (c.member-in-NoAnswer-2.ensures _ _ (c.member-in-NoAnswer.ensures _ _ c.new-in-NoAnswer.ensures
     c.written_value.ensures) c.word_value-in-NoAnswer.ensures) c.word_value-in-NoAnswer-2.ensures))
 
 pub returns-in-ByLemma : goal.returns-in-ByLemma

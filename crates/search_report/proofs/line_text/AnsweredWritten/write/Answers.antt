@@ -35,6 +35,7 @@ returns-in_ok-write_characters-in-Some c =
     c.in_ok-write_characters-in-Some.ensures ∙ ap (λ bytes. bytes ++ codes ": ") said in
     subst (λ (bytes : List ℕ). OnOk c.write.result (string_bytes c.write.new.text ≡ bytes))
     (ap (λ bytes. bytes ++ closing) before
-    ∙ case-closed (string_bytes c.args.text.now) (question_text a.question.now) answers (closed_text t (option_map shown_closing_of a.closing)) (codes ": ") closing
+    ∙ case-closed (string_bytes c.args.text.now) (question_text a.question.now) answers
+    (closed_text t (option_map shown_closing_of a.closing)) (codes ": ") closing
     (ap (λ (x : Option Closing). closed_text t (option_map shown_closing_of x)) c.in-Some.is))
     c.write.ensures

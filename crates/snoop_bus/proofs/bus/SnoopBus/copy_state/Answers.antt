@@ -17,5 +17,6 @@ returns-in-Some g c =
     let caches = c.self.inside.hierarchy.caches.items in
     let within : core < length caches = rw (← c.self.view_is) at c.requires in
     let looked = (rw c.from.ensures at c.index.ensures) ∙ get_or_default caches core c.index.result.now [] within in
-    let found : copy_at caches core c.args.line ≡ Some c.in-Some.copy.now = sym (ap (λ (sets : Sets). copy_in sets c.args.line) looked) ∙ sym c.in-Some.ensures.found in
+    let found : copy_at caches core c.args.line ≡ Some c.in-Some.copy.now =
+    sym (ap (λ (sets : Sets). copy_in sets c.args.line) looked) ∙ sym c.in-Some.ensures.found in
     rw (← c.self.view_is) (sym (tag_at-copy caches core c.args.line ∙ ap (λ (o : Option Line). option_map (λ copy. copy.state) o) found))

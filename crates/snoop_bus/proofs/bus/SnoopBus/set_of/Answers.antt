@@ -8,5 +8,7 @@ set-requires g c =
     let set : c.args.set < c.self.inside.shape.sets = rw (← c.self.view_is) at c.requires.set in
     let here = rw c.from.ensures at c.index.ensures in
     let sized : length c.index.result.now ≡ c.self.inside.shape.sets =
-    ap length (here ∙ get_or_default c.self.inside.hierarchy.caches.items c.args.core.0 c.index.result.now [] within) ∙ cache-sets c.self.inside.shape c.self.inside.locations c.self.inside.hierarchy.caches.items c.self.inside.hierarchy.memory.items c.self.inside.held c.args.core.0 c.self.invariant within in
+    ap length (here ∙ get_or_default c.self.inside.hierarchy.caches.items c.args.core.0 c.index.result.now [] within)
+    ∙ cache-sets c.self.inside.shape c.self.inside.locations c.self.inside.hierarchy.caches.items
+    c.self.inside.hierarchy.memory.items c.self.inside.held c.args.core.0 c.self.invariant within in
     rw sized set

@@ -10,21 +10,26 @@ returns-clause-words g c =
     let free = free-held c.self.inside.held (rw (← c.self.view_is) at c.requires.free) in
     let keeps = c.settle.ensures.words in
     rw (← c.self.view_is, free)
-    (words-same c.self.inside.shape.words c.self.inside.locations (length c.self.inside.hierarchy.memory.items) (current_words c.self.inside.hierarchy.caches.items c.self.inside.hierarchy.memory.items) (current_words c.settle.new.self.caches.items c.settle.new.self.memory.items)
+    (words-same c.self.inside.shape.words c.self.inside.locations (length c.self.inside.hierarchy.memory.items)
+    (current_words c.self.inside.hierarchy.caches.items c.self.inside.hierarchy.memory.items)
+    (current_words c.settle.new.self.caches.items c.settle.new.self.memory.items)
     c.self.invariant.some_word c.self.invariant.enough_lines keeps.words)
 
 pub returns-clause-memory : goal.returns-clause-memory
 returns-clause-memory g c =
     let free = free-held c.self.inside.held (rw (← c.self.view_is) at c.requires.free) in
     rw (← c.self.view_is, free)
-    (settled_words c.self.inside.shape.words c.self.inside.locations c.self.inside.hierarchy.caches.items c.self.inside.hierarchy.memory.items c.settle.new.self.memory.items c.self.invariant.some_word c.self.invariant.enough_lines
+    (settled_words c.self.inside.shape.words c.self.inside.locations c.self.inside.hierarchy.caches.items
+    c.self.inside.hierarchy.memory.items c.settle.new.self.memory.items c.self.invariant.some_word
+    c.self.invariant.enough_lines
     c.settle.ensures.memory)
 
 pub invariant_of-self : goal.invariant_of-self
 invariant_of-self g c =
     let free = free-held c.self.inside.held (rw (← c.self.view_is) at c.requires.free) in
     let keeps = c.settle.ensures.words in
-    rw (free) (bus-kept c.self.inside.shape c.self.inside.locations c.self.inside.hierarchy c.settle.new.self None None (rw free at c.self.invariant) c.settle.ensures.size keeps keeps.ways tt tt)
+    rw (free) (bus-kept c.self.inside.shape c.self.inside.locations c.self.inside.hierarchy c.settle.new.self None None
+    (rw free at c.self.invariant) c.settle.ensures.size keeps keeps.ways tt tt)
 
 pub returns-clause-coherent : goal.returns-clause-coherent
 returns-clause-coherent g c =

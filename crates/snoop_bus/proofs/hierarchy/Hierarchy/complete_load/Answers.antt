@@ -22,11 +22,17 @@ returns-clause-ways g c = c.fill_asked-report.ensures.ways
 pub returns-clause-ok : goal.returns-clause-ok
 returns-clause-ok g c =
     let awaits = rw c.unwrap-transaction.ensures at c.requires.awaited.awaits in
-    rw (c.unwrap-transaction.ensures, awaits.0) (record { report_is = c.fill_asked-report.ensures.report; tags = c.fill_asked-report.ensures.tags; memory = c.fill_asked-report.ensures.memory })
+    rw (c.unwrap-transaction.ensures, awaits.0) (record {
+      report_is = c.fill_asked-report.ensures.report;
+      tags = c.fill_asked-report.ensures.tags;
+      memory = c.fill_asked-report.ensures.memory;
+    })
 
 pub returns-clause-word : goal.returns-clause-word
 returns-clause-word g c =
     let held = c.requires.awaited in
     rw (c.unwrap-transaction.ensures, c.from.ensures)
     (ap (λ words. slice_index words c.args.target.offset)
-    (kept_words c.args.self.now.caches.items c.args.self.now.memory.items c.args.target.core c.args.target.line c.unwrap-transaction.result.copy (rw c.unwrap-transaction.ensures at held.coherent) held.core_in held.some_set held.line_in))
+    (kept_words c.args.self.now.caches.items c.args.self.now.memory.items c.args.target.core c.args.target.line
+    c.unwrap-transaction.result.copy (rw c.unwrap-transaction.ensures at held.coherent) held.core_in held.some_set
+    held.line_in))

@@ -11,4 +11,5 @@ returns-clause-tags c =
 pub returns-clause-ways : goal.returns-clause-ways
 returns-clause-ways c =
     let at = c.index_mut-cache.ensures.value ∙ get_or_default c.args.self.now.caches.items c.args.core c.index_mut-cache.result.now [] c.requires.core in
-    ways-set_cache c.args.self.now.caches.items c.args.core c.set_state.new.self (c.set_state.ensures.ways ∙ c.touch.ensures.ways ∙ ap (λ (sets : Sets). map (λ s. s.ways) sets) at)
+    ways-set_cache c.args.self.now.caches.items c.args.core c.set_state.new.self
+    (c.set_state.ensures.ways ∙ c.touch.ensures.ways ∙ ap (λ (sets : Sets). map (λ s. s.ways) sets) at)

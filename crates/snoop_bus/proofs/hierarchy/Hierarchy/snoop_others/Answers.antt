@@ -1,4 +1,5 @@
-use Rattle.snoop_bus.proofs.Vocabulary.{arith, ◌≡◌, ◌<◌, ℕ, [], length, map, refl, sym, ap, subst, ◌∙◌, get_or_default, Sets, copy_state_in, snoop_column, after_request, SeenBelow, LeftBelow}
+use Rattle.snoop_bus.proofs.Vocabulary.{arith, ◌≡◌, ◌<◌, ℕ, [], length, map, refl, sym, ap, subst, ◌∙◌, get_or_default, Sets, copy_state_in}
+use Rattle.snoop_bus.proofs.Vocabulary.{snoop_column, after_request, SeenBelow, LeftBelow}
 use Rattle.snoop_bus.proofs.CacheTags.{tags-requested}
 use Rattle.snoop_bus.proofs.NewLemmas.{same_cores}
 use Rattle.snoop_bus.proofs.SnoopLemmas.{seen-none, seen-yet, seen-more, seen-here, seen-own, own-unseen, left-none, left-more, left-here, left-own, left-all}
@@ -28,17 +29,24 @@ loop-other-preserved g c =
           rw w.self-is
           (record {
             seen = seen-more on c.args.core c.args.line other old mid _ c.loop-other.invariant.seen
-                (seen-here on c.args.core c.args.line other mid w.snoop_one.new.cache within w.if-other-core.true (w.snoop_one.ensures.exact ∙ ap (λ (sets : Sets). after_request on c.args.line sets) at));
+                (seen-here on c.args.core c.args.line other mid w.snoop_one.new.cache within w.if-other-core.true
+                (w.snoop_one.ensures.exact ∙ ap (λ (sets : Sets). after_request on c.args.line sets) at));
             copies = left-more on c.args.core c.args.line other old mid _ c.loop-other.invariant.copies
                 (left-here on c.args.core c.args.line other mid w.snoop_one.new.cache within w.if-other-core.true (rw at at w.snoop_one.ensures.copies));
             memory = c.loop-other.invariant.memory;
-            ways = ways-set_cache mid other w.snoop_one.new.cache (w.snoop_one.ensures.ways ∙ ap (λ (sets : Sets). map (λ s. s.ways) sets) at) ∙ c.loop-other.invariant.ways;
+            ways =
+                ways-set_cache mid other w.snoop_one.new.cache (w.snoop_one.ensures.ways ∙ ap (λ (sets : Sets). map (λ s. s.ways) sets) at)
+                ∙ c.loop-other.invariant.ways;
           })
       | else-other-core w ↦
           rw w.self-is
           (record {
-            seen = seen-more on c.args.core c.args.line other old mid mid c.loop-other.invariant.seen (seen-own on c.args.core c.args.line other mid w.if-other-core.false);
-            copies = left-more on c.args.core c.args.line other old mid mid c.loop-other.invariant.copies (left-own on c.args.core c.args.line other mid w.if-other-core.false);
+            seen =
+                seen-more on c.args.core c.args.line other old mid mid c.loop-other.invariant.seen
+                (seen-own on c.args.core c.args.line other mid w.if-other-core.false);
+            copies =
+                left-more on c.args.core c.args.line other old mid mid c.loop-other.invariant.copies
+                (left-own on c.args.core c.args.line other mid w.if-other-core.false);
             memory = c.loop-other.invariant.memory;
             ways = c.loop-other.invariant.ways;
           })
@@ -48,12 +56,15 @@ pub returns-clause-tags : goal.returns-clause-tags
 returns-clause-tags g c =
     let on = snoop_column (g.P.Protocol.table c.args.protocol.now) c.args.request in
     let all : c.loop-other.other ≡ length c.args.self.now.caches.items = omega arith in
-    tags-requested on c.args.core c.args.line c.args.self.now.caches.items c.loop-other.self.caches.items (same_cores c.args.self.now.caches.items c.loop-other.self.caches.items c.loop-other.invariant.ways)
+    tags-requested on c.args.core c.args.line c.args.self.now.caches.items c.loop-other.self.caches.items
+    (same_cores c.args.self.now.caches.items c.loop-other.self.caches.items c.loop-other.invariant.ways)
     (subst (λ (n : ℕ). SeenBelow n on c.args.core c.args.line c.args.self.now.caches.items c.loop-other.self.caches.items) all c.loop-other.invariant.seen)
 
 pub returns-clause-own : goal.returns-clause-own
 returns-clause-own g c =
-    own-unseen (snoop_column (g.P.Protocol.table c.args.protocol.now) c.args.request) c.args.core c.args.line c.loop-other.other c.args.self.now.caches.items c.loop-other.self.caches.items c.loop-other.invariant.seen
+    own-unseen
+    (snoop_column (g.P.Protocol.table c.args.protocol.now) c.args.request) c.args.core c.args.line c.loop-other.other
+    c.args.self.now.caches.items c.loop-other.self.caches.items c.loop-other.invariant.seen
 
 pub returns-clause-copies : goal.returns-clause-copies
 returns-clause-copies g c =
@@ -68,7 +79,14 @@ snoop_one-requires g c =
     let same : length mid ≡ length c.args.self.now.caches.items = same_cores c.args.self.now.caches.items mid c.loop-other.invariant.ways in
     let within : c.loop-other.other < length mid = omega arith in
     let at = c.index_mut-cache.ensures.value ∙ get_or_default mid c.loop-other.other c.index_mut-cache.result.now [] within in
-    record { state = c.requires.states c.loop-other.other c.if-other-core.true ∙ ap (λ (sets : Sets). copy_state_in sets c.args.line) (sym (at ∙ seen-yet (snoop_column (g.P.Protocol.table c.args.protocol.now) c.args.request) c.args.core c.args.line c.loop-other.other c.args.self.now.caches.items mid c.loop-other.invariant.seen)) }
+    record {
+      state =
+          c.requires.states c.loop-other.other c.if-other-core.true
+          ∙ ap (λ (sets : Sets). copy_state_in sets c.args.line)
+          (sym (at
+          ∙ seen-yet (snoop_column (g.P.Protocol.table c.args.protocol.now) c.args.request) c.args.core c.args.line
+          c.loop-other.other c.args.self.now.caches.items mid c.loop-other.invariant.seen));
+    }
 
 pub returns-clause-ways : goal.returns-clause-ways
 returns-clause-ways g c = c.loop-other.invariant.ways

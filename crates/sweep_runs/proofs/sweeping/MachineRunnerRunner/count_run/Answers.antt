@@ -1,4 +1,6 @@
-use Rattle.sweep_runs.proofs.Vocabulary.{ℕ, List, length, ap, sym, subst, ◌∙◌, refl, Litmus, Running, table_in, configuration_of, RunCounts, with_state_counted, with_verdict, values_in, machine_run, verdict, with_one_run, RunLaws, from-new, unfinished-is}
+use Rattle.sweep_runs.proofs.Vocabulary.{ℕ, List, length, ap, sym, subst, ◌∙◌, refl, Litmus, Running, table_in, configuration_of, RunCounts}
+use Rattle.sweep_runs.proofs.Vocabulary.{with_state_counted, with_verdict, values_in, machine_run, verdict, with_one_run, RunLaws, from-new}
+use Rattle.sweep_runs.proofs.Vocabulary.{unfinished-is}
 use Rattle.tso_terms.specs.Runs.{CoresExist}
 use Rattle.tso_laws.specs.BusChoices.{IsPossibleOn}
 use Rattle.sweep_runs.proofs.SweptRuns.{goes-back, as-before, counted-ended, counted-unfinished}
@@ -25,11 +27,18 @@ returns-then-not-is_ended-clause-ended g c =
 pub returns-then-not-is_ended-clause-counts : goal.returns-then-not-is_ended-clause-counts
 returns-then-not-is_ended-clause-counts g c =
     c.add_unfinished.ensures.counts
-    ∙ counted-unfinished c.args.test.now (machine_run c.args.self.now.machine (g.C.Choices.coming c.args.choices.now)) c.args.tally.now.counts (sym (returns-then-not-is_ended-clause-ended g c))
+    ∙ counted-unfinished c.args.test.now
+    (machine_run c.args.self.now.machine (g.C.Choices.coming c.args.choices.now)) c.args.tally.now.counts
+    (sym (returns-then-not-is_ended-clause-ended g c))
 
 pub returns-then-not-is_ended-clause-again : goal.returns-then-not-is_ended-clause-again
 returns-then-not-is_ended-clause-again g c =
-    let ready = as-before c.args.self.now.machine _ c.args.test.now (c.restart.ensures ∙ goes-back c.args.self.now.machine _ _ _ _ c.in_ok-drive_machine.ensures.drives ∙ sym c.requires.runs.0) c.requires.runs in
+    let ready =
+    as-before c.args.self.now.machine _ c.args.test.now
+    (c.restart.ensures
+    ∙ goes-back c.args.self.now.machine _ _ _ _ c.in_ok-drive_machine.ensures.drives
+    ∙ sym c.requires.runs.0)
+    c.requires.runs in
     record { again = ready.0; same = ready.1; fit = ready.2 }
 
 pub returns-then-not-is_ended-clause-answers : goal.returns-then-not-is_ended-clause-answers
@@ -43,7 +52,8 @@ returns-clause-ended g c =
     let left = c.in_ok-state.state in
     let laws : RunLaws = record { atomic = c.atomic_runs_are_flat_runs.ensures; stops = c.runs_on_either_bus_stop_where_they_end.ensures } in
     let drives = c.in_ok-drive_machine.ensures.drives in
-    sym (counted-ended (table_in m) (configuration_of m) m.test m _ (g.C.Choices.coming c.args.choices.now) _ _ left.registers.items left.memory.items _ c.args.tally.now.counts laws
+    sym (counted-ended (table_in m) (configuration_of m) m.test m _ (g.C.Choices.coming c.args.choices.now) _ _
+    left.registers.items left.memory.items _ c.args.tally.now.counts laws
     (c.requires.runs.0, drives) (sym c.is_ended.ensures ∙ c.if-not-is_ended.false)
     c.in_ok-state.ensures.registers c.in_ok-state.ensures.memory refl).0
 
@@ -55,10 +65,13 @@ returns-clause-counts g c =
     let cs = g.C.Choices.coming c.args.choices.now in
     let laws : RunLaws = record { atomic = c.atomic_runs_are_flat_runs.ensures; stops = c.runs_on_either_bus_stop_where_they_end.ensures } in
     let drives = c.in_ok-drive_machine.ensures.drives in
-    let counted = counted-ended (table_in m) (configuration_of m) m.test m _ cs _ _ left.registers.items left.memory.items (verdict m.test left.registers.items left.memory.items) c.args.tally.now.counts laws
+    let counted =
+    counted-ended (table_in m) (configuration_of m) m.test m _ cs _ _ left.registers.items left.memory.items
+    (verdict m.test left.registers.items left.memory.items) c.args.tally.now.counts laws
     (c.requires.runs.0, drives) (sym c.is_ended.ensures ∙ c.if-not-is_ended.false)
     c.in_ok-state.ensures.registers c.in_ok-state.ensures.memory refl in
-    let count : Litmus → List (List ℕ) → List ℕ → RunCounts = λ u r w. with_verdict (verdict u r w) (with_state_counted (values_in u r w) c.args.tally.now.counts) in
+    let count : Litmus → List (List ℕ) → List ℕ → RunCounts =
+    λ u r w. with_verdict (verdict u r w) (with_state_counted (values_in u r w) c.args.tally.now.counts) in
     c.in_ok-count_state.ensures.counts
     ∙ ap (λ r. count t r c.deref-2.result.now) c.deref.ensures.value ∙ ap (λ w. count t left.registers.items w) c.deref-2.ensures.value
     ∙ ap (λ (u : Litmus). count u left.registers.items left.memory.items) (sym c.requires.runs.1)
@@ -71,11 +84,17 @@ returns-clause-answers g c =
 
 pub returns-clause-again : goal.returns-clause-again
 returns-clause-again g c =
-    let ready = as-before c.args.self.now.machine _ c.args.test.now (c.in_ok-state.ensures.restarted ∙ goes-back c.args.self.now.machine _ _ _ _ c.in_ok-drive_machine.ensures.drives ∙ sym c.requires.runs.0) c.requires.runs in
+    let ready =
+    as-before c.args.self.now.machine _ c.args.test.now
+    (c.in_ok-state.ensures.restarted
+    ∙ goes-back c.args.self.now.machine _ _ _ _ c.in_ok-drive_machine.ensures.drives
+    ∙ sym c.requires.runs.0)
+    c.requires.runs in
     record { again = ready.0; same = ready.1; fit = ready.2 }
 
 pub drive_machine-requires-clause-cores : goal.drive_machine-requires-clause-cores
-drive_machine-requires-clause-cores g c = subst (λ (t : Litmus). CoresExist (length t.programs) (g.C.Choices.coming c.args.choices.now)) (sym c.requires.runs.1) c.requires.cores
+drive_machine-requires-clause-cores g c =
+    subst (λ (t : Litmus). CoresExist (length t.programs) (g.C.Choices.coming c.args.choices.now)) (sym c.requires.runs.1) c.requires.cores
 
 pub drive_machine-requires-clause-watches : goal.drive_machine-requires-clause-watches
 drive_machine-requires-clause-watches g c = none-noted c.nothing.result c.args.self.now.machine c.nothing.ensures

@@ -5,5 +5,6 @@ use Rattle.trace_report.proofs.kept_trace.Tracer.last.Goals as goal
 pub returns-in-None : goal.returns-in-None
 returns-in-None g c =
     let memory = c.args.self.now.follower.memory.items in
-    subst (λ (d : Data). IfOk c.value.result (λ value. view value ≡ d)) (sym (ap (λ (l : Option SourcedStep). told_last (option_map sourced l) c.args.machine.now memory) c.in-None.is))
+    subst (λ (d : Data). IfOk c.value.result (λ value. view value ≡ d))
+    (sym (ap (λ (l : Option SourcedStep). told_last (option_map sourced l) c.args.machine.now memory) c.in-None.is))
     (c.value.ensures _ (c.member.ensures _ _ c.new.ensures c.machine.ensures))

@@ -6,11 +6,15 @@ use Rattle.trace_report.proofs.kept_trace.TracerObserver.begin.Goals as goal
 pub returns-in_ok-self-in-Whole-clause-watches : goal.returns-in_ok-self-in-Whole-clause-watches
 returns-in_ok-self-in-Whole-clause-watches g c = (
   c.in_ok-begin.ensures.follows,
-  subst (λ (last : Option SourcedStep). IfSome last (λ told. StepNamesExist c.begin.new.self.test.now c.begin.new.self.config.shape.words (shown_step told.step))) (sym c.requires.1) tt,
+  subst (λ (last : Option SourcedStep).
+      IfSome last (λ told. StepNamesExist c.begin.new.self.test.now c.begin.new.self.config.shape.words (shown_step told.step)))
+      (sym c.requires.1) tt,
 )
 
 pub returns-in-LastStep-clause-watches : goal.returns-in-LastStep-clause-watches
 returns-in-LastStep-clause-watches g c = (
   c.in_ok-begin.ensures.follows,
-  subst (λ (last : Option SourcedStep). IfSome last (λ told. StepNamesExist c.begin.new.self.test.now c.begin.new.self.config.shape.words (shown_step told.step))) (sym c.requires.1) tt,
+  subst (λ (last : Option SourcedStep).
+      IfSome last (λ told. StepNamesExist c.begin.new.self.test.now c.begin.new.self.config.shape.words (shown_step told.step)))
+      (sym c.requires.1) tt,
 )

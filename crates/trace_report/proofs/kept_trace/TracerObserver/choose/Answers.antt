@@ -9,7 +9,9 @@ returns-clause-makes g c =
     let m = c.tell.new.machine in
     let own = c.tell.new.self.memory.items in
     let after = machine_after c.args.machine.now c.args.choice in
-    let step = ap (λ s. step_to s m own) c.in_ok-told.ensures.step ∙ ap (λ (n : Running). step_to (sourced_by c.args.machine.now c.args.choice) n own) c.in_ok-told.ensures.after in
+    let step =
+    ap (λ s. step_to s m own) c.in_ok-told.ensures.step
+    ∙ ap (λ (n : Running). step_to (sourced_by c.args.machine.now c.args.choice) n own) c.in_ok-told.ensures.after in
     let memory = c.in_ok-told.ensures.memory ∙ ap (λ (n : Running). own_words n o.follower.memory.items) c.in_ok-told.ensures.after in
     elim c.match-self.branch [
       | in-Whole+in_ok-push_made-in-Whole w ↦
