@@ -110,12 +110,12 @@ def functions():
     """Each function that other crates can call: its file below crates/, its type if it is a method, its name, clauses and body."""
     found = []
     for path, text in code_texts.files():
-        crate, _, name = path.split("/")
+        crate, _, module = path[:-len(".rt")].split("/", 2)
         for function in code_texts.FUNCTION.finditer(text):
             blocks = IMPLEMENTED.findall(text[:function.start()]) if function.group(1) else []
             clauses = {label: statements.tokens(says) for label, says in proof_texts.ENSURES.findall(function.group(3))}
             kind = blocks[-1] if blocks else ""
-            if passed_on(crate) & {name[:-len(".rt")], kind}:
+            if passed_on(crate) & {module.partition("/")[0], kind}:
                 found.append((path, kind, function.group(2), clauses, function.group(4) or ""))
     return found
 

@@ -16,10 +16,10 @@ def crates():
 
 
 def files_of(crate):
-    """Each file of a crate's code: its path below crates/, and its text."""
-    room = os.path.join(CRATES, crate, "src")
-    for name in sorted(os.listdir(room)) if os.path.isdir(room) else ():
-        yield "%s/src/%s" % (crate, name), content(room, name)
+    """Each file of a crate's code, those in folders too: its path below crates/, and its text."""
+    for folder, _, names in sorted(os.walk(os.path.join(CRATES, crate, "src"))):
+        for name in sorted(names):
+            yield os.path.relpath(os.path.join(folder, name), CRATES), content(folder, name)
 
 
 def files():
