@@ -18,7 +18,8 @@ ghost use Rattle.search_report.specs.LineText.{line_text, never_lines, never_tex
 ghost use Rattle.search_report.specs.Lines.{Case, Leaf, Line, So, deeper, given_lines, leaves_in, question_word};
 ghost use Rattle.search_report.specs.Shown.{Closing, closing_at, places_false};
 ghost use Rattle.search_report.specs.ShownText.{closing_text};
-ghost use Rattle.printed_laws.specs.ByHand.{AreCasesOf, ClosesBranch, HasClosedCase, HasLemmaFirst, HasOpenCase, HaveCases, IsLeafLine, LinesRefute, LinesRefuteInTurn, LinesRefuteWithin, ListHas, RefuteByHand};
+ghost use Rattle.printed_laws.specs.ByHand.{AreCasesOf, ClosesBranch, HasClosedCase, HasLemmaFirst, HasOpenCase, HaveCases, IsLeafLine};
+ghost use Rattle.printed_laws.specs.ByHand.{LinesRefute, LinesRefuteInTurn, LinesRefuteWithin, ListHas, RefuteByHand};
 ghost use Rattle.printed_laws.specs.ByHand.{answer_shown, lemma_line};
 ghost use Rattle.serde_json.specs.Written.{has_float};
 ghost use Rattle.formats.specs.Beginnings.{First, begins_so, is_clear};
@@ -52,11 +53,14 @@ pub fn what_is_given_comes_first()
     ensures given { (model : Model) (t : Litmus) (claim : Claim) (lines : List Line) (read : RefuteByHand model t claim lines)
         → lines ≡ given_lines t (given_by t claim true) ++ read.rest }
     ensures lemmas { (model : Model) (t : Litmus) (given : List Fact) (shown left : List Lemma) (number : ℕ) (lemma : Lemma) (lines : List Line)
-        (read : HasLemmaFirst (LinesRefuteInTurn model t given (shown ++ (lemma ∷ [])) (number + 1) left) model t given shown number lemma lines) → lines ≡ lemma_line t given number lemma ∷ (map deeper read.part ++ read.rest) }
+        (read : HasLemmaFirst (LinesRefuteInTurn model t given (shown ++ (lemma ∷ [])) (number + 1) left) model t given shown number lemma lines)
+        → lines ≡ lemma_line t given number lemma ∷ (map deeper read.part ++ read.rest) }
     ensures refute { (model : Model) (t : Litmus) (given : List Fact) (shown left : List Lemma) (number : ℕ) (lemma : Lemma) (lines : List Line)
-        (read : HasLemmaFirst (LinesRefuteInTurn model t given (shown ++ (lemma ∷ [])) (number + 1) left) model t given shown number lemma lines) → LinesRefute model t shown (lemma.facts ++ given) read.part }
+        (read : HasLemmaFirst (LinesRefuteInTurn model t given (shown ++ (lemma ∷ [])) (number + 1) left) model t given shown number lemma lines)
+        → LinesRefute model t shown (lemma.facts ++ given) read.part }
     ensures others { (model : Model) (t : Litmus) (given : List Fact) (shown left : List Lemma) (number : ℕ) (lemma : Lemma) (lines : List Line)
-        (read : HasLemmaFirst (LinesRefuteInTurn model t given (shown ++ (lemma ∷ [])) (number + 1) left) model t given shown number lemma lines) → LinesRefuteInTurn model t given (shown ++ (lemma ∷ [])) (number + 1) left read.rest }
+        (read : HasLemmaFirst (LinesRefuteInTurn model t given (shown ++ (lemma ∷ [])) (number + 1) left) model t given shown number lemma lines)
+        → LinesRefuteInTurn model t given (shown ++ (lemma ∷ [])) (number + 1) left read.rest }
     ensures turns { (model : Model) (t : Litmus) (claim : Claim) (lines : List Line) (read : RefuteByHand model t claim lines)
         → LinesRefuteInTurn model t (given_by t claim true) [] 1 read.lemmas read.rest }
 {}
@@ -74,11 +78,14 @@ pub fn a_closed_case_has_its_line()
         (read : IsLeafLine model t lemmas facts lines) → ClosesBranch model t lemmas facts read.closing }
     ensures leaf { (model : Model) (t : Litmus) (lemmas : List Lemma) (facts : List Fact) (lines : List Line)
         (read : IsLeafLine model t lemmas facts lines) → lines ≡ Leaf 0 read.closing ∷ [] }
-    ensures words { (model : Model) (t : Litmus) (lemmas : List Lemma) (facts : List Fact) (closing : Closing) (read : ClosesBranch model t lemmas facts closing)
+    ensures words { (model : Model) (t : Litmus) (lemmas : List Lemma) (facts : List Fact) (closing : Closing)
+        (read : ClosesBranch model t lemmas facts closing)
         → closing_text t closing ≡ closing_text t (closing_at model t (known_from t facts) read.node) }
-    ensures stands { (model : Model) (t : Litmus) (lemmas : List Lemma) (facts : List Fact) (closing : Closing) (read : ClosesBranch model t lemmas facts closing)
+    ensures stands { (model : Model) (t : Litmus) (lemmas : List Lemma) (facts : List Fact) (closing : Closing)
+        (read : ClosesBranch model t lemmas facts closing)
         → is_node model t lemmas (known_from t facts) read.node ≡ true }
-    ensures unanswered { (model : Model) (t : Litmus) (lemmas : List Lemma) (facts : List Fact) (closing : Closing) (read : ClosesBranch model t lemmas facts closing)
+    ensures unanswered { (model : Model) (t : Litmus) (lemmas : List Lemma) (facts : List Fact) (closing : Closing)
+        (read : ClosesBranch model t lemmas facts closing)
         → answers t (known_from t facts) read.node ≡ [] }
 {}
 
@@ -90,13 +97,15 @@ pub fn a_question_has_its_cases()
         (read : AreCasesOf (LinesRefuteWithin model t lemmas n) model t lemmas facts lines) → 0 < length (answers t (known_from t facts) read.question) }
     ensures cases { (n : ℕ) (model : Model) (t : Litmus) (lemmas : List Lemma) (facts : List Fact) (lines : List Line)
         (read : AreCasesOf (LinesRefuteWithin model t lemmas n) model t lemmas facts lines)
-        → HaveCases (LinesRefuteWithin model t lemmas n) model t lemmas facts (question_word read.question) lines (answers t (known_from t facts) read.question) }
+        → HaveCases (LinesRefuteWithin model t lemmas n) model t lemmas facts (question_word read.question) lines
+        (answers t (known_from t facts) read.question) }
     ensures line { (n : ℕ) (model : Model) (t : Litmus) (lemmas : List Lemma) (facts : List Fact) (question : List ℕ) (lines : List Line) (answer : List Fact)
         (read : HasOpenCase (LinesRefuteWithin model t lemmas n) t facts question lines answer)
         → (lines ≡ read.before ++ (Case 0 question (answer_shown t facts answer ∷ []) None ∷ (map deeper read.part ++ read.after)))
         ⊎ (lines ≡ read.before ++ (So 0 question (answer_shown t facts answer ∷ []) None ∷ read.part)) }
     ensures part { (n : ℕ) (model : Model) (t : Litmus) (lemmas : List Lemma) (facts : List Fact) (question : List ℕ) (lines : List Line) (answer : List Fact)
-        (read : HasOpenCase (LinesRefuteWithin model t lemmas n) t facts question lines answer) → LinesRefuteWithin model t lemmas n (answer ++ facts) read.part }
+        (read : HasOpenCase (LinesRefuteWithin model t lemmas n) t facts question lines answer)
+        → LinesRefuteWithin model t lemmas n (answer ++ facts) read.part }
 {}
 
 /// Where at the end each place that a line `False` names has one of the values beside it, the propositions that are given in its branch
