@@ -29,8 +29,8 @@ pub struct Guide {
 }
 
 /// Searches, with pauses, after each of which it begins anew: a tree, or a branch that is open to the end, or neither. Where memory is
-/// refused, the search ends, and `proposed_order` tells it. Where all is closed, the tree is the smallest of those that are found in a few tries, each at no more cases than the first
-/// one took.
+/// refused, the search ends, and `proposed_order` tells it. Where all is closed, the tree is the smallest of those that are found in a
+/// few tries, each at no more cases than the first one took.
 pub fn make_guide(alloc: Global, test: &Test, events: &[Entry], model: Model) -> Guide {
     make_guide_within(alloc, test, events, model, MOST_CASES)
 }
