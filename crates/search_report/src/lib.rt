@@ -1,8 +1,8 @@
 //! What is printed of what a search found: the final states of a test, or a reason; as lines of text, or as JSON.
 //!
 //! `outcomes` prints all final states: those that look alike once, each with choices that lead there; and what they say of the
-//! test's condition. Where the search met its limit, it prints those that were met. Two final states look alike where the registers and locations that are shown have the same values. Which
-//! registers make no state look different is known before a search.
+//! test's condition. Where the search met its limit, it prints those that were met. Two final states look alike where the registers
+//! and locations that are shown have the same values. Which registers make no state look different is known before a search.
 //!
 //! `why` prints the reason why what a test asks is never so, as cases that a reader can check by hand, or an execution in which
 //! it is. A refutation is laid out in lines, of which both forms are made (`specs/Lines.antt`). Of a question's cases those come
