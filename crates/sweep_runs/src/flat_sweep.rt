@@ -57,7 +57,8 @@ struct FlatRunner {
 }
 
 impl Runner for FlatRunner {
-    ghost runs = { λ r t. (state_of_snapshot r.first ≡ start t) × (length r.first.cores.items ≡ length t.programs) × (length r.state.cores.items ≡ length t.programs) };
+    ghost runs = { λ r t. (state_of_snapshot r.first ≡ start t)
+        × (length r.first.cores.items ≡ length t.programs) × (length r.state.cores.items ≡ length t.programs) };
 
     ghost run_of = { λ r t choices. run t r.depth choices };
 
