@@ -130,9 +130,9 @@ pub fn witnesses_reach_their_orders()
     joined_parts_are_separated();
 }
 
-/// The choices that `outcomes` prints for a state, of all that there are or of some, handed to `run` at the same depth on the atomic bus with the same test, are
-/// answered with the report of a run that ended with the printed values, and with the status of success, whatever the protocol and
-/// the shape of the caches: no choice stalled, and none was left over.
+/// The choices that `outcomes` prints for a state, of all that there are or of some, handed to `run` at the same depth on the atomic
+/// bus with the same test, are answered with the report of a run that ended with the printed values, and with the status of success,
+/// whatever the protocol and the shape of the caches: no choice stalled, and none was left over.
 pub fn searches_reach_their_states()
     ensures { (kind : ProtocolKind) (c : Configuration) (set : Instructions) (search : Search) (json told assert : Bool) (input out : List ℕ) (status : Status)
         → c.bus ≡ Atomic → search.depth ≡ c.depth → IsWithinLimits (Settings.Run kind c set json) → IsJoinable (parts_of input).test
