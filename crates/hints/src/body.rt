@@ -3,7 +3,7 @@
 
 use crate::quotes::last_bytes;
 use litmus_reader::{braces_at, header_at};
-use litmus_tokens::{Lexeme, Stop, Token, Tokens, after_gap};
+use litmus_tokens::{Instructions, Lexeme, Stop, Token, Tokens, after_gap, token_at};
 
 /// What stands from the initial state of a test on, or nothing where none begins.
 pub fn body_of(text: &[u8]) -> &[u8] {
@@ -20,19 +20,7 @@ pub fn body_of(text: &[u8]) -> &[u8] {
 /// any bytes may stand: then what comes after these brackets.
 pub fn ending_of<'a>(body: &'a [u8], tokens: &Tokens<'a>) -> &'a [u8] {
     if let Stop::BadToken(remaining) = tokens.stop {
-        // What comes after the next `]`, comments passed over.
-        let mut rest = last_bytes(body, remaining);
-        for _ in 0..remaining {
-            let Ok(at) = after_gap(rest) else {
-                return &[];
-            };
-            match at.split_first() {
-                Some((b']', after)) => return after,
-                Some((_, after)) => rest = after,
-                None => return &[],
-            }
-        }
-        return &[];
+        return after_square(last_bytes(body, remaining));
     }
     let mut last = 0;
     for token in &tokens.items {
@@ -41,6 +29,43 @@ pub fn ending_of<'a>(body: &'a [u8], tokens: &Tokens<'a>) -> &'a [u8] {
         }
     }
     last_bytes(body, last)
+}
+
+/// The condition of the body of a test that has no fault, from its `exists` or `forall` on, or nothing where it has none.
+/// But for `locations [..]`, no other part of such a test has these words.
+pub fn condition_of(body: &[u8]) -> &[u8] {
+    let mut rest = body;
+    // Each token has a byte at least.
+    for _ in 0..body.len() {
+        let Ok((token, after)) = token_at(Instructions::All, rest) else {
+            return &[];
+        };
+        if is_name(&token, b"exists") || is_name(&token, b"forall") {
+            return rest;
+        }
+        rest = if is_name(&token, b"locations") {
+            after_square(after)
+        } else {
+            after
+        };
+    }
+    &[]
+}
+
+/// What comes after the next `]`, comments passed over, or nothing where there is none.
+fn after_square(text: &[u8]) -> &[u8] {
+    let mut rest = text;
+    for _ in 0..text.len() {
+        let Ok(at) = after_gap(rest) else {
+            return &[];
+        };
+        match at.split_first() {
+            Some((b']', after)) => return after,
+            Some((_, after)) => rest = after,
+            None => return &[],
+        }
+    }
+    &[]
 }
 
 /// Whether a token is this name.

@@ -1,7 +1,7 @@
 //! What a hint is made of: what an answer knew. It is kept as numbers and places, so that an answer holds no part of the
 //! input.
 
-use crate::body::{body_of, ending_of};
+use crate::body::{body_of, condition_of};
 use crate::orders::{first_line, from_line_at_fault, location_in};
 use crate::quotes::first_word;
 use crate::reader::Request;
@@ -140,17 +140,21 @@ impl Cause {
         let Some(cond) = test.cond() else {
             return Ok(None);
         };
+        let uses_all = uses_all_locations(test);
         // Of most tests nothing is to be told, which is known without reading their text again.
-        if uses_all_locations(test) && !names_unwritten(test, &cond.prop) {
+        if uses_all && !names_unwritten(test, &cond.prop) {
             return Ok(None);
         }
         let body = body_of(text);
-        let tokens = tokens_of(alloc, Instructions::All, body)?;
-        let ending = tokens_of(alloc, Instructions::All, ending_of(body, &tokens))?;
-        match first_unused(test, text, &tokens.items, &ending.items) {
-            Some(cause) => Ok(Some(cause)),
-            None => Ok(first_unwritten(test, text, &ending.items)),
+        let condition = condition_of(body);
+        if !uses_all {
+            let tokens = tokens_of(alloc, Instructions::All, body)?;
+            let ending = tokens_of(alloc, Instructions::All, condition)?;
+            if let Some(cause) = first_unused(test, text, &tokens.items, &ending.items) {
+                return Ok(Some(cause));
+            }
         }
+        first_unwritten(alloc, test, text, condition)
     }
 
     /// That the choices of this text end before the test, on a machine with store buffers or without. These of them

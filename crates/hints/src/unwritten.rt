@@ -8,8 +8,11 @@ use crate::line::{Filling, Line};
 use crate::place::Place;
 use crate::quotes::first_bytes;
 use crate::unused::location_named;
-use litmus_tokens::{Lexeme, Symbol, Token, is_symbol, numeral_at, word, word_at};
-use tso_terms::{Action, Change, Core, Loc, Prop, Reg, Test};
+use litmus_tokens::{
+    Instructions, Lexeme, Symbol, Token, is_symbol, numeral_at, token_at, tokens_of, word, word_at,
+};
+use std::alloc::Global;
+use tso_terms::{Action, Change, Core, Loc, NoMemory, Prop, Reg, Test};
 
 /// Says that a register, which comes after so many bytes of an input, keeps this value.
 pub fn keeps_register(line: &mut Line, input: &[u8], first: usize, named: (Core, Reg), value: u32) {
@@ -59,38 +62,53 @@ pub fn names_unwritten(test: &Test, prop: &Prop) -> bool {
     }
 }
 
-/// The first register that no instruction of its core writes, by the tokens of the condition of a test, which this text
-/// spells; else the first location that keeps another value than is asked.
-pub fn first_unwritten(test: &Test, text: &[u8], condition: &[Token<'_>]) -> Option<Cause> {
-    match first_register(test, text, condition) {
-        Some(cause) => Some(cause),
-        None => first_location(test, text, condition),
+/// The first register that no instruction of its core writes, of the condition of a test, which is a part of this text;
+/// else the first location that keeps another value than is asked.
+///
+/// Errors: out of memory only.
+pub fn first_unwritten(
+    alloc: Global,
+    test: &Test,
+    text: &[u8],
+    condition: &[u8],
+) -> Result<Option<Cause>, NoMemory> {
+    if let Some(cause) = first_register(test, text, condition) {
+        return Ok(Some(cause));
     }
+    let tokens = tokens_of(alloc, Instructions::All, condition)?;
+    Ok(first_location(test, text, &tokens.items))
 }
 
-fn first_register(test: &Test, text: &[u8], condition: &[Token<'_>]) -> Option<Cause> {
-    for at in 2..condition.len() {
-        let [number, colon, name] = [condition[at - 2], condition[at - 1], condition[at]];
-        if is_symbol(Symbol::Colon, &colon)
-            && let Some((core, reg)) = register_of(test, number.lexeme, name.lexeme)
+fn first_register(test: &Test, text: &[u8], condition: &[u8]) -> Option<Cause> {
+    let mut rest = condition;
+    'tokens: while let Ok((token, after)) = token_at(Instructions::All, rest) {
+        if let Lexeme::Number(digits) = token.lexeme
+            && let Some((core, reg)) = register_of(test, digits, after)
             && !writes_register(test, core, reg)
         {
             return Some(Cause::UnwrittenRegister {
-                first: text.len().saturating_sub(number.remaining),
+                first: text.len().saturating_sub(token.remaining),
                 core,
                 reg,
                 value: test.initial_register(core, reg),
             });
         }
+        rest = after;
     }
     None
 }
 
-/// The register with this name, of the core of the test with this number.
-fn register_of(test: &Test, number: Lexeme<'_>, name: Lexeme<'_>) -> Option<(Core, Reg)>
+/// The register of the core of the test with this number, where a colon and its name come next.
+fn register_of(test: &Test, digits: &[u8], rest: &[u8]) -> Option<(Core, Reg)>
     ensures { IfSome result (λ found. found.0.0 < length test.now.programs) }
 {
-    let (Lexeme::Number(digits), Lexeme::Name(name)) = (number, name) else {
+    let Ok((colon, rest)) = token_at(Instructions::All, rest) else {
+        return None;
+    };
+    let Ok((name, _)) = token_at(Instructions::All, rest) else {
+        return None;
+    };
+    let (Lexeme::Symbol(Symbol::Colon), Lexeme::Name(name)) = (colon.lexeme, name.lexeme) else {
         return None;
     };
     match (word(digits), Reg::from_name(name)) {
