@@ -19,10 +19,6 @@ pub fn worked_traffic()
 
     // One core after the other: the second core's load finds the first core's modified copy, which supplies and is sent to memory.
     ensures the_first_asks_memory { traffic_of msi 0 (uses_of msi (record { depth = 4; shape = two_lines; bus = Atomic }) sb in_turn) ≡ traffic 1 1 0 0 2 0 }
-    ensures the_second_asks_the_first { traffic_of msi 1 (uses_of msi (record {
-      depth = 4;
-      shape = two_lines;
-      bus = Atomic;
-    }) sb in_turn)
+    ensures the_second_asks_the_first { traffic_of msi 1 (uses_of msi (record { depth = 4; shape = two_lines; bus = Atomic }) sb in_turn)
         ≡ traffic 1 1 1 1 1 1 }
 {}
