@@ -29,20 +29,30 @@ def greatest_test(kinds):
             + b"forall " + b"~(" * 32 + b" \\/ ".join(atoms) + b")" * 32 + b"\n")
 
 
+# What is told: a report, whatever it says; that a text is refused at this place; that so many choices left a run without its end.
+REPORT = (ENDED, None)
+
+
+def refused(place):
+    return REFUSED, b"Refused " + place + b"\n"
+
+
+def unfinished(used, stalled):
+    return UNFINISHED, b"Unfinished used=%d stalled=%d\n" % (used, stalled)
+
+
+def initial(items):
+    """A test with these items between its braces."""
+    return b"X86 t\n{" + b"".join(items) + b"}\nP0;\n"
+
+
 def great_texts():
-    """The greatest inputs: a name, a command, the input, and the status and the output; None is any of that status."""
-    report = (ENDED, None)
+    """The greatest tests, choices and orders: of each a name, the input, and the status and the output; None is any output, or any answer."""
+    return great_tests(), great_choices(), great_orders()
 
-    def initial(items):
-        return b"X86 t\n{" + b"".join(items) + b"}\nP0;\n"
 
-    def refused(place):
-        return REFUSED, b"Refused " + place + b"\n"
-
-    def unfinished(used, stalled):
-        return UNFINISHED, b"Unfinished used=%d stalled=%d\n" % (used, stalled)
-
-    tests = [
+def great_tests():
+    return [
         ("an input over its limit", b"a" * (LONGEST_INPUT + 1), refused(b"input TooLarge")),
         ("an input at its limit", b"a" * LONGEST_INPUT, refused(b"test line 1 TooLarge")),
         ("a test over its limit", b"a" * (LONGEST_TEST + 1), refused(b"test line 1 TooLarge")),
@@ -51,12 +61,12 @@ def great_texts():
          refused(b"test line 1 TooLarge")),
         ("65,000 empty lines", b"\n" * 65_000 + b"Y", refused(b"test line 65001 NoHeader")),
         ("a test name of 60,000 bytes", b"X86 " + b"a" * 60_000, refused(b"test line 1 TooLarge")),
-        ("16,000 comments", b"(**)" * 16_000 + NO_INSTRUCTION, report),
+        ("16,000 comments", b"(**)" * 16_000 + NO_INSTRUCTION, REPORT),
         ("a comment of comment openers", b"(*" * 32_000, refused(b"test line 1 Unclosed")),
-        ("30,000 quotations", b"X86 t\n" + b'""' * 30_000 + b"{ }\nP0;\n", report),
-        ("20,000 keys", b"X86 t\n" + b"a=\n" * 20_000 + b"{ }\nP0;\n", report),
+        ("30,000 quotations", b"X86 t\n" + b'""' * 30_000 + b"{ }\nP0;\n", REPORT),
+        ("20,000 keys", b"X86 t\n" + b"a=\n" * 20_000 + b"{ }\nP0;\n", REPORT),
         ("a key of 60,000 bytes", b"X86 t\n" + b"a" * 60_000 + b"\n", refused(b"test line 2 BadToken")),
-        ("60,000 empty items", b"X86 t\n{" + b";" * 60_000 + b"}\nP0;\n", report),
+        ("60,000 empty items", b"X86 t\n{" + b";" * 60_000 + b"}\nP0;\n", REPORT),
         ("registers of 5,000 cores", initial(b"%d:EAX=1;\n" % at for at in range(1, 5_001)),
          refused(b"test line 2 NoSuchCore")),
         ("the last of 5,000 registers given twice", initial(b"%d:EAX=1;\n" % min(at, 4_999) for at in range(5_001)),
@@ -65,7 +75,7 @@ def great_texts():
          refused(b"test line 2 NoSuchCore")),
         ("5,000 locations", initial(b"x%d=1;\n" % at for at in range(5_000)), refused(b"test line 18 TooLarge")),
         ("a header row of 16,000 cores", b"X86 t\n{ }\n" + b"P0|\n" * 16_000, refused(b"test line 4 BadHeaderRow")),
-        ("60,000 empty rows", NO_INSTRUCTION + b";" * 60_000, report),
+        ("60,000 empty rows", NO_INSTRUCTION + b";" * 60_000, REPORT),
         ("60,000 cells", NO_INSTRUCTION + b"|" * 60_000 + b";", refused(b"test line 4 WrongCells")),
         ("a cell of 60,000 tokens", NO_INSTRUCTION + b"[" * 60_000 + b";", refused(b"test line 4 BadInstruction")),
         ("a row without its end", NO_INSTRUCTION + b"[" * 60_000, refused(b"test line 4 Unclosed")),
@@ -73,18 +83,21 @@ def great_texts():
          refused(b"test line 4 BadNumber")),
         ("60,000 leading zeros", NO_INSTRUCTION + b"MOV [x]," + b"0" * 60_000 + b"1;", (UNFINISHED, None)),
         ("a name of 60,000 bytes", NO_INSTRUCTION + b"MOV [" + b"x" * 60_000 + b"],1;", refused(b"test line 4 BadToken")),
-        ("60,000 bytes after locations", NO_INSTRUCTION + b"locations [" + b"\xff" * 60_000 + b"]", report),
-        ("64 brackets", NO_INSTRUCTION + b"exists " + b"(" * 64 + b"true" + b")" * 64, report),
+        ("60,000 bytes after locations", NO_INSTRUCTION + b"locations [" + b"\xff" * 60_000 + b"]", REPORT),
+        ("64 brackets", NO_INSTRUCTION + b"exists " + b"(" * 64 + b"true" + b")" * 64, REPORT),
         ("65 brackets", NO_INSTRUCTION + b"exists" + b"\n(" * 65 + b"true" + b")" * 65, refused(b"test line 69 TooLarge")),
-        ("64 negations", NO_INSTRUCTION + b"exists " + b"not " * 64 + b"true", report),
+        ("64 negations", NO_INSTRUCTION + b"exists " + b"not " * 64 + b"true", REPORT),
         ("65 negations", NO_INSTRUCTION + b"exists" + b"\n~" * 65 + b"true", refused(b"test line 69 TooLarge")),
         ("32,000 brackets", NO_INSTRUCTION + b"exists" + b"\n(" * 32_000, refused(b"test line 69 TooLarge")),
         ("32,000 negations", NO_INSTRUCTION + b"exists" + b"\n~" * 32_000, refused(b"test line 69 TooLarge")),
-        ("256 atoms", NO_INSTRUCTION + b"exists true" + b"/\\true" * 255, report),
+        ("256 atoms", NO_INSTRUCTION + b"exists true" + b"/\\true" * 255, REPORT),
         ("257 atoms", NO_INSTRUCTION + b"exists true" + b"/\\\ntrue" * 256, refused(b"test line 260 TooLarge")),
         ("9,000 atoms", NO_INSTRUCTION + b"exists true" + b"\\/\ntrue" * 9_000, refused(b"test line 260 TooLarge")),
     ]
-    choices = [
+
+
+def great_choices():
+    return [
         ("a core of a million digits", b"9" * 1_000_000 + b"s", refused(b"choices word 1 NoSuchCore")),
         ("a core of a million zeros", b"0" * 1_000_000 + b"s", unfinished(1, 0)),
         ("a word of a million bytes", b"x" * 1_000_000, refused(b"choices word 1 BadWord")),
@@ -100,7 +113,10 @@ def great_texts():
         ("500,000 words", b"0 " * 500_000, refused(b"choices word 1 BadWord")),
         ("a million empty lines", b"\n" * 1_000_000 + b"2s", refused(b"choices word 1 NoSuchCore")),
     ]
-    orders = [
+
+
+def great_orders():
+    return [
         ("a line of a million bytes before the order", b"a" * 1_000_000 + b"\n" + ONE_STORE_ORDER, None),
         ("a line of a million bytes in the order", b"Order\n" + b"a" * 1_000_000, refused(b"order line 2 BadLine")),
         ("a value of a million digits", b"Order\nP0:0 W x=" + b"1" * 1_000_000, refused(b"order line 2 BadLine")),
@@ -114,4 +130,3 @@ def great_texts():
         ("90,000 entries that no program has", b"Order\n" + b"P9:0 R x=1\n" * 90_000 + b"Endorder 90000\n",
          (INVALID, b"Check invalid C1 extra P9:0 R x=1\n")),
     ]
-    return tests, choices, orders
