@@ -100,6 +100,62 @@ def successors(run, order, core, program, moment, steps):
         yield moment + (2 if entry.kind == "LR" else 1), steps + 1
 
 
+class PlainMachine:
+    """A machine with store buffers of a depth, the words of its locations, its cores' programs, and the order of what they did."""
+
+    def __init__(self, programs, depth, words):
+        self.programs, self.depth, self.words = programs, depth, words
+        self.places, self.buffers, self.order = [0] * len(programs), [[] for _ in programs], []
+
+    def has_ended(self):
+        return all(place == len(program) for place, program in zip(self.places, self.programs)) and not any(self.buffers)
+
+    def note(self, core, place, kind, location=None, value=None):
+        self.order.append("P%d:%d %s" % (core, place, kind) + ("" if location is None else " %s=%d" % (location, value)))
+
+    def drain(self, core):
+        """Commits the oldest store of a core; whether there is one."""
+        if not self.buffers[core]:
+            return False
+        place, location, value = self.buffers[core].pop(0)
+        self.words[location] = value
+        self.note(core, place, "W", location, value)
+        return True
+
+    def step(self, core):
+        """Makes a core's next instruction; whether it can be made."""
+        place = self.places[core]
+        if place == len(self.programs[core]) or not self.act(core, place, *self.programs[core][place]):
+            return False
+        self.places[core] += 1
+        return True
+
+    def act(self, core, place, kind, location, value):
+        if kind == "W":
+            return self.store(core, place, location, value)
+        if kind == "R":
+            own = [word for _, stored, word in self.buffers[core] if stored == location]
+            self.note(core, place, "R", location, own[-1] if own else self.words[location])
+            return True
+        if self.buffers[core]:
+            return False
+        if kind == "F":
+            self.note(core, place, "F")
+        else:
+            self.note(core, place, "LR", location, self.words[location])
+            self.words[location] = value
+            self.note(core, place, "LW", location, value)
+        return True
+
+    def store(self, core, place, location, value):
+        if self.depth > 0 and len(self.buffers[core]) == self.depth:
+            return False
+        self.buffers[core].append((place, location, value))
+        if self.depth == 0:
+            self.drain(core)
+        return True
+
+
 def made_run(cores, instructions, depth, seed, locations=("x", "y", "z", "lock"), name=None, greatest=99):
     """A line of the program's form: random programs on a plain machine with store buffers, under random choices. What the
     caches count, and the registers, are made up."""
@@ -108,53 +164,16 @@ def made_run(cores, instructions, depth, seed, locations=("x", "y", "z", "lock")
     kinds = ["R"] * 5 + ["W"] * 5 + ["F", "L"]
     programs = [[(chance.choice(kinds), chance.choice(locations), chance.randint(1, greatest)) for _ in range(instructions)]
                 for _ in range(cores)]
-    places, buffers, order, used, stalled = [0] * cores, [[] for _ in range(cores)], [], 0, 0
-
-    def note(core, place, kind, location=None, value=None):
-        order.append("P%d:%d %s" % (core, place, kind) + ("" if location is None else " %s=%d" % (location, value)))
-
-    def drain(core):
-        if not buffers[core]:
-            return False
-        place, location, value = buffers[core].pop(0)
-        words[location] = value
-        note(core, place, "W", location, value)
-        return True
-
-    def step(core):
-        place = places[core]
-        if place == instructions:
-            return False
-        kind, location, value = programs[core][place]
-        if kind == "W":
-            if depth > 0 and len(buffers[core]) == depth:
-                return False
-            buffers[core].append((place, location, value))
-            if depth == 0:
-                drain(core)
-        elif kind == "R":
-            own = [word for _, stored, word in buffers[core] if stored == location]
-            note(core, place, "R", location, own[-1] if own else words[location])
-        elif buffers[core]:
-            return False
-        elif kind == "F":
-            note(core, place, "F")
-        else:
-            note(core, place, "LR", location, words[location])
-            words[location] = value
-            note(core, place, "LW", location, value)
-        places[core] += 1
-        return True
-
-    while any(place < instructions for place in places) or any(buffers):
+    machine, used, stalled = PlainMachine(programs, depth, words), 0, 0
+    while not machine.has_ended():
         core = chance.randrange(cores)
         used += 1
-        stalled += not (step(core) if chance.random() < 0.6 else drain(core))
+        stalled += not (machine.step(core) if chance.random() < 0.6 else machine.drain(core))
     return json.dumps({
         "cache": [dict.fromkeys(COUNTS, chance.randrange(40)) for _ in range(cores)],
         "choices": {"stalled": stalled, "unused": 0, "used": used},
         "condition": {"holds": chance.random() < 0.5, "kind": chance.choice(("exists", "~exists", "forall"))},
         "machine": {"depth": depth, "protocol": chance.choice(("msi", "mesi", "mosi", "moesi")), "sets": 1, "ways": 2, "words": 1},
-        "memory": dict(sorted(words.items())), "order": order,
+        "memory": dict(sorted(words.items())), "order": machine.order,
         "registers": [dict.fromkeys(REGISTERS, chance.randrange(greatest)) for _ in range(cores)],
         "test": name or "made-%d-%d-%d-%d" % (cores, instructions, depth, seed)}, separators=(",", ":"))

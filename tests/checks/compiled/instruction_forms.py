@@ -44,50 +44,70 @@ int main(int given, char **words) {
 
 def forms():
     """All forms, as lines of assembly that are set apart by `;`."""
+    return [form for letter in SIZES for form in _forms_of_size(letter)] + _forms_of_flags() + _forms_by_hand()
+
+
+def _forms_of_size(letter):
+    """The forms with operands of one size, by the letter that an instruction's name has for it."""
+    one, other = "%" + SIZES[letter][0], "%" + SIZES[letter][1]
+    found = _sums(letter, one, other)
+    found += ["mov%s %s, %s" % (letter, source, to) for source, to in (
+        (other, one), ("$-2", one), (MEMORY, one), (one, MEMORY), ("$9", MEMORY), ("8(%r9)", one))]
+    found += ["xchg%s %s, %s" % (letter, other, one), "xchg%s %s, %s" % (letter, one, MEMORY)]
+    found += ["%sxadd%s %s" % (prefix, letter, operands) for prefix, operands in (
+        ("", other + ", " + one), ("", other + ", " + MEMORY), ("lock ", other + ", " + MEMORY))]
+    found += ["%scmpxchg%s %s" % (prefix, letter, operands) for prefix, operands in (
+        ("", other + ", %" + {"b": "dl", "w": "dx", "l": "edx", "q": "rdx"}[letter]), ("", other + ", " + MEMORY),
+        ("lock ", other + ", " + MEMORY))]
+    return found if letter == "b" else found + _no_byte_forms(letter, one, other)
+
+
+def _sums(letter, one, other):
+    """Sums, comparisons, and shifts."""
     found = []
-    for letter, (one, other, size) in SIZES.items():
-        one, other = "%" + one, "%" + other
-        for name in ("add", "sub", "adc", "sbb", "and", "or", "xor", "cmp", "test"):
-            name += letter
-            found += ["%s %s, %s" % (name, other, one), "%s $0x7b, %s" % (name, one), "%s $-3, %s" % (name, MEMORY),
-                      "%s %s, %s" % (name, one, MEMORY)]
-            if not name.startswith("test"):
-                found += ["%s %s, %s" % (name, MEMORY, one)]
-            if not name.startswith(("cmp", "test")):
-                found += ["lock %s %s, %s" % (name, one, MEMORY), "lock %s $5, %s" % (name, MEMORY)]
-        for name in ("inc", "dec", "neg", "not"):
-            found += ["%s%s %s" % (name, letter, one), "%s%s %s" % (name, letter, MEMORY), "lock %s%s %s" % (name, letter, MEMORY)]
-        for name in ("shl", "shr", "sar", "rol", "ror"):
-            found += ["%s%s %s, %s" % (name, letter, by, to) for by in ("$1", "$3", "%cl") for to in (one.replace("cl", "al"), MEMORY)]
-        found += ["mov%s %s, %s" % (letter, source, to) for source, to in (
-            (other, one), ("$-2", one), (MEMORY, one), (one, MEMORY), ("$9", MEMORY), ("8(%r9)", one))]
-        found += ["xchg%s %s, %s" % (letter, other, one), "xchg%s %s, %s" % (letter, one, MEMORY)]
-        found += ["%sxadd%s %s" % (prefix, letter, operands) for prefix, operands in (
-            ("", other + ", " + one), ("", other + ", " + MEMORY), ("lock ", other + ", " + MEMORY))]
-        found += ["%scmpxchg%s %s" % (prefix, letter, operands) for prefix, operands in (
-            ("", other + ", %" + {"b": "dl", "w": "dx", "l": "edx", "q": "rdx"}[letter]), ("", other + ", " + MEMORY),
-            ("lock ", other + ", " + MEMORY))]
-        if letter != "b":
-            for name in ("bt", "bts", "btr", "btc"):
-                found += ["%s%s %s, %s" % (name, letter, other, one), "%s%s $11, %s" % (name, letter, one),
-                          "%s%s $11, %s" % (name, letter, MEMORY), "and $127, %%rcx; %s%s %s, %s" % (name, letter, other, MEMORY)]
-                if name != "bt":
-                    found += ["lock %s%s $6, %s" % (name, letter, MEMORY)]
-                    found += ["and $63, %%rcx; lock %s%s %s, %s" % (name, letter, other, MEMORY)]
-            found += ["imul%s %s, %s" % (letter, other, one), "imul%s %s, %s" % (letter, MEMORY, one),
-                      "imul%s $-7, %s, %s" % (letter, other, one)]
-            found += ["cmov%s %s, %s" % (condition, source, one) for condition in CONDITIONS for source in (other, MEMORY)]
-    found += ["set%s %s" % (condition, to) for condition in CONDITIONS for to in ("%dl", "%ah", MEMORY)]
-    found += ["j%s 1f; not %%rax; 1:" % condition for condition in CONDITIONS]
-    for kind in ("z", "s"):
-        found += ["mov%s%s" % (kind, rest) for rest in ("bw %cl, %ax", "bl %cl, %eax", "bq %cl, %rax", "wl %cx, %eax", "wq %cx, %rax",
-                                                        "bl (%r9), %eax", "wl (%r9), %eax", "bl %ah, %ecx")]
+    for name in ("add", "sub", "adc", "sbb", "and", "or", "xor", "cmp", "test"):
+        name += letter
+        found += ["%s %s, %s" % (name, other, one), "%s $0x7b, %s" % (name, one), "%s $-3, %s" % (name, MEMORY),
+                  "%s %s, %s" % (name, one, MEMORY)]
+        if not name.startswith("test"):
+            found += ["%s %s, %s" % (name, MEMORY, one)]
+        if not name.startswith(("cmp", "test")):
+            found += ["lock %s %s, %s" % (name, one, MEMORY), "lock %s $5, %s" % (name, MEMORY)]
+    for name in ("inc", "dec", "neg", "not"):
+        found += ["%s%s %s" % (name, letter, one), "%s%s %s" % (name, letter, MEMORY), "lock %s%s %s" % (name, letter, MEMORY)]
+    for name in ("shl", "shr", "sar", "rol", "ror"):
+        found += ["%s%s %s, %s" % (name, letter, by, to) for by in ("$1", "$3", "%cl") for to in (one.replace("cl", "al"), MEMORY)]
+    return found
+
+
+def _no_byte_forms(letter, one, other):
+    """What has no form for bytes: single bits, products, and moves on a condition."""
+    found = []
+    for name in ("bt", "bts", "btr", "btc"):
+        found += ["%s%s %s, %s" % (name, letter, other, one), "%s%s $11, %s" % (name, letter, one),
+                  "%s%s $11, %s" % (name, letter, MEMORY), "and $127, %%rcx; %s%s %s, %s" % (name, letter, other, MEMORY)]
+        if name != "bt":
+            found += ["lock %s%s $6, %s" % (name, letter, MEMORY)]
+            found += ["and $63, %%rcx; lock %s%s %s, %s" % (name, letter, other, MEMORY)]
+    found += ["imul%s %s, %s" % (letter, other, one), "imul%s %s, %s" % (letter, MEMORY, one),
+              "imul%s $-7, %s, %s" % (letter, other, one)]
+    return found + ["cmov%s %s, %s" % (condition, source, one) for condition in CONDITIONS for source in (other, MEMORY)]
+
+
+def _forms_of_flags():
+    return (["set%s %s" % (condition, to) for condition in CONDITIONS for to in ("%dl", "%ah", MEMORY)]
+            + ["j%s 1f; not %%rax; 1:" % condition for condition in CONDITIONS])
+
+
+def _forms_by_hand():
+    """What widens a value, addresses, second bytes, the stack, and what does nothing to a register."""
+    found = ["mov%s%s" % (kind, rest) for kind in ("z", "s") for rest in (
+        "bw %cl, %ax", "bl %cl, %eax", "bq %cl, %rax", "wl %cx, %eax", "wq %cx, %rax", "bl (%r9), %eax", "wl (%r9), %eax", "bl %ah, %ecx")]
     found += ["movslq %ecx, %rax", "movslq (%r9), %rdx", "movabs $0x123456789abcdef0, %rax", "cbtw", "cwtl", "cltq", "cwtd", "cltd", "cqto"]
     found += ["lea (%rax,%rcx,4), %rdx", "lea -9(%rsi), %edi", "lea 7(,%rcx,8), %rax", "lea (%rax,%rcx), %dx"]
     found += ["movb %ah, %cl", "addb %ch, %al", "movb $5, %bh", "xchg %dl, %dh"]
-    found += ["push %rax; pop %rbx", "push $-5; pop %rcx", "push (%r9); pop 8(%r9)", "push %rbp; mov %rsp, %rbp; leave",
-              "call 1f; jmp 2f; 1: lea 1(%rax), %rax; ret; 2:", "mfence", "lfence", "sfence", "pause", "nop", "nopw 8(%rax,%rcx)"]
-    return found
+    return found + ["push %rax; pop %rbx", "push $-5; pop %rcx", "push (%r9); pop 8(%r9)", "push %rbp; mov %rsp, %rbp; leave",
+                    "call 1f; jmp 2f; 1: lea 1(%rax), %rax; ret; 2:", "mfence", "lfence", "sfence", "pause", "nop", "nopw 8(%rax,%rcx)"]
 
 
 def _assembly(texts):
