@@ -27,7 +27,7 @@ use Rattle.trace_report.proofs.FlushesTold.{IsSound, uses-of}
 use Rattle.trace_report.proofs.InPlace.{use-keeps}
 use Rattle.trace_report.proofs.UsesOnBus.{Stays, UsesOn, begun, ended, made, unused}
 use Rattle.trace_report.proofs.Whole.{words-kept}
-use Rattle.counted_steps.proofs.Requests.{request_in}
+use Rattle.counted_steps.proofs.Requests.{request_made}
 
 -- ---- what is awaited for a core's line
 
@@ -94,18 +94,18 @@ hit-asks t write core line caches copy (Some next) hit = refl
 use-asks : (c : Caches) (core : ℕ) (what : MemoryAccess) (u : Used)
     → IsUseFor c core what u
     → needs_bus what (hits_by c core what) ≡ false
-    → request_in u.how ≡ None
-use-asks c core NoAccess u (inl is) free = ap (λ (x : Used). request_in x.how) is
-use-asks c core NoAccess u (inr is) free = ap (λ (x : Used). request_in x.how) is
+    → request_made u.how ≡ None
+use-asks c core NoAccess u (inl is) free = ap (λ (x : Used). request_made x.how) is
+use-asks c core NoAccess u (inr is) free = ap (λ (x : Used). request_made x.how) is
 use-asks c core (Locks loc) u is free = absurd (true≢false free)
 use-asks c core (Reads loc) u is free =
     let t : Table = table_of_rows c.rows in
     let copy : Option protocol.State = tag_at core (loc.0 / c.shape.words) c.contents in
-    ap (λ (x : Used). request_in x.how) is ∙ hit-asks t false core (loc.0 / c.shape.words) c.contents copy (next_in_place t false copy) free
+    ap (λ (x : Used). request_made x.how) is ∙ hit-asks t false core (loc.0 / c.shape.words) c.contents copy (next_in_place t false copy) free
 use-asks c core (Writes loc) u is free =
     let t : Table = table_of_rows c.rows in
     let copy : Option protocol.State = tag_at core (loc.0 / c.shape.words) c.contents in
-    ap (λ (x : Used). request_in x.how) is ∙ hit-asks t true core (loc.0 / c.shape.words) c.contents copy (next_in_place t true copy) free
+    ap (λ (x : Used). request_made x.how) is ∙ hit-asks t true core (loc.0 / c.shape.words) c.contents copy (next_in_place t true copy) free
 
 completes-awaited : (c : Caches) (core : ℕ) (what : MemoryAccess) → what ≢ NoAccess → (completing_by c core what).caches.awaited ≡ None
 completes-awaited c core NoAccess some = absurd (some refl)
@@ -121,7 +121,7 @@ IsQuiet holder w = is_awaited holder ≡ false → w ≡ None
 
 -- what is awaited for another core's line
 pub data Beside (how : CacheUse) (before after : Option Transient) : Type 0 where
-  as_before : request_in how ≡ None → before ≡ after → Beside how before after
+  as_before : request_made how ≡ None → before ≡ after → Beside how before after
   nothing : before ≡ None → after ≡ None → Beside how before after
 
 abbrev BesideOn : CacheUse → Holder → (Choice → MemoryAccess) → Option Awaited → Holder → (Choice → MemoryAccess) → Option Awaited → ℕ → ℕ → ℕ → Type 0
@@ -130,15 +130,15 @@ BesideOn how holder before w next after now words core line = Beside how (for_li
 module _ (on : Bus) (c : Caches) (a : Choice) (before after : Choice → MemoryAccess) (holder next : Holder)
     (o : Outcome) (u : Used) (quiet : IsQuiet holder c.awaited) where
   quiet-next : UsesOn on c a before after holder next o u → IsQuiet next u.caches.awaited
-  quiet-next (made it why stays) = λ free. (use-keeps c (chosen a) (before a) u it).1 ∙ quiet (sym stays.waits ∙ free)
-  quiet-next (unused is stays) = λ free. ap (λ (x : Used). x.caches.awaited) is ∙ quiet (sym stays.waits ∙ free)
-  quiet-next (begun split is outcome free held same) = λ rest. absurd (true≢false (sym (ap is_awaited held) ∙ rest))
+  quiet-next (made it why stays acted) = λ free. (use-keeps c (chosen a) (before a) u it).1 ∙ quiet (sym stays.waits ∙ free)
+  quiet-next (unused is stays acted) = λ free. ap (λ (x : Used). x.caches.awaited) is ∙ quiet (sym stays.waits ∙ free)
+  quiet-next (begun split is outcome some free held same) = λ rest. absurd (true≢false (sym (ap is_awaited held) ∙ rest))
   quiet-next (ended split is some held rest) = λ free. ap (λ (x : Used). x.caches.awaited) is ∙ completes-awaited c (chosen a) (before a) some
 
   made-asks : IsUseFor c (chosen a) (before a) u
       → ((on ≡ Atomic) × (holder ≡ Free) × (next ≡ Free))
       ⊎ (needs_bus (before a) (hits_by c (chosen a) (before a)) ≡ false)
-      → (other : Choice) → holder ≡ HeldBy other → request_in u.how ≡ None
+      → (other : Choice) → holder ≡ HeldBy other → request_made u.how ≡ None
   made-asks it (inl atomic) other held = absurd (true≢false (ap is_awaited (sym held ∙ atomic.1)))
   made-asks it (inr free) other held = use-asks c (chosen a) (before a) u it free
 
@@ -164,7 +164,7 @@ module _ (on : Bus) (c : Caches) (a : Choice) (before after : Choice → MemoryA
         ∙ ap (λ (h : Holder). for_line h after u.caches.awaited words core line) (sym there)))
 
     staying : (h : Holder) → next ≡ h → u.caches.awaited ≡ c.awaited → Stays before after holder next → IsQuiet next u.caches.awaited
-        → ((other : Choice) → holder ≡ HeldBy other → request_in u.how ≡ None)
+        → ((other : Choice) → holder ≡ HeldBy other → request_made u.how ≡ None)
         → BesideOn u.how holder before c.awaited next after u.caches.awaited words core line
     staying Free q awaited stays after-quiet asks = resting (ap is_awaited q) stays.waits after-quiet
     staying (HeldBetween e) q awaited stays after-quiet asks = resting (ap is_awaited q) stays.waits after-quiet
@@ -173,10 +173,11 @@ module _ (on : Bus) (c : Caches) (a : Choice) (before after : Choice → MemoryA
         as_before (asks other held.0) (holding awaited other q held.0 held.1)
 
     beside-on : UsesOn on c a before after holder next o u → BesideOn u.how holder before c.awaited next after u.caches.awaited words core line
-    beside-on (made it why stays) = staying next refl (use-keeps c (chosen a) (before a) u it).1 stays (quiet-next (made it why stays)) (made-asks it why)
-    beside-on (unused is stays) =
-        staying next refl (ap (λ (x : Used). x.caches.awaited) is) stays (quiet-next (unused is stays)) (λ other held. ap (λ (x : Used). request_in x.how) is)
-    beside-on (begun split is outcome free held same) =
+    beside-on (made it why stays acted) =
+        staying next refl (use-keeps c (chosen a) (before a) u it).1 stays (quiet-next (made it why stays acted)) (made-asks it why)
+    beside-on (unused is stays acted) =
+        staying next refl (ap (λ (x : Used). x.caches.awaited) is) stays (quiet-next (unused is stays acted)) (λ other held. ap (λ (x : Used). request_made x.how) is)
+    beside-on (begun split is outcome some free held same) =
         nothing (ap (λ (h : Holder). for_line h before c.awaited words core line) free)
         (ap (λ (h : Holder). for_line h after u.caches.awaited words core line) held ∙ own-alone a after u.caches.awaited words core line apart)
     beside-on (ended split is some held rest) =

@@ -34,7 +34,7 @@ use Rattle.counted_steps.proofs.Changes.{changes-lost, fallen}
 use Rattle.counted_steps.proofs.Copies.{given_at, others-given}
 use Rattle.counted_steps.proofs.LinesWritten.{lines-written}
 use Rattle.counted_steps.proofs.OtherCores.{asked-fallen, none-fallen}
-use Rattle.counted_steps.proofs.Requests.{TellsStates, each-given, given_by, given_in, request_in, states-told}
+use Rattle.counted_steps.proofs.Requests.{TellsStates, each-given, given_by, given_in, request_made, states-told}
 use Rattle.counted_steps.proofs.Sums.{add-both, of_others, others-none, others-same, sum-none, sum-same, sum_from}
 
 -- ---- one step
@@ -49,13 +49,13 @@ module _ (m : Running) (c : Choice) (kept : IsKept m) (quiet : AtRest m) (others
   size : length contents ≡ length m.test.programs
   size = sym kept.sound.size ∙ kept.cores
 
-  unasked : request_in (machine_use m c).how ≡ None → lost_by_others (chosen c) (trace_step_of m c).changes ≡ 0
+  unasked : request_made (machine_use m c).how ≡ None → lost_by_others (chosen c) (trace_step_of m c).changes ≡ 0
   unasked none =
       changes-lost m c
       ∙ sum-none (of_others (chosen c) (fallen m now)) 0 (length m.test.programs)
       (others-none (chosen c) (fallen m now) (λ core apart. none-fallen m c kept quiet others core apart none))
 
-  asked : (q : BusRequest) → request_in (machine_use m c).how ≡ Some q → q.states ≡ states_by_core most_cores q.line contents
+  asked : (q : BusRequest) → request_made (machine_use m c).how ≡ Some q → q.states ≡ states_by_core most_cores q.line contents
       → lost_by_others (chosen c) (trace_step_of m c).changes ≡ copies_given_up (table_in m) (chosen c) q
   asked q asks told =
       let column : protocol.State → Snoop = snoop_column (table_in m) q.request in
@@ -69,10 +69,10 @@ module _ (m : Running) (c : Choice) (kept : IsKept m) (quiet : AtRest m) (others
       ∙ ap (λ (states : List (Option protocol.State)). given_up_in column (slice_set states (chosen c) None)) (sym told))))
 
   pub step-lost : lost_by_others (chosen c) (trace_step_of m c).changes ≡ given_in (table_in m) (chosen c) (machine_use m c).how
-  step-lost = by_request (request_in (machine_use m c).how) refl (states-told m c)
+  step-lost = by_request (request_made (machine_use m c).how) refl (states-told m c)
     where
       by_request : (o : Option BusRequest)
-          → request_in (machine_use m c).how ≡ o
+          → request_made (machine_use m c).how ≡ o
           → TellsStates contents o
           → lost_by_others (chosen c) (trace_step_of m c).changes ≡ given_by (table_in m) (chosen c) o
       by_request None q told = unasked q
@@ -136,8 +136,8 @@ step-told table config t k m c r own =
     let others : OthersSeeTheRequest m c = subst (λ (x : Running). OthersSeeTheRequest x c) (sym r.there) (others-told table config t r.done c) in
     subst (λ (i : ℕ). lost_by_others i (trace_step_of m c).changes ≡ given_in table i (machine_use m c).how) own
     (step-lost m c r.kept r.quiet others r.few
-    ∙ (ap (λ rows. given_by (table_of_rows rows) (chosen c) (request_in (machine_use m c).how)) r.rows
-    ∙ given-same table (chosen c) (request_in (machine_use m c).how)))
+    ∙ (ap (λ rows. given_by (table_of_rows rows) (chosen c) (request_made (machine_use m c).how)) r.rows
+    ∙ given-same table (chosen c) (request_made (machine_use m c).how)))
 
 copies-lost : (t : Litmus) (kind : ProtocolKind) (c : Configuration) (choices : List Choice) (core : ℕ) → IsTest t → 0 < c.shape.words
     → (traffic_of (table_of kind) core (uses_of (table_of kind) c t choices)).invalidations

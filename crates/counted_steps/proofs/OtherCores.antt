@@ -32,7 +32,7 @@ use Rattle.counted_steps.specs.StepSums.{is_gone}
 use Rattle.counted_steps.proofs.Awaiting.{AtRest, Beside, as_before, awaits, beside, nothing}
 use Rattle.counted_steps.proofs.Changes.{fallen, fell}
 use Rattle.counted_steps.proofs.Copies.{given_at}
-use Rattle.counted_steps.proofs.Requests.{line_request, request_in, request-told}
+use Rattle.counted_steps.proofs.Requests.{line_request, request_made, request-told}
 use Rattle.counted_steps.proofs.Sums.{sum-alone, sum-none, unless, unless-zero}
 
 -- ---- the state of a line
@@ -66,7 +66,7 @@ states-same how x y copy now (nothing before after) tag =
 
 -- where it is asked for
 asked-fell : (how : CacheUse) (q : BusRequest)
-    → request_in how ≡ Some q
+    → request_made how ≡ Some q
     → (x y : Option Transient) → Beside how x y
     → (column : protocol.State → Snoop) (copy now : Option protocol.State)
     → or_invalid now ≡ left_of column copy → ((s : protocol.State) → copy ≡ Some s → s ≢ I) → fell (state_with x copy) (state_with y now) ≡ given_up column copy
@@ -122,7 +122,7 @@ module _ (m : Running) (c : Choice) (kept : IsKept m) (quiet : AtRest m) (others
   contents = m.statistics.caches.contents
 
   seen : (o : Option BusRequest)
-      → request_in (machine_use m c).how ≡ o
+      → request_made (machine_use m c).how ≡ o
       → sets_of next.statistics.caches.contents core
       ≡ with_seen (table_in m) (option_map line_request o) (sets_of contents core)
   seen o q =
@@ -138,12 +138,12 @@ module _ (m : Running) (c : Choice) (kept : IsKept m) (quiet : AtRest m) (others
       (tag_at core line next.statistics.caches.contents) (beside m c kept.sound quiet core line apart) same)
 
   -- where nothing is asked for
-  pub none-fallen : request_in (machine_use m c).how ≡ None → fallen m next core ≡ 0
+  pub none-fallen : request_made (machine_use m c).how ≡ None → fallen m next core ≡ 0
   none-fallen none =
       sum-none (λ line. fell (line_state m core line) (line_state next core line)) 0 (number_of_lines m)
       (λ line. same-line line (ap (λ (sets : TagSets). tag_in sets line) (sym (seen None none))))
 
-  module _ (q : BusRequest) (asks : request_in (machine_use m c).how ≡ Some q) where
+  module _ (q : BusRequest) (asks : request_made (machine_use m c).how ≡ Some q) where
     abbrev column : protocol.State → Snoop
     column = snoop_column (table_in m) q.request
 

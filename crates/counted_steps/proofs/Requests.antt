@@ -20,6 +20,7 @@ use Rattle.multiprocessor.specs.declared.accesses.CacheUse.TheVariants.{Asked, F
 use Rattle.multiprocessor.proofs.EachUse.{each-use}
 use Rattle.machine_core.specs.Running.{Running, machine_effect, machine_use}
 use Rattle.trace_report.specs.Steps.{sent_by, sent_with, trace_step_of}
+pub use Rattle.trace_report.specs.SupplyLaws.{request_made}
 use Rattle.trace_report.specs.declared.step.LineRequest.{LineRequest}
 use Rattle.cache_counts.specs.Traffic.{copies_given_up, with_requested}
 use Rattle.cache_counts.proofs.UseSums.{MovesEach}
@@ -27,18 +28,12 @@ use Rattle.counted_steps.proofs.Sums.{no-more}
 
 -- ---- what a use asks for
 
-abbrev pub request_in : CacheUse → Option BusRequest
-request_in Unused = None
-request_in Forwarded = None
-request_in (Asked q) = Some q
-request_in (Through r) = r.request
-
 abbrev pub given_by : Table → ℕ → Option BusRequest → ℕ
 given_by table k None = 0
 given_by table k (Some q) = copies_given_up table k q
 
 abbrev pub given_in : Table → ℕ → CacheUse → ℕ
-given_in table k how = given_by table k (request_in how)
+given_in table k how = given_by table k (request_made how)
 
 pub each-given : (table : Table) (k : ℕ) → MovesEach table k (λ x. x.invalidations) (given_in table k)
 each-given table k Unused x = no-more x.invalidations
@@ -55,7 +50,7 @@ each-given table k (Through r) x = by_request r.request
 abbrev pub line_request : BusRequest → LineRequest
 line_request q = record { request = q.request; line = q.line }
 
-sent-request : (how : CacheUse) → (sent_by how).request ≡ option_map line_request (request_in how)
+sent-request : (how : CacheUse) → (sent_by how).request ≡ option_map line_request (request_made how)
 sent-request Unused = refl
 sent-request Forwarded = refl
 sent-request (Asked q) = refl
@@ -65,7 +60,7 @@ sent-request (Through r) = by_request r.request
     by_request None = refl
     by_request (Some q) = refl
 
-pub request-told : (m : Running) (c : Choice) → (trace_step_of m c).request ≡ option_map line_request (request_in (machine_use m c).how)
+pub request-told : (m : Running) (c : Choice) → (trace_step_of m c).request ≡ option_map line_request (request_made (machine_use m c).how)
 unfolding trace_step_of
 request-told m c = sent-request (machine_use m c).how
 
@@ -76,7 +71,7 @@ TellsStates caches None = Unit {0}
 TellsStates caches (Some q) = q.states ≡ states_by_core most_cores q.line caches
 
 asking-states : (t : Table) (request : Request) (line : ℕ) (caches : List TagSets) (o : Option Transient)
-    → TellsStates caches (request_in (asking_use (option_map (requesting t request line caches) o)))
+    → TellsStates caches (request_made (asking_use (option_map (requesting t request line caches) o)))
 unfolding requesting
 asking-states t request line caches None = tt
 asking-states t request line caches (Some x) = refl
@@ -100,13 +95,13 @@ unfolding requesting
 whole-states t write core line caches copy (Some next) = tt
 whole-states t write core line caches copy None = refl
 
-pub states-told : (m : Running) (c : Choice) → TellsStates m.statistics.caches.contents (request_in (machine_use m c).how)
+pub states-told : (m : Running) (c : Choice) → TellsStates m.statistics.caches.contents (request_made (machine_use m c).how)
 states-told m c =
     let f = machine_effect m c in
     let caches = m.statistics.caches in
     let t = table_of_rows caches.rows in
     let line : ℕ → ℕ = λ loc. loc / caches.shape.words in
-    each-use (λ u. TellsStates caches.contents (request_in u.how)) caches tt tt
+    each-use (λ u. TellsStates caches.contents (request_made u.how)) caches tt tt
     (λ core loc write. whole-states t write core (line loc) caches.contents (tag_at core (line loc) caches.contents)
     (next_in_place t write (tag_at core (line loc) caches.contents)))
     (chosen c)

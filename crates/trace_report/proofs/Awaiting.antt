@@ -1,10 +1,10 @@
 -- A line that its core awaits isn't in the core's cache, but for an upgrade: so another line may give way to it. What a use of
 -- the caches on either bus makes of them.
-use Rattle.trace_report.proofs.Vocabulary.{◌≡◌, ◌≢◌, ◌∙◌, ◌<◌, ◌/◌, ℕ, Bool, true, false, List, Option, Some, None, inl, inr, refl, sym, ap}
-use Rattle.trace_report.proofs.Vocabulary.{subst, MemoryAccess, NoAccess, Reads, Writes, Locks, Holder, HeldBy, chosen, Choice, Table}
-use Rattle.trace_report.proofs.Vocabulary.{transient_of, I, E, M, Request, GetS, GetM, Transient, Geometry, table_of_rows, TagSets, tag_in}
-use Rattle.trace_report.proofs.Vocabulary.{sets_of, snoop_column, Awaited, tag_at, or_invalid, awaiting, asking, asked_caches_in, Caches}
-use Rattle.trace_report.proofs.Vocabulary.{Used, is_awaited, asking_by, completing_by, Unused, IsUseFor, KeepsNoCopyInI, AllNeat}
+use Rattle.trace_report.proofs.Vocabulary.{◌≡◌, ◌≢◌, ◌∙◌, ◌<◌, ◌/◌, ℕ, Bool, true, false, List, Option, Some, None, is_some, inl, inr, refl}
+use Rattle.trace_report.proofs.Vocabulary.{sym, ap, subst, MemoryAccess, NoAccess, Reads, Writes, Locks, Holder, HeldBy, chosen, Choice}
+use Rattle.trace_report.proofs.Vocabulary.{Table, transient_of, I, E, M, Request, GetS, GetM, Transient, Geometry, table_of_rows, TagSets}
+use Rattle.trace_report.proofs.Vocabulary.{tag_in, sets_of, snoop_column, Awaited, tag_at, or_invalid, awaiting, asking, asked_caches_in}
+use Rattle.trace_report.proofs.Vocabulary.{Caches, Used, is_awaited, asking_by, completing_by, Unused, IsUseFor, KeepsNoCopyInI, AllNeat}
 use Rattle.trace_report.proofs.Vocabulary.{found-valid, all-requested, own-kept, at_access, whole_by, Bus, Outcome, request_for}
 use Rattle.std.specs.Option.{option_map}
 use Rattle.snoop_bus.specs.CacheContents.{evicted_by}
@@ -57,20 +57,29 @@ awaits : (t : Table) (request : Request) (core line : ℕ) (caches : List TagSet
     → MayComplete (option_map (awaiting t request line caches) (transient_of (or_invalid o) request)) core line
     (asked_caches_in t request core line (transient_of (or_invalid o) request) caches)
 unfolding awaiting
-awaits t GetS core line caches None keeps q valid = record {
-  valid = keeps.filled _;
-  absent = λ n. ap (λ (sets : TagSets). tag_in sets line) (own-kept core _ caches) ∙ q;
-}
-awaits t GetM core line caches None keeps q valid = record {
-  valid = modified;
-  absent = λ n. ap (λ (sets : TagSets). tag_in sets line) (own-kept core _ caches) ∙ q;
-}
+awaits t GetS core line caches None keeps q valid =
+    record {
+      valid = keeps.filled _;
+      absent = λ n. ap (λ (sets : TagSets). tag_in sets line) (own-kept core _ caches) ∙ q;
+      present = λ e. absurd (let z : ⊥ = cc in z);
+    }
+awaits t GetM core line caches None keeps q valid =
+    record {
+      valid = modified;
+      absent = λ n. ap (λ (sets : TagSets). tag_in sets line) (own-kept core _ caches) ∙ q;
+      present = λ e. absurd (let z : ⊥ = cc in z);
+    }
 awaits t GetS core line caches (Some I) keeps q valid = absurd (valid refl)
 awaits t GetM core line caches (Some I) keeps q valid = absurd (valid refl)
-awaits t GetS core line caches _ keeps q valid = tt
-awaits t GetM core line caches (Some E) keeps q valid = tt
-awaits t GetM core line caches (Some M) keeps q valid = tt
-awaits t GetM core line caches _ keeps q valid = record { valid = modified; absent = λ n. absurd (n refl) }
+awaits t GetS core line caches _ keeps q valid = ap is_some q
+awaits t GetM core line caches (Some E) keeps q valid = ap is_some q
+awaits t GetM core line caches (Some M) keeps q valid = ap is_some q
+awaits t GetM core line caches _ keeps q valid =
+    record {
+      valid = modified;
+      absent = λ n. absurd (n refl);
+      present = λ e. ap (λ (sets : TagSets). is_some (tag_in sets line)) (own-kept core _ caches) ∙ ap is_some q;
+    }
 
 asking-may : (lines : ℕ) (t : Table) (request : Request) (core line : ℕ) (caches : List TagSets) → KeepsNoCopyInI t → AllNeat lines caches
     → MayComplete (asking t request core line caches).awaited core line (asking t request core line caches).caches
@@ -153,8 +162,12 @@ still-complete c core u k loc s may =
     (subst (λ w. MayComplete w k (loc / c.shape.words) u.caches.contents) (sym s.awaited) (kept c.awaited may))
   where
     kept : (w : Option Awaited) → MayComplete w k (loc / c.shape.words) c.contents → MayComplete w k (loc / c.shape.words) u.caches.contents
-    kept None may = tt
-    kept (Some x) may = record { valid = may.valid; absent = λ n. s.absent k (loc / c.shape.words) (may.absent n) }
+    kept None may = s.present k (loc / c.shape.words) may
+    kept (Some x) may = record {
+      valid = may.valid;
+      absent = λ n. s.absent k (loc / c.shape.words) (may.absent n);
+      present = λ e. s.present k (loc / c.shape.words) (may.present e);
+    }
 
 still-may : (c : Caches) (core : ℕ) (u : Used) (k : ℕ) (what : MemoryAccess) → IsStill c core u → MayMake c k what → MayMake u.caches k what
 still-may c core u k NoAccess s may = tt
@@ -173,9 +186,9 @@ module _ (on : Bus) (c : Caches) (a : Choice) (before after : Choice → MemoryA
         → IsWithin lines c.shape.words (before a)
         → AllNeat lines c.contents
         → NeatAfter lines u
-    neat-after lines (made it why stays) within h = use-neat lines c (chosen a) (before a) u it within keeps h
-    neat-after lines (unused is stays) within h = subst (NeatAfter lines) (sym is) h
-    neat-after lines (begun split is snoop_column free held same) within h = subst (NeatAfter lines) (sym is) (asks-neat lines c (chosen a) (before a) h)
+    neat-after lines (made it why stays acted) within h = use-neat lines c (chosen a) (before a) u it within keeps h
+    neat-after lines (unused is stays acted) within h = subst (NeatAfter lines) (sym is) h
+    neat-after lines (begun split is outcome some free held same) within h = subst (NeatAfter lines) (sym is) (asks-neat lines c (chosen a) (before a) h)
     neat-after lines (ended split is some held rest) within h =
         subst (NeatAfter lines) (sym is) (completes-neat lines c (chosen a) (before a) within (own-may held) h)
 
@@ -190,10 +203,10 @@ module _ (on : Bus) (c : Caches) (a : Choice) (before after : Choice → MemoryA
             (still-may c (chosen a) u (chosen other) (before other) still (subst (λ x. HolderMayMake before x c) held.0 may))
 
         by_use : (other : Choice) → next ≡ HeldBy other → UsesOn on c a before after holder next o u → MayMake u.caches (chosen other) (after other)
-        by_use other q (made it (inl free) stays) = let f = free.2 in absurd (let z : ⊥ = cc in z)
-        by_use other q (made it (inr free) stays) = kept other stays q (use-still c (chosen a) (before a) u it free)
-        by_use other q (unused is stays) = kept other stays q (subst (IsStill c (chosen a)) (sym is) (none-still c (chosen a) Unused refl refl))
-        by_use other q (begun split is snoop_column free held same) =
+        by_use other q (made it (inl free) stays acted) = let f = free.2 in absurd (let z : ⊥ = cc in z)
+        by_use other q (made it (inr free) stays acted) = kept other stays q (use-still c (chosen a) (before a) u it free)
+        by_use other q (unused is stays acted) = kept other stays q (subst (IsStill c (chosen a)) (sym is) (none-still c (chosen a) Unused refl refl))
+        by_use other q (begun split is outcome some free held same) =
             let this : a ≡ other = cc in
             subst (λ k. MayMake u.caches (chosen k) (after k)) this
             (subst (MayMake u.caches (chosen a)) (sym same)
@@ -206,9 +219,9 @@ module _ (on : Bus) (c : Caches) (a : Choice) (before after : Choice → MemoryA
 
     -- a choice that writes a line back
     pub fills-by : UsesOn on c a before after holder next o u → FillsIf c (chosen a) (before a) u
-    fills-by (made it why stays) = use-fills c (chosen a) (before a) u it keeps
-    fills-by (unused is stays) = subst (FillsIf c (chosen a) (before a)) (sym is) (λ dirty. absurd (let z : ⊥ = cc in z))
-    fills-by (begun split is snoop free held same) = λ dirty.
+    fills-by (made it why stays acted) = use-fills c (chosen a) (before a) u it keeps
+    fills-by (unused is stays acted) = subst (FillsIf c (chosen a) (before a)) (sym is) (λ dirty. absurd (let z : ⊥ = cc in z))
+    fills-by (begun split is outcome some free held same) = λ dirty.
         (let z : false ≡ true =
         sym (asking-clean c (chosen a) (before a)).0 ∙ subst (λ (x : Used). wrote_in x.how ≡ true) is dirty in
         absurd (let y : ⊥ = cc in y))

@@ -126,9 +126,9 @@ module _ (c : Caches) (a : Choice) (before after : Choice → MemoryAccess) (hol
   TurnsOn = Turns (is_awaited holder) (is_awaited next) c.awaited u.caches.awaited (sent_by u.how).flushed (flush_in u.how)
 
   pub choice-turn : (on : Bus) → UsesOn on c a before after holder next o u → TurnsOn
-  choice-turn on (made it why stays) = whole (use-told c (chosen a) (before a) u it) (use-keeps c (chosen a) (before a) u it).1 stays.waits
-  choice-turn on (unused is stays) = whole (rw is refl) (ap (λ (x : Used). x.caches.awaited) is) stays.waits
-  choice-turn on (begun split is outcome free held same) =
+  choice-turn on (made it why stays acted) = whole (use-told c (chosen a) (before a) u it) (use-keeps c (chosen a) (before a) u it).1 stays.waits
+  choice-turn on (unused is stays acted) = whole (rw is refl) (ap (λ (x : Used). x.caches.awaited) is) stays.waits
+  choice-turn on (begun split is outcome some free held same) =
       let q = asks-quiet c (chosen a) (before a) quiet in
       asked (subst (λ (x : Used). (sent_by x.how).flushed ≡ flush_awaited x.caches.awaited) (sym is)
       (asks-told c (chosen a) (before a) (resting (ap is_awaited free))))

@@ -127,7 +127,7 @@ gave-way m choice kept within line told =
 
 -- ---- along the choices
 
-same-test : (m : Running) (choices : List Choice) → (after_choices m choices).test ≡ m.test
+pub same-test : (m : Running) (choices : List Choice) → (after_choices m choices).test ≡ m.test
 same-test m [] = refl
 same-test m (c ∷ cs) = same-test (machine_after m c) cs
 

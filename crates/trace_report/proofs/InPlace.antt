@@ -1,14 +1,17 @@
 -- An access that needs no bus: no other cache sees it, nothing is sent to memory, and no line leaves.
-use Rattle.trace_report.proofs.Vocabulary.{◌≡◌, ◌≢◌, ◌∙◌, ◌/◌, ℕ, Bool, false, not, List, slice_index_or, Option, Some, None, is_some, inl}
-use Rattle.trace_report.proofs.Vocabulary.{inr, refl, sym, subst, eqb_tells, MemoryAccess, NoAccess, Locks, needs_bus, Table, table_of_rows}
-use Rattle.trace_report.proofs.Vocabulary.{TagSet, tag_of, used, TagSets, tags_at, tag_in, at_line, sets_of, used_by, tag_at, Caches, Used}
-use Rattle.trace_report.proofs.Vocabulary.{not_through, hits_by, Unused, IsUseFor, no_set, absent-remove, would_hit, through, whole_by}
-use Rattle.trace_report.proofs.Vocabulary.{Forwarded, Through, next_in_place, whole_in, CacheUse, Core, at_access}
+use Rattle.trace_report.proofs.Vocabulary.{◌≡◌, ◌≢◌, ◌∙◌, ◌/◌, ◌%◌, ℕ, Bool, true, false, not, [], ◌∷◌, List, length, slice_index_or}
+use Rattle.trace_report.proofs.Vocabulary.{get_or_past, Option, Some, None, is_some, inl, inr, refl, sym, ap, subst, eqb_tells}
+use Rattle.trace_report.proofs.Vocabulary.{MemoryAccess, NoAccess, Locks, needs_bus, Table, table_of_rows, TagSet, tag_of, used, TagSets}
+use Rattle.trace_report.proofs.Vocabulary.{tags_at, tag_in, at_line, sets_of, used_by, tag_at, Caches, Used, not_through, hits_by, Unused}
+use Rattle.trace_report.proofs.Vocabulary.{IsUseFor, no_set, absent-remove, would_hit, through, whole_by, Forwarded, Through, next_in_place}
+use Rattle.trace_report.proofs.Vocabulary.{whole_in, CacheUse, Core, at_access}
 use Rattle.multiprocessor.specs.Caches.{asking_use, asking_by}
 use Rattle.snoop_bus.specs.declared.access.BusRequest.{BusRequest}
 use Rattle.snoop_bus.specs.inner.CacheContents.{was_written_back}
 use Rattle.trace_report.specs.Steps.{left_in}
 use Rattle.protocol_tables.specs.declared.state.State.{State}
+use Rattle.std.specs.Map.{lookup, remove_entry}
+use Rattle.std.specs.Prelude.{nat_eq}
 use Rattle.machine_core.proofs.Changed.{set-at, core-at}
 use Rattle.machine_core.proofs.Snooped.{own-alone}
 
@@ -64,18 +67,68 @@ used-absent k other core line state found caches there none =
     core-at (λ sets. tag_in sets other ≡ None) core k (at_line line (used line state)) caches
     (λ q l. sets-absent other line state found (sets_of caches core) there (subst (λ j. tag_at j other caches ≡ None) q none)) (λ q past. refl) (λ n. none)
 
--- the shape of the caches, what is awaited, and the lines of other cores are as before; what wasn't there isn't there; and
--- nothing is written back or sent
+-- and one that is there stays
+others-remove : (line k : ℕ) (es : List (ℕ × State)) → nat_eq k line ≡ false → lookup (nat_eq k) (remove_entry (nat_eq line) es) ≡ lookup (nat_eq k) es
+others-remove line k [] d = refl
+others-remove line k (e ∷ es) d = elim (eqb_tells line e.0) [
+  | inl p ↦ let other : nat_eq k e.0 ≡ false = subst (λ n. nat_eq k n ≡ false) p.1 d in rw (p.0, other) refl
+  | inr p ↦ elim (eqb_tells k e.0) [ inl q ↦ rw (p.0, q.0) refl | inr q ↦ rw (p.0, q.0) (others-remove line k es d) ]
+]
+
+tags-present : (other line : ℕ) (state : State) (s : TagSet) → is_some (tag_of s other) ≡ true → is_some (tag_of (used line state s) other) ≡ true
+tags-present other line state s there = elim (eqb_tells other line) [
+  | inl p ↦ rw p.0 refl
+  | inr p ↦ rw p.0 (ap is_some (others-remove line other s.tags p.0) ∙ there)
+]
+
+sets-present : (other line : ℕ) (state : State) (sets : TagSets)
+    → is_some (tag_in sets other) ≡ true
+    → is_some (tag_in (at_line line (used line state) sets) other) ≡ true
+sets-present other line state sets there =
+    set-at (λ s. is_some (tag_of s other) ≡ true) line other (used line state) sets (λ q l. tags-present other line state (tags_at sets line) (here q))
+    (λ q past. (let none : false ≡ true =
+    subst (λ s. is_some (tag_of s other) ≡ true) (get_or_past sets (line % length sets) no_set past) (here q) in
+    absurd (let z : ⊥ = cc in z)))
+    (λ n. there)
+  where
+    here : other % length sets ≡ line % length sets → is_some (tag_of (tags_at sets line) other) ≡ true
+    here q = subst (λ k. is_some (tag_of (slice_index_or sets k no_set) other) ≡ true) q there
+
+used-present : (k other core line : ℕ) (state : State) (caches : List TagSets)
+    → is_some (tag_at k other caches) ≡ true
+    → is_some (tag_at k other (used_by core line state caches)) ≡ true
+used-present k other core line state caches there =
+    core-at (λ sets. is_some (tag_in sets other) ≡ true) core k (at_line line (used line state)) caches
+    (λ q l. sets-present other line state (sets_of caches core) (here q))
+    (λ q past. (let none : false ≡ true =
+    subst (λ (sets : TagSets). is_some (tag_in sets other) ≡ true) (get_or_past caches core [] past) (here q) in
+    absurd (let z : ⊥ = cc in z)))
+    (λ n. there)
+  where
+    here : k ≡ core → is_some (tag_at core other caches) ≡ true
+    here q = subst (λ j. is_some (tag_at j other caches) ≡ true) q there
+
+-- the shape of the caches, what is awaited, and the lines of other cores are as before; what wasn't there isn't there, and what was
+-- there is; and nothing is written back or sent
 pub record IsStill (c : Caches) (core : ℕ) (u : Used) : Type 0 where
   pub shape : u.caches.shape ≡ c.shape
   pub awaited : u.caches.awaited ≡ c.awaited
   pub beside : (k : ℕ) → k ≢ core → sets_of u.caches.contents k ≡ sets_of c.contents k
   pub absent : (k line : ℕ) → tag_at k line c.contents ≡ None → tag_at k line u.caches.contents ≡ None
+  pub present : (k line : ℕ) → is_some (tag_at k line c.contents) ≡ true → is_some (tag_at k line u.caches.contents) ≡ true
   pub clean : wrote_in u.how ≡ false
   pub unsent : flush_in u.how ≡ None
 
 pub none-still : (c : Caches) (core : ℕ) (how : CacheUse) → wrote_in how ≡ false → flush_in how ≡ None → IsStill c core (not_through how c)
-none-still c core how clean unsent = record { shape = refl; awaited = refl; beside = λ k n. refl; absent = λ k line none. none; clean = clean; unsent = unsent }
+none-still c core how clean unsent = record {
+  shape = refl;
+  awaited = refl;
+  beside = λ k n. refl;
+  absent = λ k line none. none;
+  present = λ k line there. there;
+  clean = clean;
+  unsent = unsent;
+}
 
 there : (t : Table) (write : Bool) (copy : Option State) (next : State) → next_in_place t write copy ≡ Some next → (s : State) × (copy ≡ Some s)
 there t write None next q = absurd (let z : ⊥ = cc in z)
@@ -102,6 +155,7 @@ hit-still c core loc write hit = by_next (next_in_place t write (tag_at core lin
           awaited = refl;
           beside = λ k n. own-alone core (at_line line (used line next)) c.contents k n;
           absent = λ k other none. used-absent k other core line next found.0 c.contents found.1 none;
+          present = λ k other there. used-present k other core line next c.contents there;
           clean = refl;
           unsent = refl;
         })

@@ -1,10 +1,10 @@
 -- What a machine keeps along the choices of a run: its lines are neat, and what it awaits may come in.
 use Rattle.trace_report.proofs.Vocabulary.{arith, ◌≡◌, ◌≢◌, ◌∙◌, ◌/◌, ◌<◌, ℕ, zero, suc, Bool, true, false, List, length, map, replicate}
-use Rattle.trace_report.proofs.Vocabulary.{slice_index_or, Some, inl, inr, refl, sym, ap, subst, div_ceil, div_ceil_times, length-replicate}
+use Rattle.trace_report.proofs.Vocabulary.{slice_index_or, Some, inl, inr, sym, ap, subst, div_ceil, div_ceil_times, length-replicate}
 use Rattle.trace_report.proofs.Vocabulary.{div-mul-le_self, mul-le-mul_right, lt-or, Litmus, IsTest, chosen, MemoryAccess, NoAccess}
 use Rattle.trace_report.proofs.Vocabulary.{access_of, Choice, Table, table_of_rows, rows_of, tags_in, TagSet, Configuration, no_counts}
 use Rattle.trace_report.proofs.Vocabulary.{Running, new_machine, machine_use, machine_after, length-counted, AreStoresKnown}
-use Rattle.trace_report.proofs.Vocabulary.{number_of_lines, KeepsNoCopyInI, IsNeat, none-neat, no-sets, no_set, AllNeat, Geometry, []}
+use Rattle.trace_report.proofs.Vocabulary.{number_of_lines, KeepsNoCopyInI, IsNeat, none-neat, no-sets, no_set, AllNeat, []}
 use Rattle.trace_report.proofs.Vocabulary.{after_choices, core_of, is_awaited, ◌∷◌, machine_effect}
 use Rattle.protocol_tables.specs.declared.state.State as protocol
 use Rattle.protocol_tables.specs.declared.state.State.TheVariants as tag

@@ -83,9 +83,9 @@ use-seen c core k what u is n = subst (λ (x : Used). SeesSent c k x (sent_by x.
 
 choice-sees : (on : Bus) (c : Caches) (a : Choice) (before after : Choice → MemoryAccess) (holder next : Holder) (o : Outcome) (u : Used) (k : ℕ) → k ≢ chosen a
     → UsesOn on c a before after holder next o u → SeesSent c k u (sent_by u.how)
-choice-sees on c a before after holder next o u k n (made it why stays) = use-seen c (chosen a) k (before a) u it n
-choice-sees on c a before after holder next o u k n (unused is stays) = subst (λ (x : Used). SeesSent c k x (sent_by x.how)) (sym is) refl
-choice-sees on c a before after holder next o u k n (begun split is outcome free held same) =
+choice-sees on c a before after holder next o u k n (made it why stays acted) = use-seen c (chosen a) k (before a) u it n
+choice-sees on c a before after holder next o u k n (unused is stays acted) = subst (λ (x : Used). SeesSent c k x (sent_by x.how)) (sym is) refl
+choice-sees on c a before after holder next o u k n (begun split is outcome some free held same) =
     subst (λ (x : Used). SeesSent c k x (sent_by x.how)) (sym is) (asks-seen c (chosen a) k (before a) n)
 choice-sees on c a before after holder next o u k n (ended split is some held rest) =
     subst (λ (x : Used). SeesSent c k x (sent_by x.how)) (sym is) (completes-unseen c (chosen a) k (before a) n)

@@ -3,7 +3,7 @@ use Rattle.trace_report.proofs.Vocabulary.{◌≡◌, ◌∙◌, ℕ, zero, suc,
 use Rattle.trace_report.proofs.Vocabulary.{None, IfSome, All, slice_get, slice_index, slice_index_or, sym, subst, arith, inl, inr, div_ceil}
 use Rattle.trace_report.proofs.Vocabulary.{div_ceil_times, div-mul-le_self, mul-le-mul_right, add-mul, All-nil, All-cons, All-head}
 use Rattle.trace_report.proofs.Vocabulary.{All-tail, All-push, All-drop, Litmus, IsTest, IsProgram, KnownLocation, action_of, location_of}
-use Rattle.trace_report.proofs.Vocabulary.{entry, fence, value_in, value_of, updated, CoreState, State, Effect, is_none_pending, stored}
+use Rattle.trace_report.proofs.Vocabulary.{entry, fence, value_of, updated, CoreState, State, Effect, is_none_pending, stored}
 use Rattle.trace_report.proofs.Vocabulary.{effect_by, effect_of, core_of, chosen, program_of, applied, start, MemoryAccess, NoAccess, Reads}
 use Rattle.trace_report.proofs.Vocabulary.{Writes, Locks, access_of, next_of, access_by, step_access, load_access, locked_access}
 use Rattle.trace_report.proofs.Vocabulary.{store_access, drain_access, filter, writes_to, Attempt, load_part, as_read, BusState, effect_on}

@@ -1,14 +1,16 @@
 -- A choice that stalled: nothing else is told of it.
-use Rattle.trace_report.proofs.Vocabulary.{◌≡◌, ◌⊎◌, inl, inr, ◌∙◌, ℕ, Bool, true, false, List, [], ◌++◌, length, drop, Option, Some, None}
-use Rattle.trace_report.proofs.Vocabulary.{refl, sym, ap, Litmus, action_of, CoreState, State, effect_by, effect_of, core_of, chosen}
-use Rattle.trace_report.proofs.Vocabulary.{MemoryAccess, NoAccess, access_by, step_access, access_of, next_of, Attempt, needs_bus, as_read}
-use Rattle.trace_report.proofs.Vocabulary.{BusState, effect_on, Bus, Atomic, Split, Instr, Action, Move, Entry, Choice, Step, Drain}
+use Rattle.trace_report.proofs.Vocabulary.{◌≡◌, ◌⊎◌, inl, inr, ◌∙◌, ℕ, Bool, true, false, if◌then◌else◌, List, [], ◌++◌, length, drop}
+use Rattle.trace_report.proofs.Vocabulary.{Option, Some, None, refl, sym, ap, Litmus, action_of, CoreState, State, effect_by, effect_of}
+use Rattle.trace_report.proofs.Vocabulary.{core_of, chosen, MemoryAccess, NoAccess, access_by, step_access, access_of, next_of, Attempt}
+use Rattle.trace_report.proofs.Vocabulary.{needs_bus, as_read, BusState, effect_on, Bus, Instr, Action, Move, Entry, Choice, Step, Drain}
 use Rattle.trace_report.proofs.Vocabulary.{Outcome, Moved, Stalled, Stall, Caches, is_awaited, used_between, Running, machine_use}
-use Rattle.trace_report.proofs.Vocabulary.{machine_after, CacheUse, Unused, states_of, changes_in, is_forwarded, access_kind_in, sent_by}
-use Rattle.trace_report.proofs.Vocabulary.{left_in, written_line, among, number_of_lines, moved_at, moved_by, moved_from, buffer_if_changed}
+use Rattle.trace_report.proofs.Vocabulary.{machine_after, Unused, states_of, changes_in, is_forwarded, access_kind_in, sent_by, left_in}
+use Rattle.trace_report.proofs.Vocabulary.{written_line, among, number_of_lines, moved_at, moved_by, moved_from, buffer_if_changed}
 use Rattle.trace_report.proofs.Vocabulary.{stores_on, stalled_step, step_of, effect-by, needs-some}
 use Rattle.machine_core.specs.Running as running
 use Rattle.trace_report.specs.Steps as steps
+use Rattle.trace_report.specs.Supplied.{reads_from, source_in, supplied_by}
+use Rattle.trace_report.specs.declared.supplied.Source.{Source}
 use Rattle.trace_report.proofs.Effects.{stall-rests, drop-all}
 use Rattle.trace_report.proofs.Whole.{form-of, same-fields, same-test, unchanged}
 
@@ -83,6 +85,32 @@ unused before after c core what pending commits same none =
     ∙ (ap (λ es. (used_between before before c core what pending es).how) none
     ∙ used-alike before c core what pending)
 
+-- a choice that stalled and changed nothing doesn't use the caches
+stall-unused : (m : Running) (choice : Choice) (why : Stall)
+    → machine_after m choice ≡ m
+    → (running.machine_effect m choice).effect.outcome ≡ Stalled why
+    → (machine_use m choice).how ≡ Unused
+stall-unused m choice why same stalls =
+    let f = running.machine_effect m choice in
+    let rests = stall-rests choice (core_of m.state.flat (chosen choice)) f.effect why stalls (form-of m choice) in
+    unused (is_awaited m.state.holder) (is_awaited f.holder) m.statistics.caches (chosen choice)
+    (access_of m.test m.depth m.state.flat choice) (core_of m.state.flat (chosen choice)).pending f.effect.commits
+    (ap (λ (n : Running). is_awaited n.state.holder) same) rests.commits
+
+-- so it reads no word
+none-read : (b : Bool) (o : Option Source) → o ≡ None → None ≡ (if b then o else None)
+none-read true o is = sym is
+none-read false o is = refl
+
+pub stall-source : (m : Running) (choice : Choice) (why : Stall)
+    → machine_after m choice ≡ m
+    → (running.machine_effect m choice).effect.outcome ≡ Stalled why
+    → None ≡ supplied_by m choice
+stall-source m choice why same stalls =
+    none-read (reads_from m.test (core_of m.state.flat (chosen choice)).place choice)
+    (source_in (running.machine_effect m choice).effect.outcome (machine_use m choice).how)
+    (λ i. source_in (stalls i) (stall-unused m choice why same stalls i))
+
 -- what a choice did that stalled and changed nothing
 pub stall-shown : (m : Running) (choice : Choice) (why : Stall) → machine_after m choice ≡ m → (running.machine_effect m choice).effect.outcome ≡ Stalled why
     → stalled_step choice why ≡ steps.trace_step_of m choice
@@ -93,11 +121,7 @@ stall-shown m choice why same stalls =
     let end = machine_after m choice in
     let rests = stall-rests choice (core_of m.state.flat core) f.effect why stalls (form-of m choice) in
     let stores : stores_on end choice ≡ stores_on m choice = ap (λ (n : Running). stores_on n choice) same in
-    let held : is_awaited f.holder ≡ is_awaited m.state.holder = ap (λ (n : Running). is_awaited n.state.holder) same in
-    let how : (machine_use m choice).how ≡ Unused =
-    unused (is_awaited m.state.holder) (is_awaited f.holder) m.statistics.caches core
-    (access_of m.test m.depth m.state.flat choice) (core_of m.state.flat core).pending f.effect.commits held
-    rests.commits in
+    let how = stall-unused m choice why same stalls in
     let changes : changes_in (states_of m) (states_of end) ≡ [] = ap (λ (n : Running). changes_in (states_of m) (states_of n)) same ∙ unchanged (states_of m) in
     sym (same-fields choice _ _ _ _ _ _ _ _ _ _ _ _ _ _ _ _ _ _ _ _ stalls
     (ap (λ es. es ++ drop (length (stores_on m choice)) (stores_on end choice)) rests.commits

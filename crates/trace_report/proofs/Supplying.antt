@@ -1,194 +1,355 @@
--- Where a word is found: the first core that supplies it, and memory where none does.
-use Rattle.trace_report.proofs.Vocabulary.{arith, rules, ◌≡◌, ◌≢◌, ◌∙◌, ℕ, zero, suc, ◌+◌, ◌-◌, ◌<◌, ◌/◌, ◌||◌, Bool, true, false}
-use Rattle.trace_report.proofs.Vocabulary.{if◌then◌else◌, List, [], ◌∷◌, length, Option, Some, None, refl, sym, ap, subst, Choice, table_of}
-use Rattle.trace_report.proofs.Vocabulary.{ProtocolKind, bus_holder, bus_holder_as, bus_holder_of, at_access, Running, awaited_at}
-use Rattle.trace_report.proofs.Vocabulary.{line_state, state_with, is_newer, is_newer_in, own_word, own_words_from, supplies, supplier_from}
-use Rattle.trace_report.proofs.Vocabulary.{supplier_or_memory, copy_on, SourcesAreTold, Source}
-use Rattle.std.specs.Prelude.{is_some, slice_index_or}
-use Rattle.tso_terms.specs.MemoryAccess.{MemoryAccess, NoAccess, Reads, Writes, Locks, access_of}
-use Rattle.tso_terms.specs.SplitMachine.{Holder, Free, HeldBy, HeldBetween}
-use Rattle.tso_terms.specs.declared.instruction.Core.{Core}
-use Rattle.protocol_tables.specs.declared.kind.ProtocolKind.TheVariants.{Msi, Mesi, Moesi, Mosi}
-use Rattle.protocol_tables.specs.declared.requests.Request.{Request}
-use Rattle.protocol_tables.specs.declared.requests.Request.TheVariants.{GetS, GetM}
-use Rattle.protocol_tables.specs.declared.requests.Transient.{Transient}
+-- Where a word is found: what each use of the caches says of it, the copies before it, and the words that are seen.
+use Rattle.trace_report.proofs.Vocabulary.{arith, ◌≡◌, ◌≢◌, ◌∙◌, ℕ, zero, suc, ◌+◌, ◌<◌, ◌/◌, ◌||◌, Bool, true, false, if◌then◌else◌, List}
+use Rattle.trace_report.proofs.Vocabulary.{[], ◌∷◌, length, Option, Some, None, IfSome, option_map, is_some, slice_index_or, inl, inr, refl}
+use Rattle.trace_report.proofs.Vocabulary.{sym, ap, subst, Litmus, chosen, Loc, Core, MemoryAccess, NoAccess, Writes, access_of, access_by}
+use Rattle.trace_report.proofs.Vocabulary.{step_access, load_access, locked_access, next_of, action_of, filter, writes_to, Instr, Action}
+use Rattle.trace_report.proofs.Vocabulary.{Load, Lock, Entry, Step, Drain, Holder, Free, HeldBy, needs_bus, Bus, Choice, Outcome, Table}
+use Rattle.trace_report.proofs.Vocabulary.{table_of, ProtocolKind, table_of_rows, rows_of, snoop_column, TagSets, tag_in, sets_of, tag_at}
+use Rattle.trace_report.proofs.Vocabulary.{or_invalid, transient_of, Request, GetS, GetM, Transient, IsD, ImD, SmD, I, E, O, M, Awaited}
+use Rattle.trace_report.proofs.Vocabulary.{requesting, completed, completed_in, next_in_place, awaited_as, request_for, whole_in, asked_for}
+use Rattle.trace_report.proofs.Vocabulary.{Caches, Used, not_through, Unused, Through, CacheUse, asking_by, completing_by, hits_by}
+use Rattle.trace_report.proofs.Vocabulary.{IsUseFor, Running, new_machine, machine_use, machine_after, machine_effect, after_choices}
+use Rattle.trace_report.proofs.Vocabulary.{AllNeat, found-valid, number_of_lines, line_state, state_with, awaited_at, bus_holder_as}
+use Rattle.trace_report.proofs.Vocabulary.{is_newer, is_newer_in, own_word, own_words_from, Source, source_of, source_in, supplied_by}
+use Rattle.trace_report.proofs.Vocabulary.{SourcesAreTold, core_of}
+use Rattle.std.specs.Prelude.{◌⊎◌}
+use Rattle.protocol_tables.specs.Laws.{is_dirty}
+use Rattle.protocol_tables.specs.declared.kind.ProtocolKind.TheVariants.{Mesi, Moesi, Mosi, Msi}
 use Rattle.protocol_tables.specs.declared.state.State as protocol
-use Rattle.protocol_tables.specs.declared.state.State.TheVariants.{I, S, E, O, M}
-use Rattle.snoop_bus.specs.Asks.{Awaited}
-use Rattle.cache_set.specs.Requests.{snoop_column}
-use Rattle.trace_report.specs.declared.supplied.Source.TheVariants.{Cache, Other, Bus, Memory}
+use Rattle.cache_set.specs.CacheTags.{first_from, first_supplier, supplies_in}
+use Rattle.snoop_bus.specs.Asks.{moved_in, supplier_in}
+use Rattle.multiprocessor.specs.declared.accesses.CacheUse.TheVariants as uses
+use Rattle.tso_terms.specs.declared.choice.Bus.TheVariants as either
+use Rattle.tso_terms.specs.declared.choice.Outcome.TheVariants as out
+use Rattle.multiprocessor.specs.Caches.{asking_use}
+use Rattle.trace_report.specs.Supplied.{reads_from, reads_at, action_reads}
+use Rattle.trace_report.specs.SupplyLaws.{line_accessed, request_made, IsFoundBy, IsFoundAt, MemoryIsSeen, machine_by}
+use Rattle.trace_report.specs.declared.supplied.Source.TheVariants as source
+use Rattle.trace_report.proofs.InPlace.{is_write_access}
+use Rattle.trace_report.proofs.VictimsLeave.{MayComplete}
+use Rattle.trace_report.proofs.Awaiting.{MayMake, HolderMayMake}
+use Rattle.trace_report.proofs.UsesOnBus.{UsesOn, made, unused, begun, ended}
+use Rattle.trace_report.proofs.FlushesTold.{uses-of}
+use Rattle.trace_report.proofs.Kept.{IsKept, kept-first, kept-along, rows-kept}
+use Rattle.trace_report.proofs.GaveWay.{same-test}
 
--- ---- one core after the other
+-- ---- a request
 
--- a core that doesn't supply
-pub next-core : (m : Running) (line core cores : ℕ) (whole : Option Core) → core < cores → supplies (copy_on m core line) ≡ false
-    → supplier_from m line core (cores - core) ≡ whole → supplier_from m line (core + 1) (cores - (core + 1)) ≡ whole
-next-core m line core cores whole within silent so_far =
-    let left : cores - core ≡ suc (cores - (core + 1)) = omega arith in
-    sym (ap (λ (b : Bool). if b then Some (record { 0 = core }) else supplier_from m line (core + 1) (cores - (core + 1))) silent)
-    ∙ (sym (ap (supplier_from m line core) left) ∙ so_far)
+-- what a core's line is in once it has asked tells whether it has the line
+asked-absent : (request : Request) (copy : Option protocol.State) (x : Transient)
+    → copy ≢ Some I
+    → transient_of (or_invalid copy) request ≡ Some x
+    → x ≢ SmD
+    → copy ≡ None
+asked-absent request None x valid q n = refl
+asked-absent request (Some I) x valid q n = absurd (valid refl)
+asked-absent GetS (Some s) x valid q n = absurd (let z : ⊥ = cc in z)
+asked-absent GetM (Some E) x valid q n = absurd (let z : ⊥ = cc in z)
+asked-absent GetM (Some M) x valid q n = absurd (let z : ⊥ = cc in z)
+asked-absent GetM (Some s) x valid q n = absurd (n (let z : x ≡ SmD = cc in z))
 
--- one that does
-pub this-core : (m : Running) (line core cores : ℕ) (whole : Option Core) → core < cores → supplies (copy_on m core line) ≡ true
-    → supplier_from m line core (cores - core) ≡ whole → Some (record { 0 = core }) ≡ whole
-this-core m line core cores whole within sends so_far =
-    let left : cores - core ≡ suc (cores - (core + 1)) = omega arith in
-    sym (ap (λ (b : Bool). if b then Some (record { 0 = core }) else supplier_from m line (core + 1) (cores - (core + 1))) sends)
-    ∙ (sym (ap (supplier_from m line core) left) ∙ so_far)
+asked-present : (request : Request) (copy : Option protocol.State) (x : Transient)
+    → transient_of (or_invalid copy) request ≡ Some x
+    → x ≡ SmD
+    → is_some copy ≡ true
+asked-present GetS None x q is = absurd (let z : ⊥ = cc in z)
+asked-present GetM None x q is = absurd (let z : ⊥ = cc in z)
+asked-present request (Some s) x q is = refl
+
+unasked-present : (request : Request) (copy : Option protocol.State) → transient_of (or_invalid copy) request ≡ None → is_some copy ≡ true
+unasked-present GetS None q = absurd (let z : ⊥ = cc in z)
+unasked-present GetM None q = absurd (let z : ⊥ = cc in z)
+unasked-present request (Some s) q = refl
+
+module _ (c : Caches) (holder : Holder) (a : Choice) (what : MemoryAccess) where
+  -- the word is found where it is told, if it is told
+  abbrev IsFoundIf : Outcome → CacheUse → Type 0
+  IsFoundIf o how = IfSome (source_in o how) (IsFoundBy c holder a what how)
+
+  module _ (line : ℕ) (accessed : line_accessed c what ≡ Some line) where
+    -- where this request was made for the line, in this state of it
+    request-found : (how : CacheUse) (request : Request) (x : Transient)
+        → request_made how ≡ Some (requesting (table_of_rows c.rows) request line c.contents x)
+        → holder ≡ Free
+        → (x ≢ SmD → tag_at (chosen a) line c.contents ≡ None) → (x ≡ SmD → is_some (tag_at (chosen a) line c.contents) ≡ true)
+        → IsFoundBy c holder a what how (source_of (requesting (table_of_rows c.rows) request line c.contents x).supplier)
+    unfolding requesting
+    request-found how request x sent free absent present = by_transient x sent absent present
+      where
+        first : Option Core
+        first = first_supplier 0 (snoop_column (table_of_rows c.rows) request) line c.contents
+
+        by_first : (x : Transient) (o : Option Core) → first ≡ o → request_made how ≡ Some (requesting (table_of_rows c.rows) request line c.contents x)
+            → tag_at (chosen a) line c.contents ≡ None → IsFoundBy c holder a what how (source_of (Some (supplier_in o)))
+        by_first x None q sent none = record {
+          resting = free;
+          request = requesting (table_of_rows c.rows) request line c.contents x;
+          made = sent;
+          accessed = accessed;
+          absent = none;
+          first = q;
+        }
+        by_first x (Some core) q sent none = record {
+          resting = free;
+          request = requesting (table_of_rows c.rows) request line c.contents x;
+          made = sent;
+          accessed = accessed;
+          absent = none;
+          first = q;
+        }
+
+        by_transient : (x : Transient) → request_made how ≡ Some (requesting (table_of_rows c.rows) request line c.contents x)
+            → (x ≢ SmD → tag_at (chosen a) line c.contents ≡ None) → (x ≡ SmD → is_some (tag_at (chosen a) line c.contents) ≡ true)
+            → IsFoundBy c holder a what how (source_of (moved_in x (supplier_in first)))
+        by_transient SmD sent absent present = record { line = line; accessed = accessed; copy = present refl }
+        by_transient IsD sent absent present = by_first IsD first refl sent (absent (λ q. let z : ⊥ = cc in z))
+        by_transient ImD sent absent present = by_first ImD first refl sent (absent (λ q. let z : ⊥ = cc in z))
+
+    -- an access that is made whole
+    whole-found : (o : Outcome) (write : Bool) → (next_in_place (table_of_rows c.rows) write (tag_at (chosen a) line c.contents) ≡ None → holder ≡ Free)
+        → IsFoundIf o (Through
+        (whole_in (table_of_rows c.rows) write (chosen a) line c.contents (tag_at (chosen a) line c.contents)
+        (next_in_place (table_of_rows c.rows) write (tag_at (chosen a) line c.contents))).report)
+    whole-found o write free =
+        by_next (tag_at (chosen a) line c.contents) (next_in_place (table_of_rows c.rows) write (tag_at (chosen a) line c.contents)) refl refl
+      where
+        t : Table
+        t = table_of_rows c.rows
+
+        in-place : (b : Bool) (copy : Option protocol.State) (next : protocol.State) → next_in_place t b copy ≡ Some next → is_some copy ≡ true
+        in-place b None next q = absurd (let z : ⊥ = cc in z)
+        in-place b (Some s) next q = refl
+
+        none-absent : (b : Bool) (copy : Option protocol.State) → next_in_place t b copy ≡ None → awaited_as b copy ≢ SmD → copy ≡ None
+        none-absent b None q n = refl
+        none-absent false (Some s) q n = absurd (let z : ⊥ = cc in z)
+        none-absent true (Some s) q n = absurd (n refl)
+
+        none-present : (b : Bool) (copy : Option protocol.State) → awaited_as b copy ≡ SmD → is_some copy ≡ true
+        none-present false copy e = absurd (let z : ⊥ = cc in z)
+        none-present true None e = absurd (let z : ⊥ = cc in z)
+        none-present true (Some s) e = refl
+
+        by_next : (copy next : Option protocol.State)
+            → tag_at (chosen a) line c.contents ≡ copy
+            → next_in_place t write (tag_at (chosen a) line c.contents) ≡ next
+            → IsFoundIf o (Through (whole_in t write (chosen a) line c.contents copy next).report)
+        by_next copy (Some next) copy_is is = record { line = line; accessed = accessed; copy = in-place write (tag_at (chosen a) line c.contents) next is }
+        by_next copy None copy_is is =
+            let none : next_in_place t write copy ≡ None = sym (ap (next_in_place t write) copy_is) ∙ is in
+            request-found (Through (whole_in t write (chosen a) line c.contents copy None).report) (request_for write) (awaited_as write copy) refl (free is)
+            (λ n. copy_is ∙ none-absent write copy none n) (λ e. ap is_some copy_is ∙ none-present write copy e)
+
+    -- an ask
+    ask-found : (request : Request) → holder ≡ Free → tag_at (chosen a) line c.contents ≢ Some I
+        → IsFoundIf out.Asked
+        (asking_use (option_map (requesting (table_of_rows c.rows) request line c.contents) (asked_for request (chosen a) line c.contents)))
+    ask-found request free valid = by_transient (asked_for request (chosen a) line c.contents) refl
+      where
+        by_transient : (o : Option Transient)
+            → asked_for request (chosen a) line c.contents ≡ o
+            → IsFoundIf out.Asked (asking_use (option_map (requesting (table_of_rows c.rows) request line c.contents) o))
+        by_transient None q = record { line = line; accessed = accessed; copy = unasked-present request (tag_at (chosen a) line c.contents) q }
+        by_transient (Some x) q =
+            request-found (uses.Asked (requesting (table_of_rows c.rows) request line c.contents x)) request x refl free
+            (λ n. asked-absent request (tag_at (chosen a) line c.contents) x valid q n) (λ e. asked-present request (tag_at (chosen a) line c.contents) x q e)
+
+    -- a completion
+    completed-found : (o : Outcome)
+        → holder ≡ HeldBy a
+        → MayComplete c.awaited (chosen a) line c.contents
+        → IsFoundIf o (Through (completed (table_of_rows c.rows) (chosen a) line c.awaited c.contents).report)
+    completed-found o held may = by_awaited c.awaited refl may
+      where
+        by_transient : (y : Transient) (x : Awaited)
+            → is_some c.awaited ≡ true
+            → (y ≢ SmD → tag_at (chosen a) line c.contents ≡ None)
+            → (y ≡ SmD → is_some (tag_at (chosen a) line c.contents) ≡ true)
+            → IsFoundIf o (Through (completed_in (table_of_rows c.rows) (chosen a) line y x.state x.flushed c.contents).report)
+        by_transient SmD x some absent present = record { line = line; accessed = accessed; copy = present refl }
+        by_transient _ x some absent present = record {
+          holds = held;
+          line = line;
+          accessed = accessed;
+          absent = absent (λ q. let z : ⊥ = cc in z);
+          awaited = some;
+        }
+
+        by_awaited : (w : Option Awaited)
+            → c.awaited ≡ w
+            → MayComplete w (chosen a) line c.contents
+            → IsFoundIf o (Through (completed (table_of_rows c.rows) (chosen a) line w c.contents).report)
+        by_awaited None q may = record { line = line; accessed = accessed; copy = may }
+        by_awaited (Some x) q may = by_transient x.transient x (ap is_some q) may.absent may.present
+
+-- ---- a choice on either bus
+
+abbrev FoundOf : Caches → Holder → Choice → MemoryAccess → Outcome → Used → Type 0
+FoundOf c holder a what o u = IsFoundIf c holder a what o u.how
+
+-- nothing is told of a choice that neither asks nor uses the caches
+unused-untold : (c : Caches) (holder : Holder) (a : Choice) (what : MemoryAccess) (o : Outcome)
+    → o ≢ out.Asked
+    → FoundOf c holder a what o (not_through Unused c)
+unused-untold c holder a what out.Asked acted = absurd (acted refl)
+unused-untold c holder a what _ acted = tt
+
+-- an access that misses needs the bus
+missing-needs : (what : MemoryAccess) (hits : Bool) → what ≢ NoAccess → needs_bus what hits ≡ false → hits ≢ false
+missing-needs NoAccess hits some q e = some refl
+missing-needs what hits some q e = let z : true ≡ false = subst (λ b. needs_bus what b ≡ false) e q in let y : ⊥ = cc in y
+
+use-found : (on : Bus) (c : Caches) (holder next : Holder) (a : Choice) (what : MemoryAccess) (o : Outcome) (u : Used) → IsUseFor c (chosen a) what u
+    → ((on ≡ either.Atomic) × (holder ≡ Free) × (next ≡ Free)) ⊎ (needs_bus what (hits_by c (chosen a) what) ≡ false)
+    → o ≢ out.Asked
+    → FoundOf c holder a what o u
+use-found on c holder next a NoAccess o u (inl is) why acted = subst (FoundOf c holder a NoAccess o) (sym is) (unused-untold c holder a NoAccess o acted)
+use-found on c holder next a NoAccess o u (inr is) why acted = subst (FoundOf c holder a NoAccess o) (sym is) refl
+use-found on c holder next a what o u is (inl free) acted =
+    subst (FoundOf c holder a what o) (sym is) (whole-found c holder a what _ refl o (is_write_access what) (λ none. free.1))
+use-found on c holder next a what o u is (inr hit) acted =
+    subst (FoundOf c holder a what o) (sym is)
+    (whole-found c holder a what _ refl o (is_write_access what)
+    (λ none.
+    absurd (missing-needs what (hits_by c (chosen a) what) (λ q. (let z : ⊥ = cc in z)) hit (ap is_some none))))
+
+asks-found : (lines : ℕ) (c : Caches) (holder : Holder) (a : Choice) (what : MemoryAccess) → what ≢ NoAccess → holder ≡ Free → AllNeat lines c.contents
+    → FoundOf c holder a what out.Asked (asking_by c (chosen a) what)
+asks-found lines c holder a NoAccess some free neat = absurd (some refl)
+asks-found lines c holder a what some free neat =
+    ask-found c holder a what _ refl (request_for (is_write_access what)) free
+    (λ q. found-valid lines _ I (sets_of c.contents (chosen a)) (neat (chosen a)) q refl)
+
+completes-found : (c : Caches) (holder : Holder) (a : Choice) (what : MemoryAccess) (o : Outcome)
+    → what ≢ NoAccess
+    → holder ≡ HeldBy a
+    → MayMake c (chosen a) what
+    → FoundOf c holder a what o (completing_by c (chosen a) what)
+completes-found c holder a NoAccess o some held may = absurd (some refl)
+completes-found c holder a what o some held may = completed-found c holder a what _ refl o held may
+
+choice-found : (on : Bus) (lines : ℕ) (c : Caches) (a : Choice) (before after : Choice → MemoryAccess)
+    (holder next : Holder) (o : Outcome) (u : Used)
+    → HolderMayMake before holder c
+    → AllNeat lines c.contents → UsesOn on c a before after holder next o u → FoundOf c holder a (before a) o u
+choice-found on lines c a before after holder next o u may neat (made it why stays acted) = use-found on c holder next a (before a) o u it why acted
+choice-found on lines c a before after holder next o u may neat (unused is stays acted) =
+    subst (FoundOf c holder a (before a) o) (sym is) (unused-untold c holder a (before a) o acted)
+choice-found on lines c a before after holder next o u may neat (begun split is outcome some free held same) =
+    subst (λ x. FoundOf c holder a (before a) x u) (sym outcome)
+    (subst (FoundOf c holder a (before a) out.Asked) (sym is) (asks-found lines c holder a (before a) some free neat))
+choice-found on lines c a before after holder next o u may neat (ended split is some held rest) =
+    subst (FoundOf c holder a (before a) o) (sym is) (completes-found c holder a (before a) o some held (subst (λ x. HolderMayMake before x c) held may))
+
+found-if : (m : Running) (choice : Choice)
+    → IsKept m
+    → IfSome (source_in (machine_effect m choice).effect.outcome (machine_use m choice).how) (IsFoundAt m choice)
+found-if m choice k =
+    choice-found m.bus (number_of_lines m) m.statistics.caches choice (access_of m.test m.depth m.state.flat)
+    (access_of m.test m.depth (machine_after m choice).state.flat)
+    m.state.holder (machine_after m choice).state.holder (machine_effect m choice).effect.outcome (machine_use m choice)
+    k.may k.neat (uses-of m choice k.sound).0
+
+found-at : (m : Running) (choice : Choice) (source : Source) → IsKept m → supplied_by m choice ≡ Some source → IsFoundAt m choice source
+found-at m choice source k is =
+    subst (λ o. IfSome o (IsFoundAt m choice)) (by_reads (reads_from m.test (core_of m.state.flat (chosen choice)).place choice) is) (found-if m choice k)
+  where
+    told : Option Source
+    told = source_in (machine_effect m choice).effect.outcome (machine_use m choice).how
+
+    by_reads : (b : Bool) → (if b then told else None) ≡ Some source → told ≡ Some source
+    by_reads true q = q
+    by_reads false q = absurd (let z : ⊥ = cc in z)
+
+-- ---- the core that supplies
+
+-- the first core that is so, from this number on, is one of so many, and so
+record IsFirst (is : Option protocol.State → Bool) (first line : ℕ) (caches : List TagSets) (core : Core) : Type 0 where
+  place : ℕ
+  number : core.0 ≡ first + place
+  within : place < length caches
+  copy : is (tag_at place line caches) ≡ true
 
 abbrev number_in : Option Core → ℕ
 number_in None = 0
 number_in (Some core) = core.0
 
--- the core that is found supplies
-record IsFound (m : Running) (line first count : ℕ) (other : Core) : Type 0 where
-  below : other.0 < first + count
-  copy : supplies (copy_on m other.0 line) ≡ true
-
-found : (m : Running) (line first count : ℕ) (other : Core) → supplier_from m line first count ≡ Some other → IsFound m line first count other
-found m line first zero other is = absurd (let z : ⊥ = cc in z)
-found m line first (suc rest) other is = by_test (supplies (copy_on m first line)) refl is (found m line (first + 1) rest other)
+first-is : (is : Option protocol.State → Bool) (first line : ℕ) (caches : List TagSets) (core : Core)
+    → first_from first is line caches ≡ Some core
+    → IsFirst is first line caches core
+first-is is first line [] core q = absurd (let z : ⊥ = cc in z)
+first-is is first line (sets ∷ caches) core q = by_test (is (tag_in sets line)) refl (λ later. first-is is (first + 1) line caches core later) q
   where
-    by_test : (b : Bool) → supplies (copy_on m first line) ≡ b → (if b then Some (record { 0 = first }) else supplier_from m line (first + 1) rest) ≡ Some other
-        → (supplier_from m line (first + 1) rest ≡ Some other → IsFound m line (first + 1) rest other) → IsFound m line first (suc rest) other
-    by_test true q e further =
-        let same : first ≡ other.0 = ap number_in e in
-        record { below = omega (arith, same); copy = subst (λ k. supplies (copy_on m k line) ≡ true) same q }
-    by_test false q e further =
-        let f = further e in
-        let b = f.below in
-        record { below = omega (arith, b); copy = f.copy }
+    by_test : (b : Bool)
+        → is (tag_in sets line) ≡ b
+        → (first_from (first + 1) is line caches ≡ Some core → IsFirst is (first + 1) line caches core)
+        → (if b then Some (record { 0 = first }) else first_from (first + 1) is line caches) ≡ Some core
+        → IsFirst is first line (sets ∷ caches) core
+    by_test true e rest q = let same : first ≡ core.0 = ap number_in q in record { place = 0; number = omega (arith, same); within = omega arith; copy = e }
+    by_test false e rest q =
+        let f = rest q in
+        let n = f.number in
+        let w = f.within in
+        record { place = suc f.place; number = omega (arith, n); within = omega (arith, w); copy = f.copy }
 
--- where none is found, none does
-silent : (m : Running) (line first count core : ℕ) → supplier_from m line first count ≡ None → core < count → supplies (copy_on m (first + core) line) ≡ false
-silent m line first zero core is within = absurd (omega arith)
-silent m line first (suc rest) zero is within = here (supplies (copy_on m first line)) refl is
+-- a core that has no copy isn't one that supplies
+others-supply : (m : Running) (choice : Choice) (other : Core)
+    → IsKept m
+    → IsFoundAt m choice (source.Other other)
+    → (other.0 ≢ chosen choice) × (other.0 < length m.test.programs)
+others-supply m choice other k found =
+    let f = first-is (supplies_in (snoop_column (table_of_rows caches.rows) found.request.request)) 0 found.request.line caches.contents other found.first in
+    let number = f.number in
+    let same : other.0 ≡ f.place = omega (arith, number) in
+    let within = f.within in
+    let as_many : length caches.contents ≡ length m.test.programs = sym k.sound.size ∙ k.cores in (
+      λ q. apart (supplies_in (snoop_column (table_of_rows caches.rows) found.request.request)) (tag_at f.place found.request.line caches.contents) refl f.copy
+          (ap (λ (i : ℕ). tag_at i found.request.line caches.contents) (sym same ∙ q) ∙ found.absent),
+      omega (arith, same, within, as_many),
+    )
   where
-    here : (b : Bool) → supplies (copy_on m first line) ≡ b → (if b then Some (record { 0 = first }) else supplier_from m line (first + 1) rest) ≡ None
-        → supplies (copy_on m (first + 0) line) ≡ false
-    here true q e = absurd (let z : ⊥ = cc in z)
-    here false q e = let same : first ≡ first + 0 = omega arith in subst (λ k. supplies (copy_on m k line) ≡ false) same q
-silent m line first (suc rest) (suc n) is within =
-    let there : (first + 1) + n ≡ first + suc n = omega arith in
-    subst (λ k. supplies (copy_on m k line) ≡ false) there
-    (silent m line (first + 1) rest n (none-after (supplies (copy_on m first line)) is) (omega (arith, within)))
-  where
-    none-after : (b : Bool)
-        → (if b then Some (record { 0 = first }) else supplier_from m line (first + 1) rest) ≡ None
-        → supplier_from m line (first + 1) rest ≡ None
-    none-after true e = absurd (let z : ⊥ = cc in z)
-    none-after false e = e
+    caches : Caches
+    caches = m.statistics.caches
 
--- ---- what is told of a line
-
-abbrev Told : Option protocol.State → Option Awaited → Option Core → Source
-Told copy awaited supplier = if is_some copy then Cache else if is_some awaited then Bus else supplier_or_memory supplier
-
--- the four sources, told apart
-abbrev number_of : Source → ℕ
-number_of Cache = 0
-number_of Bus = 1
-number_of (Other core) = 2
-number_of Memory = 3
-number_of _ = 4
-
-abbrev core_in : Source → Option Core
-core_in (Other core) = Some core
-core_in _ = None
-
-own-copy : (copy : Option protocol.State) (awaited : Option Awaited) (supplier : Option Core) → Told copy awaited supplier ≡ Cache → is_some copy ≡ true
-own-copy (Some s) awaited supplier e = refl
-own-copy None (Some a) supplier e = let n : 1 ≡ 0 = ap number_of e in absurd (omega (arith, n))
-own-copy None None (Some core) e = let n : 2 ≡ 0 = ap number_of e in absurd (omega (arith, n))
-own-copy None None None e = let n : 3 ≡ 0 = ap number_of e in absurd (omega (arith, n))
-
-on-bus : (copy : Option protocol.State) (awaited : Option Awaited) (supplier : Option Core)
-    → Told copy awaited supplier ≡ Bus
-    → (copy ≡ None) × (is_some awaited ≡ true)
-on-bus (Some s) awaited supplier e = let n : 0 ≡ 1 = ap number_of e in absurd (omega (arith, n))
-on-bus None (Some a) supplier e = (refl, refl)
-on-bus None None (Some core) e = let n : 2 ≡ 1 = ap number_of e in absurd (omega (arith, n))
-on-bus None None None e = let n : 3 ≡ 1 = ap number_of e in absurd (omega (arith, n))
-
-at-other : (copy : Option protocol.State) (awaited : Option Awaited) (supplier : Option Core) (other : Core) → Told copy awaited supplier ≡ Other other
-    → (copy ≡ None) × (supplier ≡ Some other)
-at-other (Some s) awaited supplier other e = let n : 0 ≡ 2 = ap number_of e in absurd (omega (arith, n))
-at-other None (Some a) supplier other e = let n : 1 ≡ 2 = ap number_of e in absurd (omega (arith, n))
-at-other None None (Some core) other e = (refl, ap core_in e)
-at-other None None None other e = let n : 3 ≡ 2 = ap number_of e in absurd (omega (arith, n))
-
-in-memory : (copy : Option protocol.State) (awaited : Option Awaited) (supplier : Option Core)
-    → Told copy awaited supplier ≡ Memory
-    → (awaited ≡ None) × (supplier ≡ None)
-in-memory (Some s) awaited supplier e = let n : 0 ≡ 3 = ap number_of e in absurd (omega (arith, n))
-in-memory None (Some a) supplier e = let n : 1 ≡ 3 = ap number_of e in absurd (omega (arith, n))
-in-memory None None (Some core) e = let n : 2 ≡ 3 = ap number_of e in absurd (omega (arith, n))
-in-memory None None None e = (refl, refl)
-
--- ---- the tables
-
-tables : (kind : ProtocolKind) (request : Request) (state : protocol.State) → (snoop_column (table_of kind) request state).supplies ≡ supplies (Some state)
-tables Msi GetS state = search rules
-tables Msi GetM state = search rules
-tables Mesi GetS state = search rules
-tables Mesi GetM state = search rules
-tables Moesi GetS state = search rules
-tables Moesi GetM state = search rules
-tables Mosi GetS state = search rules
-tables Mosi GetM state = search rules
+    apart : (is : Option protocol.State → Bool) (copy : Option protocol.State) → is None ≡ false → is copy ≡ true → copy ≡ None → ⊥
+    apart is copy never sends none = let z : true ≡ false = sym sends ∙ (ap is none ∙ never) in let y : ⊥ = cc in y
 
 -- ---- memory's own words
 
--- a copy that doesn't supply is not newer than memory, where nothing is awaited
-state-not-newer : (copy : Option protocol.State) → supplies copy ≡ false → is_newer (state_with None copy) ≡ false
-state-not-newer None h = refl
-state-not-newer (Some M) h = absurd (let z : ⊥ = cc in z)
-state-not-newer (Some O) h = absurd (let z : ⊥ = cc in z)
-state-not-newer (Some E) h = refl
-state-not-newer (Some S) h = refl
-state-not-newer (Some I) h = refl
-
-nothing-awaited : (m : Running) (core line : ℕ)
-    → m.statistics.caches.awaited ≡ None
-    → awaited_at (bus_holder_of m) m.statistics.caches.shape.words core line ≡ None
-nothing-awaited m core line none =
-    ap (λ (a : Option Awaited). awaited_at (bus_holder_as m.test m.depth m.state.flat a m.state.holder) words core line) none ∙ by_holder m.state.holder
+-- where no copy is so, none of them is
+none-first : (is : Option protocol.State → Bool) (first line core : ℕ) (caches : List TagSets)
+    → first_from first is line caches ≡ None
+    → is None ≡ false
+    → is (tag_at core line caches) ≡ false
+none-first is first line core [] q never = never
+none-first is first line core (sets ∷ caches) q never =
+    by_test (is (tag_in sets line)) refl (λ n later. none-first is (first + 1) line n caches later never) core q
   where
-    words : ℕ
-    words = m.statistics.caches.shape.words
+    by_test : (b : Bool)
+        → is (tag_in sets line) ≡ b
+        → ((n : ℕ) → first_from (first + 1) is line caches ≡ None → is (tag_at n line caches) ≡ false)
+        → (n : ℕ) → (if b then Some (record { 0 = first }) else first_from (first + 1) is line caches) ≡ None
+        → is (tag_at n line (sets ∷ caches)) ≡ false
+    by_test true e rest n q = absurd (let z : ⊥ = cc in z)
+    by_test false e rest zero q = e
+    by_test false e rest (suc n) q = rest n q
 
-    if-none : (b : Bool) (x : Option Transient) → x ≡ None → (if b then x else None) ≡ None
-    if-none true x q = q
-    if-none false x q = refl
+-- a copy that doesn't supply is not newer than memory, in the table of each protocol
+abbrev SuppliesNot : ProtocolKind → Request → Option protocol.State → Type 0
+SuppliesNot kind request copy = supplies_in (snoop_column (table_of_rows (rows_of (table_of kind))) request) copy ≡ false
 
-    by_access : (choice : Choice) (what : MemoryAccess)
-        → awaited_at (at_access None (λ loc write. Some (bus_holder choice loc None)) what) words core line ≡ None
-    by_access choice NoAccess = refl
-    by_access choice (Reads loc) = if-none _ _ refl
-    by_access choice (Writes loc) = if-none _ _ refl
-    by_access choice (Locks loc) = if-none _ _ refl
+not-dirty : (kind : ProtocolKind) (request : Request) (copy : Option protocol.State) → SuppliesNot kind request copy → is_dirty (or_invalid copy) ≡ false
+not-dirty Msi GetS (Some M) q = absurd (let z : ⊥ = cc in z)
+not-dirty Mesi GetS (Some M) q = absurd (let z : ⊥ = cc in z)
+not-dirty Moesi GetS (Some M) q = absurd (let z : ⊥ = cc in z)
+not-dirty Mosi GetS (Some M) q = absurd (let z : ⊥ = cc in z)
+not-dirty _ _ (Some M) q = absurd (let z : ⊥ = cc in z)
+not-dirty _ _ (Some O) q = absurd (let z : ⊥ = cc in z)
+not-dirty _ _ _ q = refl
 
-    by_holder : (h : Holder) → awaited_at (bus_holder_as m.test m.depth m.state.flat None h) words core line ≡ None
-    by_holder Free = refl
-    by_holder (HeldBy choice) = by_access choice (access_of m.test m.depth m.state.flat choice)
-    by_holder (HeldBetween e) = if-none _ _ refl
-
-not-newer : (m : Running) (core line : ℕ)
-    → m.statistics.caches.awaited ≡ None
-    → supplies (copy_on m core line) ≡ false
-    → is_newer (line_state m core line) ≡ false
-not-newer m core line none quiet =
-    ap (λ (a : Option Transient). is_newer (state_with a (copy_on m core line))) (nothing-awaited m core line none)
-    ∙ state-not-newer (copy_on m core line) quiet
-
-none-is-newer : (m : Running) (line cores : ℕ)
-    → m.statistics.caches.awaited ≡ None
-    → ((core : ℕ) → core < cores → supplies (copy_on m core line) ≡ false)
-    → is_newer_in m line cores ≡ false
-none-is-newer m line zero none quiet = refl
-none-is-newer m line (suc last) none quiet =
-    ap (λ (b : Bool). b || is_newer_in m line last) (not-newer m last line none (quiet last (omega arith)))
-    ∙ none-is-newer m line last none (λ core within. quiet core (omega (arith, within)))
+none-is-newer : (m : Running) (line cores : ℕ) → ((core : ℕ) → is_newer (line_state m core line) ≡ false) → is_newer_in m line cores ≡ false
+none-is-newer m line zero none = refl
+none-is-newer m line (suc last) none = ap (λ (b : Bool). b || is_newer_in m line last) (none last) ∙ none-is-newer m line last none
 
 -- the word at a place of those that follow
 word-there : (m : Running) (first i : ℕ) (before seen : List ℕ) → i < length before → i < length seen
@@ -201,42 +362,89 @@ word-there m first (suc i) (b ∷ before) (s ∷ seen) p q =
     word-there m (first + 1) i before seen (omega (arith, p)) (omega (arith, q))
     ∙ ap (λ (k : ℕ). own_word m k (slice_index_or before i 0) (slice_index_or seen i 0)) there
 
--- ---- each source
+memory-seen : (kind : ProtocolKind) (m : Running) (choice : Choice) → m.statistics.caches.rows ≡ rows_of (table_of kind) → MemoryIsSeen m choice
+memory-seen kind m choice rows loc before found accessed room there =
+    let seen = m.state.flat.memory in
+    let line = loc / m.statistics.caches.shape.words in
+    let both : Some found.request.line ≡ Some line = sym found.accessed ∙ accessed in
+    let same : found.request.line ≡ line = cc in
+    let quiet : (core : ℕ)
+    → supplies_in (snoop_column (table_of_rows (rows_of (table_of kind))) found.request.request) (tag_at core line m.statistics.caches.contents)
+    ≡ false =
+    subst (λ r. (core : ℕ) → supplies_in (snoop_column (table_of_rows r) found.request.request) (tag_at core line m.statistics.caches.contents) ≡ false) rows
+    (subst (λ l.
+    (core : ℕ)
+    → supplies_in (snoop_column (table_of_rows m.statistics.caches.rows) found.request.request) (tag_at core l m.statistics.caches.contents)
+    ≡ false)
+    same
+    (λ core.
+    none-first
+    (supplies_in (snoop_column (table_of_rows m.statistics.caches.rows) found.request.request)) 0 found.request.line
+    core m.statistics.caches.contents found.first refl)) in
+    let newest : is_newer_in m line (length m.test.programs) ≡ false =
+    none-is-newer m line (length m.test.programs)
+    (λ core.
+    settled core line
+    ∙ not-dirty kind found.request.request (tag_at core line m.statistics.caches.contents) (quiet core)) in
+    word-there m 0 loc before seen room there
+    ∙ (ap (λ (k : ℕ). own_word m k (slice_index_or before loc 0) (slice_index_or seen loc 0)) (let z : 0 + loc ≡ loc = omega arith in z)
+    ∙ ap (λ (b : Bool). if b then slice_index_or before loc 0 else slice_index_or seen loc 0) newest)
+  where
+    -- nothing is awaited, so each line is in the state of its copy
+    settled : (core line : ℕ) → is_newer (line_state m core line) ≡ is_dirty (or_invalid (tag_at core line m.statistics.caches.contents))
+    settled core line =
+        ap (λ h.
+        is_newer (state_with
+        (awaited_at (bus_holder_as m.test m.depth m.state.flat m.statistics.caches.awaited h) m.statistics.caches.shape.words core line)
+        (tag_at core line m.statistics.caches.contents)))
+        found.resting
 
-abbrev supplier : Running → ℕ → Option Core
-supplier m line = supplier_from m line 0 (length m.test.programs)
+-- ---- what a choice reads
 
-quiet-all : (m : Running) (line core : ℕ) → supplier m line ≡ None → core < length m.test.programs → supplies (copy_on m core line) ≡ false
-quiet-all m line core none within =
-    let here : 0 + core ≡ core = omega arith in
-    subst (λ k. supplies (copy_on m k line) ≡ false) here (silent m line 0 (length m.test.programs) core none within)
+load-reads : (loc to : Loc) (q : List Entry) → load_access loc q ≢ Writes to
+load-reads loc to [] is = let z : ⊥ = cc in z
+load-reads loc to (p ∷ ps) is = let z : ⊥ = cc in z
 
--- a core without a copy isn't one that supplies
-apart : (m : Running) (core line : ℕ) (other : Core) → copy_on m core line ≡ None → supplies (copy_on m other.0 line) ≡ true → other.0 ≢ core
-apart m core line other none sends same =
-    let no : false ≡ true = sym (ap supplies none) ∙ (ap (λ (k : ℕ). supplies (copy_on m k line)) (sym same) ∙ sends) in
-    absurd (let z : ⊥ = cc in z)
+lock-reads : (loc to : Loc) (q : List Entry) → locked_access loc q ≢ Writes to
+lock-reads loc to [] is = let z : ⊥ = cc in z
+lock-reads loc to (p ∷ ps) is = let z : ⊥ = cc in z
+
+action-reads : (depth : ℕ) (a : Action) (q : List Entry) (loc : Loc) (o : Option Source) (s : Source)
+    → (if action_reads a then o else None) ≡ Some s
+    → access_by depth a q ≢ Writes loc
+action-reads depth (Load reg from) q loc o s is = load-reads from loc (filter (writes_to from.0) q)
+action-reads depth (Lock from reg update) q loc o s is = lock-reads from loc q
+action-reads depth _ q loc o s is = absurd (let z : ⊥ = cc in z)
+
+step-reads : (depth : ℕ) (i : Option Instr) (q : List Entry) (loc : Loc) (o : Option Source) (s : Source)
+    → (if reads_at i then o else None) ≡ Some s
+    → step_access depth i q ≢ Writes loc
+step-reads depth None q loc o s is = absurd (let z : ⊥ = cc in z)
+step-reads depth (Some i) q loc o s is = action-reads depth (action_of i) q loc o s is
+
+choice-reads : (m : Running) (choice : Choice) (s : Source) (loc : Loc)
+    → supplied_by m choice ≡ Some s
+    → access_of m.test m.depth m.state.flat choice ≢ Writes loc
+choice-reads m (Step core) s loc is =
+    step-reads m.depth (next_of m.test m.state.flat core.0) (core_of m.state.flat core.0).pending loc
+    (source_in (machine_effect m (Step core)).effect.outcome (machine_use m (Step core)).how) s is
+choice-reads m (Drain core) s loc is = absurd (let z : ⊥ = cc in z)
+
+-- ---- along the choices
+
+rows-along : (m : Running) (choices : List Choice) → (after_choices m choices).statistics.caches.rows ≡ m.statistics.caches.rows
+rows-along m [] = refl
+rows-along m (c ∷ cs) = rows-along (machine_after m c) cs ∙ rows-kept m c
 
 pub sources-told : SourcesAreTold
 sources-told = record {
-  tables = tables;
-  own = λ m core line is. own-copy (copy_on m core line) m.statistics.caches.awaited (supplier m line) is;
-  bus = λ m core line is. on-bus (copy_on m core line) m.statistics.caches.awaited (supplier m line) is;
-  other = λ m core line other is.
-      let at = at-other (copy_on m core line) m.statistics.caches.awaited (supplier m line) other is in
-      let f = found m line 0 (length m.test.programs) other at.1 in
-      let b = f.below in
-      record { apart = apart m core line other at.0 f.copy; there = omega (arith, b); copy = f.copy };
-  memory = λ m core line is c within sends.
-      let at = in-memory (copy_on m core line) m.statistics.caches.awaited (supplier m line) is in
-      let no : false ≡ true = sym (quiet-all m line c at.1 within) ∙ sends in
-      absurd (let z : ⊥ = cc in z);
-  words = λ m core loc before room there is.
-      let line = loc / m.statistics.caches.shape.words in
-      let at = in-memory (copy_on m core line) m.statistics.caches.awaited (supplier m line) is in
-      let seen = m.state.flat.memory in
-      word-there m 0 loc before seen room there
-      ∙ (ap (λ (k : ℕ). own_word m k (slice_index_or before loc 0) (slice_index_or seen loc 0)) (let z : 0 + loc ≡ loc = omega arith in z)
-      ∙ ap (λ (b : Bool). if b then slice_index_or before loc 0 else slice_index_or seen loc 0)
-      (none-is-newer m line (length m.test.programs) at.0 (λ c within. quiet-all m line c at.1 within)));
+  found = λ table c t choices choice source test words keeps is.
+      found-at (machine_by table c t choices) choice source (kept-along (new_machine table c t) choices (kept-first table c t test words keeps)) is;
+  others = λ table c t choices choice other test words keeps is.
+      let m = machine_by table c t choices in
+      let kept = kept-along (new_machine table c t) choices (kept-first table c t test words keeps) in
+      let all = others-supply m choice other kept (found-at m choice (source.Other other) kept is) in
+      (all.0, subst (λ (x : Litmus). other.0 < length x.programs) (same-test (new_machine table c t) choices) all.1);
+  reads = choice-reads;
+  words = λ kind c t choices choice. memory-seen kind (machine_by (table_of kind) c t choices) choice (rows-along (new_machine (table_of kind) c t) choices);
 }

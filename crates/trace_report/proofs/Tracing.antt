@@ -1,11 +1,9 @@
 -- The steps of a run, one after the other.
 use Rattle.trace_report.proofs.Vocabulary.{◌≡◌, ◌∙◌, ℕ, ◌+◌, Bool, true, false, if◌then◌else◌, List, [], ◌∷◌, ◌++◌, length, map, refl, sym}
-use Rattle.trace_report.proofs.Vocabulary.{ap, append_assoc, append-nil, Option, option_map, slice_set, length-set, Data, array, items_of}
-use Rattle.trace_report.proofs.Vocabulary.{view, Value, Litmus, memory_after, has_ended, Entry, Choice, Configuration, Running}
-use Rattle.trace_report.proofs.Vocabulary.{machine_effect, machine_after, IsTraced, ShownStep, own_words, machine_json, found_by}
-use Rattle.trace_report.proofs.Vocabulary.{supplied_to, Sourced, sourced, sourced_by, alone, last_or, step_to, steps_json, Source}
-use Rattle.trace_report.proofs.Vocabulary.{IsMachineOfTest, told_last, trace_with}
-use Rattle.trace_report.specs.Steps.{trace_step_of}
+use Rattle.trace_report.proofs.Vocabulary.{ap, append_assoc, append-nil, option_map, slice_set, length-set, Data, array, items_of, view}
+use Rattle.trace_report.proofs.Vocabulary.{Value, Litmus, memory_after, has_ended, Entry, Choice, Configuration, Running, machine_effect}
+use Rattle.trace_report.proofs.Vocabulary.{machine_after, IsTraced, own_words, machine_json, sourced, sourced_by, alone, last_or, step_to}
+use Rattle.trace_report.proofs.Vocabulary.{steps_json, IsMachineOfTest, told_last, trace_with}
 use Rattle.tso_terms.specs.ProgramOrder.{is_write}
 use Rattle.machine_runs.specs.inner.Observed.{Watched, none_left, over, next, IsWatched}
 use Rattle.trace_report.specs.inner.Observing.{told_as, told_by, told_from, OpensTrace, MakesStep}
@@ -115,17 +113,3 @@ pub is-shown : (t : Litmus) (config : Configuration) (m : Running)
     → length m.state.flat.memory ≡ length t.locations
     → IsMachineOfTest t config m
 is-shown t config m traced each = record { test = traced.test; config = traced.config; each = each }
-
--- a step, and where its word was found
-abbrev with_source : ShownStep → Option Source → Sourced
-with_source s supplied = record { step = s; supplied = supplied }
-
-pub source-told : (m : Running) (c : Choice) (s : ShownStep) (found : Option Source) (supplied : Option Source)
-    → s ≡ trace_step_of m c
-    → found ≡ found_by m c
-    → supplied ≡ supplied_to s found
-    → with_source s supplied ≡ sourced_by m c
-source-told m c s found supplied s_is found_is is =
-    let same : supplied ≡ supplied_to (trace_step_of m c) (found_by m c) =
-    is ∙ (ap (λ x. supplied_to x found) s_is ∙ ap (supplied_to (trace_step_of m c)) found_is) in
-    (λ i. record { step = s_is i; supplied = same i })

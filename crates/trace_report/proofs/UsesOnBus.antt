@@ -4,14 +4,13 @@ use Rattle.trace_report.proofs.Vocabulary.{core_of, effect_of, applied, MemoryAc
 use Rattle.trace_report.proofs.Vocabulary.{HeldBetween, BusEffect, needs_bus, acts, asks, begins, completes, as_read, writes_last}
 use Rattle.trace_report.proofs.Vocabulary.{split_effect, BusState, Bus, Atomic, Split, Choice, Step, Entry, quiet-same, IsStore, AllStores}
 use Rattle.trace_report.proofs.Vocabulary.{access-kept, IsOther, HolderWaits, Unused, Caches, Used, not_through, asking_by, completing_by}
-use Rattle.trace_report.proofs.Vocabulary.{hits_by, attempt_of, is_awaited, used_between, use_on, state_after_on, IsUseFor, choice-use}
-use Rattle.trace_report.proofs.Vocabulary.{zero, suc, nat_lt, List, [], ◌∷◌, length, Option, Some, None, sym, Each, action_of, CoreState}
-use Rattle.trace_report.proofs.Vocabulary.{Effect, is_none_pending, stored, effect_by, effect_on, Instr, Action, Store, Fence, Lock, Drain}
-use Rattle.trace_report.proofs.Vocabulary.{Outcome, Awaited, slice_index_or, set-get_or, idle, choice-stores, if-by, begins-by}
-use Rattle.trace_report.proofs.Vocabulary.{completes-by, split-by, last-unused, drain_with, step_of}
+use Rattle.trace_report.proofs.Vocabulary.{hits_by, attempt_of, is_awaited, used_between, use_on, state_after_on, IsUseFor, choice-use, sym}
+use Rattle.trace_report.proofs.Vocabulary.{Each, effect_on, Outcome, slice_index_or, set-get_or, idle, choice-stores, begins-by}
+use Rattle.trace_report.proofs.Vocabulary.{completes-by, split-by, last-unused, needs-some}
 use Rattle.tso_terms.specs.declared.choice.Stall.TheVariants as stall
 use Rattle.tso_terms.specs.declared.choice.Outcome.TheVariants as out
 use Rattle.tso_laws.specs.inner.Pending.{PendingIsOwn}
+use Rattle.trace_report.proofs.Effects.{flat-unasked}
 
 -- ---- on either bus
 
@@ -22,16 +21,17 @@ pub record Stays (before after : Choice → MemoryAccess) (holder next : Holder)
   pub waits : is_awaited next ≡ is_awaited holder
 
 -- a choice makes its access whole, on the atomic bus or where none is needed; or makes none; or asks for it, and holds the bus; or
--- completes what it has asked for
+-- completes what it has asked for. No other asks
 pub data UsesOn (on : Bus) (c : Caches) (a : Choice) (before after : Choice → MemoryAccess) (holder next : Holder) (o : Outcome) (u : Used) : Type 0 where
   made : IsUseFor c (chosen a) (before a) u
       → ((on ≡ Atomic) × (holder ≡ Free) × (next ≡ Free))
       ⊎ (needs_bus (before a) (hits_by c (chosen a) (before a)) ≡ false)
-      → Stays before after holder next → UsesOn on c a before after holder next o u
-  unused : u ≡ not_through Unused c → Stays before after holder next → UsesOn on c a before after holder next o u
+      → Stays before after holder next → o ≢ out.Asked → UsesOn on c a before after holder next o u
+  unused : u ≡ not_through Unused c → Stays before after holder next → o ≢ out.Asked → UsesOn on c a before after holder next o u
   begun : on ≡ Split
       → u ≡ asking_by c (chosen a) (before a)
       → o ≡ out.Asked
+      → before a ≢ NoAccess
       → holder ≡ Free
       → next ≡ HeldBy a
       → after a ≡ before a
@@ -60,14 +60,15 @@ still : (t : Litmus) (d : ℕ) (state after : State) (holder : Holder) → after
 still t d state after holder same = record { held = λ other q. (q, ap (λ (s : State). access_of t d s other) same); waits = refl }
 
 asks-uses : (t : Litmus) (d : ℕ) (state : State) (c : Caches) (a : Choice) (holder : Holder)
+    → access_of t d state a ≢ NoAccess
     → AllStores state
     → UsesBy Split t d state c a holder (asks (core_of state (chosen a)) a holder)
-asks-uses t d state c a Free stores =
+asks-uses t d state c a Free some stores =
     let same = quiet-same state (chosen a) out.Asked in
-    (begun refl refl refl refl refl (ap (λ (s : State). access_of t d s a) same), subst AllStores (sym same) stores)
-asks-uses t d state c a holder stores =
+    (begun refl refl refl some refl refl (ap (λ (s : State). access_of t d s a) same), subst AllStores (sym same) stores)
+asks-uses t d state c a holder some stores =
     let same = quiet-same state (chosen a) (out.Stalled stall.Bus) in
-    (unused refl (still t d state _ holder same), subst AllStores (sym same) stores)
+    (unused refl (still t d state _ holder same) (λ q. (let z : ⊥ = cc in z)), subst AllStores (sym same) stores)
 
 acts-uses : (on : Bus) (t : Litmus) (d : ℕ) (state : State) (c : Caches) (a : Choice) (holder : Holder) → AllStores state
     → ((on ≡ Atomic) × (holder ≡ Free) × (holder ≡ Free)) ⊎ (needs_bus (access_of t d state a) (hits_by c (chosen a) (access_of t d state a)) ≡ false)
@@ -79,8 +80,8 @@ acts-uses on t d state c a holder stores why stays = (by_waiting (is_awaited hol
         → UsesOn on c a (access_of t d state)
         (access_of t d (applied state (chosen a) (effect_of t d state a))) holder holder (effect_of t d state a).outcome
         (used_between b b c (chosen a) (access_of t d state a) (core_of state (chosen a)).pending (effect_of t d state a).commits)
-    by_waiting true = made (choice-use t d state c a (own-stores state stores)) why stays
-    by_waiting false = made (choice-use t d state c a (own-stores state stores)) why stays
+    by_waiting true = made (choice-use t d state c a (own-stores state stores)) why stays (flat-unasked t d state a)
+    by_waiting false = made (choice-use t d state c a (own-stores state stores)) why stays (flat-unasked t d state a)
 
 -- another choice leaves the holder at its access
 other-stays : (t : Litmus) (d : ℕ) (state : State) (a : Choice) (holder : Holder) → HolderWaits Split t d state holder → IsOther holder a
@@ -106,7 +107,8 @@ begins-uses : (t : Litmus) (d : ℕ) (state : State) (c : Caches) (a : Choice) (
     → AllStores state
     → UsesBy Split t d state c a holder (begins t d state (attempt_of t d state c a) holder)
 begins-uses t d state c a holder holding other stores =
-    begins-by (UsesBy Split t d state c a holder) t d state (attempt_of t d state c a) holder (λ q. asks-uses t d state c a holder stores)
+    begins-by (UsesBy Split t d state c a holder) t d state (attempt_of t d state c a) holder
+    (λ q. asks-uses t d state c a holder (needs-some (access_of t d state a) _ q) stores)
     (λ q. acts-uses Split t d state c a holder stores (inr q) (other-stays t d state a holder holding other))
 
 completes-uses : (t : Litmus) (d : ℕ) (state : State) (c : Caches) (a : Choice) → access_of t d state a ≢ NoAccess → AllStores state
@@ -124,7 +126,7 @@ writes-uses : (t : Litmus) (d : ℕ) (state : State) (c : Caches) (e : Entry)
     → UsesBy Split t d state c (Step e.core) (HeldBetween e) (writes_last t d state e)
 writes-uses t d state c e stores = (
   unused (last-unused c (core_of state e.core.0).pending d e.core.0 (as_read state e).memory (next_of t state e.core.0) (core_of state e.core.0))
-      (record { held = λ other q. absurd (let z : ⊥ = cc in z); waits = refl }),
+      (record { held = λ other q. absurd (let z : ⊥ = cc in z); waits = refl }) (flat-unasked t d (as_read state e) (Step e.core)),
   λ k. choice-stores t d (as_read state e) (Step e.core) stores k,
 )
 

@@ -1,9 +1,9 @@
 -- What an access makes of the lines of its core's cache: they stay neat, and where it sends a dirty one away its own line comes in.
-use Rattle.trace_report.proofs.Vocabulary.{◌≡◌, ◌≢◌, ◌∙◌, ◌<◌, ℕ, Bool, true, false, List, Option, Some, None, refl, sym, ap, Table, I, M}
-use Rattle.trace_report.proofs.Vocabulary.{leaving, TagSets, tags_at, tag_in, sets_of, dirty_in, writes_back, tag_at, KeepsNoCopyInI}
-use Rattle.trace_report.proofs.Vocabulary.{AllNeat, found-valid, all-requested, all-used, all-filled, own-kept, Request, Transient, SmD}
-use Rattle.trace_report.proofs.Vocabulary.{snoop_column, Awaited, awaiting, completed, completed_in, next_in_place, awaited_as, request_for}
-use Rattle.trace_report.proofs.Vocabulary.{whole_in, whole_access, requested}
+use Rattle.trace_report.proofs.Vocabulary.{◌≡◌, ◌≢◌, ◌∙◌, ◌<◌, ℕ, Bool, true, false, List, Option, Some, None, is_some, refl, sym, ap}
+use Rattle.trace_report.proofs.Vocabulary.{Table, I, M, leaving, TagSets, tags_at, tag_in, sets_of, dirty_in, writes_back, tag_at}
+use Rattle.trace_report.proofs.Vocabulary.{KeepsNoCopyInI, AllNeat, found-valid, all-requested, all-used, all-filled, own-kept, Request}
+use Rattle.trace_report.proofs.Vocabulary.{Transient, SmD, snoop_column, Awaited, awaiting, completed, completed_in, next_in_place}
+use Rattle.trace_report.proofs.Vocabulary.{awaited_as, request_for, whole_in, whole_access, requested}
 use Rattle.std.specs.Option.{option_map}
 use Rattle.snoop_bus.specs.CacheContents.{departing, evicted_by}
 use Rattle.snoop_bus.specs.inner.CacheContents.{was_written_back}
@@ -11,13 +11,15 @@ use Rattle.protocol_tables.specs.declared.state.State.{State}
 
 -- ---- a completion
 
--- what is awaited fills a line in a state other than I, and but for an upgrade the core has no copy of that line
+-- what is awaited fills a line in a state other than I; the core has a copy of that line in an upgrade, and else none
 pub record MayFill (x : Awaited) (core line : ℕ) (caches : List TagSets) : Type 0 where
   pub valid : x.state ≢ I
   pub absent : x.transient ≢ SmD → tag_at core line caches ≡ None
+  pub present : x.transient ≡ SmD → is_some (tag_at core line caches) ≡ true
 
+-- where nothing is awaited the core has the line
 abbrev pub MayComplete : Option Awaited → ℕ → ℕ → List TagSets → Type 0
-MayComplete None core line caches = Unit {0}
+MayComplete None core line caches = is_some (tag_at core line caches) ≡ true
 MayComplete (Some x) core line caches = MayFill x core line caches
 
 -- M isn't I
@@ -120,10 +122,10 @@ module _ (t : Table) (write : Bool) (core line : ℕ) (caches : List TagSets) (k
     where
       by_write : (b : Bool) (o : Option State) → tag_at core line caches ≡ o → next_in_place t b o ≡ None
           → MayComplete (Some (awaiting t (request_for b) line caches (awaited_as b o))) core line seen
-      by_write false None at none = record { valid = keeps.filled _; absent = λ n. kept ∙ at }
-      by_write true None at none = record { valid = modified; absent = λ n. kept ∙ at }
+      by_write false None at none = record { valid = keeps.filled _; absent = λ n. kept ∙ at; present = λ q. absurd (let z : ⊥ = cc in z) }
+      by_write true None at none = record { valid = modified; absent = λ n. kept ∙ at; present = λ q. absurd (let z : ⊥ = cc in z) }
       by_write false (Some s) at none = absurd (let z : ⊥ = cc in z)
-      by_write true (Some s) at none = record { valid = modified; absent = λ n. absurd (n refl) }
+      by_write true (Some s) at none = record { valid = modified; absent = λ n. absurd (n refl); present = λ q. ap is_some (kept ∙ at) }
 
   pub whole-fills : (whole_access t write core line caches).report.access.wrote_back ≡ true → ComesIn t core line caches
   whole-fills = by_next (tag_at core line caches) (next_in_place t write (tag_at core line caches)) refl refl

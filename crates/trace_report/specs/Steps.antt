@@ -8,7 +8,7 @@ use Rattle.tso_terms.specs.Actions.{action_of}
 use Rattle.tso_terms.specs.Thread.{value_in}
 use Rattle.tso_terms.specs.FlatMachine.{Effect, core_of, program_of, chosen}
 use Rattle.tso_terms.specs.Runs.{has_ended}
-use Rattle.basic_laws.specs.Types.{Reg, Change, Keep, Set, Swap, Action, Instr, Choice, Step, Drain, Outcome, Entry}
+use Rattle.basic_laws.specs.Types.{Reg, Change, Keep, Set, Swap, Action, Instr, Choice, Step, Drain, Entry}
 use Rattle.protocol_tables.specs.Tables.{Table, table_of}
 use Rattle.protocol_tables.specs.declared.kind.ProtocolKind.{ProtocolKind}
 use Rattle.protocol_tables.specs.declared.state.State.{State}
@@ -29,7 +29,6 @@ use Rattle.trace_report.specs.Shown.{ShownStep}
 use Rattle.trace_report.specs.declared.step.Given.{Given}
 use Rattle.trace_report.specs.declared.step.Moved.{Moved}
 use Rattle.trace_report.specs.declared.step.Moved.TheVariants.{One, Both}
-use Rattle.trace_report.specs.declared.step.LineRequest.{LineRequest}
 use Rattle.trace_report.specs.declared.step.LineState.{LineState}
 use Rattle.trace_report.specs.declared.step.StateChange.{StateChange}
 use Rattle.trace_report.specs.declared.states.PlacedState.{PlacedState}

@@ -1,69 +1,81 @@
 -- Where the word that a choice reads is found: among the core's own pending stores, in its own cache, on the bus that keeps it for
--- the core, in another core's cache, or in memory. (x86-TSO, section 3, for the own stores; Primer, chapters 6 and 7, for the
--- others; which copies supply their line is this project's profile.)
-use Rattle.std.specs.Prelude.{ℕ, zero, suc, ◌+◌, ◌/◌, ◌||◌, Bool, true, false, if◌then◌else◌, List, length, Option, Some, None, is_some, option_map, codes}
-use Rattle.trace_report.specs.Vocabulary.{chosen, E, I, M, O, printed_core, Running, S, ShownStep, State, tag_at, trace_step_of}
-use Rattle.tso_terms.specs.MemoryAccess.{MemoryAccess, NoAccess, Reads, Writes, Locks, access_of}
-use Rattle.basic_laws.specs.Types.{Core, Choice, Outcome, Committed, Buffered, Moved, Asked, Stalled}
+-- the core, in another core's cache, or in memory. The access that the choice makes says so, or on a split bus its request: who supplies
+-- a line is the protocol's table to say. (x86-TSO, section 3, for the own stores; Primer, chapters 6 and 7, for the others.)
+use Rattle.std.specs.Prelude.{ℕ, Bool, true, false, if◌then◌else◌, List, Option, Some, None, slice_get, codes}
+use Rattle.trace_report.specs.Vocabulary.{chosen, core_of, Instr, Litmus, printed_core, Running}
+use Rattle.tso_terms.specs.Actions.{action_of}
+use Rattle.tso_terms.specs.FlatMachine.{program_of}
+use Rattle.basic_laws.specs.Types.{Action, Choice, Step, Drain, Outcome, Committed, Buffered, Moved, Asked, Stalled}
+use Rattle.tso_terms.specs.declared.action.Action.TheVariants as action
+use Rattle.snoop_bus.specs.declared.access.AccessKind.{AccessKind}
+use Rattle.snoop_bus.specs.declared.access.AccessKind.TheVariants.{Hit, Upgrade, Miss}
+use Rattle.snoop_bus.specs.declared.access.BusRequest.{BusRequest}
+use Rattle.snoop_bus.specs.declared.access.Supplier.{Supplier}
+use Rattle.snoop_bus.specs.declared.access.Supplier.TheVariants as supplier
+use Rattle.multiprocessor.specs.declared.accesses.CacheUse.{CacheUse}
+use Rattle.multiprocessor.specs.declared.accesses.CacheUse.TheVariants as uses
+use Rattle.machine_core.specs.Running.{machine_effect, machine_use}
 use Rattle.trace_report.specs.declared.supplied.Source.{Source}
 use Rattle.trace_report.specs.declared.supplied.Source.TheVariants.{Buffer, Cache, Other, Bus, Memory}
 
--- a copy supplies its line to a core that asks for it, if it is dirty, or the only one: a law says that each protocol's table has it so
-abbrev pub supplies : Option State → Bool
-supplies None = false
-supplies (Some M) = true
-supplies (Some O) = true
-supplies (Some E) = true
-supplies (Some S) = false
-supplies (Some I) = false
+-- who supplied the words that a core asked for; where none were moved the core had them
+abbrev pub source_of : Option Supplier → Source
+source_of None = Cache
+source_of (Some (supplier.Cache core)) = Other core
+source_of (Some supplier.Memory) = Memory
 
--- the first of so many cores from this number on whose copy supplies the line
-abbrev pub supplier_from : Running → ℕ → ℕ → ℕ → Option Core
-supplier_from m line core zero = None
-supplier_from m line core (suc rest) =
-    if supplies (tag_at core line m.statistics.caches.contents) then Some (record { 0 = core }) else supplier_from m line (core + 1) rest
+-- by what went on the bus; this where nothing did
+abbrev pub source_by : Source → Option BusRequest → Source
+source_by otherwise None = otherwise
+source_by otherwise (Some q) = source_of q.supplier
 
--- where no copy supplies the line, memory has its words
-abbrev pub supplier_or_memory : Option Core → Source
-supplier_or_memory None = Memory
-supplier_or_memory (Some core) = Other core
+-- an access for which nothing goes on the bus now: the core has the line, or on a split bus the words have come since the ask
+abbrev pub source_without : AccessKind → Source
+source_without Hit = Cache
+source_without Upgrade = Cache
+source_without Miss = Bus
 
--- where a core finds a line: in its own cache; on the bus, where the core has asked for it and awaits it; with the core whose copy
--- supplies it; or in memory
-abbrev pub found_at : Running → ℕ → ℕ → Source
-found_at m core line =
-    if is_some (tag_at core line m.statistics.caches.contents)
-    then Cache
-    else if is_some m.statistics.caches.awaited
-    then Bus
-    else supplier_or_memory (supplier_from m line 0 (length m.test.programs))
+-- a choice that doesn't use the caches; one that asks all the same is a write access that hits, so that its core has the line
+abbrev pub source_unused : Outcome → Option Source
+source_unused Committed = None
+source_unused Buffered = None
+source_unused Moved = None
+source_unused Asked = Some Cache
+source_unused (Stalled why) = None
 
--- the line that an access reads, where lines have so many words: a load's and a locked instruction's; a store reads none
-abbrev pub line_read : ℕ → MemoryAccess → Option ℕ
-line_read words NoAccess = None
-line_read words (Reads loc) = Some (loc.0 / words)
-line_read words (Writes loc) = None
-line_read words (Locks loc) = Some (loc.0 / words)
+-- of a choice with this outcome that had this to do with the caches
+abbrev pub source_in : Outcome → CacheUse → Option Source
+source_in outcome uses.Unused = source_unused outcome
+source_in outcome uses.Forwarded = Some Buffer
+source_in outcome (uses.Asked q) = Some (source_of q.supplier)
+source_in outcome (uses.Through r) = Some (source_by (source_without r.access.kind) r.request)
 
--- where the line is found that a choice on a machine would read
-abbrev pub found_by : Running → Choice → Option Source
-found_by m choice =
-    option_map (found_at m (chosen choice)) (line_read m.statistics.caches.shape.words (access_of m.test m.depth m.state.flat choice))
+-- an action that reads a word: a load, and a locked instruction
+abbrev pub action_reads : Action → Bool
+action_reads (action.Store loc operand) = false
+action_reads (action.Load reg loc) = true
+action_reads (action.Move change) = false
+action_reads action.Fence = false
+action_reads (action.Lock loc reg update) = true
 
-abbrev pub is_asked : Outcome → Bool
-is_asked Committed = false
-is_asked Buffered = false
-is_asked Moved = false
-is_asked Asked = true
-is_asked (Stalled why) = false
+-- of the instruction that the core stands at
+abbrev pub reads_at : Option Instr → Bool
+reads_at None = false
+reads_at (Some i) = action_reads (action_of i)
 
--- of a step that would find its line there: its own stores answered it, or it made its access, or it asked for it on a split bus
-abbrev pub supplied_to : ShownStep → Option Source → Option Source
-supplied_to s found = if s.forwarded then Some Buffer else if is_some s.access || is_asked s.outcome then found else None
+-- of a choice at this place of its core's program
+abbrev pub reads_from : Litmus → ℕ → Choice → Bool
+reads_from t place (Step core) = reads_at (slice_get (program_of t core.0) place)
+reads_from t place (Drain core) = false
 
--- where the word is found that a choice on a machine reads, or asks for to read it; none where it reads nothing
+-- where the word is found that such a choice reads, which had this outcome and this to do with the caches; none where it reads nothing
+abbrev pub found_by : Litmus → ℕ → Choice → Outcome → CacheUse → Option Source
+found_by t place choice outcome how = if reads_from t place choice then source_in outcome how else None
+
+-- where the word is found that a choice on a machine reads, or asks for to read it
 abbrev pub supplied_by : Running → Choice → Option Source
-supplied_by m choice = supplied_to (trace_step_of m choice) (found_by m choice)
+supplied_by m choice =
+    found_by m.test (core_of m.state.flat (chosen choice)).place choice (machine_effect m choice).effect.outcome (machine_use m choice).how
 
 -- `buffer`, `cache`, `P1`, `bus` and `memory`
 abbrev pub supplier_text : Source → List ℕ

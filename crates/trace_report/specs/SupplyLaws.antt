@@ -1,36 +1,99 @@
--- What a trace says of where a word is found, held against the tables of the protocols and the words of the machine before the choice.
--- (Primer, chapters 6 and 7.)
+-- What a trace says of where a word is found, held against the protocol's table, the copies before the choice, who holds the bus, and the
+-- words that are seen. (Primer, chapters 6 and 7.)
 use Rattle.std.specs.Prelude.{ℕ, ◌≡◌, ◌≢◌, ◌<◌, ◌/◌, true, List, length, Option, Some, None, slice_index_or, is_some}
-use Rattle.tso_terms.specs.declared.instruction.Core.{Core}
-use Rattle.trace_report.specs.Vocabulary.{ProtocolKind, Running, State, table_of, tag_at}
-use Rattle.protocol_tables.specs.declared.requests.Request.{Request}
+use Rattle.tso_terms.specs.MemoryAccess.{MemoryAccess, Writes, access_of}
+use Rattle.tso_terms.specs.SplitMachine.{Holder, Free, HeldBy}
+use Rattle.basic_laws.specs.Types.{Choice, Core, Loc}
+use Rattle.trace_report.specs.Vocabulary.{chosen, Configuration, IsTest, Litmus, new_machine, ProtocolKind, Running, table_of, tag_at}
+use Rattle.protocol_tables.specs.Tables.{Table}
+use Rattle.cache_set.specs.CacheTags.{first_supplier}
 use Rattle.cache_set.specs.Requests.{snoop_column}
+use Rattle.snoop_bus.specs.Rows.{table_of_rows}
+use Rattle.snoop_bus.specs.declared.access.BusRequest.{BusRequest}
+use Rattle.multiprocessor.specs.Caches.{Caches, at_access}
+use Rattle.multiprocessor.specs.declared.accesses.CacheUse.{CacheUse}
+use Rattle.multiprocessor.specs.declared.accesses.CacheUse.TheVariants as uses
+use Rattle.machine_core.specs.Running.{machine_use}
 use Rattle.trace_report.specs.OwnWords.{own_words}
-use Rattle.trace_report.specs.Supplied.{supplies, found_at}
-use Rattle.trace_report.specs.declared.supplied.Source.TheVariants.{Cache, Other, Bus, Memory}
+use Rattle.trace_report.specs.StepLaws.{after_choices}
+use Rattle.trace_report.specs.Steps.{is_forwarded}
+use Rattle.trace_report.specs.Supplied.{supplied_by}
+use Rattle.trace_report.specs.TraceLaws.{KeepsNoCopyInI}
+use Rattle.trace_report.specs.declared.supplied.Source.{Source}
+use Rattle.trace_report.specs.declared.supplied.Source.TheVariants.{Buffer, Cache, Other, Bus, Memory}
 
--- the state of a core's copy of a line on a machine, if it has one
-abbrev pub copy_on : Running → ℕ → ℕ → Option State
-copy_on m core line = tag_at core line m.statistics.caches.contents
+-- ---- a choice's access and these caches before it
 
--- the core is another one of the test, and has a copy of the line that supplies it
-pub record SuppliesTo (m : Running) (core line : ℕ) (other : Core) : Type 0 where
-  pub apart : other.0 ≢ core
-  pub there : other.0 < length m.test.programs
-  pub copy : supplies (copy_on m other.0 line) ≡ true
+-- the line of an access
+abbrev pub line_accessed : Caches → MemoryAccess → Option ℕ
+line_accessed c what = at_access None (λ loc write. Some (loc.0 / c.shape.words)) what
 
--- no core of the test does
-abbrev pub NobodySupplies : Running → ℕ → Type 0
-NobodySupplies m line = (core : ℕ) → core < length m.test.programs → supplies (copy_on m core line) ≢ true
+-- the request that goes on the bus by a choice, with its access or at its ask
+abbrev pub request_made : CacheUse → Option BusRequest
+request_made uses.Unused = None
+request_made uses.Forwarded = None
+request_made (uses.Asked q) = Some q
+request_made (uses.Through r) = r.request
 
--- a copy supplies its line exactly where the row of its state does so in the table of each protocol, at either request; and what is
--- told of a line that a core is to read is so: its own cache has a copy; or it has none while an access is awaited; or the other core that
--- is told supplies it; or nobody does. Then the words that a trace tells of memory are those that are seen
+-- its core has the line
+pub record HasItsLine (c : Caches) (core : ℕ) (what : MemoryAccess) : Type 0 where
+  pub line : ℕ
+  pub accessed : line_accessed c what ≡ Some line
+  pub copy : is_some (tag_at core line c.contents) ≡ true
+
+-- it is the action that holds the bus, which keeps for it the words of its line; its core hasn't got the line yet
+pub record AwaitsItsLine (c : Caches) (holder : Holder) (choice : Choice) (what : MemoryAccess) : Type 0 where
+  pub holds : holder ≡ HeldBy choice
+  pub line : ℕ
+  pub accessed : line_accessed c what ≡ Some line
+  pub absent : tag_at (chosen choice) line c.contents ≡ None
+  pub awaited : is_some c.awaited ≡ true
+
+-- nobody holds the bus, and the core, which hasn't got the line, asks for it; this is the first core whose copy supplies it by the
+-- table's column for the request, and there is none where memory does
+pub record IsSupplied (c : Caches) (holder : Holder) (core : ℕ) (what : MemoryAccess) (how : CacheUse) (supplier : Option Core) : Type 0 where
+  pub resting : holder ≡ Free
+  pub request : BusRequest
+  pub made : request_made how ≡ Some request
+  pub accessed : line_accessed c what ≡ Some request.line
+  pub absent : tag_at core request.line c.contents ≡ None
+  pub first : first_supplier 0 (snoop_column (table_of_rows c.rows) request.request) request.line c.contents ≡ supplier
+
+-- where it is told that the word is found, there it is
+abbrev pub IsFoundBy : Caches → Holder → Choice → MemoryAccess → CacheUse → Source → Type 0
+IsFoundBy c holder choice what how Buffer = is_forwarded how ≡ true
+IsFoundBy c holder choice what how Cache = HasItsLine c (chosen choice) what
+IsFoundBy c holder choice what how Bus = AwaitsItsLine c holder choice what
+IsFoundBy c holder choice what how (Other core) = IsSupplied c holder (chosen choice) what how (Some core)
+IsFoundBy c holder choice what how Memory = IsSupplied c holder (chosen choice) what how None
+
+-- the same of a choice on a machine
+abbrev pub IsFoundAt : Running → Choice → Source → Type 0
+IsFoundAt m choice source =
+    IsFoundBy m.statistics.caches m.state.holder choice (access_of m.test m.depth m.state.flat choice) (machine_use m choice).how source
+
+-- at each location of a line that memory supplies, the words that a trace tells of memory are those that are seen
+abbrev pub MemoryIsSeen : Running → Choice → Type 0
+MemoryIsSeen m choice = (loc : ℕ) (before : List ℕ) → IsFoundAt m choice Memory
+    → line_accessed m.statistics.caches (access_of m.test m.depth m.state.flat choice) ≡ Some (loc / m.statistics.caches.shape.words)
+    → loc < length before → loc < length m.state.flat.memory → slice_index_or (own_words m before) loc 0 ≡ slice_index_or m.state.flat.memory loc 0
+
+-- ---- in each machine that choices of a test lead to
+
+-- the machine of a test after choices
+abbrev pub machine_by : Table → Configuration → Litmus → List Choice → Running
+machine_by table c t choices = after_choices (new_machine table c t) choices
+
+-- a word is found where it is told; a core whose cache is told is another one of the test; of a choice that writes a word without reading
+-- it none is told; and under each protocol the words that a trace tells of memory, where memory is told, are those that are seen
 pub record SourcesAreTold : Type 0 where
-  pub tables : (kind : ProtocolKind) (request : Request) (state : State) → (snoop_column (table_of kind) request state).supplies ≡ supplies (Some state)
-  pub own : (m : Running) (core line : ℕ) → found_at m core line ≡ Cache → is_some (copy_on m core line) ≡ true
-  pub bus : (m : Running) (core line : ℕ) → found_at m core line ≡ Bus → (copy_on m core line ≡ None) × (is_some m.statistics.caches.awaited ≡ true)
-  pub other : (m : Running) (core line : ℕ) (other : Core) → found_at m core line ≡ Other other → SuppliesTo m core line other
-  pub memory : (m : Running) (core line : ℕ) → found_at m core line ≡ Memory → NobodySupplies m line
-  pub words : (m : Running) (core loc : ℕ) (before : List ℕ) → loc < length before → loc < length m.state.flat.memory
-      → found_at m core (loc / m.statistics.caches.shape.words) ≡ Memory → slice_index_or (own_words m before) loc 0 ≡ slice_index_or m.state.flat.memory loc 0
+  pub found : (table : Table) (c : Configuration) (t : Litmus) (choices : List Choice) (choice : Choice) (source : Source)
+      → IsTest t → 0 < c.shape.words → KeepsNoCopyInI table
+      → supplied_by (machine_by table c t choices) choice ≡ Some source → IsFoundAt (machine_by table c t choices) choice source
+  pub others : (table : Table) (c : Configuration) (t : Litmus) (choices : List Choice) (choice : Choice) (other : Core)
+      → IsTest t → 0 < c.shape.words → KeepsNoCopyInI table
+      → supplied_by (machine_by table c t choices) choice ≡ Some (Other other) → (other.0 ≢ chosen choice) × (other.0 < length t.programs)
+  pub reads : (m : Running) (choice : Choice) (source : Source) (loc : Loc)
+      → supplied_by m choice ≡ Some source → access_of m.test m.depth m.state.flat choice ≢ Writes loc
+  pub words : (kind : ProtocolKind) (c : Configuration) (t : Litmus) (choices : List Choice) (choice : Choice)
+      → MemoryIsSeen (machine_by (table_of kind) c t choices) choice

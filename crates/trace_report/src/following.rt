@@ -19,29 +19,12 @@ use crate::moment::Moment;
 use crate::own_words::follow_words;
 use crate::states::{PlacedState, states_of};
 use crate::step_as_json::step_value;
-use crate::supplied::{Source, found_by, supplied_to};
 use crate::telling::tell;
 use machine_core::{Choice, Config, Machine};
 use protocol_tables::Protocol;
 use serde_json::Value;
 use std::alloc::Global;
 use tso_terms::{NoMemory, Test};
-
-/// What a choice did, and where the word is found that it read.
-pub(crate) struct SourcedStep {
-    pub(crate) step: Step,
-    supplied: Option<Source>,
-}
-
-// Said by hand, so that who lets it go makes one call, and not one for each part.
-impl Drop for SourcedStep {
-    fn drop(self) {
-        let SourcedStep {
-            step: _step,
-            supplied: _,
-        } = self;
-    }
-}
 
 /// Follows a machine.
 pub(crate) struct Follower<'t> {
@@ -99,12 +82,12 @@ impl<'t> Follower<'t> {
         &mut self,
         machine: &mut Machine<'_, P>,
         choice: Choice,
-    ) -> Result<SourcedStep, NoMemory>
+    ) -> Result<Step, NoMemory>
         requires follows { Follows self.old machine.old }
         requires core { chosen choice < length machine.old.test.programs }
         ensures step { IfOk result (λ told. sourced told ≡ sourced_by machine.old choice) }
-        ensures known { IfOk result (λ told. StepNamesExist self.new.test.now self.new.config.shape.words (shown_step told.step)) }
-        ensures outcome { IfOk result (λ told. told.step.outcome ≡ (machine_effect machine.old choice).effect.outcome) }
+        ensures known { IfOk result (λ told. StepNamesExist self.new.test.now self.new.config.shape.words (shown_step told)) }
+        ensures outcome { IfOk result (λ told. told.outcome ≡ (machine_effect machine.old choice).effect.outcome) }
         ensures after { OnOk result (machine.new ≡ machine_after machine.old choice) }
         ensures answer { OnOk result (AnswerFits machine.old choice) }
         ensures follows { OnOk result (Follows self.new machine.new) }
@@ -113,33 +96,24 @@ impl<'t> Follower<'t> {
         let alloc = self.alloc;
         let test = self.test;
         let words = self.config.words();
-        let found = found_by(machine, test, words, choice);
         let step = tell(alloc, machine, &mut self.states, test, self.config, choice)?;
-        let supplied = supplied_to(&step, found);
         follow_words(machine, test, words, &mut self.memory);
-        Ok(SourcedStep { step, supplied })
+        Ok(step)
     }
 
     /// What a choice did, and the machine after it.
     pub(crate) fn step_to<P: Protocol>(
         &self,
         machine: &Machine<'_, P>,
-        told: &SourcedStep,
+        told: &Step,
     ) -> Result<Value, NoMemory>
         requires follows { Follows self.now machine.now }
-        requires known { StepNamesExist self.now.test.now self.now.config.shape.words (shown_step told.now.step) }
+        requires known { StepNamesExist self.now.test.now self.now.config.shape.words (shown_step told.now) }
         ensures { IfOk result (λ value. view value ≡ step_to (sourced told.now) machine.now self.now.memory.items) }
     {
         let words = self.config.words();
         let after = self.machine(machine);
-        step_value(
-            self.alloc,
-            self.test,
-            words,
-            &told.step,
-            told.supplied,
-            after,
-        )
+        step_value(self.alloc, self.test, words, told, after)
     }
 
     /// The machine as it now is.

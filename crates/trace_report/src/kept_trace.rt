@@ -13,7 +13,8 @@ ghost use Rattle.trace_report.specs.inner.Looked.{sourced, told_last, trace_with
 ghost use Rattle.trace_report.specs.inner.Following.{CanFollow, Follows};
 ghost use Rattle.trace_report.specs.inner.Observing.{KnowsLast, MakesStep, OpensTrace, told_by, told_under};
 
-use crate::following::{Follower, SourcedStep};
+use crate::Step;
+use crate::following::Follower;
 use crate::limited::Limited;
 use crate::told_runs::traces_tell_their_runs;
 use machine_core::{Choice, Machine, Outcome};
@@ -128,7 +129,7 @@ struct Tracer<'t> {
     /// The steps, where all are told.
     steps: Vec<Value>,
     /// What the last choice did.
-    last: Option<SourcedStep>,
+    last: Option<Step>,
 }
 
 // Said by hand, so that who lets it go makes one call, and not one for each part.
@@ -173,7 +174,7 @@ impl<'t> Observer for Tracer<'t> {
         choice: Choice,
     ) -> Result<Outcome, NoMemory> {
         let told = self.follower.tell(machine, choice)?;
-        let outcome = told.step.outcome;
+        let outcome = told.outcome;
         match self.extent {
             Extent::Whole => push_made(&mut self.steps, self.follower.step_to(machine, &told))?,
             Extent::LastStep => {}

@@ -10,8 +10,9 @@ pub fn told_memory_is_the_buses()
     ensures { ToldMemoryIsTheBuses }
 {}
 
-/// Where a word is found, as a trace tells it: the core whose cache is told has a copy whose row supplies the line in the
-/// table of each protocol; and where memory is told no copy does, and memory's own words are those that are seen.
+/// Where a word is found, as a trace tells it: the core whose cache is told is the first whose copy supplies the line by the protocol's
+/// own table; where memory is told no copy does, and memory's own words are those that are seen; and the bus is told to the core
+/// alone that holds it and awaits its line.
 pub fn sources_are_told()
     ensures { SourcesAreTold }
 {}

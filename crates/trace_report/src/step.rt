@@ -3,6 +3,7 @@
 ghost use Rattle.std.specs.Prelude.{◌≡◌};
 ghost use Rattle.tso_terms.specs.FlatMachine.{chosen};
 
+use crate::supplied::Source;
 use protocol_tables::{Request, State, Transient};
 use snoop_bus::AccessKind;
 use tso_terms::{Choice, Core, Entry, Outcome, Reg};
@@ -19,6 +20,8 @@ pub struct Step {
     pub forwarded: bool,
     /// What its access to the core's cache was. On a split bus that is known when the access is completed.
     pub access: Option<AccessKind>,
+    /// Where the word is found that it read. JSON alone tells that.
+    pub supplied: Option<Source>,
     /// What went on the bus; on a split bus, when it was asked for.
     pub request: Option<LineRequest>,
     /// The core whose copy was sent to memory.
@@ -43,6 +46,7 @@ impl Drop for Step {
             moved: _,
             forwarded: _,
             access: _,
+            supplied: _,
             request: _,
             flushed: _,
             wrote_back: _,

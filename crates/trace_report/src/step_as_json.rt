@@ -11,7 +11,7 @@ ghost use Rattle.trace_report.specs.JsonValues.{text_or_null, array_of_texts};
 ghost use Rattle.trace_report.specs.StepJson.{outcome_word, stall_in, step_json};
 
 use crate::names::{access_name, stall_name};
-use crate::supplied::{Source, source_value};
+use crate::supplied::source_value;
 use crate::text::{write_change, write_line_request};
 use crate::texts_as_json::{choice_value, core_name, line_value, text_value};
 use crate::{LineRequest, Moved, StateChange, Step};
@@ -25,8 +25,7 @@ use tso_report::objects::Object;
 use tso_report::pieces::Piece;
 use tso_terms::{Core, NoMemory, Outcome, Test};
 
-/// What a choice did, on caches whose lines have so many words, where the word is found that it read, and this machine
-/// after it, if its value could be made.
+/// What a choice did, on caches whose lines have so many words, and this machine after it, if its value could be made.
 ///
 /// Errors: out of memory only.
 pub fn step_value(
@@ -34,13 +33,12 @@ pub fn step_value(
     test: &Test,
     words: u8,
     step: &Step,
-    supplied: Option<Source>,
     after: Result<Value, NoMemory>,
 ) -> Result<Value, NoMemory>
     requires words { 0 < words }
     requires known { StepNamesExist test.now words (shown_step step.now) }
     ensures { (d : Data) → IfOk after (λ value. view value ≡ d)
-        → IfOk result (λ value. view value ≡ step_json test.now words (shown_step step.now) supplied d) }
+        → IfOk result (λ value. view value ≡ step_json test.now words (shown_step step.now) step.now.supplied d) }
 {
     let outcome = step.outcome;
     Object::new(alloc)
@@ -54,7 +52,7 @@ pub fn step_value(
         .member("outcome", word_value(alloc, outcome_word(outcome)))
         .member("stall", stall_value(alloc, outcome))
         .member("states", changes_value(alloc, test, words, &step.changes))
-        .member("supplied", source_value(alloc, supplied))
+        .member("supplied", source_value(alloc, step.supplied))
         .member(
             "transaction",
             request_value(alloc, test, words, step.request),

@@ -1,23 +1,21 @@
-//! Where the word that a choice reads is found. It is looked for on the machine before the choice: afterwards the copies have
-//! changed, and no longer tell which of them supplied the line. (Primer, chapters 6 and 7.)
+//! Where the word that a choice reads is found, as its access says, or on a split bus its request. Whoever looked for it later
+//! would find other copies; and who supplies a line, the protocol's table says and not a copy's state. (Primer, chapters 6 and 7.)
 
 ghost use Rattle.std.specs.Prelude.{◌≡◌, ◌<◌, IfOk, length, option_map};
 ghost use Rattle.serde_json.specs.View.{view};
+ghost use Rattle.tso_terms.specs.Actions.{action_of};
 ghost use Rattle.tso_terms.specs.FlatMachine.{chosen};
-ghost use Rattle.trace_report.specs.Shown.{shown_step};
-ghost use Rattle.trace_report.specs.inner.Told.{IsLookedAt};
-ghost use Rattle.trace_report.specs.Supplied.{found_by, supplier_text, supplied_to, supplier_from, supplier_or_memory, supplies};
+ghost use Rattle.trace_report.specs.Supplied.{action_reads, found_by, reads_from, source_by, source_in, source_of, source_unused, source_without};
+ghost use Rattle.trace_report.specs.Supplied.{supplier_text};
 ghost use Rattle.trace_report.specs.JsonValues.{text_or_null};
 
-use crate::Step;
-use crate::step::core_of;
 use crate::texts_as_json::core_name;
-use machine_core::{Machine, MemoryAccess};
-use protocol_tables::{Protocol, State};
+use machine_core::CacheUse;
 use serde_json::Value;
+use snoop_bus::{AccessKind, BusRequest, Supplier};
 use std::alloc::Global;
 use tso_report::members::word_value;
-use tso_terms::{Choice, Core, NoMemory, Outcome, Test};
+use tso_terms::{Action, Choice, Core, Instr, NoMemory, Outcome, Test};
 
 /// Where a core finds a word that it reads.
 #[derive(Clone, Copy)]
@@ -34,69 +32,103 @@ pub enum Source {
     Memory,
 }
 
-/// Where the line is found that a choice would read on this machine. `None` where it reads none, or its core's own pending
-/// stores answer it.
-pub fn found_by<P: Protocol>(
-    machine: &Machine<P>,
+/// Where the word is found that a choice at this place of its core's program reads, which had this outcome and this to do with
+/// the caches. `None` where it reads none.
+pub fn found_by(
     test: &Test,
-    words: u8,
+    place: u8,
     choice: Choice,
+    outcome: Outcome,
+    cache_use: CacheUse,
 ) -> Option<Source>
-    requires looked { IsLookedAt test.now words machine.now }
-    requires core { chosen choice < length test.now.programs }
-    ensures { result ≡ found_by machine.now choice }
+    requires { chosen choice < length test.now.programs }
+    ensures { result ≡ found_by test.now place choice outcome cache_use }
 {
-    let loc = match machine.access(choice) {
-        MemoryAccess::Read(loc) | MemoryAccess::Lock(loc) => loc,
-        MemoryAccess::Nothing | MemoryAccess::Write(_) => return None,
-    };
-    let line = loc.0 / words;
-    if machine.copy_state(core_of(choice), line).is_some() {
-        Some(Source::Cache)
-    } else if machine.awaited().is_some() {
-        Some(Source::Bus)
-    } else {
-        Some(supplier(machine, test, line))
-    }
-}
-
-/// The first core whose copy of a line supplies it; memory where there is none.
-fn supplier<P: Protocol>(machine: &Machine<P>, test: &Test, line: u8) -> Source
-    requires { machine.now.test ≡ test.now }
-    ensures { result ≡ supplier_or_memory (supplier_from machine.now line 0 (length test.now.programs)) }
-{
-    for core in 0..test.cores() {
-        if supplies(machine.copy_state(Core(core), line)) {
-            return Source::Other(Core(core));
-        }
-    }
-    Source::Memory
-}
-
-/// Whether a copy supplies its line to a core that asks for it: it is dirty, or the only one.
-fn supplies(copy: Option<State>) -> bool
-    ensures { result ≡ supplies copy }
-{
-    match copy {
-        Some(State::M) => true,
-        Some(State::O) => true,
-        Some(State::E) => true,
-        Some(State::S) => false,
-        Some(State::I) => false,
-        None => false,
-    }
-}
-
-/// Where the word is found that a step reads, or asks for to read it, if the choice would find its line there.
-pub fn supplied_to(step: &Step, found: Option<Source>) -> Option<Source>
-    ensures { result ≡ supplied_to (shown_step step.now) found }
-{
-    if step.forwarded {
-        Some(Source::Buffer)
-    } else if step.access.is_some() || matches!(step.outcome, Outcome::Asked) {
-        found
+    if reads_from(test, place, choice) {
+        source_in(outcome, cache_use)
     } else {
         None
+    }
+}
+
+/// Whether a choice at this place of its core's program reads a word.
+fn reads_from(test: &Test, place: u8, choice: Choice) -> bool
+    requires { chosen choice < length test.now.programs }
+    ensures { result ≡ reads_from test.now place choice }
+{
+    match choice {
+        Choice::Drain(_) => false,
+        Choice::Step(core) => match test.program(core).get(usize::from(place)) {
+            None => false,
+            Some(instr) => reads_word(*instr),
+        },
+    }
+}
+
+/// Whether an instruction reads a word: a load does, and a locked instruction.
+fn reads_word(instr: Instr) -> bool
+    ensures { result ≡ action_reads (action_of instr) }
+{
+    match instr.action() {
+        Action::Load(..) | Action::Lock(..) => true,
+        Action::Store(..) | Action::Move(..) | Action::Fence => false,
+    }
+}
+
+/// Where the word was found that a choice with this outcome and this use of the caches read.
+fn source_in(outcome: Outcome, cache_use: CacheUse) -> Option<Source>
+    ensures { result ≡ source_in outcome cache_use }
+{
+    match cache_use {
+        CacheUse::Unused => source_unused(outcome),
+        CacheUse::Forwarded => Some(Source::Buffer),
+        CacheUse::Asked(request) => Some(source_of(request.supplier)),
+        CacheUse::Through(report) => {
+            let otherwise = source_without(report.access.kind);
+            Some(source_by(otherwise, report.request))
+        }
+    }
+}
+
+/// Where a choice finds its word for which nothing went on the bus and which made no access: one that asks is a write access
+/// that hits, so that its core has the line.
+fn source_unused(outcome: Outcome) -> Option<Source>
+    ensures { result ≡ source_unused outcome }
+{
+    match outcome {
+        Outcome::Asked => Some(Source::Cache),
+        Outcome::Committed | Outcome::Buffered | Outcome::Moved | Outcome::Stalled(_) => None,
+    }
+}
+
+/// Who supplied the line by what went on the bus; this where nothing did.
+fn source_by(otherwise: Source, request: Option<BusRequest>) -> Source
+    ensures { result ≡ source_by otherwise request }
+{
+    match request {
+        None => otherwise,
+        Some(request) => source_of(request.supplier),
+    }
+}
+
+/// Where an access finds its words for which nothing goes on the bus now: a line that comes in has been asked for before.
+fn source_without(kind: AccessKind) -> Source
+    ensures { result ≡ source_without kind }
+{
+    match kind {
+        AccessKind::Hit | AccessKind::Upgrade => Source::Cache,
+        AccessKind::Miss => Source::Bus,
+    }
+}
+
+/// Who supplied a line; where no words were moved the core had them.
+fn source_of(supplier: Option<Supplier>) -> Source
+    ensures { result ≡ source_of supplier }
+{
+    match supplier {
+        None => Source::Cache,
+        Some(Supplier::Cache(core)) => Source::Other(core),
+        Some(Supplier::Memory) => Source::Memory,
     }
 }
 

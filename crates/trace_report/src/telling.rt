@@ -16,11 +16,13 @@ ghost use Rattle.trace_report.specs.inner.Told.{IsLookedAt};
 ghost use Rattle.trace_report.specs.Told.{IsTracedInStates};
 ghost use Rattle.trace_report.specs.inner.Left.{IsLeftBy};
 ghost use Rattle.trace_report.specs.Stalls.{stalled_step};
-ghost use Rattle.trace_report.specs.inner.ToldSteps.{told_step, stalls_told};
+ghost use Rattle.trace_report.specs.inner.ToldSteps.{told_step, told_source, stalls_told};
+ghost use Rattle.trace_report.specs.Supplied.{supplied_by};
 
 use crate::sending::sent_by;
 use crate::states::{PlacedState, changes_in, states_of};
 use crate::step::{Given, Moved, StateChange, Step, core_of};
+use crate::supplied::found_by;
 use machine_core::{CacheUse, Config, Machine};
 use protocol_tables::Protocol;
 use snoop_bus::AccessKind;
@@ -49,6 +51,7 @@ pub fn tell<P: Protocol>(
     requires core { chosen choice < length test.now.programs }
     requires told { IsTracedInStates test.now config machine.old states.old.items }
     ensures step { IfOk result (λ step. shown_step step ≡ trace_step_of machine.old choice) }
+    ensures supplied { IfOk result (λ step. step.supplied ≡ supplied_by machine.old choice) }
     ensures known { IfOk result (λ step. StepNamesExist test.now config.shape.words (shown_step step)) }
     ensures after { OnOk result (machine.new ≡ machine_after machine.old choice) }
     ensures told { OnOk result (IsTracedInStates test.now config machine.new states.new.items) }
@@ -67,6 +70,7 @@ pub fn tell<P: Protocol>(
             moved: None,
             forwarded: false,
             access: None,
+            supplied: None,
             request: None,
             flushed: None,
             wrote_back: None,
@@ -93,6 +97,7 @@ pub fn tell_or_stall<P: Protocol>(
     requires core { chosen choice < length test.now.programs }
     requires told { IsTracedInStates test.now config machine.old states.old.items }
     ensures step { IfOk result (λ told. told_step choice told ≡ trace_step_of machine.old choice) }
+    ensures supplied { IfOk result (λ told. told_source told ≡ supplied_by machine.old choice) }
     ensures known { IfOk result (λ told. StepNamesExist test.now config.shape.words (told_step choice told)) }
     ensures stalls { IfOk result (λ told. stalls_told told ≡ stall_count (told_step choice told).outcome) }
     ensures after { OnOk result (machine.new ≡ machine_after machine.old choice) }
@@ -128,6 +133,7 @@ pub fn tell_or_stall<P: Protocol>(
         moved: moved_in(machine, test, choice, place),
         forwarded,
         access,
+        supplied: found_by(test, place, choice, outcome, cache_use),
         request: sent.request,
         flushed: sent.flushed,
         wrote_back: written_back(cache_use, lines),

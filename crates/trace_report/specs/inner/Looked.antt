@@ -2,7 +2,7 @@
 use Rattle.std.specs.Prelude.{ℕ, ◌≡◌, length, List, Option, Some, None, codes}
 use Rattle.trace_report.specs.Vocabulary.{Configuration, configuration_of, Data, Litmus, member, no_members, object, Running, shown_step}
 use Rattle.trace_report.specs.TraceJson.{Sourced, alone, step_to}
-use Rattle.trace_report.specs.declared.following.SourcedStep.{SourcedStep}
+use Rattle.trace_report.specs.declared.step.Step.{Step}
 
 -- the machine runs this test, is configured so, and has a word for each location
 pub record IsMachineOfTest (t : Litmus) (c : Configuration) (m : Running) : Type 0 where
@@ -25,5 +25,5 @@ told_last None m memory = alone m memory
 told_last (Some s) m memory = step_to s m memory
 
 -- what is told of a choice
-abbrev pub sourced : SourcedStep → Sourced
-sourced s = record { step = shown_step s.step; supplied = s.supplied }
+abbrev pub sourced : Step → Sourced
+sourced s = record { step = shown_step s; supplied = s.supplied }

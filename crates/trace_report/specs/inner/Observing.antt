@@ -30,7 +30,7 @@ told_by o m = told_as o.extent (view o.told) (map view o.steps.items) (told_last
 
 -- the test has the names of what the last choice did
 abbrev pub KnowsLast : Tracer → Type 0
-KnowsLast o = IfSome o.last (λ told. StepNamesExist o.follower.test.now o.follower.config.shape.words (shown_step told.step))
+KnowsLast o = IfSome o.last (λ told. StepNamesExist o.follower.test.now o.follower.config.shape.words (shown_step told))
 
 -- where all is told, it begins with the machine before the first choice
 pub record OpensTrace (old : Tracer) (m : Running) (new : Tracer) : Type 0 where

@@ -22,7 +22,7 @@ returns c d made =
     (λ i.
     object (put (codes "write_back") (text_or_null (option_map (line_name t words) s.wrote_back))
     (put (codes "transaction") (text_or_null (option_map (printed_request t words) s.request))
-    (put (codes "supplied") (text_or_null (option_map supplier_text c.args.supplied))
+    (put (codes "supplied") (text_or_null (option_map supplier_text c.args.step.now.supplied))
     (put (codes "states") (array_of_texts (map (printed_change t words) (changes i)))
     (put (codes "stall") (text_or_null (option_map stall_name (stall_in s.outcome)))
     (put (codes "outcome") (string (outcome i)) (put (codes "moved") (text_or_null (option_map printed_move s.moved))

@@ -1,7 +1,7 @@
 use Rattle.trace_report.proofs.Vocabulary.{◌≡◌, ◌∙◌, ◌<◌, length, ap, sym, subst, Ok, unwrap_or, div_ceil, chosen, core_of, IsLineSize}
-use Rattle.trace_report.proofs.Vocabulary.{machine_after, StepNamesExist, stalled_step, states_of, trace_step_of}
+use Rattle.trace_report.proofs.Vocabulary.{machine_after, StepNamesExist, found_by, stalled_step, states_of, trace_step_of}
 use Rattle.trace_report.proofs.Looking.{place-of}
-use Rattle.trace_report.proofs.Stalls.{stall-shown}
+use Rattle.trace_report.proofs.Stalls.{stall-shown, stall-source}
 use Rattle.trace_report.proofs.Whole.{Leaves, left-looked, WasLookedAt, told-whole, told-next, looked-next, step-known}
 use Rattle.trace_report.proofs.telling.tell_or_stall.Goals as goal
 use Rattle.trace_report.proofs.telling.tell_or_stall.Goals.{In-Stalled}
@@ -20,6 +20,10 @@ bare g c = stall-shown c.args.machine.now c.args.choice c.in-Stalled.stall (same
 
 pub returns-in-Stalled-clause-step : goal.returns-in-Stalled-clause-step
 returns-in-Stalled-clause-step g c = bare g c
+
+pub returns-in-Stalled-clause-supplied : goal.returns-in-Stalled-clause-supplied
+returns-in-Stalled-clause-supplied g c =
+    stall-source c.args.machine.now c.args.choice c.in-Stalled.stall (same g c) (sym c.in_ok-outcome.ensures.outcome ∙ c.in-Stalled.is)
 
 pub returns-in-Stalled-clause-known : goal.returns-in-Stalled-clause-known
 returns-in-Stalled-clause-known g c =
@@ -91,6 +95,18 @@ returns-clause-step g c =
     c.answered_by-forwarded.ensures.access
     c.sent_by-sent.ensures c.written_back.ensures
 
+pub returns-clause-supplied : goal.returns-clause-supplied
+returns-clause-supplied g c =
+    let m = c.args.machine.now in
+    let core = c.core_of-core.ensures in
+    let place =
+    c.unwrap_or-place.ensures
+    ∙ (ap (λ o. unwrap_or o 0) c.place.ensures
+    ∙ (place-of m c.core_of-core.result.0 ∙ ap (λ i. (core_of m.state.flat i).place) core)) in
+    let test : c.args.test.now ≡ m.test = sym c.requires.told.machine.test in
+    let how = c.in_ok-outcome.ensures.how in
+    c.found_by.ensures ∙ (λ i. found_by (test i) (place i) c.args.choice (c.in_ok-outcome.ensures.outcome i) (how i))
+
 pub returns-clause-known : goal.returns-clause-known
 returns-clause-known g c =
     subst (StepNamesExist c.args.test.now c.args.config.shape.words) (sym (returns-clause-step g c))
@@ -114,3 +130,6 @@ returns-clause-answer g c = c.in_ok-outcome.ensures.answer
 
 pub moved_in-requires : goal.moved_in-requires
 moved_in-requires g c = c.requires.core
+
+pub found_by-requires : goal.found_by-requires
+found_by-requires g c = c.requires.core

@@ -8,7 +8,7 @@ step_value-requires-clause-words g c = some-word c.words-words.result c.words-wo
 
 pub step_value-requires-clause-known : goal.step_value-requires-clause-known
 step_value-requires-clause-known g c =
-    subst (λ n. StepNamesExist c.args.self.now.test.now n (shown_step c.args.told.now.step)) (sym c.words-words.ensures.value) c.requires.known
+    subst (λ n. StepNamesExist c.args.self.now.test.now n (shown_step c.args.told.now)) (sym c.words-words.ensures.value) c.requires.known
 
 pub returns : goal.returns
 returns g c =

@@ -1,18 +1,8 @@
-use Rattle.trace_report.proofs.Vocabulary.{rules, with_items_is, sym, ap, subst, ◌∙◌, ◌<◌, length, own_words, Litmus, chosen, IsLookedAt}
-use Rattle.trace_report.proofs.Vocabulary.{IsLineSize, ShownStep, shown_step}
+use Rattle.trace_report.proofs.Vocabulary.{rules, with_items_is, sym, ap, subst, ◌∙◌, ◌<◌, length, own_words, Litmus, chosen, IsLookedAt, IsLineSize, ShownStep}
 use Rattle.trace_report.proofs.Whole.{looked-at}
 use Rattle.trace_report.proofs.RunsTold.{step-outcome}
-use Rattle.trace_report.proofs.Tracing.{each-after, source-told}
+use Rattle.trace_report.proofs.Tracing.{each-after}
 use Rattle.trace_report.proofs.following.Follower.tell.Goals as goal
-
-pub found_by-found-requires-clause-looked : goal.found_by-found-requires-clause-looked
-found_by-found-requires-clause-looked g c =
-    subst (λ n. IsLookedAt c.args.self.now.test.now n c.args.machine.now) (sym c.words-words.ensures.value)
-    (looked-at c.args.self.now.test.now c.args.self.now.config c.args.machine.now c.requires.follows.0.machine
-    (subst IsLineSize c.words-words.ensures.value c.words-words.ensures.within))
-
-pub found_by-found-requires-clause-core : goal.found_by-found-requires-clause-core
-found_by-found-requires-clause-core g c = subst (λ (t : Litmus). chosen c.args.choice < length t.programs) c.requires.follows.0.machine.test c.requires.core
 
 pub tell-requires-clause-core : goal.tell-requires-clause-core
 tell-requires-clause-core g c = subst (λ (t : Litmus). chosen c.args.choice < length t.programs) c.requires.follows.0.machine.test c.requires.core
@@ -42,9 +32,7 @@ returns-clause-memory g c =
     ∙ (c.follow_words.ensures.words ∙ ap (own_words c.tell.new.machine) c.deref_mut.ensures.value)
 
 pub returns-clause-step : goal.returns-clause-step
-returns-clause-step g c =
-    source-told c.args.machine.now c.args.choice (shown_step c.in_ok-step.step) c.found_by-found.result
-    c.supplied_to-supplied.result c.in_ok-step.ensures.step c.found_by-found.ensures c.supplied_to-supplied.ensures
+returns-clause-step g c = (λ i. record { step = c.in_ok-step.ensures.step i; supplied = c.in_ok-step.ensures.supplied i })
 
 pub returns-clause-outcome : goal.returns-clause-outcome
 returns-clause-outcome g c = ap (λ (s : ShownStep). s.outcome) c.in_ok-step.ensures.step ∙ step-outcome c.args.machine.now c.args.choice
