@@ -5,6 +5,5 @@ mod NoMore
 mod Refuting
 mod RefutingShortly
 mod SomeExecution
-mod SourcesTold
 mod TracedRuns
 mod Waiting

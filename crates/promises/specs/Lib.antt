@@ -1,4 +1,3 @@
 pub mod Locked
 pub mod Searched
-pub mod Sources
 pub mod inner

@@ -1,28 +1,15 @@
 use Rattle.promises.proofs.traces.word_sources.words_are_found_where_it_is_told.Goals as goal
 
-pub returns-clause-tables : goal.returns-clause-tables
-returns-clause-tables given = given.sources_are_told.ensures.tables
-
-pub returns-clause-own : goal.returns-clause-own
-returns-clause-own given = given.sources_are_told.ensures.own
-
-pub returns-clause-absent : goal.returns-clause-absent
-returns-clause-absent given = λ m core line is. (given.sources_are_told.ensures.bus m core line is).0
-
-pub returns-clause-awaited : goal.returns-clause-awaited
-returns-clause-awaited given = λ m core line is. (given.sources_are_told.ensures.bus m core line is).1
+pub returns-clause-found : goal.returns-clause-found
+returns-clause-found given = given.sources_are_told.ensures.found
 
 pub returns-clause-apart : goal.returns-clause-apart
-returns-clause-apart given = λ m core line other is. (given.sources_are_told.ensures.other m core line other is).apart
+returns-clause-apart given = λ table c t choices choice other test words keeps is.
+    (given.sources_are_told.ensures.others table c t choices choice other test words keeps is).0
 
 pub returns-clause-there : goal.returns-clause-there
-returns-clause-there given = λ m core line other is. (given.sources_are_told.ensures.other m core line other is).there
-
-pub returns-clause-copy : goal.returns-clause-copy
-returns-clause-copy given = λ m core line other is. (given.sources_are_told.ensures.other m core line other is).copy
-
-pub returns-clause-memory : goal.returns-clause-memory
-returns-clause-memory given = given.sources_are_told.ensures.memory
+returns-clause-there given = λ table c t choices choice other test words keeps is.
+    (given.sources_are_told.ensures.others table c t choices choice other test words keeps is).1
 
 pub returns-clause-words : goal.returns-clause-words
 returns-clause-words given = given.sources_are_told.ensures.words
