@@ -147,7 +147,7 @@ fn some_reader_gains(setting: &Setting<'_>, state: &State, a: usize, b: usize) -
 }
 
 /// Whether it would tell more that one write comes before another one, which follows from other edges.
-fn tells_more(setting: &Setting<'_>, state: &State, a: usize, b: usize) -> bool {
+pub fn tells_more(setting: &Setting<'_>, state: &State, a: usize, b: usize) -> bool {
     let write = setting.events.at(b);
     let read = b.wrapping_sub(1);
     let may_part = write.is_locked

@@ -39,6 +39,18 @@ pub fn same_fact(a: Fact, b: Fact) -> bool {
     }
 }
 
+/// What is so where the fact isn't.
+pub fn opposite(fact: Fact) -> Fact {
+    match fact {
+        Fact::From(r, s, truth) => Fact::From(r, s, !truth),
+        Fact::Before(w, v) => Fact::Before(v, w),
+        Fact::Last(w, truth) => Fact::Last(w, !truth),
+        Fact::Returns(r, value, truth) => Fact::Returns(r, value, !truth),
+        Fact::Holds(part, truth) => Fact::Holds(part, !truth),
+        Fact::Given(part, truth) => Fact::Given(part, !truth),
+    }
+}
+
 /// A question.
 #[derive(Clone, Copy)]
 pub enum Question {
@@ -54,6 +66,8 @@ pub enum Question {
     ComesLast(usize),
     /// Which case of this part of what is asked, which is true or false, is met?
     HasCase(usize, bool),
+    /// Is this fact so, or its opposite?
+    IsSo(Fact),
     /// None.
     Nothing,
 }
@@ -67,6 +81,7 @@ pub fn same_question(a: Question, b: Question) -> bool {
         (Question::IsReadBy(x, s), Question::IsReadBy(y, t)) => (x == y) & (s == t),
         (Question::ComesLast(x), Question::ComesLast(y)) => x == y,
         (Question::HasCase(i, truth), Question::HasCase(j, other)) => (i == j) & (truth == other),
+        (Question::IsSo(fact), Question::IsSo(other)) => same_fact(fact, other),
         _ => false,
     }
 }

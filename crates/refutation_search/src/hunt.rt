@@ -53,7 +53,7 @@ const MOST_WORK: usize = 4_000_000;
 const WHOLE_WORK: usize = 200_000_000;
 
 /// How many questions a branch has at most.
-const DEEPEST: usize = 192;
+pub const DEEPEST: usize = 192;
 
 /// A search.
 #[derive(Drop)]

@@ -170,7 +170,7 @@ fn event_of(question: Question) -> usize {
         Question::ComesFirst(_, b) => b,
         Question::IsReadBy(_, s) => s,
         Question::ComesLast(x) => x,
-        Question::HasCase(..) | Question::Nothing => NONE,
+        Question::HasCase(..) | Question::IsSo(_) | Question::Nothing => NONE,
     }
 }
 

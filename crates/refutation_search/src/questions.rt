@@ -1,6 +1,6 @@
 //! The answers to a question that a branch leaves possible.
 
-use crate::facts::{Fact, Question};
+use crate::facts::{Fact, Question, opposite};
 use crate::parts::add_cases;
 use crate::setting::Setting;
 use crate::state::{Group, NOT_LAST, State};
@@ -66,6 +66,10 @@ pub fn add_answers(
         Question::IsReadBy(x, s) => add_readers(setting, state, x, s, answers),
         Question::ComesLast(x) => add_lasts(setting, state, x, answers),
         Question::HasCase(part, truth) => add_cases(setting, answers, part, truth),
+        Question::IsSo(fact) => {
+            answers.push(fact);
+            answers.push(opposite(fact));
+        }
         Question::Nothing => {}
     }
 }

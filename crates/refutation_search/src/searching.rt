@@ -1,8 +1,11 @@
 //! The whole search: runs by chance for an execution; depth first for a refutation, again and again with what was learnt, and a few times
-//! more for a shorter one; between two parts of it the search over sources and orders alone.
+//! more for a shorter one. Where that takes too long, the search that learns from each branch; and the search over sources and orders
+//! alone.
 
 use crate::borrowing::take_over;
 use crate::hunt::{Find, Hunt, hunt_for, make_hunt};
+use crate::learner::Learner;
+use crate::learnt_search::search_learning;
 use crate::ordering::make_order;
 use crate::proposal::{Proposal, propose};
 use crate::runs::find_run;
@@ -44,9 +47,15 @@ const MOST_WORK: usize = 30_000_000;
 
 const FEW_CASES: usize = 4_000;
 
-/// Into how many parts looks are divided. After the first part the search over sources and orders alone has its turn, and only what was
-/// found in that part is made shorter.
+/// Into how many parts looks are divided. After the first part the search that learns has its turn, and only what was found in that part
+/// is made shorter.
 const FIRST_PART: usize = 8;
+
+/// How many looks the search that learns may make for each case; and how much work they may be, where each one costs the fifth power of
+/// the number of events at worst.
+const LOOKS_FOR_CASE: usize = 3;
+
+const MOST_LEARNING: usize = 70_000_000_000_000;
 
 /// Searches for so many cases, with pauses, after each of which it begins anew with what it learnt.
 fn hunt_again(setting: &Setting<'_>, hunt: &mut Hunt, limit: usize) -> Find {
@@ -201,7 +210,7 @@ fn shortened<'t>(
     }
 }
 
-/// Searches for a part of the looks; then over sources and orders alone; then for all looks.
+/// Searches for a part of the looks, then with what is learnt from each branch, and then over sources and orders alone.
 fn propose_reason<'t>(
     alloc: Global,
     setting: &Setting<'t>,
@@ -217,11 +226,41 @@ fn propose_reason<'t>(
     if !matches!(first, Proposed::Nothing) {
         return shortened(alloc, setting, problem, model, &hunt, first, limit);
     }
-    let second = borrow(alloc, setting, problem, model, limit)?;
+    hunt.looks = hunt.look.made.saturating_add(looks_to_learn(setting, limit));
+    let second = learn_long(alloc, setting, problem, &mut hunt)?;
     if !matches!(second, Proposed::Nothing) {
         return Ok(second);
     }
-    hunt_on(alloc, setting, problem, &mut hunt, limit)
+    borrow(alloc, setting, problem, model, limit)
+}
+
+/// How many looks the search that learns may make.
+fn looks_to_learn(setting: &Setting<'_>, limit: usize) -> usize {
+    let size = setting.size.max(16);
+    let square = size.saturating_mul(size);
+    let work = square.saturating_mul(square).saturating_mul(size).max(1);
+    limit
+        .saturating_mul(LOOKS_FOR_CASE)
+        .min(MOST_LEARNING / work)
+}
+
+/// Learns, as long as looks are left: what is proposed by then.
+fn learn_long<'t>(
+    alloc: Global,
+    setting: &Setting<'t>,
+    problem: &Problem<'t>,
+    hunt: &mut Hunt,
+) -> Result<Proposed<'t>, NoMemory> {
+    let mut learner = Learner::new(alloc, setting, &hunt.root);
+    let found = search_learning(setting, hunt, &mut learner);
+    if hunt.is_refused() | learner.is_refused() {
+        return Err(NoMemory);
+    }
+    match found {
+        Find::Refuted(node) => refutation(alloc, setting, problem, hunt, node),
+        Find::Open => Ok(Proposed::Execution(make_order(setting, &learner.now)?)),
+        Find::Late => Ok(Proposed::Nothing),
+    }
 }
 
 /// Searches for an execution in which what a test asks is true, or a short refutation of it, for so many cases: what it proposes, if it

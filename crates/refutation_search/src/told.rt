@@ -122,6 +122,10 @@ fn told_question<'t>(setting: &Setting<'t>, question: Question, number: usize) -
         Question::IsReadBy(x, s) => { Checked::IsReadBy(location(x), source(setting, s)) }
         Question::ComesLast(x) => Checked::ComesLast(location(x)),
         Question::HasCase(..) => Checked::HasCase(number),
+        Question::IsSo(fact) => match told_fact(setting, fact) {
+            Some(told) => Checked::Asks(told),
+            None => Checked::FalseClaim,
+        },
         Question::Nothing => Checked::FalseClaim,
     }
 }
