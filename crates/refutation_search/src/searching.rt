@@ -226,12 +226,19 @@ fn propose_reason<'t>(
     if !matches!(first, Proposed::Nothing) {
         return shortened(alloc, setting, problem, model, &hunt, first, limit);
     }
-    hunt.looks = hunt.look.made.saturating_add(looks_to_learn(setting, limit));
+    hunt.looks = hunt
+        .look
+        .made
+        .saturating_add(looks_to_learn(setting, limit));
     let second = learn_long(alloc, setting, problem, &mut hunt)?;
-    if !matches!(second, Proposed::Nothing) {
-        return Ok(second);
+    match second {
+        Proposed::Refutation(best) if best.lines > MANY_LINES => {
+            let other = borrow(alloc, setting, problem, model, limit.min(FEW_CASES))?;
+            Ok(Proposed::Refutation(shorter(best, other)))
+        }
+        Proposed::Nothing => borrow(alloc, setting, problem, model, limit),
+        found => Ok(found),
     }
-    borrow(alloc, setting, problem, model, limit)
 }
 
 /// How many looks the search that learns may make.
