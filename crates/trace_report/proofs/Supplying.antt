@@ -14,7 +14,7 @@ use Rattle.trace_report.proofs.Vocabulary.{is_newer, is_newer_in, own_word, own_
 use Rattle.trace_report.proofs.Vocabulary.{SourcesAreTold, core_of}
 use Rattle.std.specs.Prelude.{◌⊎◌}
 use Rattle.protocol_tables.specs.Laws.{is_dirty}
-use Rattle.protocol_tables.specs.declared.kind.ProtocolKind.TheVariants.{Mesi, Moesi, Mosi, Msi}
+use Rattle.protocol_tables.specs.declared.kind.ProtocolKind.TheVariants.{Msi}
 use Rattle.protocol_tables.specs.declared.state.State as protocol
 use Rattle.cache_set.specs.CacheTags.{first_from, first_supplier, supplies_in}
 use Rattle.snoop_bus.specs.Asks.{moved_in, supplier_in}
@@ -335,14 +335,12 @@ none-first is first line core (sets ∷ caches) q never =
     by_test false e rest (suc n) q = rest n q
 
 -- a copy that doesn't supply is not newer than memory, in the table of each protocol
-abbrev SuppliesNot : ProtocolKind → Request → Option protocol.State → Type 0
-SuppliesNot kind request copy = supplies_in (snoop_column (table_of_rows (rows_of (table_of kind))) request) copy ≡ false
+abbrev SuppliesNot : Request → ProtocolKind → Option protocol.State → Type 0
+SuppliesNot request kind copy = supplies_in (snoop_column (table_of_rows (rows_of (table_of kind))) request) copy ≡ false
 
-not-dirty : (kind : ProtocolKind) (request : Request) (copy : Option protocol.State) → SuppliesNot kind request copy → is_dirty (or_invalid copy) ≡ false
-not-dirty Msi GetS (Some M) q = absurd (let z : ⊥ = cc in z)
-not-dirty Mesi GetS (Some M) q = absurd (let z : ⊥ = cc in z)
-not-dirty Moesi GetS (Some M) q = absurd (let z : ⊥ = cc in z)
-not-dirty Mosi GetS (Some M) q = absurd (let z : ⊥ = cc in z)
+not-dirty : (request : Request) (kind : ProtocolKind) (copy : Option protocol.State) → SuppliesNot request kind copy → is_dirty (or_invalid copy) ≡ false
+not-dirty GetS Msi (Some M) q = absurd (let z : ⊥ = cc in z)
+not-dirty GetM Msi (Some M) q = absurd (let z : ⊥ = cc in z)
 not-dirty _ _ (Some M) q = absurd (let z : ⊥ = cc in z)
 not-dirty _ _ (Some O) q = absurd (let z : ⊥ = cc in z)
 not-dirty _ _ _ q = refl
@@ -385,7 +383,7 @@ memory-seen kind m choice rows loc before found accessed room there =
     none-is-newer m line (length m.test.programs)
     (λ core.
     settled core line
-    ∙ not-dirty kind found.request.request (tag_at core line m.statistics.caches.contents) (quiet core)) in
+    ∙ not-dirty found.request.request kind (tag_at core line m.statistics.caches.contents) (quiet core)) in
     word-there m 0 loc before seen room there
     ∙ (ap (λ (k : ℕ). own_word m k (slice_index_or before loc 0) (slice_index_or seen loc 0)) (let z : 0 + loc ≡ loc = omega arith in z)
     ∙ ap (λ (b : Bool). if b then slice_index_or before loc 0 else slice_index_or seen loc 0) newest)
