@@ -2,6 +2,7 @@
 //! may be none that a lexer takes.
 
 use crate::tables::is_exactly_one_of;
+use memchr::memchr;
 use tso_terms::names::continues_name;
 
 /// White space.
@@ -76,12 +77,10 @@ pub fn first_word(text: &[u8]) -> &[u8] {
 
 /// What comes before the first such byte, or all where there is none.
 pub fn up_to(text: &[u8], stop: u8) -> &[u8] {
-    for at in 0..text.len() {
-        if text[at] == stop {
-            return &text[..at];
-        }
+    match memchr(stop, text) {
+        Some(at) => first_bytes(text, at),
+        None => text,
     }
-    text
 }
 
 /// What comes before the first of these bytes, or all where there is none.
