@@ -176,7 +176,8 @@ module _ (on : Bus) (c : Caches) (a : Choice) (before after : Choice → MemoryA
     beside-on (made it why stays acted) =
         staying next refl (use-keeps c (chosen a) (before a) u it).1 stays (quiet-next (made it why stays acted)) (made-asks it why)
     beside-on (unused is stays acted) =
-        staying next refl (ap (λ (x : Used). x.caches.awaited) is) stays (quiet-next (unused is stays acted)) (λ other held. ap (λ (x : Used). request_made x.how) is)
+        staying next refl (ap (λ (x : Used). x.caches.awaited) is) stays (quiet-next (unused is stays acted))
+        (λ other held. ap (λ (x : Used). request_made x.how) is)
     beside-on (begun split is outcome some free held same) =
         nothing (ap (λ (h : Holder). for_line h before c.awaited words core line) free)
         (ap (λ (h : Holder). for_line h after u.caches.awaited words core line) held ∙ own-alone a after u.caches.awaited words core line apart)
