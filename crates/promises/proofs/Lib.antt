@@ -7,3 +7,4 @@ mod RefutingShortly
 mod SomeExecution
 mod TracedRuns
 mod Waiting
+mod WordsFound

@@ -1,19 +1,25 @@
 //! Where a trace tells that a word was found, held against the protocol's table, the copies, who holds the bus, and memory's own words.
 
-ghost use Rattle.std.specs.Prelude.{◌≡◌, ◌≢◌, ◌<◌, List, Some, length, ℕ};
-ghost use Rattle.machine_core.specs.Running.{Running};
+ghost use Rattle.std.specs.Prelude.{◌≡◌, ◌≢◌, ◌<◌, List, None, Some, is_some, length, true, ℕ};
+ghost use Rattle.cache_set.specs.CacheTags.{first_supplier};
+ghost use Rattle.cache_set.specs.Requests.{snoop_column};
+ghost use Rattle.machine_core.specs.Running.{Running, machine_use};
 ghost use Rattle.multiprocessor.specs.Configuration.{Configuration};
 ghost use Rattle.protocol_tables.specs.Tables.{Table, table_of};
 ghost use Rattle.protocol_tables.specs.declared.kind.ProtocolKind.{ProtocolKind};
+ghost use Rattle.snoop_bus.specs.Asks.{tag_at};
+ghost use Rattle.snoop_bus.specs.Rows.{table_of_rows};
+ghost use Rattle.snoop_bus.specs.declared.access.BusRequest.{BusRequest};
 ghost use Rattle.trace_report.specs.Supplied.{supplied_by};
-ghost use Rattle.trace_report.specs.SupplyLaws.{IsFoundAt, MemoryIsSeen, machine_by};
+ghost use Rattle.trace_report.specs.SupplyLaws.{IsFoundAt, MemoryIsSeen, line_accessed, machine_by, request_made};
 ghost use Rattle.trace_report.specs.TraceLaws.{KeepsNoCopyInI};
 ghost use Rattle.trace_report.specs.declared.supplied.Source.{Source};
-ghost use Rattle.trace_report.specs.declared.supplied.Source.TheVariants.{Other};
+ghost use Rattle.trace_report.specs.declared.supplied.Source.TheVariants.{Bus, Cache, Memory, Other};
 ghost use Rattle.basic_laws.specs.Types.{Choice, Core, Loc};
 ghost use Rattle.tso_terms.specs.FlatMachine.{chosen};
 ghost use Rattle.tso_terms.specs.Litmus.{IsTest, Litmus};
 ghost use Rattle.tso_terms.specs.MemoryAccess.{Writes, access_of};
+ghost use Rattle.tso_terms.specs.SplitMachine.{Free, HeldBy};
 
 use trace_report::memory_words::sources_are_told;
 
@@ -43,3 +49,27 @@ pub fn a_word_is_found_by_a_choice_that_reads()
 {
     sources_are_told();
 }
+
+/// What a place that is told says of the machine before the choice. Its core has the line; or the choice holds the bus, which keeps the
+/// words for it; or nobody holds the bus, and the first core whose copy supplies what is asked for is the one that is told. There is none
+/// where memory is told.
+pub fn a_told_place_is_where_the_line_is()
+    ensures own { (m : Running) (choice : Choice) (line : ℕ) → IsFoundAt m choice Cache
+        → line_accessed m.statistics.caches (access_of m.test m.depth m.state.flat choice) ≡ Some line
+        → is_some (tag_at (chosen choice) line m.statistics.caches.contents) ≡ true }
+    ensures held { (m : Running) (choice : Choice) → IsFoundAt m choice Bus → m.state.holder ≡ HeldBy choice }
+    ensures awaited { (m : Running) (choice : Choice) → IsFoundAt m choice Bus → is_some m.statistics.caches.awaited ≡ true }
+    ensures absent { (m : Running) (choice : Choice) (line : ℕ) → IsFoundAt m choice Bus
+        → line_accessed m.statistics.caches (access_of m.test m.depth m.state.flat choice) ≡ Some line
+        → tag_at (chosen choice) line m.statistics.caches.contents ≡ None }
+    ensures free { (m : Running) (choice : Choice) (other : Core) → IsFoundAt m choice (Other other) → m.state.holder ≡ Free }
+    ensures asked { (m : Running) (choice : Choice) (other : Core) (line : ℕ) → IsFoundAt m choice (Other other)
+        → line_accessed m.statistics.caches (access_of m.test m.depth m.state.flat choice) ≡ Some line
+        → tag_at (chosen choice) line m.statistics.caches.contents ≡ None }
+    ensures first { (m : Running) (choice : Choice) (other : Core) (request : BusRequest) → IsFoundAt m choice (Other other)
+        → request_made (machine_use m choice).how ≡ Some request
+        → first_supplier 0 (snoop_column (table_of_rows m.statistics.caches.rows) request.request) request.line m.statistics.caches.contents ≡ Some other }
+    ensures none { (m : Running) (choice : Choice) (request : BusRequest) → IsFoundAt m choice Memory
+        → request_made (machine_use m choice).how ≡ Some request
+        → first_supplier 0 (snoop_column (table_of_rows m.statistics.caches.rows) request.request) request.line m.statistics.caches.contents ≡ None }
+{}
