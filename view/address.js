@@ -73,6 +73,17 @@ async function copyLink() {
   }
 }
 
+/** Copies the line for a shell. */
+async function copyWords() {
+  const isOfFile = currentCommand() !== 'tables';
+  try {
+    await navigator.clipboard.writeText(commandLine(currentCommand()));
+    byId('words-copied').textContent = `Copied.${isOfFile ? ` Save the input makes ${inputName(currentCommand())}.` : ''}`;
+  } catch {
+    byId('words-copied').textContent = 'This browser doesn\'t let the page copy: mark the line, and copy it.';
+  }
+}
+
 function drawShare() {
   const address = currentAddress(), isShort = address.length <= LONGEST_ADDRESS;
   byId('share').hidden = !isShort;

@@ -68,7 +68,9 @@ function showAsked(command) {
   drawShare();
   keepAddressSoon();
   showTestLine(command);
-  byId('words-line').replaceChildren(...commandWords(command).split(' ').flatMap(word => [html('span', { class: 'unbroken' }, word), ' ']));
+  byId('words-line').replaceChildren(...commandLine(command).split(' ').flatMap(word => [html('span', { class: 'unbroken' }, word), ' ']));
+  byId('words-copied').textContent = '';
+  byId('drive-it').hidden = command !== 'run';
   byId('begin').disabled = settings.wrong !== undefined;
   return settings;
 }
@@ -195,6 +197,12 @@ function showLong(command, [answer, beside], options, input) {
   else showOpenAnswer(answer);
 }
 
+/** A text whose first sentence stands out. */
+function firstStrong(text) {
+  const end = text.search(/[.:] [A-Z]/) + 1;
+  return end === 0 ? [html('strong', {}, text)] : [html('strong', {}, text.slice(0, end)), text.slice(end)];
+}
+
 /** The heading of an answer's sheet, to which the focus goes. */
 const answerTitle = text => html('h2', { class: 'answer-title', tabindex: -1 }, text);
 
@@ -260,7 +268,7 @@ function showOutcomes(answer, beside, test) {
   showAnswer(answer);
   foldReport(answer);
   const said = [observationSentence(outcomes, test), sequential ? besideSentence(outcomes, sequential) : ''].join(' ').trim();
-  byId('states').replaceChildren(answerTitle('All final states'), html('p', { role: 'status' }, said), ...statesSheet(outcomes, sequential, truthsOf(outcomes, test)));
+  byId('states').replaceChildren(answerTitle('All final states'), html('p', { role: 'status' }, ...firstStrong(said)), ...statesSheet(outcomes, sequential, truthsOf(outcomes, test)));
 }
 
 /** Shows what a search had met when it came to its limit: some of the final states, or none. */
@@ -293,10 +301,20 @@ function judgeOrder(command) {
   focusAnswer();
 }
 
-/** Runs choices that were found, on the machine of which they were found: the bus is atomic, and the buffers are as deep. */
-function loadChoices(choices, depth) {
+/** Whether a run that was found has room in store buffers of another depth: it ends there too, and no choice stalls. */
+function hasRoom(choices, depth) {
+  const { options } = readSettings('run'), text = `${inputOf('sweep')}${DIVIDING_LINE}\n${choices}\n`;
+  if (options === undefined || countChoices(choices) > MOST_STEPS) return false;
+  const { history } = historyOf({ ...options, bus: 'atomic', depth }, text);
+  return history !== undefined && history.hasEnded(history.steps.length) && history.steps.every(({ outcome }) => outcome !== 'stalled');
+}
+
+/** Runs choices that were found. The bus is atomic, as it was when they were found. One's own store buffers stay where the run has room in
+ * them, and else they are as deep as they were then. */
+function loadChoices(choices, found) {
   keepOwnRun();
   const before = JSON.parse(ownRun.kept.settings).find(([name]) => name === 'depth')?.[1] ?? SET_AT_FIRST.depth;
+  const depth = Number(found) > 0 && hasRoom(choices, Number(before)) ? before : found;
   settingOf('depth').value = depth;
   settingOf('bus').value = 'atomic';
   putChoices(choices + '\n');

@@ -48,7 +48,7 @@ function putBeside(text) {
 function markDifferences() {
   const [first, ...others] = drawn.panels;
   for (const panel of others) {
-    for (const [own, other] of [[panel.said, first.said], [panel.bus.element, first.bus.element], [panel.memory.element, first.memory.element]]) {
+    for (const [own, other] of [[panel.said, first.said], [panel.bus.element, first.bus.element], [panel.tally, first.tally], [panel.memory.element, first.memory.element]]) {
       own.classList.toggle('differs', own.textContent !== other.textContent);
     }
     panel.panels.forEach((core, at) => markRows(core.lines.element, first.panels[at].lines.element));

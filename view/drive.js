@@ -235,6 +235,7 @@ function driveByKey(key) {
   if (!byId('letter-keys').checked) return false;
   if (/^[0-7]$/.test(key) && Number(key) < firstHistory().cores) {
     putDrive({ core: Number(key) });
+    document.documentElement.classList.add('keyed'); // from now on the core that keys act on is marked
     markCore();
   } else if (Object.hasOwn(DRIVE_KEYS, key)) {
     DRIVE_KEYS[key]();

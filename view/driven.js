@@ -37,10 +37,10 @@ const isStepperBelow = () => matchMedia('(max-width: 560px)').matches;
 
 /** What is said at the start: that choices are known, or how many a run needs. */
 function startSentence(history) {
-  const known = drive.words.length, next = known === 0 ? leastSentence(history) : ` ${known === 1 ? 'One choice is' : `${known} choices are`} known: Forward makes them.`;
-  return `The machine at its start. Choose what a core does: step or drain.${next}`;
+  const known = drive.words.length, seed = /^\s*seed\s+(\d+)\s+\d+\s*$/.exec(choicesText())?.[1], by = seed === undefined ? '' : `, drawn by chance from seed ${seed}`;
+  if (known > 0) return `The machine at its start. ${known === 1 ? 'One choice is' : `${known} choices are`} known${by}: Forward makes ${known === 1 ? 'it' : 'them'}.`;
+  return `Press a button of a core: step makes its next instruction, drain sends its oldest store to memory.${leastSentence(history)}`;
 }
-
 
 /** In a lecture, at a run's end: which test of the list a clicker opens next. */
 function nextSentence() {
@@ -130,7 +130,7 @@ function showPasses(history) {
 function conditionSentence({ proposition }) {
   if (proposition === null) return 'Condition: the test has none.';
   const wanted = wantedWords(proposition), inWords = wanted === null ? '' : `${wantedSentence(wanted)}, written `;
-  return `Condition: ${inWords}${proposition}. When the test has ended, the page tells whether it is true.`;
+  return `Condition: ${inWords}${proposition}.`;
 }
 
 const showOrder = () => byId('order').replaceChildren(...(shown.run ? [orderTable(shown.run)] : []));

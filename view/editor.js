@@ -68,10 +68,16 @@ function seeChoices(isInSight) {
 
 // A field that marks a line has a column of numbers and, under its text, a band for the line that is marked.
 
+const WIDE_LINE = 78; // letters, from which on a test has the whole width
+
+/** Gives a test with long lines, as one of many cores has, the whole width. */
+const showWidth = () => byId('test-part').classList.toggle('wide', byId('test').value.split('\n').some(line => line.length > WIDE_LINE));
+
 /** Draws the numbers of a field's lines, and marks this one; null marks none. Where they are drawn so already it does nothing, since to
  * place them the browser has to lay the page out. */
 function drawLines(id, marked) {
   const field = byId(id), [gutter, band] = [byId(id + '-lines'), byId(id + '-band')];
+  if (id === 'test') showWidth();
   const count = countLines(field.value), key = `${count} ${marked}`;
   if (gutter.dataset.key === key) return;
   gutter.dataset.key = key;

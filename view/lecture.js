@@ -44,12 +44,14 @@ function clickLesson(isOn) {
   return question === undefined ? shows !== undefined && showInLesson() : answerLesson(right ?? answers[0]);
 }
 
+const SCROLLED = 0.8; // of the window's height, where a clicker has nothing to step
+
 /** Steps the cycle that is drawn, the lesson, or the machine; after a run's end comes the next test of the list. */
 function click(isOn) {
   const { cycle } = sheet, isDrawn = cycle !== null && cycle.element.isConnected && !drive.isOn;
   if (isDrawn && !(isOn && cycle.shown === cycle.cycle.length && lesson.told !== null)) return cycle.move(isOn ? 'next' : 'back');
   if (lesson.told !== null) return clickLesson(isOn);
-  if (!drive.isOn) return undefined;
+  if (!drive.isOn) return scrollBy({ top: (isOn ? SCROLLED : -SCROLLED) * innerHeight });
   const isLast = isOn && drive.count === drive.words.length;
   if (isLast && isAtEnd(drive)) return openListed(playlist.at + 1);
   if (isLast) return sayOfDriving(`No ${drive.count === 0 ? '' : 'more '}choices yet: press a step or a drain of a core.`);

@@ -3,7 +3,7 @@
 // The machine: its cores with their buffers and caches, its bus and its memory. What the last step changed stands out.
 
 const MOST_LINES = 8; // of a program that are in sight at a time
-const CACHED = { most: 4, height: 1.5625 }; // rows of a cache that have room while they aren't there, and a row's height in rem
+const CACHED = { most: 4 }; // rows of a cache that have room while they aren't there
 
 const marked = (name, isChanged) => (isChanged ? { class: `${name} changed` } : { class: name });
 
@@ -131,8 +131,8 @@ class CorePanel {
     this.registers = list('registers', 'Registers', registerItems);
     this.buffer = list('buffer', 'Store buffer, the oldest store first', bufferItems);
     this.lines = new Part(html('tbody', {}), cacheRows);
-    this.cache = html('div', {}, html('table', { class: 'cache', 'aria-label': 'Cache' }, this.lines.element));
-    this.cache.style.minHeight = `${Math.min(CACHED.most, sets * ways + 1) * CACHED.height}rem`; // one row more, for a line that leaves
+    this.cache = html('div', { class: 'cache-room' }, html('table', { class: 'cache', 'aria-label': 'Cache' }, this.lines.element));
+    this.cache.style.setProperty('--rows', Math.min(CACHED.most, sets * ways + 1)); // one row more, for a line that leaves
   }
 
   /** Shows the core as it is after a step and what that step changed. `bus` is the bus where this core holds it, and else null. */
@@ -203,6 +203,19 @@ function memoryItems(now, before, supply) {
   });
 }
 
+/** What accesses and the bus did in the first steps, counted: misses, upgrades, flushes, and write-backs where there are any. */
+function tallyText(steps, count) {
+  const all = { miss: 0, upgrade: 0, flush: 0, back: 0 };
+  for (const { access, flush, write_back: back } of steps.slice(0, count)) {
+    if (access === 'miss' || access === 'upgrade') all[access]++;
+    if (flush) all.flush++;
+    if (back) all.back++;
+  }
+  const said = (number, one, many) => `${number} ${number === 1 ? one : many}`;
+  const backs = all.back > 0 ? `, ${said(all.back, 'write-back', 'write-backs')}` : '';
+  return `so far ${said(all.miss, 'miss', 'misses')}, ${said(all.upgrade, 'upgrade', 'upgrades')}, ${said(all.flush, 'flush', 'flushes')}${backs}`;
+}
+
 /** A machine's panel. `show` shows it after so many steps of a history of it. */
 class MachinePanel {
   constructor(history) {
@@ -210,11 +223,12 @@ class MachinePanel {
     this.panels = history.programs.map((_, core) => new CorePanel(core, history));
     this.said = html('p', { class: 'said' });
     this.bus = new Part(html('p', { class: 'bus' }), busItems);
+    this.tally = html('p', { class: 'tally' });
     this.memory = new Part(html('ul', { class: 'memory', 'aria-label': 'Memory' }), memoryItems);
     this.name = html('h3', {});
     this.element = html('section', { class: 'machine', 'aria-label': `The machine: ${machineName(history.options)}` },
       this.name, this.said, html('div', { class: 'cores' }, ...this.panels.map(panel => panel.element)),
-      html('div', { class: 'below' }, html('div', { class: 'of-caches' }, partTitle('Bus', true), this.bus.element), partTitle('Memory', true), this.memory.element));
+      html('div', { class: 'below' }, html('div', { class: 'of-caches' }, partTitle('Bus', true), this.bus.element, this.tally), html('div', {}, partTitle('Memory', true), this.memory.element)));
   }
 
   /** Whether this is the panel of such programs on such a machine. */
@@ -235,6 +249,7 @@ class MachinePanel {
       bus: now.bus?.core === core ? now.bus : null, changes: changes.filter(change => change.core === core), hasEnded,
       isLast: last !== undefined && coreOfChoice(last.choice) === core,
     }));
+    if (!isPlain) putText(this.tally, tallyText(history.steps, count));
     this.bus.show(history.options.bus, now.bus, last && { transaction: last.transaction, flush: last.flush, write_back: last.write_back }, suppliedBy('bus'));
     const wordsOf = ({ memory, seen }) => ({ memory: isPlain ? seen : memory, seen });
     this.memory.show(wordsOf(now), wordsOf(before), suppliedBy('memory'));

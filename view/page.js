@@ -34,8 +34,27 @@ function takeFromLibrary(file) {
   putDrive({ beside: null }); // what stood beside another test
   loadText(file);
   if (bench.answer?.status === Tso.STATUS.refused) return;
+  leaveOutStalls();
   byId('test-part').open = byId('about').open = false;
   byId('bench').scrollIntoView({ block: 'nearest' });
+}
+
+/** Of choices that a text draws from a seed: leaves out those that stall and change nothing. What is shown is the same run. */
+function leaveOutStalls() {
+  if (!drive.isOn || !/\bseed\b/.test(choicesText())) return;
+  const { options, steps } = firstHistory(), made = steps.filter(({ outcome }) => outcome !== 'stalled').map(({ choice }) => choice);
+  if (made.length === steps.length || options.bus !== 'atomic') return;
+  const { history } = historyOf(options, inputOfWords(made));
+  if (!history) return;
+  beginDrive(history, { test: drive.test, given: null }, 0);
+  putWords();
+}
+
+/** Leads from the test to its machine. */
+function driveTest() {
+  byId('test-part').open = false;
+  byId('run').scrollIntoView({ block: 'start' });
+  (document.querySelector('[data-choice]:enabled') ?? byId('frame')).focus({ preventScroll: true });
 }
 
 async function takeFile(file) {
@@ -75,6 +94,8 @@ document.addEventListener('click', event => {
   else if (cycle !== undefined) drawCycle(Number(cycle));
   else if (edges !== undefined) sheet.cycle.move(edges);
 });
+byId('drive-it').addEventListener('click', driveTest);
+byId('copy-words').addEventListener('click', copyWords);
 byId('line').addEventListener('input', event => show(event.target.value));
 byId('file').addEventListener('change', event => {
   if (event.target.files.length > 0) takeFile(event.target.files[0]);

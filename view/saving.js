@@ -87,9 +87,12 @@ async function pictureInPoints(picture) {
   }
 }
 
+/** The name of the file that has the input of a command. */
+const inputName = command => fileName(testName(), readsOrder(command) ? '.order' : '.litmus');
+
 function saveInput() {
   const command = currentCommand();
-  saveText(fileName(testName(), readsOrder(command) ? '.order' : '.litmus'), inputOf(command));
+  saveText(inputName(command), inputOf(command));
 }
 
 const pictureName = () => (isOfTest() ? testName() : shown.run?.test ?? 'page');

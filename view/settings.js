@@ -95,3 +95,10 @@ function commandWords(command) {
   const instructions = bench.hasLargerSet && command !== 'tables' ? ['--instructions', 'all'] : [];
   return ['./tso', command, ...instructions, ...changed.flatMap(([name, value]) => ['--' + name, String(value)])].join(' ');
 }
+
+/** The whole line for a shell, with the file that *Save the input* makes. */
+function commandLine(command) {
+  if (command === 'tables') return commandWords(command);
+  const file = inputName(command);
+  return `${commandWords(command)} < ${/^[\w.+-]+$/.test(file) ? file : `'${file.replaceAll('\'', '\'\\\'\'')}'`}`;
+}

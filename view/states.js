@@ -40,7 +40,8 @@ function sortBy(title) {
 function depthNote(depth) {
   const { options } = readSettings('run');
   if (options === undefined || options.depth === depth) return [];
-  return [html('p', { class: 'small' }, `“Run them” takes store buffers of depth ${depth}, in place of yours of depth ${options.depth}. You can go back to your own run.`)];
+  const keeps = depth > 0 ? 'where a run has no room in yours' : 'in place of yours';
+  return [html('p', { class: 'small faint' }, `“Run them” takes store buffers of depth ${depth} ${keeps}, of depth ${options.depth}. You can go back to your own run.`)];
 }
 
 /** The table of states with what sorts and filters it. */

@@ -19,10 +19,11 @@ const WORK = `'use strict';
 ${Tso}
 const LIMIT_OF = ${JSON.stringify(LIMIT_OF)};
 function climb(tso, rungs, input) {
-  for (const options of rungs.slice(0, -1)) {
+  const limits = rungs.map(options => options[LIMIT_OF[options.command]]);
+  for (const [at, options] of rungs.slice(0, -1).entries()) {
     const answer = tso.answer(options, input);
     if (answer.status !== Tso.STATUS.unended) return answer;
-    postMessage({ progress: { command: options.command, count: options[LIMIT_OF[options.command]] } });
+    postMessage({ progress: { command: options.command, count: limits[at], next: limits[at + 1], most: limits.at(-1) } });
   }
   return tso.answer(rungs.at(-1), input);
 }

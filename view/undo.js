@@ -58,8 +58,19 @@ function turn(from, to) {
   showUndoing();
 }
 
-const undo = () => turn(undoing.past, undoing.future);
-const redo = () => turn(undoing.future, undoing.past);
+/** What an act changed, by the parts in which two snapshots differ; the first of them alone. */
+const CHANGED_WORDS = { command: 'what was asked', test: 'an edit of the test', given: 'an edit of the order', choices: 'a choice', settings: 'a setting', beside: 'what stands beside the machine', caches: 'whether caches are in sight' };
+
+/** Goes one act back or forward, and says in the sentence over the machine which it was. */
+function turnAndSay(from, to, word) {
+  const before = snapshotNow();
+  turn(from, to);
+  const name = Object.keys(CHANGED_WORDS).find(each => JSON.stringify(before[each]) !== JSON.stringify(undoing.now[each]));
+  if (drive.isOn && name !== undefined) sayOfDriving(`${word}: ${CHANGED_WORDS[name]}. ${byId('sentence').textContent}`);
+}
+
+const undo = () => turnAndSay(undoing.past, undoing.future, 'Undone');
+const redo = () => turnAndSay(undoing.future, undoing.past, 'Done again');
 
 // A reload keeps what can be undone: the browser keeps it with the address, for this page alone.
 

@@ -44,7 +44,16 @@ function showReason(answer, test) {
   byId('states').replaceChildren(section);
   const [first] = told.answer === 'never' ? cyclesOf(told.steps) : [];
   if (first) drawCycle(first.at);
-  section.append(sheetTools(section.querySelector('figure') !== null));
+  section.append(...countsOffer(), sheetTools(section.querySelector('figure') !== null));
+}
+
+/** Where caches are in sight: that a reason speaks of values alone, and where misses are counted. An older module counts none in many runs. */
+function countsOffer() {
+  const { options } = readSettings('run'), isCounting = document.querySelector('#commands [value=counts]') !== null;
+  if (options === undefined || !showsCaches([options])) return [];
+  const buttons = isCounting ? [html('button', { type: 'button', 'data-ask': 'counts' }, 'Count the misses')] : [];
+  const where = isCounting ? 'The counts tell what the caches do in many runs.' : 'In a run, what stands at “Bus” counts the misses so far, for each protocol that stands beside.';
+  return [html('p', { class: 'buttons counts-offer' }, ...buttons, html('span', {}, `This sheet speaks of values alone. ${where}`))];
 }
 
 /** Buttons that save what the sheet draws, if it draws something, with the choice of its colours; and the one for a lecture. */

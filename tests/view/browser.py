@@ -13,8 +13,9 @@ NAME = "chromium"
 PRINTED_TEXT = "pdftotext"
 INSTALL = "apt-get install -y --no-install-recommends chromium poppler-utils"
 PATIENCE = 120  # seconds
-# The middle of an element, which is brought into sight first, as one does who presses it.
+# The middle of an element, which is brought into sight first, as one does who presses it: what is folded is opened.
 PLACE = """(found => {
+  for (let part = found; (part = part.parentElement?.closest('details:not([open])')); ) if (!found.matches('summary')) part.open = true;
   const { top, bottom } = found.getBoundingClientRect();
   if (top < 0 || bottom > innerHeight) found.scrollIntoView({ block: 'center' });
   const { x, y, width, height } = found.getBoundingClientRect();
