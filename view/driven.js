@@ -39,6 +39,7 @@ const isStepperBelow = () => matchMedia('(max-width: 560px)').matches;
 function startSentence(history) {
   const known = drive.words.length, seed = /^\s*seed\s+(\d+)\s+\d+\s*$/.exec(choicesText())?.[1], by = seed === undefined ? '' : `, drawn by chance from seed ${seed}`;
   if (known > 0) return `The machine at its start. ${known === 1 ? 'One choice is' : `${known} choices are`} known${by}: Forward makes ${known === 1 ? 'it' : 'them'}.`;
+  if (lesson.told !== null) return 'The machine at its start.';
   return `Press a button of a core: step makes its next instruction, drain sends its oldest store to memory.${leastSentence(history)}`;
 }
 

@@ -40,11 +40,17 @@ function showReason(answer, test) {
   Object.assign(sheet, { told, programs, cycle: null });
   const parts = told.answer === 'never' ? refutedParts(told) : allowedParts(told, programs);
   const section = html('section', { class: 'reason', 'aria-label': 'Why' }, answerTitle(told.answer === 'never' ? 'Why it can\'t be' : 'How it can be'),
-    html('p', { role: 'status' }, reasonSentence(told, proposition)), html('p', { class: 'small faint' }, EVENTS_SAID), ...parts);
+    html('p', { role: 'status' }, html('strong', {}, plainAnswer(told, proposition)), ` ${reasonSentence(told, proposition)}`), html('p', { class: 'small faint' }, EVENTS_SAID), ...parts);
   byId('states').replaceChildren(section);
   const [first] = told.answer === 'never' ? cyclesOf(told.steps) : [];
   if (first) drawCycle(first.at);
   section.append(...countsOffer(), sheetTools(section.querySelector('figure') !== null));
+}
+
+/** The answer in one plain sentence: with the words that are asked for, where the condition asks for words at places alone. */
+function plainAnswer({ answer, asked }, proposition) {
+  const wanted = asked?.truth === true && proposition !== null ? wantedWords(proposition) : null, end = wanted === null ? 'ends so' : `ends with ${wantedSentence(wanted)}`;
+  return answer === 'never' ? `No: no run ${end}.` : `Yes: a run ${end}.`;
 }
 
 /** Where caches are in sight: that a reason speaks of values alone, and where misses are counted. An older module counts none in many runs. */

@@ -119,6 +119,7 @@ def sizes_row(bench):
 def tree_row(bench):
     """The browser's tree for readers of screens: each control has a name and its role, and what changes is told."""
     bench.open()
+    bench.value("byId('draw-part').open = true")
     for choice in "0s 0s 0d".split():
         bench.window.click("[data-choice='%s']" % choice)
     nodes = [node for node in bench.window.call("Accessibility.getFullAXTree")["nodes"] if not node["ignored"]]
@@ -136,7 +137,7 @@ def meanings_row(bench):
     bench.open()
     for choice in "0s 0s 0d".split():
         bench.window.click("[data-choice='%s']" % choice)
-    bench.value("byId('test-part').open = true")
+    bench.value("byId('test-part').open = byId('draw-part').open = true")
     words = bench.value("[...document.querySelectorAll('[data-means]')].filter(each => each.getClientRects().length > 0).map(each => each.dataset.means)")
     faults = [] if {"GetM", "M", "Store buffer", "Memory", "order", "protocol", "seed"} <= set(words) else ["the words are %s" % words]
     for word in sorted(set(words)):
@@ -172,6 +173,33 @@ def judged_row(bench, folder):
     faults += differs("states of the table", rows, list("MOES"))
     bench.window.screenshot(os.path.join(folder, "tables.png"), whole=False)
     return faults + safety(bench)
+
+
+def folded_row(bench, folder):
+    """What one doesn't need at first is folded; the lessons, the machine of a test that was written, and a test of long lines have their room."""
+    bench.open_fresh(width=1400)
+    seen = "%r.filter(each => document.querySelector(each).checkVisibility())"
+    faults = differs("in sight", bench.value(seen % ["#drive-seed", "#draw-seed", "[data-save=svg]", "[data-save=trace]"]), [])
+    faults += differs("that stay", bench.value(seen % ["#find-outcomes", "#caches", "#play", "#beside-it", "#saves [data-save=page]", "#add-to-list"]), ["#find-outcomes", "#caches", "#play", "#beside-it", "#saves [data-save=page]", "#add-to-list"])
+    bench.window.click("#more-lessons")
+    faults += differs("the lessons", bench.value("[byId('lessons-part').open, document.activeElement.closest('#lessons') !== null]"), [True, True])
+    bench.value("byId('test-part').open = true; scrollTo(0, 0)")
+    narrow = bench.value("byId('test').offsetWidth")
+    bench.fill("test", "X86 eight\n{ }\n" + " | ".join("P%d" % core for core in range(8)) + " ;\n" + " | ".join("MOV [x],$%d" % core for core in range(8)) + " ;\n")
+    faults += differs("the width of a test of eight cores", bench.value("byId('test').offsetWidth") > narrow + 200, True)
+    bench.window.screenshot(os.path.join(folder, "eight-written.png"), whole=False)
+    bench.window.click("#drive-it")
+    faults += differs("at the machine", bench.value("[byId('test-part').open, document.activeElement.dataset.choice]"), [False, "0s"])
+    return faults + safety(bench)
+
+
+def marked_core_row(bench):
+    """The core that keys act on is marked once a key has named one, and not before."""
+    bench.open_fresh()
+    style = "getComputedStyle(document.querySelector('.core.chosen')).outlineStyle"
+    faults = differs("at first", bench.value(style), "none")
+    bench.key_choice("1s")
+    return faults + differs("after a key", bench.value(style), "dashed") + safety(bench)
 
 
 CODE_SIZES = """[...document.querySelectorAll('.program code, .registers li, .memory li, .core-buttons code')].map(each => parseFloat(getComputedStyle(each).fontSize))"""
@@ -226,5 +254,7 @@ def rows(page, folder):
         ("registers that are written", lambda: written_row(bench)),
         ("orders and tables in words", lambda: judged_row(bench, folder)),
         ("a lecture", lambda: lecture_row(bench, folder)),
+        ("what is folded at first", lambda: folded_row(bench, folder)),
+        ("the core that keys act on", lambda: marked_core_row(bench)),
         ("large text", lambda: large_text_row(bench, folder)),
     ]

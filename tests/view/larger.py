@@ -79,7 +79,7 @@ def library_row(bench, folder):
     bench.window.screenshot(os.path.join(folder, "larger-library.png"))
     press(bench, "[data-file='CASLOCK.litmus']")
     bench.wait("drive.isOn && testName() === 'CASLOCK'")
-    faults += differs("the command line", bench.text("#words-line").strip(), "./tso run --instructions all")
+    faults += differs("the command line", bench.text("#words-line").strip(), "./tso run --instructions all < CASLOCK.litmus")
     for choice in ("0s", "1s"):
         press(bench, "[data-choice='%s']" % choice)
     text = read(ALGORITHMS, "CASLOCK.litmus") + DIVIDING_LINE + "0s 1s\n"

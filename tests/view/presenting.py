@@ -77,6 +77,61 @@ def list_row(bench, folder):
     return faults + safety(bench)
 
 
+def lecture_fits_row(bench, folder):
+    """In a lecture false sharing fits the sheet, alone and with four protocols abreast, and so does the choice of what stands beside; what a machine's bus
+    did is counted."""
+    bench.open_fresh(width=1920)
+    bench.window.resize(1920, 1080)
+    bench.value("loadText('false-sharing.litmus'); putLecture(true)")
+    faults = []
+    for beside, names in (("null", 1), ("ABREAST", 4)):
+        bench.value("putBeside(JSON.stringify(%s))" % beside)
+        for count in range(bench.value("drive.words.length") + 1):
+            bench.value("goTo(%d)" % count)
+            height, last = bench.value("[document.documentElement.scrollHeight, byId('beside-it').getBoundingClientRect().bottom]")
+            faults += ["%d machines after %d choices: %d pixels, and the choice at %d" % (names, count, height, last)] if height > 1080 or last > 1080 else []
+        faults += bench.value(OVERHANGING)
+        bench.window.screenshot(os.path.join(folder, "lecture-sharing-%d.png" % names), whole=False)
+    sizes = bench.value("[...document.querySelectorAll('.cache td, .cache th, .bus .word, .memory .word')].map(each => parseFloat(getComputedStyle(each).fontSize))")
+    faults += [] if min(sizes) >= 26 else ["words of caches have a size of %s" % min(sizes)]
+    counted = bench.value("[firstHistory().steps.filter(({ access }) => access === 'miss').length, document.querySelector('.tally').textContent]")
+    faults += [] if counted[1].startswith("so far %d miss" % counted[0]) else ["of %d misses it says %s" % tuple(counted)]
+    bench.value("putLecture(false)")
+    return faults + safety(bench)
+
+
+def clicker_scrolls_row(bench):
+    """Where there is nothing to step a clicker scrolls."""
+    bench.open_fresh(width=1920)
+    bench.window.resize(1920, 500)
+    bench.value("putLecture(true)")
+    press(bench, "#ask-why")
+    bench.wait("!bench.task && document.querySelector('.reason')")
+    bench.value("scrollTo(0, 0)")
+    bench.value(CLICKED % "PageDown")
+    faults = differs("scrolled", bench.value("scrollY > 100"), True)
+    bench.value(CLICKED % "PageUp")
+    faults += differs("and back", bench.value("scrollY"), 0)
+    bench.value("putLecture(false)")
+    return faults + safety(bench)
+
+
+def line_row(bench):
+    """The line for a shell is whole, with the file that the page saves, and is copied."""
+    bench.open_fresh()
+    bench.value("byId('test-part').open = true; window.copied = []; navigator.clipboard.writeText = async text => { copied.push(text); }")
+    faults = []
+    for name, command, line in (("SB", "run", "./tso run < SB.litmus"), ("MP", "outcomes", "./tso outcomes < MP.litmus"), ("MP", "tables", "./tso tables")):
+        bench.fill("test", test_of(name))
+        bench.value("putCommand('%s'); answerNow()" % command)
+        shown = " ".join(word for word in bench.text("#words-line").split() if word not in ("--instructions", "all"))
+        faults += differs("of " + command, shown, line)
+        press(bench, "#copy-words")
+        bench.wait("byId('words-copied').textContent.startsWith('Copied.')")
+        faults += differs("copied", bench.value("copied.at(-1) === commandLine(currentCommand())"), True)
+    return faults + safety(bench)
+
+
 def clicker_row(bench):
     """A clicker's key says what to do where no choice is known, and names the next test at a run's end."""
     bench.open_fresh()
@@ -242,6 +297,9 @@ def rows(page, folder):
     return [
         ("a lecture hall", lambda: lecture_hall_row(bench, folder)),
         ("a list of tests", lambda: list_row(bench, folder)),
+        ("a lecture on false sharing", lambda: lecture_fits_row(bench, folder)),
+        ("a clicker that scrolls", lambda: clicker_scrolls_row(bench)),
+        ("the line for a shell", lambda: line_row(bench)),
         ("a clicker with nothing known", lambda: clicker_row(bench)),
         ("a list that is kept", lambda: kept_list_row(bench)),
         ("back to an answer's run", lambda: back_to_answer_row(bench)),

@@ -1,6 +1,7 @@
 """Rows for long work, for what is undone, and for the ways back: nothing that a person did is lost, and nothing happens unseen."""
 import json
 import os
+import re
 
 from bench import EXAMPLES, READY, differs, read, safety
 from driver import STORES_AND_LOADS, Driver
@@ -28,6 +29,48 @@ def long_work_row(bench, folder):
     faults += [] if "Stopped" in bench.text("#message") else ["it says " + bench.text("#message")]
     press(bench, "[data-choice='1s']")
     return faults + differs("driven on", bench.value("drive.words"), ["0s", "1s"]) + safety(bench)
+
+
+def stopped_row(bench):
+    """A search tells its limit and about where it is; once it is stopped the page says so where the work was shown, and the focus is where it was."""
+    bench.open_fresh()
+    bench.fill("test", LONG_SEARCH)
+    bench.value("settingOf('states').value = 10000000; true")
+    bench.value("byId('find-outcomes').focus()")
+    press(bench, "#find-outcomes")
+    bench.wait("/its limit is 10,000,000/.test(byId('working').textContent)")
+    bench.wait("/By its speed it is at about [\\d,]+/.test(byId('working').textContent)")
+    press(bench, "#stop")
+    faults = differs("in sight", is_in_sight(bench, "#stopped"), True) + differs("the focus", bench.value("document.activeElement.id"), "find-outcomes")
+    faults += ["it says " + bench.text("#stopped")] if not re.match(r"Stopped after \d+ s: there is no answer\. More than [\d,]+ states were kept by then\.", bench.text("#stopped")) else []
+    press(bench, "#stopped-close")
+    return faults + differs("closed", bench.value("byId('stopped').hidden"), True) + safety(bench)
+
+
+def deeper_run_row(bench):
+    """A run of an answer that has no room in one's own store buffers takes deeper ones, and says so."""
+    bench.open_fresh()
+    bench.fill("test", "X86 two\n{ }\n P0 | P1 ;\n MOV [x],$1 | MOV [y],$1 ;\n MOV [z],$1 | MOV EAX,[x] ;\n MOV EAX,[y] | ;\nexists (0:EAX=0 /\\ 1:EAX=0)\n")
+    bench.value("settingOf('depth').value = 1; answerNow(); findOutcomes()")
+    bench.wait("!bench.task && document.querySelector('.states-sheet')")
+    bench.value("document.querySelector('#states tr.met [data-choices]').click()")
+    said = "This is a run of the answer, with store buffers of depth 32 (yours have depth 1)."
+    faults = differs("said", bench.text("#own-said"), said) + differs("its depth", bench.value("settingOf('depth').value"), "32")
+    press(bench, "#own-back")
+    return faults + differs("one's own", bench.value("settingOf('depth').value"), "1") + safety(bench)
+
+
+def said_undo_row(bench):
+    """The sentence says what was undone, and what was done again."""
+    bench.open_fresh()
+    press(bench, "[data-choice='0s']")
+    press(bench, "#find-outcomes")
+    bench.wait("!bench.task && document.querySelector('.states-sheet')")
+    said = []
+    for way in (UNDO, UNDO, REDO):
+        bench.value(way)
+        said.append(bench.text("#sentence").partition(". ")[0])
+    return differs("said", said, ["Undone: what was asked", "Undone: a choice", "Done again: a choice"]) + safety(bench)
 
 
 def climbed_row(bench):
@@ -136,7 +179,7 @@ def own_run_row(bench):
     press(bench, "#find-outcomes")
     bench.wait("!bench.task && document.querySelector('.states-sheet')")
     press(bench, "#states tbody tr:nth-child(2) [data-choices]")
-    faults = [] if "depth 32 (yours have depth 4)" in bench.text("#own-run") else ["it says " + bench.text("#own-run")]
+    faults = differs("said", bench.text("#own-said"), "This is a run of the answer.") + differs("its depth, since the run has room in one's own buffers", bench.value("settingOf('depth').value"), "4")
     faults += differs("the marked row", bench.value("[...document.querySelectorAll('#states tbody tr')].map(row => row.matches('.shown[aria-current]'))"), [False, True, False, False])
     press(bench, "#own-back")
     faults += differs("one's own run", bench.value("[drive.words, drive.count, settingOf('depth').value, byId('own-run').hidden]"), [["0s", "0d", "1s"], 2, "4", True])
@@ -194,6 +237,9 @@ def rows(page, folder):
     bench = Driver(page)
     return [
         ("long work in sight", lambda: long_work_row(bench, folder)),
+        ("a search that was stopped, in sight", lambda: stopped_row(bench)),
+        ("a deeper run of an answer", lambda: deeper_run_row(bench)),
+        ("what was undone", lambda: said_undo_row(bench)),
         ("a search by steps", lambda: climbed_row(bench)),
         ("answers that aren't finished", lambda: unfinished_row(bench)),
         ("texts too large, in sight", lambda: too_large_row(bench)),
