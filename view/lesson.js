@@ -183,19 +183,10 @@ function drawLessons() {
   const lessons = lessonsHere(), [{ name, title }] = lessons, others = lessons.length - 1;
   byId('first-lesson').dataset.lesson = name;
   byId('first-lesson').textContent = title;
-  byId('more-lessons').hidden = others === 0;
-  byId('more-lessons').textContent = `${others} more ${others === 1 ? 'lesson' : 'lessons'}`;
+  byId('more-lessons').textContent = others === 0 ? '' : `A few minutes. ${others} more ${others === 1 ? 'stands' : 'stand'} at “Lessons”.`;
   byId('lessons').replaceChildren(...lessons.map(each => html('li', {}, html('button', { type: 'button', 'data-lesson': each.name, class: 'quiet' }, each.title))));
 }
 
-/** Opens the list of all lessons, and leads to it. */
-function showLessons() {
-  byId('lessons-part').open = true;
-  byId('lessons-part').scrollIntoView({ block: 'center' });
-  byId('lessons').querySelector('button').focus({ preventScroll: true });
-}
-
-byId('more-lessons').addEventListener('click', showLessons);
 document.addEventListener('click', ({ target }) => {
   const { lesson: name, answer, show: shows } = target.dataset ?? {};
   if (name !== undefined) beginLesson(name);

@@ -75,7 +75,7 @@ function outcomesTable(outcomes, sequential, truths) {
   const titles = [...names, ...(sequential ? ['Under'] : []), ...(truths ? ['Condition'] : []), 'Choices that lead there', ''];
   return tableOf('Final states', titles, states.map(({ values, choices }, at) => html('tr', truths?.[at] ? { class: 'met' } : {},
     ...names.map(name => html('td', { class: 'number' }, String(values[name]))),
-    ...(sequential ? [html('td', {}, isNew[at] ? html('strong', {}, 'TSO alone') : 'TSO and SC')] : []),
+    ...(sequential ? [html('td', { class: 'unbroken' }, isNew[at] ? html('strong', {}, 'TSO alone') : 'TSO and SC')] : []),
     ...(truths ? [html('td', {}, truths[at] ? '✓ true' : 'false')] : []),
     html('td', { class: 'wraps way' }, choices === '' ? '(none)' : choices),
     html('td', {}, html('button', { type: 'button', 'data-choices': choices, 'data-depth': outcomes.depth, 'aria-label': `Run to ${valuesText(values)}` }, 'Run them')))));

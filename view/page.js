@@ -48,6 +48,7 @@ function leaveOutStalls() {
   if (!history) return;
   beginDrive(history, { test: drive.test, given: null }, 0);
   putWords();
+  showDrive(); // what is said of the choices that are known
 }
 
 /** Leads from the test to its machine. */

@@ -176,13 +176,11 @@ def judged_row(bench, folder):
 
 
 def folded_row(bench, folder):
-    """What one doesn't need at first is folded; the lessons, the machine of a test that was written, and a test of long lines have their room."""
+    """What one doesn't need at first is folded; a test of long lines has the whole width, and a button leads from it to its machine."""
     bench.open_fresh(width=1400)
     seen = "%r.filter(each => document.querySelector(each).checkVisibility())"
     faults = differs("in sight", bench.value(seen % ["#drive-seed", "#draw-seed", "[data-save=svg]", "[data-save=trace]"]), [])
     faults += differs("that stay", bench.value(seen % ["#find-outcomes", "#caches", "#play", "#beside-it", "#saves [data-save=page]", "#add-to-list"]), ["#find-outcomes", "#caches", "#play", "#beside-it", "#saves [data-save=page]", "#add-to-list"])
-    bench.window.click("#more-lessons")
-    faults += differs("the lessons", bench.value("[byId('lessons-part').open, document.activeElement.closest('#lessons') !== null]"), [True, True])
     bench.value("byId('test-part').open = true; scrollTo(0, 0)")
     narrow = bench.value("byId('test').offsetWidth")
     bench.fill("test", "X86 eight\n{ }\n" + " | ".join("P%d" % core for core in range(8)) + " ;\n" + " | ".join("MOV [x],$%d" % core for core in range(8)) + " ;\n")

@@ -176,7 +176,7 @@ def plain_words_row(bench):
     faults = differs("what waits", bench.value("[...document.querySelectorAll('.not-yet')].map(each => each.textContent)"), ["still in bufferx=1"])
     sizes = bench.value("['#sentence', '.registers .word', '.memory .word', '.slot'].map(each => parseFloat(getComputedStyle(document.querySelector(each)).fontSize))")
     faults += [] if min(sizes[1:]) >= sizes[0] else ["sizes of the sentence, registers, memory, buffers: %s" % sizes]
-    for name, begins in (("SB", "Yes: 1 of 4 final states under TSO has 0 in P0's EAX and 0 in P1's EAX."), ("MP", "No: none of 3 final states under TSO has ")):
+    for name, begins in (("SB", "Yes: 1 of 4 final states under TSO (store buffers of depth 32) has 0 in P0's EAX and 0 in P1's EAX."), ("MP", "No: none of 3 final states under TSO (store buffers of depth 32) has ")):
         bench.fill("test", test_of(name))
         bench.value("findOutcomes()")
         bench.wait("!bench.task && document.querySelector('.states-sheet')")
