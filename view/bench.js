@@ -200,7 +200,7 @@ function showLong(command, [answer, beside], options, input) {
 /** A text whose first sentence stands out. */
 function firstStrong(text) {
   const end = text.search(/[.:] [A-Z]/) + 1;
-  return end === 0 ? [html('strong', {}, text)] : [html('strong', {}, text.slice(0, end)), text.slice(end)];
+  return end === 0 ? [html('strong', {}, text)] : [html('strong', {}, text.slice(0, end)), html('span', { class: 'fine' }, text.slice(end))];
 }
 
 /** The heading of an answer's sheet, to which the focus goes. */
@@ -210,7 +210,8 @@ const answerTitle = text => html('h2', { class: 'answer-title', tabindex: -1 }, 
 function focusAnswer() {
   const title = byId('states').querySelector('.answer-title') ?? byId('report');
   const top = lesson.told !== null ? byId('lesson') : byId('way-back').hidden ? title : byId('way-back');
-  top.scrollIntoView({ block: 'start' });
+  if (isLecture()) scrollTo(0, 0);
+  else top.scrollIntoView({ block: 'start' });
   const said = title.parentElement.querySelector('[role=status]');
   if (said) {
     said.id = 'answer-said'; // it is read with the heading

@@ -11,7 +11,7 @@ function showDrive() {
   const step = history.steps[count - 1];
   const before = step && history.machineAfter(count - 1);
   const said = step ? `${step.choice}: ${stepSentences(step, before, history.programs, isPlain).join(' ')}` : count === 0 ? startSentence(history) : 'The first machine\'s test has ended.';
-  byId('sentence').textContent = said + nextSentence();
+  byId('sentence').textContent = lessonTells() ? '' : ofFirst(history) + said + nextSentence();
   byId('count').textContent = `${count} ${count === 1 ? 'choice' : 'choices'} made`;
   showMoves();
   showBranches();
@@ -22,6 +22,9 @@ function showDrive() {
   keepAddressSoon();
   keepInSight();
 }
+
+/** Where machines stand abreast: that what is said is said of the first. */
+const ofFirst = ({ options }) => (drive.histories.length > 2 ? `${options.protocol.toUpperCase()}, ` : '');
 
 /** Scrolls to what the last choice changed. For that the browser has to lay the page out, so it comes after all changes. */
 function keepInSight() {
@@ -39,8 +42,7 @@ const isStepperBelow = () => matchMedia('(max-width: 560px)').matches;
 function startSentence(history) {
   const known = drive.words.length, seed = /^\s*seed\s+(\d+)\s+\d+\s*$/.exec(choicesText())?.[1], by = seed === undefined ? '' : `, drawn by chance from seed ${seed}`;
   if (known > 0) return `The machine at its start. ${known === 1 ? 'One choice is' : `${known} choices are`} known${by}: Forward makes ${known === 1 ? 'it' : 'them'}.`;
-  if (lesson.told !== null) return 'The machine at its start.';
-  return `Press a button of a core: step makes its next instruction, drain sends its oldest store to memory.${leastSentence(history)}`;
+  return `Press step or drain at a core: its next instruction, or its oldest store to memory.${leastSentence(history)}`;
 }
 
 /** In a lecture, at a run's end: which test of the list a clicker opens next. */

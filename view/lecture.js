@@ -46,15 +46,31 @@ function clickLesson(isOn) {
 
 const SCROLLED = 0.8; // of the window's height, where a clicker has nothing to step
 
-/** Steps the cycle that is drawn, the lesson, or the machine; after a run's end comes the next test of the list. */
+const listedNext = () => taught.list[playlist.at + 1];
+
+/** What a clicker does to a sheet that isn't a machine: it scrolls, and after its end comes the next test of the list. */
+function clickSheet(isOn) {
+  const isEnd = scrollY + innerHeight >= document.documentElement.scrollHeight - 1;
+  if (isOn && isEnd && listedNext() !== undefined) return openListed(playlist.at + 1);
+  return scrollBy({ top: (isOn ? SCROLLED : -SCROLLED) * innerHeight });
+}
+
+/** Where no choice is known: says what to press. By a second press comes the next test of the list. */
+function clickUnknown() {
+  const next = listedNext(), said = `No ${drive.count === 0 ? '' : 'more '}choices yet: press a step or a drain of a core.${next === undefined ? '' : ` Once more for the next test: ${next.name}.`}`;
+  if (next !== undefined && byId('sentence').textContent === said) return openListed(playlist.at + 1);
+  return sayOfDriving(said);
+}
+
+/** Steps the cycle that is drawn, the lesson, or the machine; after the end of either comes the next test of the list. */
 function click(isOn) {
-  const { cycle } = sheet, isDrawn = cycle !== null && cycle.element.isConnected && !drive.isOn;
-  if (isDrawn && !(isOn && cycle.shown === cycle.cycle.length && lesson.told !== null)) return cycle.move(isOn ? 'next' : 'back');
+  const { cycle } = sheet, isDrawn = cycle !== null && cycle.element.isConnected && !drive.isOn, isCycleOver = isDrawn && isOn && cycle.shown === cycle.cycle.length;
+  if (isDrawn && !(isCycleOver && (lesson.told !== null || listedNext() !== undefined))) return cycle.move(isOn ? 'next' : 'back');
   if (lesson.told !== null) return clickLesson(isOn);
-  if (!drive.isOn) return scrollBy({ top: (isOn ? SCROLLED : -SCROLLED) * innerHeight });
+  if (isCycleOver) return openListed(playlist.at + 1);
+  if (!drive.isOn) return clickSheet(isOn);
   const isLast = isOn && drive.count === drive.words.length;
-  if (isLast && isAtEnd(drive)) return openListed(playlist.at + 1);
-  if (isLast) return sayOfDriving(`No ${drive.count === 0 ? '' : 'more '}choices yet: press a step or a drain of a core.`);
+  if (isLast) return isAtEnd(drive) ? openListed(playlist.at + 1) : clickUnknown();
   return moveDriven(isOn ? 'forward' : 'back');
 }
 
@@ -66,4 +82,8 @@ document.addEventListener('keydown', event => {
 document.addEventListener('fullscreenchange', () => {
   if (!document.fullscreenElement && isLecture()) putLecture(false);
 });
-document.addEventListener('click', ({ target }) => target.matches('[data-lecture]') && toggleLecture());
+document.addEventListener('click', ({ target, detail }) => {
+  if (!target.matches('[data-lecture]')) return;
+  toggleLecture();
+  if (detail > 0) target.blur(); // it was pressed by a pointer: so no key of a clicker presses it again
+});

@@ -81,11 +81,19 @@ function leaveLesson() {
 /** Whether a choice is one that the lesson waits for, or that is free. At the last step each is. */
 function lessonAllows(word) {
   if (lesson.told === null || lesson.at === lesson.told.steps.length - 1) return true;
+  if (lesson.isDone && lesson.told.steps[lesson.at + 1].do === word) enterStep(lesson.at + 1); // it is pressed in the place of Next
   const wanted = lesson.isDone ? undefined : stepNow().do, count = choicesBefore(lesson.told.steps, lesson.at).length;
   if (word === wanted && drive.count !== count) goTo(count);
   if (word === wanted) return true;
   sayOfDriving(wanted ? `The lesson goes on with ${wanted}. Leave it to go your own way.` : 'The lesson goes on with its own buttons, above. Leave it to go your own way.');
   return false;
+}
+
+/** Whether a lesson tells what happens, so that the sentence over the machine needn't. At its last step each choice is free. */
+function lessonTells() {
+  if (lesson.told === null || lesson.at === lesson.told.steps.length - 1) return false;
+  const { do: word, then } = stepNow();
+  return word === undefined || then !== undefined;
 }
 
 /** Goes on where a choice was the one that the step waits for. */
@@ -98,6 +106,7 @@ function lessonDid(word) {
 function answerLesson(answer) {
   putLesson({ isDone: true, answer });
   drawLesson();
+  if (drive.isOn) showDrive(); // what was refused before isn't any more
   byId('lesson-next').focus();
 }
 
@@ -122,7 +131,9 @@ function showSentences() {
   putText(byId('lesson-said'), step.ask ?? step.say);
   byId('lesson-after').hidden = !(isDone && after);
   putText(byId('lesson-after'), isDone && after ? after : '');
-  byId('lesson-after').classList.toggle('wrong', step.right !== undefined && answer !== step.right);
+  const isJudged = step.right !== undefined;
+  byId('lesson-after').classList.toggle('wrong', isJudged && answer !== step.right);
+  byId('lesson-after').classList.toggle('right', isJudged && answer === step.right);
 }
 
 function lessonButtons() {
@@ -155,7 +166,8 @@ function drawLesson() {
   markWanted();
   if (!isOn) return;
   putText(byId('lesson-title'), lesson.told.title);
-  putText(byId('lesson-place'), `Step ${lesson.at + 1} of ${lesson.told.steps.length}`);
+  const { do: word, ask: question } = stepNow(), first = lesson.isDone ? '' : word !== undefined ? `: first press ${word}` : question !== undefined ? ': first give an answer' : ': first press the button';
+  putText(byId('lesson-place'), `Step ${lesson.at + 1} of ${lesson.told.steps.length}${first}`);
   showSentences();
   byId('lesson-answers').replaceChildren(...lessonButtons());
   showNext();

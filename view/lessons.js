@@ -8,7 +8,7 @@ const LESSONS = [
     title: 'Can both loads read 0?',
     text: 'store-buffering.litmus',
     steps: [
-      { say: 'There are two cores, P0 and P1. P0 stores 1 to x and then loads y. P1 stores 1 to y and then loads x. At the start x and y are 0.' },
+      { say: 'There are two cores, P0 and P1. P0 stores 1 to x and then loads y. P1 stores 1 to y and then loads x. At the start x and y are 0. “MOV [x],$1” is a store: it writes 1 to x. “MOV EAX,[y]” is a load: it reads y into the core’s register EAX.' },
       { ask: 'Can both loads read 0 in one run? What do you think?', answers: ['Yes', 'No'], because: 'We try it. You make each choice yourself.' },
       { do: '0s', say: 'Let P0 take its first step. Press the button 0s, “step MOV [x],$1”.', then: 'The store x=1 waits in P0’s store buffer. Memory has not seen it: x is still 0 there.' },
       { do: '1s', say: 'Now P1’s first step: 1s.', then: 'The store y=1 waits in P1’s buffer. Memory still has 0 for both.' },
@@ -16,7 +16,7 @@ const LESSONS = [
         ask: 'P0’s next step loads y. What will this load read?', answers: ['0', '1'], right: '0',
         because: 'The store y=1 is in P1’s buffer, and only P1 itself can see it there. So the load finds the 0 in memory.',
       },
-      { do: '0s', say: 'Look: press 0s.', then: 'P0 read y=0, and EAX is 0. The load is the first entry of the memory order: P0’s store still waits, so the load passed it.' },
+      { do: '0s', say: 'Look: press 0s.', then: 'P0 read y=0, and EAX is 0. The load is the first entry of the memory order: P0’s store still waits, so the load passed it. In the picture R is a load and W a store. The bar is the time in the buffer, and the circle says that the value is from the start.' },
       {
         ask: 'P1’s next step loads x. What will it read?', answers: ['0', '1'], right: '0',
         because: 'P0 has gone on past its store, but the store itself has not left P0’s buffer. Memory has x=0.',
@@ -24,13 +24,13 @@ const LESSONS = [
       { do: '1s', say: 'Press 1s.', then: 'P1 read x=0. So both loads have read 0.' },
       {
         ask: 'Two stores still wait. Can what a load has read change when they drain?', answers: ['Yes', 'No'], right: 'No',
-        because: 'A load has read its value once and for all. The drains change memory only.',
+        because: 'A load has read its value once and for all. A drain changes memory alone.',
       },
       { do: '0d', say: 'Drain P0’s store: 0d.', then: 'Memory has x=1 now. In the picture the bar shows how long the store had waited.' },
       { do: '1d', say: 'And P1’s store: 1d.', then: 'The run has ended. The memory order has both loads above both stores, although each program has its store first.' },
-      { show: 'outcomes', say: 'So yes, both loads can read 0. One run shows that it can be. Which other ends are there? Press “Find all outcomes”: proved code tries every order of steps and drains.' },
+      { show: 'outcomes', say: 'So yes, both loads can read 0. One run shows that it can be. Which other outcomes are there? Press “Find all outcomes”: proved code tries every order of steps and drains.' },
       {
-        say: 'There are four ends. One is marked “TSO alone”: under sequential consistency, where no core has a store buffer, one of the loads always reads 1. ' +
+        say: 'There are four outcomes. One is marked “TSO alone”: under sequential consistency, where no core has a store buffer, one of the loads always reads 1. ' +
           'A load may pass an earlier store of its own core. TSO lets nothing else pass. The next lesson puts a fence between store and load.',
       },
     ],
@@ -45,7 +45,7 @@ const LESSONS = [
       { do: '1s', say: 'Then P1’s store: 1s.', then: 'Both stores wait. Each core has its fence before it.' },
       {
         ask: 'P0’s next instruction is MFENCE, and its buffer has x=1. What happens if P0 steps now?', answers: ['It goes on', 'It waits'], right: 'It waits',
-        because: 'A fence waits until the store buffer of its core is empty. Its button 0s is dashed: it would do nothing now.',
+        because: 'A fence waits until the store buffer of its core is empty. Its button 0s is grey: it would do nothing now.',
       },
       { do: '0d', say: 'So P0’s store has to drain first: 0d.', then: 'Memory has x=1. P0’s buffer is empty.' },
       { do: '0s', say: 'Now the fence lets P0 pass: 0s.', then: 'The fence is done. Whatever P0 does from here on comes after its store in memory.' },
@@ -63,8 +63,8 @@ const LESSONS = [
       { do: '1s', say: 'And its load: 1s.', then: 'P1 read x=1. This run does not end with two zeros.' },
       { show: 'why', say: 'Was it our choice of steps, or can it never be? One run can’t tell. Press “Why can or can’t it be?”: proved code looks at every case.' },
       {
-        say: 'It can never be. If both loads read 0 there is a cycle: each load comes before the other core’s store (fr), and each store comes before its own core’s load (mfence). ' +
-          'Then an event would come before itself. Press First above the picture, and then Next, to follow the cycle edge by edge.',
+        say: 'It can never be. If both loads read 0 there is a cycle: each load comes before the other core’s store, since it read the older value (fr, from read), and each store comes before its own core’s load, since a fence stands between (mfence). ' +
+          'Then an event would come before itself. Press Next above the picture to follow the cycle edge by edge.',
       },
     ],
   },

@@ -36,6 +36,10 @@ function entriesOf(texts, group, isLarger = false) {
 
 const LIBRARY = [...entriesOf(EXAMPLES, 'Examples'), ...entriesOf(ALGORITHMS, 'Algorithms', true), ...entriesOf(GALLERY, 'Orders that would show a forbidden outcome')];
 
+/** What stands over the orders, at the end of the list: they are no tests. */
+const ORDERS = 'Orders, for the command check';
+const isOrderText = ({ file }) => file.endsWith('.order');
+
 /** What stands on top of the list while nothing is searched for: the texts to begin with. */
 const START_HERE = 'Start here';
 const STARTS = ['store-buffering.litmus', 'store-buffering-fenced.litmus', 'MP.litmus', 'false-sharing.litmus', 'CASLOCK.litmus'];
@@ -54,7 +58,9 @@ function showLibrary() {
   const found = texts.filter(entry => words.every(word => entry.found.some(each => each.startsWith(word))));
   const starts = words.length > 0 ? [] : STARTS.flatMap(file => found.find(entry => entry.file === file) ?? []);
   const groups = new Map(starts.length > 0 ? [[START_HERE, starts]] : []);
-  for (const entry of found) if (!starts.includes(entry)) groups.set(entry.group, [...(groups.get(entry.group) ?? []), entry]);
+  const rest = found.filter(entry => !starts.includes(entry)), orders = rest.filter(isOrderText);
+  for (const entry of rest) if (!isOrderText(entry)) groups.set(entry.group, [...(groups.get(entry.group) ?? []), entry]);
+  if (orders.length > 0) groups.set(ORDERS, orders);
   byId('found').textContent = `${found.length} of ${texts.length}`;
   byId('texts').replaceChildren(...[...groups].flatMap(([group, entries]) => [html('h4', {}, group), html('ul', {}, ...entries.map(libraryItem))]));
 }

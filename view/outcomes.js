@@ -11,7 +11,7 @@ function readOutcomes(text) {
 /** The sentence on top: in plain words how many states are as the condition says, and after it the words of the field. `test` is the text of
  * the test, whose condition has the words. */
 function observationSentence({ states, observation, verdict, depth }, test) {
-  const where = depth === 32 ? 'under TSO (store buffers of depth 32)' : depth === 0 ? 'under sequential consistency' : `with store buffers of depth ${depth}`;
+  const where = depth === 32 ? `under TSO${lesson.told === null ? ' (store buffers of depth 32)' : ''}` : depth === 0 ? 'under sequential consistency' : `with store buffers of depth ${depth}`;
   if (observation === null) return `${states.length === 1 ? 'One final state' : `${states.length} final states`} ${where}. The test has no condition.`;
   const { word, true: yes, false: no } = observation;
   return `${countSentence(states.length, yes, where, test)} Observation: ${word} (true in ${yes} of the states, false in ${no}).${verdictWords(verdict)}`;

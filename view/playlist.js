@@ -17,7 +17,7 @@ function addToList() {
   sayListed(`${isThere ? 'It is there already, as' : 'Added as'} ${playlist.at + 1} of ${taught.list.length}.`);
 }
 
-const sayListed = sentence => putText(byId('listed'), sentence);
+const sayListed = sentence => document.querySelectorAll('.listed').forEach(place => putText(place, sentence));
 
 /** The list, for what the browser keeps with the address: so it is there again after a reload. */
 const listToKeep = () => (JSON.stringify(taught.list).length <= MOST_LISTED ? taught.list : []);
@@ -73,4 +73,4 @@ document.addEventListener('click', ({ target }) => {
   else if (raised !== undefined) raiseInList(Number(raised));
   else if (unlisted !== undefined) dropFromList(Number(unlisted));
 });
-byId('add-to-list').addEventListener('click', addToList);
+document.addEventListener('click', ({ target }) => target.matches('[data-add-to-list]') && addToList());

@@ -52,7 +52,8 @@ function statesSheet(outcomes, sequential, truths) {
   const filter = html('input', { class: 'filter', type: 'search', autocomplete: 'off', placeholder: '0:EAX=1' });
   const alone = sequential ? [html('label', {}, html('input', { class: 'alone', type: 'checkbox' }), ' TSO alone')] : [];
   const tools = html('div', { class: 'buttons small' }, html('label', {}, 'Filter ', filter), ...alone, html('span', { class: 'filtered', role: 'status' }));
-  const sheet = html('div', { class: 'states-sheet' }, ...(outcomes.states.length > 1 ? [tools] : []), ...depthNote(outcomes.depth), table);
+  const words = sequential ? [html('p', { class: 'small faint' }, '“TSO alone”: it needs store buffers. SC is sequential consistency: no store buffers.')] : [];
+  const sheet = html('div', { class: 'states-sheet' }, ...words, ...(outcomes.states.length > 1 ? [tools] : []), ...depthNote(outcomes.depth), table);
   if (outcomes.states.length > 1) filterStates(sheet);
   return [sheet];
 }

@@ -40,7 +40,7 @@ function showReason(answer, test) {
   Object.assign(sheet, { told, programs, cycle: null });
   const parts = told.answer === 'never' ? refutedParts(told) : allowedParts(told, programs);
   const section = html('section', { class: 'reason', 'aria-label': 'Why' }, answerTitle(told.answer === 'never' ? 'Why it can\'t be' : 'How it can be'),
-    html('p', { role: 'status' }, html('strong', {}, plainAnswer(told, proposition)), ` ${reasonSentence(told, proposition)}`), html('p', { class: 'small faint' }, EVENTS_SAID), ...parts);
+    html('p', { role: 'status' }, html('strong', {}, plainAnswer(told, proposition)), html('span', { class: 'fine' }, ` ${reasonSentence(told, proposition)}`)), html('p', { class: 'small faint' }, EVENTS_SAID), ...parts);
   byId('states').replaceChildren(section);
   const [first] = told.answer === 'never' ? cyclesOf(told.steps) : [];
   if (first) drawCycle(first.at);

@@ -133,11 +133,25 @@ def line_row(bench):
 
 
 def clicker_row(bench):
-    """A clicker's key says what to do where no choice is known, and names the next test at a run's end."""
+    """A clicker's key says what to do where no choice is known, and again leads on; it names the next test at a run's end, and leads there from a cycle's end and a sheet's too."""
     bench.open_fresh()
-    bench.value("addToList(); loadText('MP.litmus'); addToList(); openListed(0); putLecture(true)")
+    bench.value("addToList(); loadText('MP.litmus'); addToList(); askWhy()")
+    bench.wait("!bench.task && document.querySelector('.cycle')")
+    press(bench, "#way-back [data-add-to-list]")
+    faults = differs("a sheet of the list", bench.text("#way-back .listed"), "Added as 3 of 3.")
+    bench.value("openListed(0); addToList(); findOutcomes()")
+    bench.wait("!bench.task && document.querySelector('.states-sheet')")
+    bench.value("openListed(2); putLecture(true)")
+    bench.wait("!bench.task && document.querySelector('.cycle')")
+    bench.value("taught.list.push({ ...taught.list[0] }); drawList(); sheet.cycle.move('all')")
     bench.value(CLICKED % "PageDown")
-    faults = differs("said", bench.text("#sentence"), "No choices yet: press a step or a drain of a core.")
+    faults += differs("after a cycle", bench.value("[playlist.at, drive.isOn, testName()]"), [3, True, "SB"])
+    bench.value("taught.list.pop(); openListed(0)")
+    bench.value(CLICKED % "PageDown")
+    faults += differs("said", bench.text("#sentence"), "No choices yet: press a step or a drain of a core. Once more for the next test: MP.")
+    bench.value(CLICKED % "PageDown")
+    faults += differs("by the second press", bench.value("testName()"), "MP")
+    bench.value("openListed(0)")
     for choice in "0s 1s 0s 1s 0d 1d".split():
         press(bench, "[data-choice='%s']" % choice)
     faults += [] if bench.text("#sentence").endswith(" Next: MP.") else ["at the end it says " + bench.text("#sentence")]

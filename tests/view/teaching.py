@@ -132,6 +132,7 @@ def guided_row(bench):
     bench.value("enterStep(2)")
     press(bench, "[data-choice='1s']")
     faults += differs("made", bench.value("drive.count"), 0) + ([] if "goes on with 0s" in bench.text("#sentence") else ["it says " + bench.text("#sentence")])
+    faults += [] if bench.text("#lesson-place").endswith(": first press 0s") else ["at Next it says " + bench.text("#lesson-place")]
     press(bench, "[data-choice='0s']")
     press(bench, "#lesson-next")
     press(bench, "#lesson-back")
