@@ -125,7 +125,7 @@ def lesson_row(bench, name, shows):
 
 
 def guided_row(bench):
-    """A choice that the lesson doesn't wait for isn't made; Back leads to the step before; a reload stays; leaving frees the machine."""
+    """A choice that the lesson doesn't wait for isn't made, but the next step's own is, in the place of Next; Back leads to the step before; a reload stays; leaving frees the machine."""
     bench.open_fresh()
     press(bench, "#first-lesson")
     faults = differs("the focus", bench.value("document.activeElement.id"), "lesson-title")
@@ -133,6 +133,10 @@ def guided_row(bench):
     press(bench, "[data-choice='1s']")
     faults += differs("made", bench.value("drive.count"), 0) + ([] if "goes on with 0s" in bench.text("#sentence") else ["it says " + bench.text("#sentence")])
     faults += [] if bench.text("#lesson-place").endswith(": first press 0s") else ["at Next it says " + bench.text("#lesson-place")]
+    press(bench, "[data-choice='0s']")
+    press(bench, "[data-choice='1s']")
+    faults += differs("the next step's own choice, pressed in the place of Next", bench.value("[lesson.at, lesson.isDone, drive.words, byId('sentence').textContent]"), [3, True, ["0s", "1s"], ""])
+    bench.value("enterStep(2)")
     press(bench, "[data-choice='0s']")
     press(bench, "#lesson-next")
     press(bench, "#lesson-back")
