@@ -108,6 +108,7 @@ function showTask(history, count, run) {
   const can = canBe(), met = isMet(history, count, run?.condition, quantifier);
   const task = `${met ? '✓' : '☐'} ${met ? 'Task:' : taskTitle(can)} ${CLAIMS[quantifier]}${taskSentence(testName(), proposition, quantifier)}`;
   byId('task').classList.toggle('met', met === true);
+  byId('task').classList.toggle('asked', met !== true && possible.isAsked); // so that its title doesn't change before one's eyes
   putText(byId('task-said'), task);
   const offers = met === false && can !== true && document.querySelector('#commands [value=why]') !== null;
   putText(byId('task-after'), afterTry(history, count, met, quantifier));

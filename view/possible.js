@@ -5,8 +5,9 @@
 const POSSIBLE_CASES = 3000; // that may be told apart: so many take well under a second
 const ASK_AFTER = 250; // milliseconds without another test
 
-/** What is known of a test (`test` is its text): true where what it asks for can be, false where it can't, null where that isn't known. */
-const possible = { test: null, can: null, timer: null, task: null };
+/** What is known of a test (`test` is its text): true where what it asks for can be, false where it can't, null where that isn't known;
+ * and whether the answer is still to come. */
+const possible = { test: null, can: null, isAsked: false, timer: null, task: null };
 
 const canBe = () => (possible.test === drive.test ? possible.can : null);
 
@@ -14,7 +15,7 @@ const canBe = () => (possible.test === drive.test ? possible.can : null);
 function askPossibleSoon() {
   if (possible.test === drive.test || !document.querySelector('#commands [value=why]')) return;
   possible.task?.stop();
-  Object.assign(possible, { test: drive.test, can: null, task: null });
+  Object.assign(possible, { test: drive.test, can: null, isAsked: true, task: null });
   clearTimeout(possible.timer);
   possible.timer = setTimeout(askPossible, ASK_AFTER);
 }
@@ -29,5 +30,6 @@ async function askPossible() {
   } catch {
     possible.can = null; // the task stays a question
   }
+  possible.isAsked = false;
   if (drive.isOn && drive.test === test) showTask(firstHistory(), drive.count, shown.run);
 }
