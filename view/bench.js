@@ -62,6 +62,17 @@ function answerNow(isAtStart = false) {
   else showOpenAnswer(asked(options, inputOf(command)));
 }
 
+/** What was asked when a notice was put that something is saved or copied. */
+let noticed = '';
+
+/** Takes notices away that belong to another test or command. */
+function forgetNotices(command) {
+  const asks = `${command} ${byId('test').value}`;
+  if (asks === noticed) return;
+  noticed = asks;
+  for (const notice of document.querySelectorAll('#words-copied, #copied, .page-saved')) notice.textContent = '';
+}
+
 /** Shows what is asked: its line, its address and its words on the command line. Answers the settings as they are read. */
 function showAsked(command) {
   const settings = readSettings(command);
@@ -69,7 +80,7 @@ function showAsked(command) {
   keepAddressSoon();
   showTestLine(command);
   byId('words-line').replaceChildren(...commandLine(command).split(' ').flatMap(word => [html('span', { class: 'unbroken' }, word), ' ']));
-  byId('words-copied').textContent = '';
+  forgetNotices(command);
   byId('drive-it').hidden = command !== 'run';
   byId('begin').disabled = settings.wrong !== undefined;
   return settings;
@@ -127,6 +138,7 @@ function showAnswer(answer) {
   bench.answer = answer;
   const isText = answer.status !== Tso.STATUS.refused && answer.text !== '';
   hideRun();
+  byId('brief').hidden = true;
   byId('states').replaceChildren();
   showWayBack();
   markRefusal(answer.text);
@@ -177,7 +189,7 @@ async function begin() {
     if (bench.task !== task) return;
     stopTask();
     showLong(command, answers, options, input);
-    if (command !== 'run') focusAnswer();
+    if (command !== 'run' && !saidInBrief()) focusAnswer();
   } catch (fault) {
     if (bench.task !== task) return;
     stopTask();
@@ -205,6 +217,14 @@ function firstStrong(text) {
 
 /** The heading of an answer's sheet, to which the focus goes. */
 const answerTitle = text => html('h2', { class: 'answer-title', tabindex: -1 }, text);
+
+/** Of an answer that was asked for beside the test: says the first sentence there, so that the test stays in sight. Answers whether it did. */
+function saidInBrief() {
+  const said = byId('states').querySelector('[role=status] strong')?.textContent ?? '', isBeside = byId('test-part').open && byId('test-part').contains(working.asker);
+  byId('brief').hidden = !isBeside || said === '';
+  putText(byId('brief-said'), byId('brief').hidden ? '' : said);
+  return !byId('brief').hidden;
+}
 
 /** Puts the focus on the answer that was asked for, and brings it into sight. */
 function focusAnswer() {

@@ -96,6 +96,7 @@ document.addEventListener('click', event => {
   else if (edges !== undefined) sheet.cycle.move(edges);
 });
 byId('drive-it').addEventListener('click', driveTest);
+byId('to-answer').addEventListener('click', focusAnswer);
 byId('copy-words').addEventListener('click', copyWords);
 byId('line').addEventListener('input', event => show(event.target.value));
 byId('file').addEventListener('change', event => {

@@ -23,7 +23,8 @@ function reasonSentence(told, proposition) {
 /** Herd's word on the whole condition, where there is one; empty where the test has none. */
 function verdictWords(verdict) {
   if (verdict === null || verdict === undefined) return '';
-  return ` Verdict ${verdict}: ${verdict === 'Ok' ? 'what the condition claims holds.' : 'what the condition claims doesn\'t hold.'}`;
+  const claim = { exists: 'a run ends', '~exists': 'no run ends', forall: 'each run ends' }[quantifierOf(byId('test').value)] ?? 'a run ends';
+  return ` Verdict ${verdict}: the test claims that ${claim} as its condition says, which is ${verdict === 'Ok' ? 'true' : 'false'}.`;
 }
 
 const sourceText = source => (source === 'initial' ? 'the initial value' : `what ${source} writes`);

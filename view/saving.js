@@ -29,7 +29,17 @@ function pictureNow() {
   return { parts: [...picture.children], label: picture.getAttribute('aria-label'), y, width, height };
 }
 
-/** What the sheet of `why` draws: a cycle with the edges that are shown, or an execution. */
+/** Does what saves the picture of a cycle while all its edges are drawn alike, wherever one stands in it. */
+function withWholeCycle(act) {
+  const { cycle } = sheet, shownNow = cycle?.shown;
+  if (!cycle?.element.isConnected) return act();
+  cycle.show(cycle.cycle.length);
+  cycle.picture.querySelectorAll('.now').forEach(edge => edge.classList.remove('now'));
+  act();
+  return cycle.show(shownNow);
+}
+
+/** What the sheet of `why` draws: a cycle, or an execution. */
 function pictureOfReason() {
   const figure = byId('states').querySelector('.reason figure'), [picture] = figure.children, { width, height } = picture.viewBox.baseVal;
   return { parts: [...picture.children], label: figure.getAttribute('aria-label'), y: 0, width, height };
@@ -123,6 +133,6 @@ const SAVES = {
   line: () => saveText(fileName(shown.run.test, '.json'), shown.line + '\n', 'application/json'),
   svg: () => saveDrawn(pictureName(), pictureNow()),
   png: () => savePoints(pictureName(), pictureNow()),
-  'reason-svg': () => saveDrawn(`${testName()}-why`, pictureOfReason()),
-  'reason-png': () => savePoints(`${testName()}-why`, pictureOfReason()),
+  'reason-svg': () => withWholeCycle(() => saveDrawn(`${testName()}-why`, pictureOfReason())),
+  'reason-png': () => withWholeCycle(() => savePoints(`${testName()}-why`, pictureOfReason())),
 };

@@ -14,6 +14,12 @@ const SETTINGS = {
   why: ['model', 'cases'],
 };
 const CHOSEN = ['protocol', 'bus', 'model'];
+/** What each command answers. */
+const ANSWERS_OF = {
+  run: 'What one run does: the one of the choices below.', outcomes: 'All final states, with choices that lead to each.', sweep: 'How often each final state comes, in the runs of many seeds.',
+  counts: 'What the caches did, in the runs of many seeds.', check: 'Whether an order is one of TSO.', witness: 'Choices that lead to an order.', tables: 'The table of a protocol.',
+  why: 'Why the end that is asked for can’t be, or how it can.',
+};
 /** What the button says that begins a long command. */
 const BEGINS = { outcomes: 'Find all outcomes', sweep: 'Run the seeds', counts: 'Count the runs', why: 'Say why' };
 /** The settings by the names of the page: `searched` is the depth of a search, whose default is another than that of a run. */
@@ -51,6 +57,7 @@ const labelText = name => document.querySelector(`label[for=set-${name}]`).textC
 /** Shows the settings of a command, and the text that it reads after the test. */
 function showSettings(command) {
   for (const name of SET_NAMES) settingOf(name).closest('.setting').hidden = !SETTINGS[command].includes(name);
+  byId('command-said').textContent = ANSWERS_OF[command];
   byId('settings').hidden = SETTINGS[command].length === 0;
   byId('choices-part').hidden = command !== 'run';
   byId('given-part').hidden = !readsOrder(command);

@@ -32,5 +32,5 @@ document.addEventListener('click', ({ target }) => {
   if (more === undefined) return;
   const [name, value] = more.split(' ');
   settingOf(name).value = value;
-  begin();
+  ask(Object.keys(LIMIT_OF).find(each => LIMIT_OF[each] === name));
 });

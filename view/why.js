@@ -29,8 +29,11 @@ function readTest(input) {
   return { programs, proposition };
 }
 
-/** How events are named. */
-const EVENTS_SAID = 'P0:1 is the second instruction of P0. R is a load, W a store, LR and LW are the two parts of a locked instruction, F is a fence.';
+/** How events are named: those kinds that an answer names. */
+function eventsSaid(text) {
+  const locked = / L[RW] /.test(text) ? ', LR and LW are the two parts of a locked instruction' : '', fence = /:\d+ F\b/.test(text) ? ', F is a fence' : '';
+  return `P0:1 is the second instruction of P0. R is a load, W a store${locked}${fence}.`;
+}
 
 /** Shows what `why --json` told of a test. */
 function showReason(answer, test) {
@@ -40,7 +43,7 @@ function showReason(answer, test) {
   Object.assign(sheet, { told, programs, cycle: null });
   const parts = told.answer === 'never' ? refutedParts(told) : allowedParts(told, programs);
   const section = html('section', { class: 'reason', 'aria-label': 'Why' }, answerTitle(told.answer === 'never' ? 'Why it can\'t be' : 'How it can be'),
-    html('p', { role: 'status' }, html('strong', {}, plainAnswer(told, proposition)), html('span', { class: 'fine' }, ` ${reasonSentence(told, proposition)}`)), html('p', { class: 'small faint' }, EVENTS_SAID), ...parts);
+    html('p', { role: 'status' }, html('strong', {}, plainAnswer(told, proposition)), html('span', { class: 'fine' }, ` ${reasonSentence(told, proposition)}`)), html('p', { class: 'small faint' }, eventsSaid(answer.text)), ...parts);
   byId('states').replaceChildren(section);
   const [first] = told.answer === 'never' ? cyclesOf(told.steps) : [];
   if (first) drawCycle(first.at);

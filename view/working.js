@@ -18,8 +18,8 @@ function estimated({ count, next, at, took }) {
 function progressText() {
   const { progress } = working;
   if (progress === null) return '';
-  const { command, count, most } = progress, about = estimated(progress), by = about > count ? ` By its speed it is at about ${grouped(about)}.` : '';
-  return `More than ${grouped(count)} ${LIMIT_OF[command]} so far; its limit is ${grouped(most)}.${by}`;
+  const { command, count, next, most } = progress;
+  return `More than ${grouped(count)} ${LIMIT_OF[command]} so far; its limit is ${grouped(most)}. Now from the start with room for ${grouped(next)}: by its speed it is at about ${grouped(estimated(progress))}.`;
 }
 
 function showWorking() {
@@ -48,10 +48,11 @@ function tellProgress(progress) {
   showWorking();
 }
 
-/** Says where the work was shown, thus in sight, that it was stopped, and how far it had come. */
-function sayStopped() {
+/** Says where the work was shown, thus in sight, that it was stopped, how far it had come, and what one can do. */
+function sayStopped(command) {
   const { progress } = working, far = progress === null ? '' : ` More than ${grouped(progress.count)} ${LIMIT_OF[progress.command]} were kept by then.`;
   byId('stopped-said').textContent = `Stopped after ${secondsWorked()} s: there is no answer.${far}`;
+  byId('stopped-ways').replaceChildren(...(Object.hasOwn(LIMIT_OF, command) ? [waysOn(command)] : []));
   byId('stopped').hidden = false;
 }
 
@@ -60,8 +61,7 @@ function stopWork() {
   if (bench.task === null) return;
   stopTask();
   byId('said').textContent = 'Stopped.';
-  if (!byId('test-part').open) byId('message').textContent = 'Stopped: there is no answer.';
-  sayStopped();
+  sayStopped(currentCommand());
   working.asker?.focus({ preventScroll: true });
   if (!drive.isOn) return;
   putCommand('run');

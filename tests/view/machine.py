@@ -317,6 +317,7 @@ def library_row(bench, folder):
         words = ["check"] if name.endswith(".order") else ["run", "--depth", depth.group(1) if depth else "4", "--words", joined.group(1) if joined else "1"]
         text = without_stalls(bench, text, words[1:]) if words[0] == "run" else text
         status, said, _ = bench.program(text, *words)
+        bench.value("currentCommand() === 'run' && bench.answer === null && showReport()")  # as it is when the text is opened
         faults += differs(name, bench.text("#report"), said)
         if words[0] == "run" and status == 0:
             faults += differs(name + " drawn", bench.value("shown.line"), bench.program(text, *words, "--json")[1].strip())

@@ -26,7 +26,8 @@ def long_work_row(bench, folder):
     bench.window.screenshot(os.path.join(folder, "working.png"), whole=False)
     bench.value("document.body.dispatchEvent(new KeyboardEvent('keydown', { key: 'Escape', bubbles: true }))")
     faults += differs("stopped", bench.value("[bench.task, byId('working').hidden, currentCommand(), drive.count]"), [None, True, "run", 1])
-    faults += [] if "Stopped" in bench.text("#message") else ["it says " + bench.text("#message")]
+    faults += [] if "Stopped" in bench.text("#stopped") and "Ask why" in bench.text("#stopped") else ["it says " + bench.text("#stopped")]
+    press(bench, "#stopped-close")
     press(bench, "[data-choice='1s']")
     return faults + differs("driven on", bench.value("drive.words"), ["0s", "1s"]) + safety(bench)
 
@@ -39,12 +40,34 @@ def stopped_row(bench):
     bench.value("byId('find-outcomes').focus()")
     press(bench, "#find-outcomes")
     bench.wait("/its limit is 10,000,000/.test(byId('working').textContent)")
-    bench.wait("/By its speed it is at about [\\d,]+/.test(byId('working').textContent)")
+    bench.wait("/by its speed it is at about [1-9][\\d,]*/.test(byId('working').textContent)")
     press(bench, "#stop")
     faults = differs("in sight", is_in_sight(bench, "#stopped"), True) + differs("the focus", bench.value("document.activeElement.id"), "find-outcomes")
     faults += ["it says " + bench.text("#stopped")] if not re.match(r"Stopped after \d+ s: there is no answer\. More than [\d,]+ states were kept by then\.", bench.text("#stopped")) else []
     press(bench, "#stopped-close")
-    return faults + differs("closed", bench.value("byId('stopped').hidden"), True) + safety(bench)
+    faults += differs("closed", bench.value("byId('stopped').hidden"), True)
+    bench.value("loadText('MP.litmus'); window.saved = []; saveFile = (name, blob) => { saved.push(blob); }; askWhy()")
+    bench.wait("!bench.task && document.querySelector('.cycle')")
+    press(bench, "[data-save=reason-svg]")
+    text = bench.value("saved[0].text()")
+    faint = [opacity for opacity in re.findall(r'opacity="([\d.]+)"', text) if float(opacity) < .5]
+    faults += differs("faint edges of a saved cycle that stands at its first", [faint, bench.value("sheet.cycle.shown")], [[], 1])
+    return faults + safety(bench)
+
+
+def brief_row(bench):
+    """An answer that is asked for beside the test says its first sentence there, and the test stays in sight; a button leads to the answer."""
+    bench.open_fresh()
+    bench.value("byId('test-part').open = true; putCommand('why'); scrollTo(0, 0); answerNow()")
+    faults = differs("what the command answers", bench.text("#command-said"), "Why the end that is asked for can’t be, or how it can.")
+    bench.value("byId('begin').focus()")
+    press(bench, "#begin")
+    bench.wait("!bench.task && document.querySelector('.reason')")
+    faults += differs("said", bench.text("#brief-said"), "Yes: a run ends with 0 in P0's EAX and 0 in P1's EAX.") + differs("in sight", [is_in_sight(bench, "#brief"), is_in_sight(bench, "#test")], [True, True])
+    press(bench, "#to-answer")
+    faults += differs("at the answer", [bench.value("document.activeElement.matches('.answer-title')"), is_in_sight(bench, ".answer-title")], [True, True])
+    bench.fill("test", test_of("MP"))
+    return faults + differs("of another test", bench.value("byId('brief').hidden"), True) + safety(bench)
 
 
 def deeper_run_row(bench):
@@ -238,6 +261,7 @@ def rows(page, folder):
     return [
         ("long work in sight", lambda: long_work_row(bench, folder)),
         ("a search that was stopped, in sight", lambda: stopped_row(bench)),
+        ("an answer in brief beside the test", lambda: brief_row(bench)),
         ("a deeper run of an answer", lambda: deeper_run_row(bench)),
         ("what was undone", lambda: said_undo_row(bench)),
         ("a search by steps", lambda: climbed_row(bench)),
