@@ -300,7 +300,9 @@ fn close(setting: &Setting<'_>, hunt: &mut Hunt) -> Option<usize> {
         hunt.cases = hunt.cases.wrapping_add(1);
         return None;
     }
-    note_lemma(hunt, frame.node, depth);
+    if !hunt.look.goes_back {
+        note_lemma(hunt, frame.node, depth);
+    }
     go_back(hunt, frame.node)
 }
 

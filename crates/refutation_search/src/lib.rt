@@ -10,6 +10,7 @@ pub mod counting;
 pub mod edges;
 pub mod facts;
 pub mod following;
+pub mod hanging;
 pub mod hunt;
 pub mod learner;
 pub mod learning;

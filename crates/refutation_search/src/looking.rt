@@ -3,6 +3,7 @@
 use crate::candidates::{Candidates, add_candidates, add_implied_orders};
 use crate::closing::note_closed;
 use crate::facts::{Fact, NO_FACT, Question, same_question};
+use crate::hanging::hanging_read;
 use crate::lemmas::Lemmas;
 use crate::questions::{add_answers, close_answer, is_noted};
 use crate::setting::Setting;
@@ -43,6 +44,8 @@ pub struct Look {
     pub heat: List<usize>,
     /// By what number questions that are nearly as good change places.
     pub twist: usize,
+    /// Whether nothing is asked but what those reads read from on which it hangs whether what is told of others is so.
+    pub goes_back: bool,
     /// A row for sources that are closed.
     closed: Rows,
     /// The last questions that turned out to have no open answer, the last one first.
@@ -60,6 +63,7 @@ impl Look {
             made: 0,
             heat: List::new(alloc, size, 0),
             twist: 0,
+            goes_back: false,
             closed: Rows::new(alloc, 1, size),
             recent: List::new(alloc, MOST_RECENT, Question::Nothing),
         }
@@ -276,6 +280,19 @@ fn look_at_recent(
 /// Questions with so many answers and more are looked at last.
 const WIDEST: usize = 64;
 
+/// The question of what the read reads from on which most hangs.
+fn offer_back(setting: &Setting<'_>, state: &State) -> Offer {
+    let r = hanging_read(setting, state);
+    if r == NONE {
+        return NO_OFFER;
+    }
+    Offer {
+        question: Question::ReadsFrom(r),
+        open: state.count_sources(setting, r),
+        gain: 0,
+    }
+}
+
 /// The question to be asked on a branch: that with the fewest open branches, as far as looks go.
 pub fn choose(
     setting: &Setting<'_>,
@@ -284,6 +301,9 @@ pub fn choose(
     state: &mut State,
     candidates: &mut Candidates,
 ) -> Offer {
+    if look.goes_back {
+        return offer_back(setting, state);
+    }
     note_closed(setting, state, &mut look.closed);
     add_candidates(setting, look, state, candidates);
     look.best = NO_OFFER;

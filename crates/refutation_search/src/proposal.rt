@@ -147,6 +147,16 @@ fn tell<'t>(
     })
 }
 
+/// How many nodes are many: then questions of what a read reads from are made shorter.
+const MANY_NODES: usize = 2_000;
+
+/// Has questions made shorter, where there are many nodes.
+fn ask_on(sheet: &mut Sheet) -> bool {
+    let is_changed = (sheet.nodes.len() > MANY_NODES) & !sheet.asks_on;
+    sheet.asks_on |= is_changed;
+    is_changed
+}
+
 /// How often lemmas are put where they are used.
 const MOST_PRINTS: usize = 4;
 
@@ -168,7 +178,8 @@ pub fn propose<'t>(
             break;
         }
         best = Some(tell(alloc, setting, hunt, &sheet, &sections)?);
-        if !put_inside(&mut sheet) {
+        let is_other = put_inside(&mut sheet);
+        if !(is_other | ask_on(&mut sheet)) {
             break;
         }
     }

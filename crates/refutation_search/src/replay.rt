@@ -1,14 +1,14 @@
 //! Goes along the tree of a refutation once more, with the facts of each branch: so its nodes come in the order in which a refutation
 //! lists them, and a branch that is closed at once by now ends there.
 
-use crate::facts::{Fact, NO_FACT, Question};
+use crate::facts::{Fact, NO_FACT, Question, opposite};
 use crate::hunt::{Hunt, keep_level};
 use crate::leaves::{Leaf, find_leaf};
 use crate::lemmas::{Lemmas, is_known};
 use crate::questions::add_answers;
 use crate::setting::Setting;
 use crate::settle::settle;
-use crate::state::{State, add_all, add_fact, empty_state};
+use crate::state::{Group, State, add_all, add_fact, empty_state};
 use crate::told::told_answers;
 use crate::trees::Trees;
 use reading_tables::tables::Problem;
@@ -48,6 +48,8 @@ pub struct Sheet {
     pub uses: List<usize>,
     /// Whether a lemma is put where it is used.
     pub is_inside: List<bool>,
+    /// Whether questions of what a read reads from are made shorter.
+    pub asks_on: bool,
     open: List<Branch>,
     levels: Vec<State>,
     trial: State,
@@ -63,6 +65,7 @@ impl Sheet {
             events: List::new(alloc, 0, NONE),
             uses: List::new(alloc, count, 0),
             is_inside: List::new(alloc, count, false),
+            asks_on: false,
             open: List::new(alloc, 0, NO_BRANCH),
             levels: Vec::new(alloc),
             trial: empty_state(alloc, setting),
@@ -168,6 +171,74 @@ fn resolve(
     }
 }
 
+/// Adds to the branch that is tried that a read doesn't read from sources for which a node is linked, or that can write any value: the first
+/// one of them, where the others are more, and `NONE` where there is none, or they are few.
+fn leave_out(
+    setting: &Setting<'_>,
+    sheet: &mut Sheet,
+    source: Source<'_>,
+    node: usize,
+    r: usize,
+) -> usize {
+    let count = sheet.trial.count_sources(setting, r);
+    let mut first = NONE;
+    let mut open = 0usize;
+    for s in 0..setting.size {
+        let fact = Fact::From(r, s, true);
+        let is_open = sheet.trial.values.is_any(s) || source.trees.node_for(node, fact) != NONE;
+        if is_open && sheet.trial.has(setting, Group::Sources, r, s) {
+            open = open.wrapping_add(1);
+            first = first.min(s);
+            add_fact(setting, &mut sheet.trial, opposite(fact));
+        }
+    }
+    if open.saturating_mul(2) < count {
+        first
+    } else {
+        NONE
+    }
+}
+
+/// The question of a node of the branch that was kept. Where it asks what a read reads from, and all sources together are closed at once
+/// for which no node is linked, it is enough to ask whether the read reads from one of the others, and then from the next one.
+fn shorter_question(
+    setting: &Setting<'_>,
+    sheet: &mut Sheet,
+    source: Source<'_>,
+    node: usize,
+    depth: usize,
+) -> Question {
+    let twig = source.trees.twigs.at(node);
+    let Question::ReadsFrom(r) = twig.question else {
+        return twig.question;
+    };
+    if (twig.lemma != NONE) | !sheet.asks_on {
+        return twig.question;
+    }
+    let s = leave_out(setting, sheet, source, node, r);
+    settle(setting, &mut sheet.trial);
+    let is_enough = (s != NONE) & sheet.trial.is_closed;
+    if let Some(state) = sheet.levels.get(depth) {
+        sheet.trial.copy_from(state);
+    }
+    if is_enough {
+        Question::IsSo(Fact::From(r, s, true))
+    } else {
+        twig.question
+    }
+}
+
+/// The node that closes the branch of an answer: where the question is a shorter one, its own node asks on where the fact isn't so.
+fn node_below(source: Source<'_>, node: usize, question: Question, answer: Fact) -> usize {
+    let is_shorter = matches!(question, Question::IsSo(Fact::From(..)))
+        && matches!(source.trees.twigs.at(node).question, Question::ReadsFrom(_));
+    if is_shorter && matches!(answer, Fact::From(_, _, false)) {
+        node
+    } else {
+        source.trees.node_for(node, answer)
+    }
+}
+
 /// Prints a question and opens its branches.
 fn print_question(
     setting: &Setting<'_>,
@@ -177,7 +248,11 @@ fn print_question(
     node: usize,
     depth: usize,
 ) -> bool {
-    let question = source.trees.twigs.at(node).question;
+    if !keep_level(setting, &mut sheet.levels, depth, &sheet.trial) {
+        sheet.nodes.is_refused = true;
+        return false;
+    }
+    let question = shorter_question(setting, sheet, source, node, depth);
     let number = case_number(&sheet.trial, question);
     let limit = source.limit.min(source.trees.twigs.at(node).lemma);
     sheet.answers.cut(0);
@@ -189,17 +264,13 @@ fn print_question(
     }
     let count = sheet.answers.len();
     sheet.nodes.push(Node::Asks(question, count, number));
-    if !keep_level(setting, &mut sheet.levels, depth, &sheet.trial) {
-        sheet.nodes.is_refused = true;
-        return false;
-    }
     if number == NONE {
         return false;
     }
     for i in (0..count).rev() {
         let answer = sheet.answers.at(i);
         sheet.open.push(Branch {
-            node: source.trees.node_for(node, answer),
+            node: node_below(source, node, question, answer),
             answer,
             depth: depth.wrapping_add(1),
             limit,

@@ -126,6 +126,25 @@ fn try_twist<'t>(
     hunt_on(alloc, setting, problem, &mut hunt, limit)
 }
 
+/// Asks back from what is told to where it comes from, and nothing else: what is proposed, where that is enough.
+fn ask_back<'t>(
+    alloc: Global,
+    setting: &Setting<'t>,
+    problem: &Problem<'t>,
+    limit: usize,
+) -> Result<Proposed<'t>, NoMemory> {
+    let mut hunt = make_hunt(alloc, setting, limit);
+    hunt.look.goes_back = true;
+    let found = hunt_for(setting, &mut hunt, limit);
+    if hunt.is_refused() {
+        return Err(NoMemory);
+    }
+    match found {
+        Find::Refuted(node) => refutation(alloc, setting, problem, &hunt, node),
+        Find::Open | Find::Late => Ok(Proposed::Nothing),
+    }
+}
+
 /// What the search over sources and orders alone proposes.
 fn borrow<'t>(
     alloc: Global,
@@ -210,7 +229,8 @@ fn shortened<'t>(
     }
 }
 
-/// Searches for a part of the looks, then with what is learnt from each branch, and then over sources and orders alone.
+/// Searches for a part of the looks, then back from what is told, then with what is learnt from each branch, and then over sources and
+/// orders alone.
 fn propose_reason<'t>(
     alloc: Global,
     setting: &Setting<'t>,
@@ -226,18 +246,34 @@ fn propose_reason<'t>(
     if !matches!(first, Proposed::Nothing) {
         return shortened(alloc, setting, problem, model, &hunt, first, limit);
     }
+    let back = ask_back(alloc, setting, problem, limit)?;
+    if !matches!(back, Proposed::Nothing) {
+        return or_borrowed(alloc, setting, problem, model, back, limit);
+    }
     hunt.looks = hunt
         .look
         .made
         .saturating_add(looks_to_learn(setting, limit));
-    let second = learn_long(alloc, setting, problem, &mut hunt)?;
-    match second {
+    let learnt = learn_long(alloc, setting, problem, &mut hunt)?;
+    or_borrowed(alloc, setting, problem, model, learnt, limit)
+}
+
+/// What was found, or a shorter one over sources and orders alone, or any over these where nothing was found.
+fn or_borrowed<'t>(
+    alloc: Global,
+    setting: &Setting<'t>,
+    problem: &Problem<'t>,
+    model: Model,
+    found: Proposed<'t>,
+    limit: usize,
+) -> Result<Proposed<'t>, NoMemory> {
+    match found {
         Proposed::Refutation(best) if best.lines > MANY_LINES => {
             let other = borrow(alloc, setting, problem, model, limit.min(FEW_CASES))?;
             Ok(Proposed::Refutation(shorter(best, other)))
         }
         Proposed::Nothing => borrow(alloc, setting, problem, model, limit),
-        found => Ok(found),
+        other => Ok(other),
     }
 }
 
