@@ -51,6 +51,9 @@ const FEW_CASES: usize = 4_000;
 /// is made shorter.
 const FIRST_PART: usize = 8;
 
+/// Where events are so many times as many as these, asking back makes fewer looks, by the square.
+const FEW_EVENTS: usize = 64;
+
 /// How many looks the search that learns may make for each case; and how much work they may be, where each one costs the fifth power of
 /// the number of events at worst.
 const LOOKS_FOR_CASE: usize = 3;
@@ -134,6 +137,8 @@ fn ask_back<'t>(
     limit: usize,
 ) -> Result<Proposed<'t>, NoMemory> {
     let mut hunt = make_hunt(alloc, setting, limit);
+    let times = (setting.size / FEW_EVENTS).max(1);
+    hunt.looks /= times.saturating_mul(times).max(1);
     hunt.look.goes_back = true;
     let found = hunt_for(setting, &mut hunt, limit);
     if hunt.is_refused() {
