@@ -52,6 +52,8 @@ fn is_power_of_two(cores: u8) -> bool
 }
 
 /// Appends the first `count` choices of a seed. Errors: out of memory only; the list has some of them then.
+// It is a part of its caller: as a call it has a text of many seeds execute a tenth more.
+#[inline(always)]
 pub fn push_seeded(
     choices: &mut Vec<Choice>,
     cores: u8,
